@@ -14,7 +14,7 @@ use Rattle.nb_session.specs.Parsing.{HeaderFails, unknown_type as unknown_header
 use Rattle.nb_c.specs.declared.refusal.Refusal.{Refusal}
 use Rattle.nb_c.specs.declared.refusal.Refusal.TheVariants.{Memory, Fault, FaultAt}
 use Rattle.nb_c.specs.Framing.{Stands, Writes, unknown_type, too_long, judged, frame, follow_the_type, unless_faulty}
-use Rattle.nb_c.specs.Outputs.{Alone, HasOne, MayLack, OrMemory, refused_status}
+use Rattle.nb_c.specs.Outputs.{HasOne, MayLack, OrMemory, refused_status}
 use Rattle.nb_c.specs.Statuses.{name_refusal, session_refusal}
 
 -- a kind by its number, any other number being that of a message
@@ -34,13 +34,6 @@ kind_again Keepalive = refl
 
 one_kind : (type : ℕ) (a b : Kind) → type_of a ≡ type → type_of b ≡ type → a ≡ b
 one_kind type a b h k = sym (kind_again a) ∙ ap kind_with (h ∙ sym k) ∙ kind_again b
-
--- what is parsed is judged
-pub judged_bytes : (bytes : List ℕ) (parsed : Parsed) → Parses bytes parsed
-    → ((other : Parsed) → Parses bytes other → parsed ≡ other) → Alone (List ℕ) (Stands bytes) (unless_faulty bytes parsed)
-judged_bytes bytes parsed stands only = record { said = (parsed, stands, refl); only = others } where
-  others : (other : Result (List ℕ) Refusal) → Stands bytes other → other ≡ unless_faulty bytes parsed
-  others other (found, there, exact) = cc (exact, only found there)
 
 -- whether this is the fault of an unknown type
 is_unknown : SessionFault → Bool

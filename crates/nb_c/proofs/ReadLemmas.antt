@@ -3,9 +3,7 @@ use Rattle.std.proofs.Common.{◌≡◌, ℕ, List, Result, Ok, Err, refl}
 use Rattle.nb_datagram.specs.declared.fault.DatagramFault.{DatagramFault}
 use Rattle.nb_datagram.specs.DatagramFaults.{PacketFails}
 use Rattle.nb_datagram.specs.Packet.{Packet, IsPacket}
-use Rattle.nb_session.specs.declared.packet.Packet.{Packet as SessionPacket}
 use Rattle.nb_session.specs.declared.parsing.Parsed.{Parsed}
-use Rattle.nb_session.specs.Parsing.{Parses}
 use Rattle.nb_c.specs.declared.datagrams.NbtDatagram.{NbtDatagram}
 use Rattle.nb_c.specs.declared.refusal.Refusal.{Refusal}
 use Rattle.nb_c.specs.Datagrams as datagrams
@@ -34,11 +32,3 @@ module _ (payload : List ℕ) (laws : PayloadLaws payload) where
     others : (other : Result NbtDatagram Refusal) → datagrams.Reads payload other → other ≡ Err (datagram_refusal fault)
     others (Ok places) (found, size, there, exact) = absurd (laws.apart fault found size fails there)
     others (Err refusal) (found, there, exact) = cc (exact, laws.one_fault found fault there fails)
-
--- what is told of what stands at the front of a stream is answered
-pub session_read : {A : Type 0} (told : SessionPacket → ℕ → Result A Refusal) (bytes : List ℕ) (parsed : Parsed) → Parses bytes parsed
-    → ((other : Parsed) → Parses bytes other → parsed ≡ other)
-    → Alone A (sessions.ReadsBy told bytes) (sessions.answer_by told parsed)
-session_read {A} told bytes parsed stands only = record { said = (parsed, stands, refl); only = others } where
-  others : (other : Result A Refusal) → sessions.ReadsBy told bytes other → other ≡ sessions.answer_by told parsed
-  others other (found, there, exact) = cc (exact, only found there)

@@ -54,9 +54,6 @@ pub record IsNaming (texts rest : List ℕ) (place : ℕ) (held : List NetbiosNa
       → AreNames 0 [] (slice_split is_space texts) answer
   pub first : BeginsWithName (slice_split is_space rest) → BeginsWithName (slice_split is_space texts)
 
-pub naming_none : (texts : List ℕ) → IsNaming texts texts 0 []
-naming_none texts = record { within = omega arith; follows = λ answer h. h; first = λ h. h }
-
 -- one more text is read
 pub naming_more : (texts rest text others : List ℕ) (place : ℕ) (held new : List NetbiosName) → rest ≡ text ++ 32 ∷ others
     → ¬ Contains text 32 → NamesText place held text new (Ok tt) → IsNaming texts rest place held

@@ -59,12 +59,6 @@ stands_in_all bytes n at xs fits h =
     ∙ ap (λ (r : List ℕ). take (length xs) r) (sym (drop_taken bytes n at (omega arith)))
     ∙ h
 
-pub stands_in_first : (bytes : List ℕ) (n at : ℕ) (xs : List ℕ) → at + length xs ≤ n → StandsAt bytes at xs → StandsAt (take n bytes) at xs
-stands_in_first bytes n at xs fits h =
-    ap (λ (r : List ℕ). take (length xs) r) (drop_taken bytes n at (omega arith))
-    ∙ take-take (length xs) (n - at) (drop at bytes) (omega arith)
-    ∙ h
-
 -- where pointers are refused a name's labels are spelled where it stands
 pub spelled_at : (packet : List ℕ) (start at : ℕ) (labels : List (List ℕ)) (next : ℕ) → LabelsAt packet Refused start at labels next →
     StandsAt packet at (spelling labels) × (next ≡ at + length (spelling labels))

@@ -1,5 +1,5 @@
 -- What writing some bytes, and all of them, keeps from turn to turn.
-use Rattle.std.proofs.Common.{◌≡◌, ◌≤◌, ◌+◌, ◌-◌, ◌++◌, ℕ, List, [], length, take, drop, Option, refl, sym, subst, arith, ap}
+use Rattle.std.proofs.Common.{◌≡◌, ◌≤◌, ◌+◌, ◌-◌, ◌++◌, ℕ, List, [], length, take, drop, Option, sym, subst, arith, ap}
 use Rattle.std.specs.Io.KnownBytes.{Appends, Keeps}
 use Rattle.std.proofs.lemmas.Grind.{flat_map-append}
 use Rattle.std.proofs.lemmas.List.{append_assoc, take_all, take-append-drop, length-drop}
@@ -46,14 +46,6 @@ pub record IsWritingDigits (before now : Option (List ℕ)) (old new : Counts) (
   pub appends : Appends before now written
   pub grow : GrowTo old new
 
-pub begun_digits : (known : Option (List ℕ)) (old : Counts) (bytes : List ℕ) → IsWritingDigits known known old old bytes bytes
-begun_digits known old bytes = record {
-  written = [];
-  whole = refl;
-  appends = Appends-nil known;
-  grow = record { empty = omega arith; interrupted = omega arith; failed = omega arith };
-}
-
 digits_split : (n : ℕ) (rest part behind : List ℕ) → part ≡ take n rest → behind ≡ drop n rest → digits_text part ++ digits_text behind ≡ digits_text rest
 digits_split n rest part behind front back =
     rw (front, back, sym (flat_map-append digits_of (take n rest) (drop n rest))) (ap digits_text (take-append-drop n rest))
@@ -77,12 +69,6 @@ wrote_front before mid_known now old mid bytes rest part behind n w front back t
     let some = front_after before mid_known now w.written (digits_text part ++ digits_text behind) w.appends
     (front_wider mid_known now (digits_text part) (digits_text behind) took) in
     subst (AppendsFront before now) w.whole (subst (λ digits. AppendsFront before now (w.written ++ digits)) (digits_split n rest part behind front back) some)
-
--- the last digits
-pub wrote_last : (before mid_known now : Option (List ℕ)) (old mid : Counts) (bytes rest : List ℕ) → IsWritingDigits before mid_known old mid bytes rest →
-    Appends mid_known now (digits_text rest) → Appends before now (digits_text bytes)
-wrote_last before mid_known now old mid bytes rest w took =
-    subst (Appends before now) w.whole (Appends-more before mid_known now w.written (digits_text rest) w.appends took)
 
 -- a front of the last digits
 pub wrote_last_front : (before mid_known now : Option (List ℕ)) (old mid : Counts) (bytes rest : List ℕ) → IsWritingDigits before mid_known old mid bytes rest →

@@ -1,5 +1,5 @@
 -- Values' texts, made in room of their own.
-use Rattle.std.proofs.Common.{◌≡◌, ℕ, List, [], ◌++◌, Option, Some, None, Result, Ok, Err, OnOk, IfSome, ap, ◌∙◌}
+use Rattle.std.proofs.Common.{◌≡◌, ℕ, List, [], ◌++◌, Option, Some, None, IfSome, ap, ◌∙◌}
 use Rattle.std.specs.Fmt.{WritesText}
 use Rattle.std.proofs.lemmas.Fmt.{contents_after_writes}
 use Rattle.arrayvec.specs.ArrayString.{ArrayString}

@@ -6,8 +6,8 @@ use Rattle.std.proofs.lemmas.Bool.{eqb-true}
 use Rattle.std.proofs.lemmas.Bool.Decides.{nat_tests}
 use Rattle.std.proofs.lemmas.List.{take_more, take_all, length-take, length-append, length-replicate}
 use Rattle.nb_names.specs.DomainName.{IsLabel, AreBytes, AreByteLabels}
-use Rattle.nb_names.specs.Name.{NetbiosName, IsScope, IsName, IsByteName}
-use Rattle.nb_names.specs.NameText.{is_plain, byte_of, Item, plain, escaped, Items, no_item, more_items, ScopeText, no_label, more_labels, Parts, filled, IsText, digits_of, item_of, items_of, scope_text_of, kept_before, trimmed, bytes_written, written}
+use Rattle.nb_names.specs.Name.{NetbiosName, IsName, IsByteName}
+use Rattle.nb_names.specs.NameText.{is_plain, byte_of, Item, plain, escaped, Items, no_item, more_items, ScopeText, no_label, more_labels, Parts, filled, IsText, digits_of, item_of, items_of, scope_text_of, kept_before, trimmed, written}
 
 -- ---- spaces at the end
 

@@ -43,6 +43,3 @@ one_number_32 packet at m n a b =
 -- its two bytes are within the packet
 pub within_16 : (packet : List ℕ) (at n : ℕ) → NumberAt packet at w16 n → at + 2 ≤ length packet
 within_16 packet at n a = stands_fits packet at (to_be_bytes w16 n) a.bytes (omega arith)
-
-pub within_32 : (packet : List ℕ) (at n : ℕ) → NumberAt packet at w32 n → at + 4 ≤ length packet
-within_32 packet at n a = stands_fits packet at (to_be_bytes w32 n) a.bytes (omega arith)

@@ -1,5 +1,5 @@
 -- Rows that the code reads, item by item, and the packet that they make.
-use Rattle.std.proofs.Common.{◌≡◌, ℕ, ◌+◌, ◌≤◌, List, [], ◌∷◌, ◌++◌, length, take, drop, refl, ap, subst, ◌∙◌, arith, length-append, length-drop}
+use Rattle.std.proofs.Common.{◌≡◌, ℕ, ◌+◌, ◌≤◌, List, [], ◌∷◌, ◌++◌, length, take, drop, refl, ap, ◌∙◌, arith, length-append, length-drop}
 use Rattle.std.proofs.lemmas.List.{take-append-drop, length-take-le}
 use Rattle.nb_service.specs.declared.fault.ServiceFault.{ServiceFault}
 use Rattle.nb_service.specs.declared.fault.ServiceFault.TheVariants.{NoMemory}
@@ -57,9 +57,6 @@ pub outline_there : (b : List ℕ) (h : PacketHeader) (after used : ℕ) → Has
 outline_there b h after used x q r =
     let p = rows_packet b h q.0 r.0 after used x q.1 r.1 in
     record { packet = p.0; stands = p.1; outlined = one_header b (header_of p.0) h p.1.header x }
-
-pub outline_header : (b : List ℕ) (h : PacketHeader) (used : ℕ) → HasOutline b h used → HasHeader b h
-outline_header b h used o = subst (λ (k : PacketHeader). HasHeader b k) o.outlined o.stands.header
 
 pub packet_built : (b : List ℕ) (h : PacketHeader) (qs : List Question) (us bs cs : List ResourceRecord) (m n o used : ℕ) → HasHeader b h → RowOf (QuestionAt b) HEADER_LENGTH h.questions qs m →
     RowOf (RecordAt b) m h.answers us n → RowOf (RecordAt b) n h.authorities bs o → RowOf (RecordAt b) o h.additional cs used →

@@ -56,9 +56,6 @@ list_text name fields line xs same =
 
 -- ---- lines
 
-used_same : (used : ℕ) → text_of (used_fields used) ≡ used_text used
-used_same used = refl
-
 pub refused_same : (fault : List ℕ) (place : Option ℕ) → text_of (refused_fields fault place) ≡ refused_text fault
 refused_same fault None = refl
 refused_same fault (Some place) = refl
@@ -124,10 +121,6 @@ header_same header used =
     ∙ simp append_assoc
 
 -- ---- questions and records
-
-named_fields_same : (labels : List (List ℕ)) (kind class : ℕ)
-    → text_of (services.named_fields labels kind class) ≡ codes " " ++ (labels_written labels ++ service_texts.type_text kind class)
-named_fields_same labels kind class = simp (append_assoc, append-nil)
 
 question_same : (question : Question) → text_of (services.question_fields question) ≡ service_texts.question_line question
 question_same question = simp (append_assoc, append-nil)

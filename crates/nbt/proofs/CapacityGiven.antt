@@ -1,10 +1,10 @@
 -- The numbers that the matches hold for the options on capacity.
 use Rattle.std.proofs.Common.{◌≡◌, ◌⊎◌, ◌<◌, ◌^◌, ℕ, List, Option, None, Some, Result, Ok, Err, inl, inr, refl, sym, subst}
-use Rattle.std.specs.Prelude.{codes, unwrap_or}
+use Rattle.std.specs.Prelude.{unwrap_or}
 use Rattle.std.specs.Str.Parse.{IsNumeral, ParsesUnsigned, digits_value, without_leading_plus}
 use Rattle.clap.specs.Words.{ReadsOne, found_of, one_text}
 use Rattle.clap.specs.declared.parser.matches.ArgMatches.{ArgMatches}
-use Rattle.nbt.specs.Settings.{HasNoCapacity, HasNoNumber, IsCapacity, IsNumberOf}
+use Rattle.nbt.specs.Settings.{HasNoNumber, IsNumberOf}
 
 -- the text is a decimal number of so many bits
 abbrev pub IsNumber : ℕ → List ℕ → Type 0
@@ -61,9 +61,3 @@ number_or width other option gives parses matches (Some n) none value =
     inl (number_given width matches option n none (λ text is. is_got width gives parses text (Some n) (value text is)))
 number_or width other option gives parses matches None none value =
     inr (no_number_given width matches option (λ text is. is_got width gives parses text None (value text is)), refl)
-
--- without a number of keys there is no capacity
-pub no_keys_given : (matches : ArgMatches)
-    → ((text : List ℕ) → one_text (found_of matches) (codes "keys") ≡ Some text → ¬ IsNumber 32 text)
-    → HasNoCapacity (IsCapacity matches)
-no_keys_given matches value c capacity = no_number_given 32 matches (codes "keys") value c.keys capacity.keys

@@ -22,7 +22,7 @@ use Rattle.nb_member.specs.ReportFields.{dropped_fields, passed_fields, result_f
 use Rattle.nb_member.specs.Taking.{Takes}
 use Rattle.nb_member.specs.declared.line.Line as capture
 use Rattle.nb_member.specs.declared.line.Line.TheVariants.{Packet, Tick}
-use Rattle.nbt.specs.Objects.{BriefFields, FrontFields, in_part, of_tick, ObjectOf, OutcomeFields, PacketFields, PrintsComment, TellsFields, arrival_fields, brief_key, comment_fields, comment_key, head_fields, line_key, packet, phrased, tick, ticked, dropped, passed, taken}
+use Rattle.nbt.specs.Objects.{BriefFields, FrontFields, in_part, of_tick, ObjectOf, OutcomeFields, PacketFields, TellsFields, arrival_fields, brief_key, comment_fields, comment_key, head_fields, line_key, packet, phrased, tick, ticked, dropped, passed, taken}
 
 -- ---- what objects of lines begin with
 
@@ -61,12 +61,6 @@ comment_made n comment begun told ended made begins seen is json line =
     let members : AreMembers 0 (Number line_key n ∷ Text comment_key comment ∷ []) =
     both (Number line_key n ∷ []) (Text comment_key comment ∷ []) (member (Number line_key n) tt) (member (Text comment_key comment) tt) in
     told_object begun told (Number line_key n ∷ Text comment_key comment ∷ []) 0 ended made begins seen is members (omega arith) json line
-
--- the comment, where it isn't empty
-pub comment_printed : (n : ℕ) (comment made : List ℕ) → ¬ (comment ≡ []) → IsObject (Number line_key n ∷ Text comment_key comment ∷ []) made
-    → PrintsComment n comment made
-comment_printed n [] made some object = absurd (some refl)
-comment_printed n (c ∷ cs) made some object = object
 
 -- ---- what is told of a line
 

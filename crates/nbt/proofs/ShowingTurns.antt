@@ -1,22 +1,21 @@
 -- What `nbt show` prints of a line, and of the lines of a capture.
-use Rattle.std.proofs.Common.{◌≡◌, ◌+◌, ◌++◌, ℕ, List, [], ◌∷◌, length, take, drop, Option, Result, Ok, Err, IfErr, OnErr, codes, refl, sym, subst, ◌∙◌, ap, append_assoc, arith}
+use Rattle.std.proofs.Common.{◌≡◌, ◌+◌, ◌++◌, ℕ, List, [], ◌∷◌, length, take, drop, Option, Result, Ok, Err, codes, refl, sym, subst, ◌∙◌, ap, append_assoc, arith}
 use Rattle.std.specs.Io.KnownBytes.{Appends, Consumes}
 use Rattle.std.specs.Fmt.{decimal}
 use Rattle.std.proofs.lemmas.List.{take-append-drop}
 use Rattle.nb_names.specs.Counted.{Counts, CountedOf}
-use Rattle.nb_names.specs.Devices.{AppendsFront, GrowTo, ShowsUnread, ShowsWriteFault}
+use Rattle.nb_names.specs.Devices.{GrowTo, ShowsUnread, ShowsWriteFault}
 use Rattle.nb_names.specs.DeviceFacts.{Appends-nil, Appends-more, Appends-kept, fails_from, grows_on}
 use Rattle.nb_member.specs.declared.capture_options.CaptureOptions.{CaptureOptions}
 use Rattle.nb_member.specs.declared.line.Line as capture
 use Rattle.nb_member.specs.declared.line.Line.TheVariants.{Packet, Tick}
 use Rattle.nb_member.specs.LineTaking.{TakesEach, none as no_lines, more as more_lines, StopsAt, malformed, unread, no_memory, not_taken, TakesLines}
 use Rattle.nb_text.specs.Lines.{line_end}
-use Rattle.nb_text.specs.SaysPacket.{AddsSaid}
 use Rattle.nbt.specs.declared.fault.Fault.{Fault}
 use Rattle.nbt.specs.declared.fault.Fault.TheVariants.{Read, Write, Memory}
 use Rattle.nbt.specs.Code.PrintedLines.{PrintsOn, IsUnprinted}
 use Rattle.nbt.specs.Reported.{of_replay}
-use Rattle.nbt.specs.Showing.{IsBrief, PayloadText, ShowsValue, packet, tick, ShowsCapture, ShowsLines, none, more, Prints, Shows, TellsLine}
+use Rattle.nbt.specs.Showing.{PayloadText, ShowsValue, packet, tick, ShowsCapture, ShowsLines, none, more, Prints, Shows, TellsLine}
 
 -- ---- the text of a line
 
@@ -43,28 +42,11 @@ adds_tick IsText n now old new value is added =
     let text = decimal n ++ (codes " tick " ++ (decimal now ++ line_end)) in
     (text, subst (λ (v : capture.Line). ShowsValue IsText n v text) (sym is) (tick now), added)
 
--- a phrase, and the end of the line
-pub adds_phrase : (payload : List ℕ) (port : ℕ) (old mid new : List ℕ) → AddsSaid payload port old mid → new ≡ mid ++ line_end
-    → (shown : List ℕ) × IsBrief payload port shown × (new ≡ old ++ shown)
-adds_phrase payload port old mid new a ended = (
-  a.text ++ line_end,
-  record { phrase = a.text; said = a.phrase; is = refl },
-  ended ∙ ap (λ (t : List ℕ). t ++ line_end) a.added ∙ append_assoc old a.text line_end,
-)
-
 -- ---- a line
 
 -- when a text is that of a line
 abbrev pub TextOf : Type 0 → Type 1
 TextOf S = ℕ → List ℕ → Option capture.Line → S → S → List ℕ → Type 0
-
--- a text that isn't printed whole
-pub unprinted : {W S : Type 0} (C : W → Option (List ℕ)) (IsText : TextOf S) (n : ℕ) (l : List ℕ) (said : Option capture.Line) (old new : CountedOf W × S) (text : List ℕ) (r : Result (Unit {0}) Fault)
-    → IsText n l said old.1 new.1 text → IfErr r (λ fault. fault ≡ Write) → OnErr r (AppendsFront (C old.0.inner) (C new.0.inner) text)
-    → OnErr r (ShowsWriteFault old.0.counts new.0.counts) → IfErr r (IsUnprinted C IsText n l said old new)
-unprinted C IsText n l said old new text (Ok done) tells is front why = tt
-unprinted C IsText n l said old new text (Err fault) tells is front why =
-    subst (λ (f : Fault). IsUnprinted C IsText n l said old new f) (sym is) (text, tells, front, why)
 
 -- ---- lines in a row
 

@@ -167,10 +167,6 @@ not_false false h = absurd (cc)
 pub same_test : (a b : Bool) → not (beq a b) ≡ false → a ≡ b
 same_test a b h = (booleans_Decides a b).0 (not_false (beq a b) h)
 
--- tests that differ aren't the same
-pub not_same : (a b : Bool) → not (beq a b) ≡ true → a ≡ b → ⊥
-not_same a b h e = let same : beq a b ≡ true = (booleans_Decides a b).1 e in let clash : false ≡ true = ap not (sym same) ∙ h in absurd (cc clash)
-
 -- nothing is refused of a fragment that passes and needs no memory
 pub spared : {X : Type 0} (r : Result X TableFault) (t : TableValue) (f : FragmentParts) → IfErr r (Refuses t f) → Passes t.limits f → NeedsNoMemory t.contents (core_of f) → IsOk r
 spared (Ok x) t f h p n = refl

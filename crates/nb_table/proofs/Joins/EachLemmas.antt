@@ -43,11 +43,6 @@ joined_each_is {R = R} o exact f m n = map.same_map o exact _ _ (λ q.
     ∙ ap (joined_at f (map.get m q)) (sym (map.get-entries n q))
     ∙ sym (get-joined o exact f m n q))
 
--- what is put over a value stands there
-pub onto_second : {X : Type 0} (a : Option X) (y : X) → joined_onto (λ x y. y) a y ≡ y
-onto_second None y = refl
-onto_second (Some x) y = refl
-
 over_at : {X : Type 0} (a b : Option X) → joined_at (λ x y. y) a b ≡ joined_at (λ x y. x) b a
 over_at None None = refl
 over_at None (Some y) = refl

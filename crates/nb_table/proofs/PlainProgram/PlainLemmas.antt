@@ -1,21 +1,19 @@
 -- What the plain program's loops over places find.
-use Rattle.std.proofs.Common.{◌≡◌, ◌<◌, ◌≤◌, ◌+◌, ◌-◌, ◌==◌, ◌↔◌, ◌&&◌, ◌||◌, inl, inr, ℕ, IsTrue, Bool, true, false, cond, not, nat_le, List, ◌∷◌, take, drop, length, slice_get, get_or, nat_lt, Option, Some, None, refl, sym, ◌∙◌, ap, ap₂, arith, drop-cons, length-drop, le_of_eq, add-one, drop_of_length-le}
+use Rattle.std.proofs.Common.{◌≡◌, ◌<◌, ◌≤◌, ◌+◌, ◌-◌, ◌==◌, ◌↔◌, ◌&&◌, ◌||◌, inl, inr, ℕ, IsTrue, Bool, true, false, cond, not, List, ◌∷◌, take, drop, length, slice_get, get_or, nat_lt, Option, Some, None, refl, sym, ◌∙◌, ap, ap₂, arith, drop-cons, length-drop, le_of_eq, add-one, drop_of_length-le}
 use Rattle.std.proofs.lemmas.List.{take_all}
 use Rattle.std.specs.List.{list_any}
-use Rattle.std.proofs.lemmas.Bool.{cases_lt, eqb-true, eq-eqb, leb-true, le-leb, ltb-true, lt-ltb}
-use Rattle.std.proofs.lemmas.Option.{slice_get-get_or, slice_get_within, none-some, same_Some}
+use Rattle.std.proofs.lemmas.Bool.{cases_lt, eqb-true, eq-eqb, ltb-true, lt-ltb}
+use Rattle.std.proofs.lemmas.Option.{slice_get-get_or, slice_get_within, same_Some}
 use Rattle.nb_datagram.specs.declared.key.Key.{Key}
 use Rattle.nb_datagram.specs.Key.{same_key}
-use Rattle.nb_datagram.specs.Fragment.{FragmentParts, core_of, cores_of, Core, Covers, reach, byte_of, end_of_one}
+use Rattle.nb_datagram.specs.Fragment.{FragmentParts, core_of, cores_of, Core, Covers, reach, end_of_one}
 use Rattle.nb_entries.specs.Entry.{facts_agree, facts_of}
 use Rattle.nb_table.specs.Conflict.{Overlap, PastEnd, BreaksPromise, Conflict, kinds, sources, destinations, overlap, ends, past_end, past_other_end, breaks, breaks_other}
 use Rattle.nb_table.specs.ConflictTests.{conflicts, some_conflict, with_key, is_spoilt}
 use Rattle.nb_table.specs.Code.Plain.{differ, SameHeader}
-use Rattle.nb_entries.specs.Promise.{promise_of_one}
-use Rattle.nb_entries.specs.Shared.PromiseLemmas.{promise_of_decides}
 use Rattle.nb_entries.specs.Shared.EntryLemmas.{facts_fit_of}
 use Rattle.nb_table.proofs.Conflict.ConflictLemmas.{conflicts_decides, past_from, covers}
-use Rattle.nb_entries.specs.Shared.PlacedLemmas.{byte_of_decides, end_of_decides, covers_below}
+use Rattle.nb_entries.specs.Shared.PlacedLemmas.{end_of_decides, covers_below}
 
 -- ---- overlaps
 
@@ -36,30 +34,12 @@ differing (Some x) (Some y) h = record { one = x; other = y; has_one = refl; has
     fails true h = absurd (cc)
     fails false h = refl
 
-pub overlap_from : (f g : Core) (i : ℕ) → differ (byte_of f i) (byte_of g i) ≡ true → Overlap f g
-overlap_from f g i h =
-    let w = differing (byte_of f i) (byte_of g i) h in
-    record {
-      place = i;
-      byte = w.one;
-      other_byte = w.other;
-      covers = (byte_of_decides f i w.one).0 w.has_one;
-      other_covers = (byte_of_decides g i w.other).0 w.has_other;
-      differs = λ e. (let clash : true ≡ false = sym (eq-eqb w.one w.other e) ∙ w.differs in cc clash);
-    }
-
 same_bytes : (x y : ℕ) → differ (Some x) (Some y) ≡ false → x ≡ y
 same_bytes x y h = eqb-true x y (holds (x == y) h)
   where
     holds : (b : Bool) → not b ≡ false → b ≡ true
     holds true h = refl
     holds false h = absurd (cc)
-
-pub overlap_refuted : (f g : Core) → ((i : ℕ) → i < reach f → differ (byte_of f i) (byte_of g i) ≡ false) → Overlap f g → ⊥
-overlap_refuted f g each o =
-    o.differs (same_bytes o.byte o.other_byte (
-    ap₂ differ (sym ((byte_of_decides f o.place o.byte).1 o.covers)) (sym ((byte_of_decides g o.place o.other_byte).1 o.other_covers))
-    ∙ each o.place (covers_below f o.place o.byte o.covers)))
 
 -- ---- places past an end
 
@@ -83,20 +63,6 @@ empty_never_past f g none p =
     p.past (λ i x c. (let inside = slice_get_within g.bytes (i - g.offset) x (covers g i x c).1 in absurd (omega (arith, inside, none))))
 
 -- ---- broken promises
-
-pub breaks_decides : (f g : Core) (n r : ℕ) → end_of_one f ≡ Some n → promise_of_one g ≡ Some r → IsTrue (nat_le n r) ↔ BreaksPromise f g
-breaks_decides f g n r e s = (
-  λ h. record { end = n; promised = r; ends = (end_of_decides f n).0 e; promises = (promise_of_decides g r).0 s; broken = leb-true n r h },
-  λ b. (let end : b.end ≡ n = same_Some b.end n (sym ((end_of_decides f b.end).1 b.ends) ∙ e) in
-      let promise : b.promised ≡ r = same_Some b.promised r (sym ((promise_of_decides g b.promised).1 b.promises) ∙ s) in
-      let broken = b.broken in le-leb n r (omega (arith, end, promise, broken))),
-)
-
-pub no_end_keeps : (f g : Core) → end_of_one f ≡ None → BreaksPromise f g → ⊥
-no_end_keeps f g e b = none-some b.end (sym e ∙ (end_of_decides f b.end).1 b.ends)
-
-pub no_promise_keeps : (f g : Core) → promise_of_one g ≡ None → BreaksPromise f g → ⊥
-no_promise_keeps f g e b = none-some b.promised (sym e ∙ (promise_of_decides g b.promised).1 b.promises)
 
 -- ---- conflicts
 

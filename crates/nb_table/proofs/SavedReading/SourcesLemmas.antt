@@ -64,14 +64,6 @@ below_more b k (q ∷ ks) le h = (le_both q.ip b k.ip h.0 le, below_more b k ks 
 
 -- ---- the turns
 
-pub sources_begun : (n : ℕ) → SourcesSoFar n [] None (record { are_few = true; room = 0 })
-sources_begun n = record {
-  few = (λ _ ip. omega arith, λ _. refl);
-  room = tt;
-  none_yet = λ _. refl;
-  below = tt;
-}
-
 -- how many keys of the next one's address may come
 pub room_is : (n : ℕ) (ks : List Key) (before : Option Key) (k : Key) (s : Sources) (room : ℕ) → SourcesSoFar n ks before s → IsAfter before k
     → MatchOption before (room ≡ n) (λ b. ((b.ip ≡ k.ip) → room ≡ s.room) × ((b.ip ≢ k.ip) → room ≡ n)) → room ≡ n - of_ip k.ip ks

@@ -1,5 +1,4 @@
 use Rattle.std.proofs.Common.{◌≡◌, ◌∙◌, ◌-◌, ℕ, List, length, take, drop, ap, arith}
-use Rattle.nb_names.specs.DomainName.{spelling}
 use Rattle.nb_names.specs.Labels.{StandsAt}
 use Rattle.nb_c.specs.Names.{in_place}
 use Rattle.nb_c.proofs.spellings.spell_domain.Goals as goal

@@ -149,3 +149,6 @@ join_entry-idem a f = join-idem facts_unite a (entry_slot a f)
 
 pub join_entry_formed : (a b : EntryValue) → IsEntry a → IsEntry b → IsEntry (join_entry a b)
 join_entry_formed a b f g = slot_entry _ (join_formed facts_unite a b (entry_slot a f) (entry_slot b g))
+
+-- all of them
+pub ruleset joins = (join_cover-comm, join_cover-assoc, join_cover-idem, join_cover_formed, join_entry-comm, join_entry-assoc, join_entry-idem, join_entry_formed)

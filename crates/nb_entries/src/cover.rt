@@ -12,7 +12,7 @@ ghost use Rattle.nb_entries.specs.Code.CoverFacts.{Holds};
 ghost use Rattle.nb_entries.specs.Runs.{runs_of_map};
 ghost use Rattle.nb_entries.specs.Whole.{bytes_to, IsWholeCover};
 
-mod end;
+pub(crate) mod end;
 mod loading;
 mod promise;
 mod reading;

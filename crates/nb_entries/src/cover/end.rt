@@ -57,7 +57,7 @@ pub(super) fn is_below(fragment: &LentFragment<'_>, end: Option<u32>) -> bool
 }
 
 /// Whether the end or the promise, if there is one, is at most the limit.
-pub(super) fn is_at_most(limit: u32, place: Option<u32>) -> bool
+pub(crate) fn is_at_most(limit: u32, place: Option<u32>) -> bool
     ensures { result ≡ ends_by limit place }
 {
     match place {

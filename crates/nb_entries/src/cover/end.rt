@@ -1,8 +1,7 @@
 //! Ends of datagrams' data, and what lies below one.
 ghost use Rattle.std.specs.Prelude.{◌≡◌, ◌↔◌, ℕ, IsTrue, Some};
 ghost use Rattle.nb_datagram.specs.Fragment.{core_of};
-ghost use Rattle.nb_entries.specs.Cover.{cover_of, is_below_end, bytes_lie_below};
-ghost use Rattle.nb_entries.specs.Cover.{ends_agree as same_ends};
+ghost use Rattle.nb_entries.specs.Cover.{cover_of, is_below_end, bytes_lie_below, ends_agree as same_ends};
 ghost use Rattle.nb_entries.specs.Short.{ends_by};
 
 use super::promise::{is_before, promise_of};

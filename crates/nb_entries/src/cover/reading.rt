@@ -23,14 +23,8 @@ impl CoverFacts {
         ensures { result ≡ awaited_of self.now }
     {
         match self.promise {
-            Some(place) => {
-                if self.bytes_are_below(place) {
-                    Some(place)
-                } else {
-                    None
-                }
-            }
-            None => None,
+            Some(place) if self.bytes_are_below(place) => Some(place),
+            _ => None,
         }
     }
 

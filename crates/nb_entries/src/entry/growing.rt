@@ -6,10 +6,8 @@ ghost use Rattle.nb_entries.specs.Slot.{Held};
 ghost use Rattle.nb_entries.specs.Entry.{AreEntryFacts, FactsFit, facts_of, facts_together};
 ghost use Rattle.nb_entries.specs.Cover.{CoversFit, cover_of, covers_together};
 ghost use Rattle.nb_entries.specs.Code.CoverFacts.{Holds};
-ghost use Rattle.nb_entries.specs.Whole.{bytes_to, datagram_with, newly};
-ghost use Rattle.nb_entries.specs.Whole.{datagram_of as entry_datagram};
-ghost use Rattle.nb_entries.specs.Change.{Tells, handed_by};
-ghost use Rattle.nb_entries.specs.Change.{grown_to as grown};
+ghost use Rattle.nb_entries.specs.Whole.{bytes_to, datagram_with, newly, datagram_of as entry_datagram};
+ghost use Rattle.nb_entries.specs.Change.{Tells, handed_by, grown_to as grown};
 
 use super::EntryFacts;
 use crate::change::{Change, Handing};

@@ -4,8 +4,7 @@ ghost use Rattle.nb_entries.specs.Short.{is_short as is_short_entry};
 ghost use Rattle.nb_entries.specs.Sinks.{Puts};
 ghost use Rattle.nb_entries.specs.Saved.{facts_bytes, entry_bytes};
 ghost use Rattle.nb_entries.specs.SavedFits.{IsNamed};
-ghost use Rattle.nb_entries.specs.SavedReading.{facts_at, entry_at};
-ghost use Rattle.nb_entries.specs.SavedReading.{most_of as most_reading};
+ghost use Rattle.nb_entries.specs.SavedReading.{facts_at, entry_at, most_of as most_reading};
 ghost use Rattle.nb_entries.specs.Slot.{Held, OnHeld};
 ghost use Rattle.nb_entries.specs.declared.saved.form.SavedForm.TheVariants.{Second};
 

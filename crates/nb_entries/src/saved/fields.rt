@@ -6,14 +6,10 @@ ghost use Rattle.std.specs.Int.{w16, w32, to_be_bytes};
 ghost use Rattle.nb_names.specs.Numbers.{NumberAt};
 ghost use Rattle.nb_entries.specs.Sinks.{Puts};
 ghost use Rattle.nb_entries.specs.Saved.{end_bytes};
-ghost use Rattle.nb_entries.specs.SavedReading.{Field, PromisesBelow, fault_of_name};
-ghost use Rattle.nb_entries.specs.SavedReading.{byte_at as byte_reading};
-ghost use Rattle.nb_entries.specs.SavedReading.{number_at as number_reading};
-ghost use Rattle.nb_entries.specs.SavedReading.{bytes_at as bytes_reading};
-ghost use Rattle.nb_entries.specs.SavedReading.{kind_at as kind_reading};
-ghost use Rattle.nb_entries.specs.SavedReading.{name_at as name_reading};
-ghost use Rattle.nb_entries.specs.SavedReading.{end_at as end_reading};
-ghost use Rattle.nb_entries.specs.SavedReading.{promise_at as promise_reading};
+ghost use Rattle.nb_entries.specs.SavedReading.{Field, PromisesBelow, fault_of_name, byte_at as byte_reading};
+ghost use Rattle.nb_entries.specs.SavedReading.{number_at as number_reading, bytes_at as bytes_reading};
+ghost use Rattle.nb_entries.specs.SavedReading.{kind_at as kind_reading, name_at as name_reading};
+ghost use Rattle.nb_entries.specs.SavedReading.{end_at as end_reading, promise_at as promise_reading};
 
 use super::form::SavedForm;
 use super::sink::ByteSink;

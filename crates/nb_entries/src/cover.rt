@@ -5,7 +5,8 @@ ghost use Rattle.std.specs.Prelude.{◌≡◌, ◌==◌, ◌↔◌, ◌&&◌, If
 ghost use Rattle.std.specs.FinMap as maps;
 ghost use Rattle.nb_datagram.specs.Fragment.{core_of};
 ghost use Rattle.nb_entries.specs.Slot.{Held};
-ghost use Rattle.nb_entries.specs.Cover.{CoversFit, cover_of, covers_agree, covers_together, is_below_end, bytes_lie_below};
+ghost use Rattle.nb_datagram.specs.declared.limits.TheConstants.{MAX_LENGTH};
+ghost use Rattle.nb_entries.specs.Cover.{BytesBelow, CoversFit, cover_of, covers_agree, covers_together, is_below_end, bytes_lie_below};
 ghost use Rattle.nb_entries.specs.Code.CoverFacts.{Holds};
 ghost use Rattle.nb_entries.specs.Runs.{runs_of_map};
 ghost use Rattle.nb_entries.specs.Whole.{bytes_to, IsWholeCover};
@@ -180,11 +181,12 @@ impl CoverFacts {
         }
     }
 
-    /// How many runs the bytes make up.
-    pub(crate) fn run_count(&self) -> usize
+    /// How many runs the bytes make up, where each lies below what a datagram may have.
+    pub(crate) fn run_count(&self) -> u32
+        requires { BytesBelow MAX_LENGTH self.now.bytes }
         ensures { result ≡ length (runs_of_map self.now.bytes) }
     {
-        self.bytes.count()
+        self.bytes.count() as u32
     }
 
     /// Whether the end and each byte before it are known.

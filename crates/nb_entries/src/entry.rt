@@ -162,7 +162,7 @@ impl EntryFacts {
         requires { AreShort MAX_LENGTH self.now }
         ensures { result ≡ length (runs_of_map self.now.cover.bytes) }
     {
-        self.known.cover.run_count() as u32
+        self.known.cover.run_count()
     }
 
     /// Whether the end and each byte before it are known.

@@ -20,7 +20,7 @@ impl EntryFacts {
             kind: self.known.kind,
             source: self.source().to_name(),
             destination: self.destination().to_name(),
-            held: self.known.cover.held() as u32,
+            held: self.known.cover.held(),
             runs: self.run_count(),
             end: self.known.cover.end(),
             promise: self.known.cover.promise(),

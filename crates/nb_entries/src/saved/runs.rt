@@ -60,8 +60,8 @@ impl<'a> SavedRun<'a> {
     }
 }
 
-/// The run at an offset. Its start must be at least `least`, its length mustn't be 0, and it mustn't
-/// reach past `most`.
+/// The run at an offset. Its start must be at least `least`, its length not 0, and it mustn't reach
+/// past `most`.
 fn read_run<'a>(
     input: &'a [u8],
     most: u32,

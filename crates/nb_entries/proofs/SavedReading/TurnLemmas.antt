@@ -9,7 +9,7 @@ use Rattle.nb_entries.specs.declared.load_fault.LoadFault.{LoadFault}
 use Rattle.nb_entries.specs.declared.load_fault.LoadFault.TheVariants.{NotCanonical}
 use Rattle.nb_entries.specs.declared.saved.form.SavedForm.TheVariants.{Second}
 use Rattle.nb_entries.specs.Runs.{RunValue, run_end}
-use Rattle.nb_entries.specs.SavedReading.{Outcome, Then, cut, whole, is_0, is_1, is_neither, gives, stops, goes_on, good, bad, PromisesBelow, end_at, promise_at, run_at, row_at, runs_at}
+use Rattle.nb_entries.specs.SavedReading.{Outcome, Then, cut, whole, is_0, is_1, is_neither, gives, stops, goes_on, good, bad, PromisesBelow, end_at, promise_at, run_at, row_at}
 
 -- ---- how readings end
 
@@ -70,7 +70,3 @@ row_stopped input most total at counter least here f o s below e h =
 pub row_ended : (input : List ℕ) (most total at counter least here : ℕ) (s : RowSoFar input most total at counter least here) → counter ≡ total → row_at input most total 0 at (Ok (s.done, here))
 row_ended input most total at counter least here s all =
     subst (λ (rs : List RunValue). row_at input most total 0 at (Ok (rs, here))) (append-nil s.done) (s.found 0 here [] (omega (arith, all)) gives)
-
--- the same with another name for the limit
-pub runs_moved : (input : List ℕ) (m n at : ℕ) (o : Outcome (List RunValue)) → m ≡ n → runs_at input m at o → runs_at input n at o
-runs_moved input m n at o e h = subst (λ (k : ℕ). runs_at input k at o) e h

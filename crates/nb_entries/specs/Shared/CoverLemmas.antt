@@ -41,9 +41,6 @@ below_is n c h = record { bytes = (bytes_below_decides n c.bytes).0 (and_left _ 
 is_below : (n : ℕ) (c : CoverFacts) → LiesBelow n c → lies_below n c ≡ true
 is_below n c h = and_from _ _ ((bytes_below_decides n c.bytes).1 h.bytes) (before_from c.promise n h.promise)
 
-pub lies_below_decides : (n : ℕ) (c : CoverFacts) → Decides (lies_below n c) (LiesBelow n c)
-lies_below_decides n c = (below_is n c, is_below n c)
-
 pub below_end_is : (o : Option ℕ) (c : CoverFacts) → is_below_end o c ≡ true → (n : ℕ) → o ≡ Some n → LiesBelow n c
 below_end_is None c h n e = absurd (none-some n e)
 below_end_is (Some k) c h n e = subst (λ n. LiesBelow n c) (same_Some k n e) (below_is k c h)

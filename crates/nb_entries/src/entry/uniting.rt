@@ -44,13 +44,9 @@ impl EntryFacts {
         }) }
     {
         let alloc = *Box::allocator(&self.known);
-        EntryFacts::new(
-            alloc,
-            self.known.kind,
-            &self.source(),
-            &self.destination(),
-            cover,
-        )
+        let source = self.source();
+        let destination = self.destination();
+        EntryFacts::new(alloc, self.known.kind, &source, &destination, cover)
     }
 
     /// A copy.

@@ -59,10 +59,7 @@ impl<'a> Model for SavedFacts<'a> {
 fn most_of(end: Option<u32>) -> u32
     ensures { result ≡ most_reading end }
 {
-    match end {
-        Some(end) => end,
-        None => MAX_LENGTH as u32,
-    }
+    end.unwrap_or(MAX_LENGTH as u32)
 }
 
 /// What is held by the entry at an offset.

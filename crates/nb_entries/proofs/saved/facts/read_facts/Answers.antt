@@ -4,7 +4,7 @@ use Rattle.nb_entries.specs.Runs.{RunValue, run_end}
 use Rattle.nb_entries.specs.SavedReading.{goes_on, gives}
 use Rattle.nb_entries.specs.Shared.LoadedLemmas.{covers_formed}
 use Rattle.nb_entries.specs.Shared.FoundLemmas.{promise_found, runs_found}
-use Rattle.nb_entries.proofs.SavedReading.TurnLemmas.{stopped, runs_moved}
+use Rattle.nb_entries.proofs.SavedReading.TurnLemmas.{stopped}
 use Rattle.nb_entries.proofs.saved.facts.read_facts.Goals as goal
 
 pub returns-in_err-kind : goal.returns-in_err-kind
@@ -27,7 +27,7 @@ returns-in_err-promise c =
 
 pub returns-in_err-runs : goal.returns-in_err-runs
 returns-in_err-runs c =
-    goes_on _ _ c.in_ok-kind.ensures (goes_on _ _ c.in_ok-source.ensures (goes_on _ _ c.in_ok-destination.ensures (goes_on _ _ c.in_ok-end.ensures (goes_on _ _ c.in_ok-promise.ensures (stopped _ _ c.from_residual-in_err-runs.ensures.1 (runs_moved _ _ _ _ _ c.most_of.ensures c.in_err-runs.ensures))))))
+    goes_on _ _ c.in_ok-kind.ensures (goes_on _ _ c.in_ok-source.ensures (goes_on _ _ c.in_ok-destination.ensures (goes_on _ _ c.in_ok-end.ensures (goes_on _ _ c.in_ok-promise.ensures (rw (← c.most_of.ensures) (stopped _ _ c.from_residual-in_err-runs.ensures.1 c.in_err-runs.ensures))))))
 
 pub invariant_of-facts : goal.invariant_of-facts
 invariant_of-facts c =

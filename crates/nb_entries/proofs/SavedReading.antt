@@ -1,3 +1,2 @@
 -- On specs/SavedReading.
-pub mod StandingLemmas
 pub mod TurnLemmas

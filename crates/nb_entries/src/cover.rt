@@ -1,18 +1,17 @@
 //! Covers: what is known of a datagram's data.
 //!
 //! That the bytes are kept as runs is known in this folder alone, and by what loads them.
-ghost use Rattle.std.specs.Option.{option_eq};
-ghost use Rattle.std.specs.Prelude.{◌≡◌, ◌==◌, ◌↔◌, ◌&&◌, ℕ, IfOk, IsTrue, OnOk, OnErr, Some, length, None, Ok};
+ghost use Rattle.std.specs.Prelude.{◌≡◌, ◌==◌, ◌↔◌, ◌&&◌, IfOk, IsTrue, OnOk, OnErr, Some, length, None, Ok};
 ghost use Rattle.std.specs.FinMap as maps;
 ghost use Rattle.nb_datagram.specs.Fragment.{core_of};
 ghost use Rattle.nb_entries.specs.Slot.{Held};
-ghost use Rattle.nb_entries.specs.Cover.{CoversFit, cover_of, covers_agree, covers_together, is_below_end, bytes_lie_below};
-ghost use Rattle.nb_entries.specs.Cover.{bytes_agree as same_bytes};
+ghost use Rattle.nb_datagram.specs.declared.limits.TheConstants.{MAX_LENGTH};
+ghost use Rattle.nb_entries.specs.Cover.{BytesBelow, CoversFit, cover_of, covers_agree, covers_together, is_below_end, bytes_lie_below};
 ghost use Rattle.nb_entries.specs.Code.CoverFacts.{Holds};
 ghost use Rattle.nb_entries.specs.Runs.{runs_of_map};
 ghost use Rattle.nb_entries.specs.Whole.{bytes_to, IsWholeCover};
 
-mod end;
+pub(crate) mod end;
 mod loading;
 mod promise;
 mod reading;
@@ -107,40 +106,15 @@ impl CoverFacts {
         }
     }
 
-    /// Whether no place has another byte in a fragment.
-    fn bytes_agree_with(&self, fragment: &LentFragment<'_>) -> bool
-        ensures { result ≡ same_bytes self.now.bytes (cover_of (core_of fragment.now)).bytes }
-    {
-        let start = u32::from(fragment.offset());
-        self.bytes.agree(start, fragment.bytes())
-    }
-
-    /// Whether what is known lies below a fragment's end, and the fragment below the known end.
-    fn is_below_with(&self, fragment: &LentFragment<'_>) -> bool
-        ensures { result ≡ (is_below_end (cover_of (core_of fragment.now)).end self.now
-            && is_below_end self.now.end (cover_of (core_of fragment.now))) }
-    {
-        self.is_below(end_of(fragment)) && is_below(fragment, self.end)
-    }
-
     /// Whether a fragment doesn't contradict what is known.
     pub(crate) fn agrees_with(&self, fragment: &LentFragment<'_>) -> bool
         ensures { result ≡ covers_agree self.now (cover_of (core_of fragment.now)) }
     {
-        if !self.bytes_agree_with(fragment) {
-            return false;
-        }
-        ends_agree(self.end, end_of(fragment)) && self.is_below_with(fragment)
-    }
-
-    /// Whether each byte of a fragment is known.
-    fn holds_bytes(&self, fragment: &LentFragment<'_>) -> bool
-        ensures { IsTrue result ↔ ((i x : ℕ)
-            → maps.get (cover_of (core_of fragment.now)).bytes i ≡ Some x
-            → maps.get self.now.bytes i ≡ Some x) }
-    {
         let start = u32::from(fragment.offset());
-        self.bytes.hold(start, fragment.bytes())
+        ends_agree(self.end, end_of(fragment))
+            && self.is_below(end_of(fragment))
+            && is_below(fragment, self.end)
+            && self.bytes.agree(start, fragment.bytes())
     }
 
     /// Whether all that a fragment says is known.
@@ -153,7 +127,8 @@ impl CoverFacts {
         if !is_promised(self.promise, promise_of(fragment)) {
             return false;
         }
-        self.holds_bytes(fragment)
+        let start = u32::from(fragment.offset());
+        self.bytes.hold(start, fragment.bytes())
     }
 
     /// Inserts what a fragment says, which doesn't contradict what is known. All memory is taken
@@ -206,19 +181,12 @@ impl CoverFacts {
         }
     }
 
-    /// How many runs the bytes make up.
-    pub(crate) fn run_count(&self) -> usize
+    /// How many runs the bytes make up, where each lies below what a datagram may have.
+    pub(crate) fn run_count(&self) -> u32
+        requires { BytesBelow MAX_LENGTH self.now.bytes }
         ensures { result ≡ length (runs_of_map self.now.bytes) }
     {
-        self.bytes.count()
-    }
-
-    /// Whether the two have the same end and the same promise.
-    fn ends_like(&self, other: &CoverFacts) -> bool
-        ensures { result ≡ (option_eq ◌==◌ self.now.end other.now.end
-            && option_eq ◌==◌ self.now.promise other.now.promise) }
-    {
-        self.end == other.end && self.promise == other.promise
+        self.bytes.count() as u32
     }
 
     /// Whether the end and each byte before it are known.
@@ -241,7 +209,7 @@ impl PartialEq for CoverFacts {
     ghost laws = { cover_facts_per };
 
     fn eq(&self, other: &Self) -> bool {
-        self.bytes.are(&other.bytes) && self.ends_like(other)
+        self.end == other.end && self.promise == other.promise && self.bytes.are(&other.bytes)
     }
 }
 

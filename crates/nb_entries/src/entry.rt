@@ -123,14 +123,9 @@ impl EntryFacts {
         ensures { IfOk result (λ facts. facts ≡ facts_of (core_of fragment.now)) }
     {
         let cover = CoverFacts::of(alloc, fragment)?;
-        let kind = fragment.kind();
-        EntryFacts::new(
-            alloc,
-            kind,
-            fragment.source(),
-            fragment.destination(),
-            cover,
-        )
+        let source = fragment.source();
+        let destination = fragment.destination();
+        EntryFacts::new(alloc, fragment.kind(), source, destination, cover)
     }
 
     /// Whether a fragment doesn't contradict what is known.
@@ -162,7 +157,7 @@ impl EntryFacts {
         requires { AreShort MAX_LENGTH self.now }
         ensures { result ≡ length (runs_of_map self.now.cover.bytes) }
     {
-        self.known.cover.run_count() as u32
+        self.known.cover.run_count()
     }
 
     /// Whether the end and each byte before it are known.
@@ -283,13 +278,8 @@ impl Slot<EntryFacts> {
     {
         match self {
             Slot::Spoilt => State::Spoilt,
-            Slot::Held(facts) => {
-                if facts.is_whole() {
-                    State::Whole
-                } else {
-                    State::Partial
-                }
-            }
+            Slot::Held(facts) if facts.is_whole() => State::Whole,
+            Slot::Held(_) => State::Partial,
         }
     }
 }

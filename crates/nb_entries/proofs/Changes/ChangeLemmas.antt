@@ -36,12 +36,6 @@ pub with_together : (k : Key) (a b : EntryFacts) (o : Option (List ℕ)) → dat
 with_together k a b None = refl
 with_together k a b (Some xs) = refl
 
-held_same : (a b : EntryFacts) → ◌≡◌ {A = Option EntryValue} (Some (Held a)) (Some (Held b)) → a ≡ b
-held_same a b e = cc
-
-held_spoilt : (a : EntryFacts) → ◌≡◌ {A = Option EntryValue} (Some (Held a)) (Some Spoilt) → ⊥
-held_spoilt a e = absurd (cc)
-
 -- facts that agree with others and don't hold them grow to both together
 pub key_grown : (k : Key) (a b : EntryFacts) → FactsFit a b → (Holds a.cover b.cover → ⊥) →
     KeyChange k (Some (Held a)) (Some (Held (facts_together a b))) (grown_to (newly (datagram_of k (Held a)) (datagram_of k (Held (facts_together a b)))))
@@ -49,8 +43,8 @@ key_grown k a b fit more = at (newly (datagram_of k (Held a)) (datagram_of k (He
   where
     at : (o : Option DatagramParts) → newly (datagram_of k (Held a)) (datagram_of k (Held (facts_together a b))) ≡ o → KeyChange k (Some (Held a)) (Some (Held (facts_together a b))) (grown_to o)
     at None e = (
-      λ same. more (together_holds a.cover b.cover fit.cover (ap (λ (x : EntryFacts). x.cover) (held_same _ _ same))),
-      (λ s. held_spoilt _ s.1),
+      λ same. (let one : facts_together a b ≡ a = cc same in more (together_holds a.cover b.cover fit.cover (ap (λ (x : EntryFacts). x.cover) one))),
+      (λ s. (let clash = s.1 in absurd (cc))),
       e,
     )
     at (Some d) e = e
@@ -60,7 +54,7 @@ pub key_first : (k : Key) (e : EntryFacts) → KeyChange k None (Some (Held e)) 
 key_first k e = at (datagram_of k (Held e)) refl
   where
     at : (o : Option DatagramParts) → datagram_of k (Held e) ≡ o → KeyChange k None (Some (Held e)) (grown_to o)
-    at None h = (λ same. absurd (cc same), (λ s. held_spoilt _ s.1), h)
+    at None h = (λ same. absurd (cc same), (λ s. (let clash = s.1 in absurd (cc))), h)
     at (Some d) h = h
 
 -- what a fragment made of facts of its kind and names that grow
@@ -86,12 +80,9 @@ told_grown Over d = refl
 told_grown Kept None = refl
 told_grown Kept (Some d) = refl
 
-held_one : (a b : EntryFacts) → ◌≡◌ {A = EntryValue} (Held a) (Held b) → a ≡ b
-held_one a b e = cc
-
 -- facts that agree with others and don't hold them aren't their join
 pub join_differs : (s : EntryValue) (a b : EntryFacts) → Held a ≡ s → FactsFit a b → (Holds a.cover b.cover → ⊥) → join_entry s (Held b) ≢ s
 join_differs s a b at fit more same =
     let joined : ◌≡◌ {A = EntryValue} (join_entry (Held a) (Held b)) (Held (facts_together a b)) = ap (λ t. cond t (Held (facts_together a b)) Spoilt) (facts_agree_of a b fit) in
-    let one = held_one (facts_together a b) a (sym joined ∙ ap (λ x. join_entry x (Held b)) at ∙ same ∙ sym at) in
+    let one : facts_together a b ≡ a = cc (sym joined ∙ ap (λ x. join_entry x (Held b)) at ∙ same ∙ sym at) in
     more (together_holds a.cover b.cover fit.cover (ap (λ (x : EntryFacts). x.cover) one))

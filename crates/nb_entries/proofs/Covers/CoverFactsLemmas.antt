@@ -1,78 +1,55 @@
 -- What the bytes of a fragment, one place after the other, say of the cover that they make; and what a
 -- cover holds of another.
-use Rattle.std.proofs.Common.{◌≡◌, ◌<◌, ◌≤◌, ℕ, zero, suc, ◌+◌, ◌-◌, slice_get, length, List, [], ◌∷◌, Bool, true, false, cond, Option, Some, None, refl, sym, ◌∙◌, ap, ap₂, subst, arith, ◌==◌}
-use Rattle.std.proofs.lemmas.Bool.{eqb-true, eq-eqb, and_from}
+use Rattle.std.proofs.Common.{◌≡◌, ◌+◌, ◌==◌, ◌||◌, ℕ, suc, length, List, [], ◌∷◌, Bool, true, cond, Option, Some, None, refl, sym, ◌∙◌, ap, subst, arith, append-nil}
+use Rattle.std.proofs.lemmas.Bool.{eqb-true, eq-eqb}
+use Rattle.std.proofs.lemmas.Bool.Decides.{nat_tests}
+use Rattle.std.specs.Prelude.{T, nat_le, nat_lt}
 use Rattle.std.specs.Ordering.{nat_cmp}
 use Rattle.std.specs.List.{list_all}
+use Rattle.std.specs.Option.{option_or}
 use Rattle.std.specs.FinMap as maps
 use Rattle.std.specs.Cmp.{both_ways, nat_cmp_total}
-use Rattle.std.specs.FinMap.{nat_cmp-IsAntisymmetric}
-use Rattle.nb_datagram.specs.Fragment.{Core, Covers, reach}
+use Rattle.std.specs.FinMap.{nat_cmp-IsAntisymmetric, is_sorted}
+use Rattle.nb_datagram.specs.Fragment.{Core, reach}
 use Rattle.nb_entries.specs.Maps.{first_of}
-use Rattle.nb_entries.specs.Cover.{CoverFacts, CoversFit, BytesBelow, AreCoverFacts, IsCover, placed, cover_of, same_where, bytes_agree, covers_together}
+use Rattle.nb_entries.specs.Slot.{Spoilt, Held}
+use Rattle.nb_entries.specs.Cover.{CoverFacts, CoversFit, AreCoverFacts, IsCover, placed, cover_of, same_where, bytes_agree, bytes_lie_below, covers_together}
 use Rattle.nb_entries.specs.Code.CoverFacts.{Holds, is_there, with_bytes}
 use Rattle.nb_entries.specs.Promise.{greater, promise_of_one}
 use Rattle.nb_entries.specs.Shared.PromiseLemmas.{adds_promised}
-use Rattle.nb_entries.specs.Shared.MapsLemmas.{and_left, and_right, all_entries_found, all_entries_from}
-use Rattle.nb_entries.specs.Shared.CoverLemmas.{in_union, same_cover, agree_of}
+use Rattle.nb_entries.specs.Shared.MapsLemmas.{all_entries_found, all_entries_from, sorted_entries}
+use Rattle.nb_entries.specs.Shared.CoverLemmas.{same_at, at_same, in_union, same_cover, agree_of}
+use Rattle.nb_entries.specs.Shared.RowLemmas.{run_below}
+use Rattle.nb_entries.specs.Shared.RunsLemmas.{sorted_placed}
 use Rattle.nb_entries.specs.Shared.EntryLemmas.{join_cover_formed}
-use Rattle.nb_entries.specs.Slot.{Spoilt, Held}
 use Rattle.nb_entries.proofs.Covers.PutLemmas.{get-with_bytes}
-use Rattle.std.specs.Option.{option_or}
-use Rattle.nb_entries.specs.Shared.PlacedLemmas.{get-cover_of, byte_of_decides, covers_below}
 
 -- ---- each byte of a fragment
 
-all_from_each : (P : ℕ → ℕ → Bool) (i : ℕ) (xs : List ℕ) → ((k x : ℕ) → slice_get xs k ≡ Some x → P (i + k) x ≡ true) → list_all (λ e. P e.0 e.1) (placed i xs) ≡ true
-all_from_each P i [] h = refl
-all_from_each P i (x ∷ xs) h =
-    let here : i + 0 ≡ i = omega arith in
-    and_from _ _ (subst (λ j. P j x ≡ true) here (h 0 x refl))
-    (all_from_each P (i + 1) xs (λ k y e. (let on : i + suc k ≡ i + 1 + k = omega arith in subst (λ j. P j y ≡ true) on (h (suc k) y e))))
-
-each_from_all : (P : ℕ → ℕ → Bool) (i : ℕ) (xs : List ℕ) → list_all (λ e. P e.0 e.1) (placed i xs) ≡ true → (k x : ℕ) → slice_get xs k ≡ Some x → P (i + k) x ≡ true
-each_from_all P i [] h k x e = absurd (cc)
-each_from_all P i (y ∷ ys) h zero x e =
-    let one : y ≡ x = cc in
-    let here : i ≡ i + 0 = omega arith in
-    subst (λ j. P j x ≡ true) here (subst (λ z. P i z ≡ true) one (and_left _ _ h))
-each_from_all P i (y ∷ ys) h (suc k) x e =
-    let on : i + 1 + k ≡ i + suc k = omega arith in
-    subst (λ j. P j x ≡ true) on (each_from_all P (i + 1) ys (and_right _ _ h) k x e)
+-- a fragment's cover has its bytes, in order
+entries_placed : (f : Core) → maps.entries (cover_of f).bytes ≡ placed f.offset f.bytes
+entries_placed f =
+    sorted_entries nat_cmp_total nat_cmp-IsAntisymmetric _
+    (subst (λ (es : List (ℕ × ℕ)). T (is_sorted nat_cmp es)) (append-nil (placed f.offset f.bytes)) (sorted_placed f.offset f.bytes [] tt (λ k l. tt)))
 
 -- a test of each byte of a fragment holds exactly if it holds of what each look-up finds
-pub covered_from_all : (P : ℕ → ℕ → Bool) (f : Core) → list_all (λ e. P e.0 e.1) (placed f.offset f.bytes) ≡ true → (q x : ℕ) → maps.get (cover_of f).bytes q ≡ Some x → P q x ≡ true
-covered_from_all P f h q x g =
-    let c = (byte_of_decides f q x).0 (sym (get-cover_of f q) ∙ g) in
-    let from = c.0 in
-    let there : f.offset + (q - f.offset) ≡ q = omega (arith, from) in
-    subst (λ j. P j x ≡ true) there (each_from_all P f.offset f.bytes h (q - f.offset) x c.1)
+covered_from_all : (P : ℕ → ℕ → Bool) (f : Core) → list_all (λ e. P e.0 e.1) (placed f.offset f.bytes) ≡ true → (q x : ℕ) → maps.get (cover_of f).bytes q ≡ Some x → P q x ≡ true
+covered_from_all P f h = all_entries_found nat_cmp-IsAntisymmetric P (cover_of f).bytes (ap (list_all (λ (e : ℕ × ℕ). P e.0 e.1)) (entries_placed f) ∙ h)
 
-pub all_from_covered : (P : ℕ → ℕ → Bool) (f : Core) → ((q x : ℕ) → maps.get (cover_of f).bytes q ≡ Some x → P q x ≡ true) → list_all (λ e. P e.0 e.1) (placed f.offset f.bytes) ≡ true
-all_from_covered P f h = all_from_each P f.offset f.bytes (λ k x e.
-    (let back : f.offset + k - f.offset ≡ k = omega arith in
-    let covers : Covers f (f.offset + k) x = (omega arith, ap (slice_get f.bytes) back ∙ e) in
-    h (f.offset + k) x (get-cover_of f (f.offset + k) ∙ (byte_of_decides f (f.offset + k) x).1 covers)))
+all_from_covered : (P : ℕ → ℕ → Bool) (f : Core) → ((q x : ℕ) → maps.get (cover_of f).bytes q ≡ Some x → P q x ≡ true) → list_all (λ e. P e.0 e.1) (placed f.offset f.bytes) ≡ true
+all_from_covered P f h = ap (list_all (λ (e : ℕ × ℕ). P e.0 e.1)) (sym (entries_placed f)) ∙ all_entries_from nat_cmp_total nat_cmp-IsAntisymmetric P (cover_of f).bytes h
 
 -- ---- bytes that agree
-
-same_value : (o : Option ℕ) (x y : ℕ) → same_where o x ≡ true → o ≡ Some y → x ≡ y
-same_value None x y h e = absurd (cc)
-same_value (Some z) x y h e = let one : z ≡ y = cc in sym (eqb-true z x h) ∙ one
-
-value_same : (o : Option ℕ) (x : ℕ) → ((y : ℕ) → o ≡ Some y → x ≡ y) → same_where o x ≡ true
-value_same None x h = refl
-value_same (Some z) x h = eq-eqb z x (sym (h z refl))
 
 -- the bytes of a fragment agree with a map where the map agrees with them
 pub bytes_agree_is : (m : maps.FinMap nat_cmp ℕ) (look : ℕ → Option ℕ) (f : Core) → ((q : ℕ) → maps.get m q ≡ look q) → list_all (λ e. same_where (look e.0) e.1) (placed f.offset f.bytes) ≡ bytes_agree m (cover_of f).bytes
 bytes_agree_is m look f same = both_ways _ _
     (λ h. all_entries_from nat_cmp_total nat_cmp-IsAntisymmetric (λ i v. same_where (maps.get (cover_of f).bytes i) v) m
-    (λ q y e. value_same (maps.get (cover_of f).bytes q) y
-    (λ x g. sym (same_value (look q) x y (covered_from_all (λ i v. same_where (look i) v) f h q x g) (sym (same q) ∙ e)))))
+    (λ q y e. at_same (maps.get (cover_of f).bytes q) y
+    (λ x g. sym (same_at (look q) x y (covered_from_all (λ i v. same_where (look i) v) f h q x g) (sym (same q) ∙ e)))))
     (λ h. all_from_covered (λ i v. same_where (look i) v) f
-    (λ q x g. value_same (look q) x
-    (λ y e. sym (same_value (maps.get (cover_of f).bytes q) y x (all_entries_found nat_cmp-IsAntisymmetric (λ i v. same_where (maps.get (cover_of f).bytes i) v) m h q y (same q ∙ e)) g))))
+    (λ q x g. at_same (look q) x
+    (λ y e. sym (same_at (maps.get (cover_of f).bytes q) y x (all_entries_found nat_cmp-IsAntisymmetric (λ i v. same_where (maps.get (cover_of f).bytes i) v) m h q y (same q ∙ e)) g))))
 
 -- ---- bytes that are held
 
@@ -92,30 +69,16 @@ all_from_held look f h = all_from_covered (λ i v. is_there (look i) v) f (λ q 
 
 -- ---- what lies below an end
 
--- the place before a fragment's reach is covered
-last_covered : (f : Core) (xs : List ℕ) → f.bytes ≡ xs → 0 < length xs → (x : ℕ) × (maps.get (cover_of f).bytes (reach f - 1) ≡ Some x)
-last_covered f xs same h =
-    let size : length f.bytes ≡ length xs = ap length same in
-    let from : f.offset ≤ reach f - 1 = omega (arith, h, size) in
-    let place : reach f - 1 - f.offset ≡ length xs - 1 = omega (arith, h, size) in
-    let last = last_of xs h in (
-      last.0,
-      get-cover_of f (reach f - 1) ∙ (byte_of_decides f (reach f - 1) last.0).1 (from, ap₂ slice_get same place ∙ last.1),
-    )
+-- a fragment's bytes lie below a place that its reach is at most, or there are none
+pub fragment_below : (f : Core) (n : ℕ) → bytes_lie_below n (cover_of f).bytes ≡ ((length f.bytes == 0) || nat_le (reach f) n)
+fragment_below f n = ap (list_all (λ (e : ℕ × ℕ). nat_lt e.0 n)) (entries_placed f) ∙ step f.offset f.bytes
   where
-    last_of : (ys : List ℕ) → 0 < length ys → (x : ℕ) × (slice_get ys (length ys - 1) ≡ Some x)
-    last_of [] h = absurd (omega arith)
-    last_of (y ∷ []) h = (y, refl)
-    last_of (y ∷ z ∷ zs) h =
-        let on : length (y ∷ z ∷ zs) - 1 ≡ suc (length (z ∷ zs) - 1) = omega arith in
-        let rest = last_of (z ∷ zs) (omega arith) in
-        (rest.0, ap (slice_get (y ∷ z ∷ zs)) on ∙ rest.1)
-
-pub below_if_empty : (f : Core) (n : ℕ) → length f.bytes ≡ 0 → BytesBelow n (cover_of f).bytes
-below_if_empty f n h i x g = let c = (byte_of_decides f i x).0 (sym (get-cover_of f i) ∙ g) in let from = c.0 in let below = covers_below f i x c in absurd (omega (arith, below, from, h))
-
-pub reach_by_below : (f : Core) (n : ℕ) → 0 < length f.bytes → BytesBelow n (cover_of f).bytes → reach f ≤ n
-reach_by_below f n h b = let last = last_covered f f.bytes refl h in let below = b (reach f - 1) last.0 last.1 in omega (arith, below, h)
+    step : (s : ℕ) (xs : List ℕ) → list_all (λ (e : ℕ × ℕ). nat_lt e.0 n) (placed s xs) ≡ ((length xs == 0) || nat_le (s + length xs) n)
+    step s [] = refl
+    step s (x ∷ xs) = run_below n (record { start = s; bytes = x ∷ xs }) (omega arith) ∙ some (length xs) (nat_le (s + suc (length xs)) n)
+      where
+        some : (k : ℕ) (b : Bool) → b ≡ ((suc k == 0) || b)
+        some k b = grind (arith, nat_tests)
 
 -- ---- what is held
 
@@ -130,13 +93,6 @@ together_holds a b fit same = record {
     at : (o : Option ℕ) (x : ℕ) {p r : Option ℕ} → o ≡ r → ((u v : ℕ) → r ≡ Some u → p ≡ Some v → u ≡ v) → p ≡ Some x → first_of o p ≡ r → r ≡ Some x
     at None x e f g h = sym h ∙ g
     at (Some y) x e f g h = sym e ∙ ap Some (f y x (sym e) g)
-
-pub not_empty : (xs ys : List ℕ) → ys ≡ xs → (length ys == 0) ≡ false → 0 < length xs
-not_empty xs ys same h = let size = ap length same in above (length ys) size h
-  where
-    above : (n : ℕ) → n ≡ length xs → (n == 0) ≡ false → 0 < length xs
-    above zero e h = absurd (cc)
-    above (suc n) e h = omega (arith, e)
 
 -- ---- a fragment put into a cover that it agrees with
 

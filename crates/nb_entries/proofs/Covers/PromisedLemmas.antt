@@ -32,3 +32,5 @@ goes_on_at f r g = (
     ]
   ],
 )
+
+pub ruleset goes_on_from = (goes_on, goes_on_at)

@@ -13,11 +13,11 @@ use Rattle.nb_entries.specs.Code.CoverFacts.{Holds}
 use Rattle.nb_entries.specs.Shared.PromiseLemmas.{greater-comm, greater-assoc, greater-itself, greater_either, greater_left, greater_right, promised_adds, before_is, before_from}
 use Rattle.nb_entries.specs.Shared.SlotLemmas.{Unites}
 
-same_at : (o : Option ℕ) (x y : ℕ) → same_where o x ≡ true → o ≡ Some y → x ≡ y
+pub same_at : (o : Option ℕ) (x y : ℕ) → same_where o x ≡ true → o ≡ Some y → x ≡ y
 same_at None x y h e = absurd (none-some y e)
 same_at (Some z) x y h e = sym (eqb-true z x h) ∙ same_Some z y e
 
-at_same : (o : Option ℕ) (x : ℕ) → ((y : ℕ) → o ≡ Some y → x ≡ y) → same_where o x ≡ true
+pub at_same : (o : Option ℕ) (x : ℕ) → ((y : ℕ) → o ≡ Some y → x ≡ y) → same_where o x ≡ true
 at_same None x h = refl
 at_same (Some z) x h = eq-eqb z x (sym (h z refl))
 
@@ -40,9 +40,6 @@ below_is n c h = record { bytes = (bytes_below_decides n c.bytes).0 (and_left _ 
 
 is_below : (n : ℕ) (c : CoverFacts) → LiesBelow n c → lies_below n c ≡ true
 is_below n c h = and_from _ _ ((bytes_below_decides n c.bytes).1 h.bytes) (before_from c.promise n h.promise)
-
-pub lies_below_decides : (n : ℕ) (c : CoverFacts) → Decides (lies_below n c) (LiesBelow n c)
-lies_below_decides n c = (below_is n c, is_below n c)
 
 pub below_end_is : (o : Option ℕ) (c : CoverFacts) → is_below_end o c ≡ true → (n : ℕ) → o ≡ Some n → LiesBelow n c
 below_end_is None c h n e = absurd (none-some n e)

@@ -1,17 +1,16 @@
 -- Entries agree where kinds and names are the same and covers agree, and their union is one in the sense
 -- of SlotLemmas.
-use Rattle.std.proofs.Common.{◌≡◌, arith, ap, Decides, cond, true, refl, sym, ◌∙◌}
+use Rattle.std.proofs.Common.{◌≡◌, Decides, true, refl, sym, ◌∙◌}
 use Rattle.std.specs.FinMap as maps
 use Rattle.nb_entries.specs.Slot.{Spoilt, Held, OnHeld}
 use Rattle.nb_entries.specs.Cover.{CoverValue, covers_agree, join_cover, IsCover}
-use Rattle.nb_entries.specs.Code.CoverFacts.{Holds}
 use Rattle.nb_entries.specs.Entry.{EntryFacts, FactsFit, EntryValue, facts_agree, facts_together, join_entry, AreEntryFacts, IsEntry}
 use Rattle.nb_names.specs.NameFacts.{name_eq_decides}
 use Rattle.std.proofs.lemmas.Bool.{and_from}
 use Rattle.nb_entries.specs.Shared.MapsLemmas.{and_left, and_right}
 use Rattle.nb_datagram.specs.EqualityFacts.{same_kind_decides}
 use Rattle.nb_entries.specs.Shared.SlotLemmas.{Unites, join-comm, join-assoc, join-idem, join_formed}
-use Rattle.nb_entries.specs.Shared.CoverLemmas.{covers_unite, fit_of, agree_of, fit_left, fit_right, fit_both, fit_turned, formed_agrees, agrees_formed, together_held, one_value}
+use Rattle.nb_entries.specs.Shared.CoverLemmas.{covers_unite, fit_of, agree_of, fit_left, fit_right, fit_both, fit_turned, formed_agrees, agrees_formed}
 
 pub facts_fit_of : (a b : EntryFacts) → facts_agree a b ≡ true → FactsFit a b
 facts_fit_of a b h =
@@ -104,26 +103,6 @@ slot_cover (Held a) f = agrees_formed a f
 pub facts_agree_decides : (a b : EntryFacts) → Decides (facts_agree a b) (FactsFit a b)
 facts_agree_decides a b = (facts_fit_of a b, facts_agree_of a b)
 
--- an entry joined with facts that it has already is as it was
-pub join_held : (a b : EntryFacts) → AreEntryFacts a → a.kind ≡ b.kind → a.source ≡ b.source → a.destination ≡ b.destination →
-    Holds a.cover b.cover → join_entry (Held a) (Held b) ≡ Held a
-join_held a b formed kind source destination held =
-    ap (λ p. cond p (Held (facts_together a b)) Spoilt) (facts_agree_of a b (record {
-      kind = kind;
-      source = source;
-      destination = destination;
-      cover = record {
-        bytes = λ i x y e f. one_value (maps.get a.cover.bytes i) x y e (held.bytes i y f);
-        ends = λ m n e f. one_value a.cover.end m n e (held.end n f);
-        own_below = λ n e. formed n (held.end n e);
-        other_below = λ n e. record {
-          bytes = λ i x f. (formed n e).bytes i x (held.bytes i x f);
-          promise = λ r f. (let w = held.promise r f in let below = (formed n e).promise w.0 w.1 in let less = w.2 in omega (arith, below, less));
-        };
-      };
-    }))
-    ∙ (λ i. Held (record { kind = a.kind; source = a.source; destination = a.destination; cover = together_held a.cover b.cover held i }))
-
 -- ---- the laws of joins of covers and entries
 
 pub join_cover-comm : (a b : CoverValue) → join_cover a b ≡ join_cover b a
@@ -149,3 +128,6 @@ join_entry-idem a f = join-idem facts_unite a (entry_slot a f)
 
 pub join_entry_formed : (a b : EntryValue) → IsEntry a → IsEntry b → IsEntry (join_entry a b)
 join_entry_formed a b f g = slot_entry _ (join_formed facts_unite a b (entry_slot a f) (entry_slot b g))
+
+-- all of them
+pub ruleset joins = (join_cover-comm, join_cover-assoc, join_cover-idem, join_cover_formed, join_entry-comm, join_entry-assoc, join_entry-idem, join_entry_formed)

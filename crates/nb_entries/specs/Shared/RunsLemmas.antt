@@ -112,7 +112,7 @@ below_places k (r ∷ rs) p a =
     let least : k ≤ run_end r = omega (arith, p) in
     below_placed k r.start r.bytes (places_of rs) p (below_places k rs (past_less k (run_end r) rs least a.1.0) a.1.1)
 
-sorted_placed : (i : ℕ) (xs : List ℕ) (es : List (ℕ × ℕ)) → T (is_sorted nat_cmp es) → ((k : ℕ) → k < i + length xs → T (below_all nat_cmp k es)) → T (is_sorted nat_cmp (placed i xs ++ es))
+pub sorted_placed : (i : ℕ) (xs : List ℕ) (es : List (ℕ × ℕ)) → T (is_sorted nat_cmp es) → ((k : ℕ) → k < i + length xs → T (below_all nat_cmp k es)) → T (is_sorted nat_cmp (placed i xs ++ es))
 sorted_placed i [] es s h = s
 sorted_placed i (x ∷ xs) es s h =
     let here : i < i + suc (length xs) = omega arith in

@@ -1,8 +1,7 @@
 //! Ends of datagrams' data, and what lies below one.
 ghost use Rattle.std.specs.Prelude.{◌≡◌, ◌↔◌, ℕ, IsTrue, Some};
 ghost use Rattle.nb_datagram.specs.Fragment.{core_of};
-ghost use Rattle.nb_entries.specs.Cover.{cover_of, is_below_end, bytes_lie_below};
-ghost use Rattle.nb_entries.specs.Cover.{ends_agree as same_ends};
+ghost use Rattle.nb_entries.specs.Cover.{cover_of, is_below_end, bytes_lie_below, ends_agree as same_ends};
 ghost use Rattle.nb_entries.specs.Short.{ends_by};
 
 use super::promise::{is_before, promise_of};
@@ -57,7 +56,7 @@ pub(super) fn is_below(fragment: &LentFragment<'_>, end: Option<u32>) -> bool
 }
 
 /// Whether the end or the promise, if there is one, is at most the limit.
-pub(super) fn is_at_most(limit: u32, place: Option<u32>) -> bool
+pub(crate) fn is_at_most(limit: u32, place: Option<u32>) -> bool
     ensures { result ≡ ends_by limit place }
 {
     match place {

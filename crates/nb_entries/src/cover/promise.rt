@@ -2,8 +2,7 @@
 ghost use Rattle.std.specs.Prelude.{◌≡◌};
 ghost use Rattle.nb_datagram.specs.Fragment.{core_of};
 ghost use Rattle.nb_entries.specs.Cover.{is_before as promise_is_before};
-ghost use Rattle.nb_entries.specs.Promise.{promise_of_one};
-ghost use Rattle.nb_entries.specs.Promise.{greater as the_greater};
+ghost use Rattle.nb_entries.specs.Promise.{promise_of_one, greater as the_greater};
 ghost use Rattle.nb_entries.specs.Code.CoverFacts.{is_promised as promised_already};
 
 use nb_datagram::LentFragment;

@@ -11,11 +11,11 @@ use crate::ranges::Ranges;
 
 impl CoverFacts {
     /// How many bytes are known, where each lies below what a datagram may have.
-    pub(crate) fn held(&self) -> usize
+    pub(crate) fn held(&self) -> u32
         requires { BytesBelow MAX_LENGTH self.now.bytes }
         ensures { result ≡ maps.len self.now.bytes }
     {
-        self.bytes.held()
+        self.bytes.held() as u32
     }
 
     /// The promise, where no byte is known at its place or after it.
@@ -23,14 +23,8 @@ impl CoverFacts {
         ensures { result ≡ awaited_of self.now }
     {
         match self.promise {
-            Some(place) => {
-                if self.bytes_are_below(place) {
-                    Some(place)
-                } else {
-                    None
-                }
-            }
-            None => None,
+            Some(place) if self.bytes_are_below(place) => Some(place),
+            _ => None,
         }
     }
 

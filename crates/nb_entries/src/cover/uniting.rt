@@ -25,16 +25,10 @@ impl Facts for CoverFacts {
     ghost formed_agree = { formed_agrees };
 
     fn agree(&self, other: &CoverFacts) -> bool {
-        if !self.bytes.agree_all(&other.bytes) {
-            return false;
-        }
-        if !ends_agree(self.end, other.end) {
-            return false;
-        }
-        if !self.is_below(other.end) {
-            return false;
-        }
-        other.is_below(self.end)
+        self.bytes.agree_all(&other.bytes)
+            && ends_agree(self.end, other.end)
+            && self.is_below(other.end)
+            && other.is_below(self.end)
     }
 
     fn together(&self, other: &CoverFacts) -> Result<CoverFacts, NoMemory> {
@@ -56,10 +50,9 @@ impl CoverFacts {
         ensures { result ≡ (bytes_lie_below longest self.now.bytes
             && (ends_by longest self.now.end && ends_by longest self.now.promise)) }
     {
-        if !self.bytes_are_below(longest) {
-            return false;
-        }
-        is_at_most(longest, self.end) && is_at_most(longest, self.promise)
+        self.bytes_are_below(longest)
+            && is_at_most(longest, self.end)
+            && is_at_most(longest, self.promise)
     }
 
     /// The place of the first byte, and the bytes, if all are in one run.

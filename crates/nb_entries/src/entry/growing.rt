@@ -6,10 +6,8 @@ ghost use Rattle.nb_entries.specs.Slot.{Held};
 ghost use Rattle.nb_entries.specs.Entry.{AreEntryFacts, FactsFit, facts_of, facts_together};
 ghost use Rattle.nb_entries.specs.Cover.{CoversFit, cover_of, covers_together};
 ghost use Rattle.nb_entries.specs.Code.CoverFacts.{Holds};
-ghost use Rattle.nb_entries.specs.Whole.{bytes_to, datagram_with, newly};
-ghost use Rattle.nb_entries.specs.Whole.{datagram_of as entry_datagram};
-ghost use Rattle.nb_entries.specs.Change.{Tells, handed_by};
-ghost use Rattle.nb_entries.specs.Change.{grown_to as grown};
+ghost use Rattle.nb_entries.specs.Whole.{bytes_to, datagram_with, newly, datagram_of as entry_datagram};
+ghost use Rattle.nb_entries.specs.Change.{Tells, handed_by, grown_to as grown};
 
 use super::EntryFacts;
 use crate::change::{Change, Handing};
@@ -28,27 +26,6 @@ fn grown_to(bytes: Option<UserData>) -> Change<UserData>
 }
 
 impl EntryFacts {
-    /// The datagram's data, if the facts are whole with a fragment. No memory is taken where they
-    /// aren't.
-    fn user_data_with(
-        &self,
-        alloc: Global,
-        fragment: &LentFragment<'_>,
-    ) -> Result<Option<UserData>, NoMemory>
-        requires fits { CoversFit self.now.cover (cover_of (core_of fragment.now)) }
-        requires short { (n : ℕ)
-            → (covers_together self.now.cover (cover_of (core_of fragment.now))).end ≡ Some n
-            → n ≤ MAX_LENGTH }
-        ensures { IfOk result (λ bytes. bytes
-            ≡ bytes_to (covers_together self.now.cover (cover_of (core_of fragment.now))).bytes
-            (covers_together self.now.cover (cover_of (core_of fragment.now))).end) }
-    {
-        match self.known.cover.whole_with(alloc, fragment)? {
-            Some(bytes) => Ok(Some(UserData::new(bytes))),
-            None => Ok(None),
-        }
-    }
-
     /// The datagram's data, if the facts become whole with a fragment and it is handed over. No
     /// memory is taken else.
     fn newly_whole_with(
@@ -74,7 +51,10 @@ impl EntryFacts {
         if self.is_whole() {
             return Ok(None);
         }
-        self.user_data_with(alloc, fragment)
+        match self.known.cover.whole_with(alloc, fragment)? {
+            Some(bytes) => Ok(Some(UserData::new(bytes))),
+            None => Ok(None),
+        }
     }
 
     /// Inserts a fragment, which doesn't contradict what is known. All memory is taken before

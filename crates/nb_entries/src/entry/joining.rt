@@ -1,17 +1,18 @@
 //! Entries joined.
-ghost use Rattle.std.specs.Prelude.{◌≡◌, IfOk, OnOk, OnErr, MatchOption, option_and_then};
+ghost use Rattle.std.specs.Prelude.{◌≡◌, ◌≤◌, cond, IfOk, OnOk, OnErr, MatchOption, Some, None, option_and_then};
 ghost use Rattle.std.specs.Option.{option_copied};
+ghost use Rattle.nb_datagram.specs.Fragment.{has_more};
 ghost use Rattle.nb_datagram.specs.declared.limits.TheConstants.{MAX_LENGTH};
 ghost use Rattle.nb_entries.specs.Entry.{join_entry};
 ghost use Rattle.nb_entries.specs.Short.{IsShort, is_short};
-ghost use Rattle.nb_entries.specs.Whole.{newly};
-ghost use Rattle.nb_entries.specs.Whole.{datagram_of as entry_datagram};
+ghost use Rattle.nb_entries.specs.Whole.{newly, datagram_of as entry_datagram};
 ghost use Rattle.nb_entries.specs.Change.{handed_by, whole_by};
 ghost use Rattle.nb_entries.specs.Code.Part.{IsPart};
 
 use super::{Entry, EntryFacts};
 use crate::change::{Change, Handing};
 use crate::slot::Slot;
+use nb_datagram::limits::{MAX_LENGTH, MORE};
 use nb_datagram::{Datagram, Key, LentFragment};
 use nb_names::NoMemory;
 use std::alloc::Global;
@@ -22,6 +23,23 @@ fn datagram_of(change: Change) -> Option<Datagram>
 {
     match change {
         Change::Whole(datagram) => Some(datagram),
+        _ => None,
+    }
+}
+
+/// The flags of a fragment that reaches this far and says just this of the end and the promise, if
+/// one can.
+fn flags_to(end: Option<u32>, promise: Option<u32>, reach: usize) -> Option<u8>
+    ensures { MatchOption result (Unit {0})
+        (λ flags. (end ≡ cond (has_more flags) None (Some reach))
+        × (promise ≡ cond (has_more flags) (Some reach) None) × (reach ≤ MAX_LENGTH)) }
+{
+    if reach > MAX_LENGTH {
+        return None;
+    }
+    match (end, promise) {
+        (None, Some(promise)) if promise as usize == reach => Some(MORE),
+        (Some(end), None) if end as usize == reach => Some(0),
         _ => None,
     }
 }
@@ -75,10 +93,17 @@ impl Slot<EntryFacts> {
     fn as_fragment(&self, key: Key) -> Option<LentFragment<'_>>
         ensures { MatchOption result (Unit {0}) (IsPart key self.now) }
     {
-        match self {
-            Slot::Held(facts) => facts.as_fragment(key),
-            Slot::Spoilt => None,
-        }
+        let Slot::Held(facts) = self else {
+            return None;
+        };
+        let cover = facts.cover();
+        let (start, bytes) = cover.only()?;
+        let offset = u16::try_from(start).ok()?;
+        let reach = usize::from(offset) + bytes.len();
+        let flags = flags_to(cover.end(), cover.promise(), reach)?;
+        let source = facts.source();
+        let destination = facts.destination();
+        LentFragment::new(facts.kind(), flags, key, offset, source, destination, bytes).ok()
     }
 
     /// Joins the other into this one, and gives the datagram of the key, if it becomes whole by
@@ -119,7 +144,7 @@ impl Slot<EntryFacts> {
         ensures { result ≡ is_short longest self.now }
     {
         match self {
-            Slot::Held(facts) => facts.is_short(longest),
+            Slot::Held(facts) => facts.cover().is_short(u32::from(longest)),
             Slot::Spoilt => true,
         }
     }

@@ -3,7 +3,7 @@ ghost use Rattle.std.specs.Prelude.{◌≡◌};
 ghost use Rattle.nb_datagram.specs.declared.limits.TheConstants.{MAX_LENGTH};
 ghost use Rattle.nb_entries.specs.Short.{AreShort, IsShort};
 ghost use Rattle.nb_entries.specs.Outline.{entry_outline, outline_of};
-ghost use Rattle.nb_entries.specs.Ranges.{entry_ranges, ranges_of_map};
+ghost use Rattle.nb_entries.specs.Ranges.{entry_ranges};
 
 use super::EntryFacts;
 use crate::outline::Outline;
@@ -20,20 +20,12 @@ impl EntryFacts {
             kind: self.known.kind,
             source: self.source().to_name(),
             destination: self.destination().to_name(),
-            held: self.known.cover.held() as u32,
+            held: self.known.cover.held(),
             runs: self.run_count(),
             end: self.known.cover.end(),
             promise: self.known.cover.promise(),
             awaited: self.known.cover.awaited(),
         }
-    }
-
-    /// The ranges of the places that are known.
-    pub(crate) fn ranges(&self) -> Ranges<'_>
-        requires { AreShort MAX_LENGTH self.now }
-        ensures { result ≡ ranges_of_map self.now.cover.bytes }
-    {
-        self.known.cover.ranges()
     }
 }
 
@@ -55,7 +47,7 @@ impl Slot<EntryFacts> {
         ensures { result ≡ entry_ranges self.now }
     {
         match self {
-            Slot::Held(facts) => facts.ranges(),
+            Slot::Held(facts) => facts.cover().ranges(),
             Slot::Spoilt => Ranges::none(),
         }
     }

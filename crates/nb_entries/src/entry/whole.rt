@@ -2,8 +2,7 @@
 ghost use Rattle.std.specs.Prelude.{◌≡◌, ◌↔◌, IsTrue, IfOk, None, Ok};
 ghost use Rattle.nb_datagram.specs.declared.limits.TheConstants.{MAX_LENGTH};
 ghost use Rattle.nb_entries.specs.Short.{IsShort};
-ghost use Rattle.nb_entries.specs.Whole.{IsWhole};
-ghost use Rattle.nb_entries.specs.Whole.{datagram_of as entry_datagram};
+ghost use Rattle.nb_entries.specs.Whole.{IsWhole, datagram_of as entry_datagram};
 
 use super::EntryFacts;
 use crate::slot::Slot;
@@ -33,9 +32,14 @@ impl Slot<EntryFacts> {
         ensures value { IfOk result (λ datagram. datagram ≡ entry_datagram key self.now) }
         ensures no_memory_needed { entry_datagram key self.now ≡ None → result ≡ Ok None }
     {
-        match self {
-            Slot::Held(facts) => facts.datagram_of(alloc, key),
-            Slot::Spoilt => Ok(None),
-        }
+        let Slot::Held(facts) = self else {
+            return Ok(None);
+        };
+        let Some(bytes) = facts.user_data(alloc)? else {
+            return Ok(None);
+        };
+        let source = facts.source();
+        let destination = facts.destination();
+        Ok(Some(Datagram::of_lent(key, facts.kind(), &source, &destination, bytes)))
     }
 }

@@ -13,6 +13,7 @@ pub fn whole_entries_have_a_datagram()
 {}
 
 /// The datagram of an entry has its key, kind and names, and its bytes up to the end, in order.
+#[tactic(auto, using(crate::specs::Shared::WholeLemmas::datagram_exactly))]
 pub fn datagram_has_the_bytes_of_its_entry()
     ensures { (k : Key) (e : EntryFacts) (d : DatagramParts) →
         (datagram_of k (Held e) ≡ Some d) ↔ IsDatagram k e d }

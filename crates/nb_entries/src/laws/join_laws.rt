@@ -1,4 +1,6 @@
 //! Joins of covers and of entries are commutative, associative and idempotent.
+#![tactic(auto, using(crate::specs::Shared::EntryLemmas::joins))]
+
 ghost use Rattle.std.specs.Prelude.{◌≡◌, ℕ};
 ghost use Rattle.std.specs.FinMap as maps;
 ghost use Rattle.nb_entries.specs.Maps.{first_of};
@@ -46,6 +48,7 @@ pub fn entry_join_is_well_formed()
 {}
 
 /// The union of two covers has at each place the byte of the first, or else that of the second.
+#[tactic(auto, using(crate::specs::Shared::CoverLemmas::in_union))]
 pub fn union_has_the_bytes_of_both()
     ensures { (a b : CoverFacts) (i : ℕ) → maps.get (covers_together a b).bytes i ≡
         first_of (maps.get a.bytes i) (maps.get b.bytes i) }

@@ -8,6 +8,7 @@ ghost use Rattle.nb_entries.specs.Outline.{IsAwaited, awaited_of};
 ghost use Rattle.nb_entries.specs.Ranges.{AreRangesOf, ranges_of_map};
 
 /// The ranges of a map of bytes are apart, ascend, and have the places of its bytes and no other.
+#[tactic(auto, using(crate::proofs::Runs::RangeLemmas::ranges_are))]
 pub fn ranges_of_a_map_have_its_places()
     ensures { (m : maps.FinMap nat_cmp ℕ) → AreRangesOf m (ranges_of_map m) }
 {}

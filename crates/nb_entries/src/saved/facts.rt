@@ -1,12 +1,10 @@
 //! Saved entries, which borrow their runs: read, kept, and written.
 ghost use Rattle.std.specs.Prelude.{◌≡◌, IfOk, OnOk};
 ghost use Rattle.nb_entries.specs.Short.{is_short as is_short_entry};
-ghost use Rattle.nb_entries.specs.Short.{ends_by as ends_at_most};
 ghost use Rattle.nb_entries.specs.Sinks.{Puts};
 ghost use Rattle.nb_entries.specs.Saved.{facts_bytes, entry_bytes};
 ghost use Rattle.nb_entries.specs.SavedFits.{IsNamed};
-ghost use Rattle.nb_entries.specs.SavedReading.{facts_at, entry_at};
-ghost use Rattle.nb_entries.specs.SavedReading.{most_of as most_reading};
+ghost use Rattle.nb_entries.specs.SavedReading.{facts_at, entry_at, most_of as most_reading};
 ghost use Rattle.nb_entries.specs.Slot.{Held, OnHeld};
 ghost use Rattle.nb_entries.specs.declared.saved.form.SavedForm.TheVariants.{Second};
 
@@ -15,6 +13,7 @@ use super::form::SavedForm;
 use super::runs::{SavedRuns, read_runs};
 use super::sink::ByteSink;
 use crate::cover::CoverFacts;
+use crate::cover::end::is_at_most;
 use crate::entry::{Entry, EntryFacts};
 use crate::load_fault::LoadFault;
 use crate::slot::Slot;
@@ -60,20 +59,7 @@ impl<'a> Model for SavedFacts<'a> {
 fn most_of(end: Option<u32>) -> u32
     ensures { result ≡ most_reading end }
 {
-    match end {
-        Some(end) => end,
-        None => MAX_LENGTH as u32,
-    }
-}
-
-/// Whether the end or the promise, if there is one, is at most the limit.
-fn ends_by(limit: u16, end: Option<u32>) -> bool
-    ensures { result ≡ ends_at_most limit end }
-{
-    match end {
-        Some(end) => end <= u32::from(limit),
-        None => true,
-    }
+    end.unwrap_or(MAX_LENGTH as u32)
 }
 
 /// What is held by the entry at an offset.
@@ -106,7 +92,8 @@ impl<'a> SavedFacts<'a> {
     fn is_short(&self, limit: u16) -> bool
         ensures { result ≡ is_short_entry limit (Held self.now) }
     {
-        self.runs.are_short(limit) && ends_by(limit, self.end) && ends_by(limit, self.promise)
+        let most = u32::from(limit);
+        self.runs.are_short(limit) && is_at_most(most, self.end) && is_at_most(most, self.promise)
     }
 
     /// The facts, kept.

@@ -1,18 +1,15 @@
 //! The fields of saved entries: each read where it stands, and written.
-ghost use Rattle.std.specs.Prelude.{◌≡◌, ◌↔◌, IsTrue, MatchResult};
+#![tactic(auto, using(crate::proofs::SavedReading::TurnLemmas::fields))]
+
+ghost use Rattle.std.specs.Prelude.{◌≡◌, ◌↔◌, ℕ, IsTrue, MatchResult, Some};
 ghost use Rattle.std.specs.Int.{w16, w32, to_be_bytes};
 ghost use Rattle.nb_names.specs.Numbers.{NumberAt};
 ghost use Rattle.nb_entries.specs.Sinks.{Puts};
 ghost use Rattle.nb_entries.specs.Saved.{end_bytes};
-ghost use Rattle.nb_entries.specs.SavedReading.{Field, Then, Judged, PromisesBelow, fault_of_name};
-ghost use Rattle.nb_entries.specs.SavedReading.{byte_at as byte_reading};
-ghost use Rattle.nb_entries.specs.SavedReading.{number_at as number_reading};
-ghost use Rattle.nb_entries.specs.SavedReading.{bytes_at as bytes_reading};
-ghost use Rattle.nb_entries.specs.SavedReading.{kind_at as kind_reading};
-ghost use Rattle.nb_entries.specs.SavedReading.{name_at as name_reading};
-ghost use Rattle.nb_entries.specs.SavedReading.{end_at as end_reading};
-ghost use Rattle.nb_entries.specs.SavedReading.{promise_at as promise_reading};
-ghost use Rattle.nb_entries.specs.declared.saved.form.SavedForm.TheVariants.{Second};
+ghost use Rattle.nb_entries.specs.SavedReading.{Field, PromisesBelow, fault_of_name, byte_at as byte_reading};
+ghost use Rattle.nb_entries.specs.SavedReading.{number_at as number_reading, bytes_at as bytes_reading};
+ghost use Rattle.nb_entries.specs.SavedReading.{kind_at as kind_reading, name_at as name_reading};
+ghost use Rattle.nb_entries.specs.SavedReading.{end_at as end_reading, promise_at as promise_reading};
 
 use super::form::SavedForm;
 use super::sink::ByteSink;
@@ -149,54 +146,18 @@ pub(crate) fn read_end(input: &[u8], at: usize) -> Result<(Option<u32>, usize), 
     }
 }
 
-/// Whether the promise lies below the end, if that is known.
-fn is_below_end(end: Option<u32>, promise: u32) -> bool
-    ensures { IsTrue result ↔ PromisesBelow end promise }
+/// Whether the promise lies below the end, where there are both.
+fn is_below_end(promise: Option<u32>, end: Option<u32>) -> bool
+    ensures { IsTrue result ↔ ((r : ℕ) → promise ≡ Some r → PromisesBelow end r) }
 {
-    match end {
-        Some(end) => promise < end,
-        None => true,
+    match (promise, end) {
+        (Some(promise), Some(end)) => promise < end,
+        _ => true,
     }
 }
 
-/// The promise in the two bytes at an offset, which has to lie below the end. Its mark stands at
-/// the other offset.
-fn read_promised(
-    input: &[u8],
-    end: Option<u32>,
-    mark: usize,
-    at: usize,
-) -> Result<(u32, usize), LoadFault>
-    ensures { Then (number_reading input.now at) (Judged mark (PromisesBelow end)) result }
-{
-    let (number, after) = read_number(input, at)?;
-    let promise = u32::from(number);
-    if !is_below_end(end, promise) {
-        return Err(LoadFault::NotCanonical(mark));
-    }
-    Ok((promise, after))
-}
-
-/// The promise at an offset, if there is one, in the form that has it.
-fn read_marked_promise(
-    input: &[u8],
-    end: Option<u32>,
-    at: usize,
-) -> Result<(Option<u32>, usize), LoadFault>
-    ensures { promise_reading Second input.now end at result }
-{
-    let (mark, next) = read_byte(input, at)?;
-    match mark {
-        0 => Ok((None, next)),
-        1 => {
-            let (promise, after) = read_promised(input, end, at, next)?;
-            Ok((Some(promise), after))
-        }
-        _ => Err(LoadFault::NotCanonical(at)),
-    }
-}
-
-/// The promise at an offset, if there is one. The first form has no such field.
+/// The promise at an offset, if there is one, which has to lie below the end. The first form has no
+/// such field.
 pub(crate) fn read_promise(
     form: SavedForm,
     input: &[u8],
@@ -206,9 +167,14 @@ pub(crate) fn read_promise(
     ensures { promise_reading form input.now end at result }
 {
     match form {
-        SavedForm::First => Ok((None, at)),
-        SavedForm::Second => read_marked_promise(input, end, at),
+        SavedForm::First => return Ok((None, at)),
+        SavedForm::Second => {}
     }
+    let (promise, next) = read_end(input, at)?;
+    if !is_below_end(promise, end) {
+        return Err(LoadFault::NotCanonical(at));
+    }
+    Ok((promise, next))
 }
 
 /// Puts an end or a promise, or that there is none.

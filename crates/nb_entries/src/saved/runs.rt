@@ -5,7 +5,7 @@ ghost use Rattle.std.specs.FinMap as maps;
 ghost use Rattle.nb_datagram.specs.declared.limits.TheConstants.{MAX_LENGTH};
 ghost use Rattle.nb_entries.specs.Code.Rows.{kept_values, AreFilled};
 ghost use Rattle.nb_entries.specs.Runs.{run_end, map_of_runs};
-ghost use Rattle.nb_entries.specs.SavedReading.{start_at, size_at, run_at, runs_at};
+ghost use Rattle.nb_entries.specs.SavedReading.{run_at, runs_at};
 ghost use Rattle.nb_entries.specs.Code.SavedRuns.{RunThere, RowThere, run_of, row_of, after_run};
 
 use super::fields::{read_bytes, read_number};
@@ -60,33 +60,8 @@ impl<'a> SavedRun<'a> {
     }
 }
 
-/// The start of a run, which must be at least `least`.
-fn read_start(input: &[u8], least: u64, at: usize) -> Result<(u16, usize), LoadFault>
-    ensures { start_at input.now least at result }
-{
-    let (start, next) = read_number(input, at)?;
-    if u64::from(start) < least {
-        return Err(LoadFault::NotCanonical(at));
-    }
-    Ok((start, next))
-}
-
-/// The length of a run, which mustn't be 0 or reach past `most`.
-fn read_size(input: &[u8], start: u16, most: u32, at: usize) -> Result<(u16, usize), LoadFault>
-    ensures { size_at input.now start most at result }
-{
-    let (size, next) = read_number(input, at)?;
-    if size == 0 {
-        return Err(LoadFault::NotCanonical(at));
-    }
-    let end = u32::from(start) + u32::from(size);
-    if end > most {
-        return Err(LoadFault::NotCanonical(at));
-    }
-    Ok((size, next))
-}
-
-/// The run at an offset.
+/// The run at an offset. Its start must be at least `least`, its length not 0, and it mustn't reach
+/// past `most`.
 fn read_run<'a>(
     input: &'a [u8],
     most: u32,
@@ -95,8 +70,15 @@ fn read_run<'a>(
 ) -> Result<(SavedRun<'a>, usize), LoadFault>
     ensures { run_at input.now most least at result }
 {
-    let (start, after) = read_start(input, least, at)?;
-    let (size, front) = read_size(input, start, most, after)?;
+    let (start, after) = read_number(input, at)?;
+    if u64::from(start) < least {
+        return Err(LoadFault::NotCanonical(at));
+    }
+    let (size, front) = read_number(input, after)?;
+    let end = u32::from(start) + u32::from(size);
+    if size == 0 || end > most {
+        return Err(LoadFault::NotCanonical(after));
+    }
     let (bytes, next) = read_bytes(input, front, size)?;
     Ok((SavedRun { start, bytes }, next))
 }

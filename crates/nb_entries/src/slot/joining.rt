@@ -18,15 +18,11 @@ impl<F: Facts> Slot<F> {
         ensures formed { IfOk result (OnHeld F.AreFormed) }
         ensures own { OnErr result (OnHeld F.AreFormed self.now) }
     {
-        let Slot::Held(facts) = self else {
-            return Ok(Slot::Spoilt);
-        };
-        let Slot::Held(others) = other else {
-            return Ok(Slot::Spoilt);
-        };
-        if !facts.agree(others) {
-            return Ok(Slot::Spoilt);
+        match (self, other) {
+            (Slot::Held(facts), Slot::Held(others)) if facts.agree(others) => {
+                Ok(Slot::Held(facts.together(others)?))
+            }
+            _ => Ok(Slot::Spoilt),
         }
-        Ok(Slot::Held(facts.together(others)?))
     }
 }

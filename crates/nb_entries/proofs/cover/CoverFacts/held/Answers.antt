@@ -1,10 +1,14 @@
-use Rattle.std.proofs.Common.{sym, subst}
-use Rattle.nb_datagram.specs.declared.limits.TheConstants.{MAX_LENGTH}
-use Rattle.nb_entries.specs.Cover.{BytesBelow, CoverFacts}
+use Rattle.std.proofs.Common.{arith}
 use Rattle.nb_entries.proofs.Runs.FewLemmas.{few_bytes_of}
 use Rattle.nb_entries.proofs.cover.CoverFacts.held.Goals as goal
 
 pub held-requires : goal.held-requires
 held-requires c =
-    few_bytes_of (record { bytes = c.self.inside.bytes; end = c.self.inside.end; promise = c.self.inside.promise })
-    (subst (λ (p : CoverFacts). BytesBelow MAX_LENGTH p.bytes) (sym c.self.view_is) c.requires)
+    let below = rw (← c.self.view_is) at c.requires in
+    few_bytes_of (record { bytes = c.self.inside.bytes; end = c.self.inside.end; promise = c.self.inside.promise }) below
+
+pub overflow_cast-result : goal.overflow_cast-result
+overflow_cast-result c =
+    let below = rw (← c.self.view_is) at c.requires in
+    let few = few_bytes_of (record { bytes = c.self.inside.bytes; end = c.self.inside.end; promise = c.self.inside.promise }) below in
+    omega (arith, few)

@@ -1,7 +1,7 @@
-use Rattle.std.proofs.Common.{◌≡◌, ap, ap₂, sym, subst, ◌∙◌}
+use Rattle.std.proofs.Common.{ap, ap₂, sym, subst, ◌∙◌}
 use Rattle.std.specs.FinMap as maps
 use Rattle.nb_datagram.specs.Fragment.{core_of}
-use Rattle.nb_entries.specs.Cover.{CoverFacts, cover_of, AreCoverFacts}
+use Rattle.nb_entries.specs.Cover.{AreCoverFacts}
 use Rattle.nb_entries.specs.Code.CoverFacts.{with_bytes}
 use Rattle.nb_entries.specs.Shared.PlacedLemmas.{cover_of_formed}
 use Rattle.nb_entries.proofs.Covers.PutLemmas.{put_alone}
@@ -11,8 +11,8 @@ use Rattle.nb_entries.proofs.cover.CoverFacts.of.Goals as goal
 pub insert-requires : goal.insert-requires
 insert-requires c = empty_agrees _ _ _ c.new-bytes.ensures
 
-facts_are : (c : goal.In_ok-insert) → ◌≡◌ {A = CoverFacts} (record { bytes = c.insert.new.self; end = c.end_of-end.result; promise = c.promise_of-promise.result }) (cover_of (core_of c.args.fragment.now))
-facts_are c =
+pub returns : goal.returns
+returns c =
     let bytes = c.in_ok-insert.ensures.ok
     ∙ ap (λ m. with_bytes m c.from.result c.bytes.result.now) c.new-bytes.ensures
     ∙ ap₂ (with_bytes maps.empty) (c.from.ensures ∙ c.offset.ensures) c.bytes.ensures.value
@@ -22,7 +22,4 @@ facts_are c =
     λ i. record { bytes = bytes i; end = end i; promise = promise i }
 
 pub invariant_of-result : goal.invariant_of-result
-invariant_of-result c = subst AreCoverFacts (sym (facts_are c)) (cover_of_formed (core_of c.args.fragment.now))
-
-pub returns : goal.returns
-returns c = facts_are c
+invariant_of-result c = subst AreCoverFacts (sym (returns c)) (cover_of_formed (core_of c.args.fragment.now))

@@ -1,24 +1,37 @@
-use Rattle.std.proofs.Common.{ap}
-use Rattle.std.proofs.lemmas.Result.{IfOk-weaker}
+use Rattle.std.specs.Prelude.{box_value}
+use Rattle.std.proofs.Common.{◌∙◌, sym, ap, Some}
 use Rattle.nb_datagram.specs.Fragment.{core_of}
+use Rattle.nb_datagram.specs.declared.limits.TheConstants.{MAX_LENGTH}
 use Rattle.nb_entries.specs.Cover.{cover_of, covers_together}
 use Rattle.nb_entries.specs.Slot.{Held}
+use Rattle.nb_entries.specs.Entry.{EntryFacts}
 use Rattle.nb_entries.specs.Whole.{bytes_to, datagram_with}
 use Rattle.std.proofs.lemmas.Bool.Decides.{not_from_Decides}
 use Rattle.nb_entries.specs.Shared.WholeLemmas.{newly_never, newly_always}
+use Rattle.nb_entries.proofs.Changes.ChangeLemmas.{whole_size}
 use Rattle.nb_entries.proofs.entry.EntryFacts.newly_whole_with.Goals as goal
 
 pub returns-then-is_whole : goal.returns-then-is_whole
-returns-then-is_whole c =
-    let e = c.args.self.now in
-    let b = cover_of (core_of c.args.fragment.now) in
-    let k = c.args.fragment.now.key in
-    rw c.in-Over.is (newly_never k (Held e) (datagram_with k e (bytes_to (covers_together e.cover b).bytes (covers_together e.cover b).end)) (c.is_whole.ensures.0 c.if-is_whole.true))
+returns-then-is_whole c = rw c.in-Over.is (newly_never c.args.fragment.now.key (Held c.args.self.now) _ (c.is_whole.ensures.0 c.if-is_whole.true))
 
-pub returns : goal.returns
-returns c =
-    let e = c.args.self.now in
-    let b = cover_of (core_of c.args.fragment.now) in
+pub new-requires : goal.new-requires
+new-requires c =
+    let short = rw (← c.self.view_is) at c.requires.short in
+    whole_size (covers_together (box_value c.self.inside.known).cover (cover_of (core_of c.args.fragment.now))) c.in-Some.bytes MAX_LENGTH short
+    (sym c.in-Some.is ∙ (rw c.deref.ensures at c.in_ok-bytes.ensures))
+
+pub returns-in-Some : goal.returns-in-Some
+returns-in-Some c =
     let k = c.args.fragment.now.key in
-    let p = datagram_with k e (bytes_to (covers_together e.cover b).bytes (covers_together e.cover b).end) in
-    rw c.in-Over.is (IfOk-weaker c.user_data_with.result _ _ (λ made same. newly_always k (Held e) (datagram_with k e made) p (not_from_Decides c.is_whole.result c.is_whole.ensures c.if-is_whole.false) (ap (datagram_with k e) same)) c.user_data_with.ensures)
+    let e = c.args.self.now in
+    let whole = λ (x : EntryFacts). bytes_to (covers_together x.cover (cover_of (core_of c.args.fragment.now))).bytes (covers_together x.cover (cover_of (core_of c.args.fragment.now))).end in
+    let same = ap Some c.new.ensures ∙ sym c.in-Some.is ∙ (rw c.deref.ensures at c.in_ok-bytes.ensures) ∙ ap whole c.self.view_is in
+    rw c.in-Over.is (newly_always k (Held e) _ (datagram_with k e (whole e)) (not_from_Decides c.is_whole.result c.is_whole.ensures c.if-is_whole.false) (ap (datagram_with k e) same))
+
+pub returns-in-None : goal.returns-in-None
+returns-in-None c =
+    let k = c.args.fragment.now.key in
+    let e = c.args.self.now in
+    let whole = λ (x : EntryFacts). bytes_to (covers_together x.cover (cover_of (core_of c.args.fragment.now))).bytes (covers_together x.cover (cover_of (core_of c.args.fragment.now))).end in
+    let same = sym c.in-None.is ∙ (rw c.deref.ensures at c.in_ok-bytes.ensures) ∙ ap whole c.self.view_is in
+    rw c.in-Over.is (newly_always k (Held e) _ (datagram_with k e (whole e)) (not_from_Decides c.is_whole.result c.is_whole.ensures c.if-is_whole.false) (ap (datagram_with k e) same))

@@ -1,41 +1,33 @@
 use Rattle.std.proofs.Common.{ℕ, ◌≤◌, subst}
-use Rattle.std.proofs.lemmas.Result.{err_from_is_err_and}
 use Rattle.std.specs.List.{AllByRecursion}
 use Rattle.nb_entries.specs.Runs.{RunValue, run_end}
-use Rattle.nb_entries.specs.SavedReading.{stops, goes_on, gives}
+use Rattle.nb_entries.specs.SavedReading.{goes_on, gives}
 use Rattle.nb_entries.specs.Shared.LoadedLemmas.{covers_formed}
 use Rattle.nb_entries.specs.Shared.FoundLemmas.{promise_found, runs_found}
-use Rattle.nb_entries.proofs.SavedReading.TurnLemmas.{runs_moved}
+use Rattle.nb_entries.proofs.SavedReading.TurnLemmas.{stopped}
 use Rattle.nb_entries.proofs.saved.facts.read_facts.Goals as goal
 
 pub returns-in_err-kind : goal.returns-in_err-kind
-returns-in_err-kind c =
-    let p = err_from_is_err_and c.from_residual.result c.from_residual.ensures.1 in rw (p.1, p.2) (stops _ c.in_err-kind.ensures)
+returns-in_err-kind c = stopped _ _ c.from_residual.ensures.1 c.in_err-kind.ensures
 
 pub returns-in_err-source : goal.returns-in_err-source
-returns-in_err-source c =
-    let p = err_from_is_err_and c.from_residual-in_err-source.result c.from_residual-in_err-source.ensures.1 in
-    rw (p.1, p.2) (goes_on _ _ c.in_ok-kind.ensures (stops _ c.in_err-source.ensures))
+returns-in_err-source c = goes_on _ _ c.in_ok-kind.ensures (stopped _ _ c.from_residual-in_err-source.ensures.1 c.in_err-source.ensures)
 
 pub returns-in_err-destination : goal.returns-in_err-destination
 returns-in_err-destination c =
-    let p = err_from_is_err_and c.from_residual-in_err-destination.result c.from_residual-in_err-destination.ensures.1 in
-    rw (p.1, p.2) (goes_on _ _ c.in_ok-kind.ensures (goes_on _ _ c.in_ok-source.ensures (stops _ c.in_err-destination.ensures)))
+    goes_on _ _ c.in_ok-kind.ensures (goes_on _ _ c.in_ok-source.ensures (stopped _ _ c.from_residual-in_err-destination.ensures.1 c.in_err-destination.ensures))
 
 pub returns-in_err-end : goal.returns-in_err-end
 returns-in_err-end c =
-    let p = err_from_is_err_and c.from_residual-in_err-end.result c.from_residual-in_err-end.ensures.1 in
-    rw (p.1, p.2) (goes_on _ _ c.in_ok-kind.ensures (goes_on _ _ c.in_ok-source.ensures (goes_on _ _ c.in_ok-destination.ensures (stops _ c.in_err-end.ensures))))
+    goes_on _ _ c.in_ok-kind.ensures (goes_on _ _ c.in_ok-source.ensures (goes_on _ _ c.in_ok-destination.ensures (stopped _ _ c.from_residual-in_err-end.ensures.1 c.in_err-end.ensures)))
 
 pub returns-in_err-promise : goal.returns-in_err-promise
 returns-in_err-promise c =
-    let p = err_from_is_err_and c.from_residual-in_err-promise.result c.from_residual-in_err-promise.ensures.1 in
-    rw (p.1, p.2) (goes_on _ _ c.in_ok-kind.ensures (goes_on _ _ c.in_ok-source.ensures (goes_on _ _ c.in_ok-destination.ensures (goes_on _ _ c.in_ok-end.ensures (stops _ c.in_err-promise.ensures)))))
+    goes_on _ _ c.in_ok-kind.ensures (goes_on _ _ c.in_ok-source.ensures (goes_on _ _ c.in_ok-destination.ensures (goes_on _ _ c.in_ok-end.ensures (stopped _ _ c.from_residual-in_err-promise.ensures.1 c.in_err-promise.ensures))))
 
 pub returns-in_err-runs : goal.returns-in_err-runs
 returns-in_err-runs c =
-    let p = err_from_is_err_and c.from_residual-in_err-runs.result c.from_residual-in_err-runs.ensures.1 in
-    rw (p.1, p.2) (goes_on _ _ c.in_ok-kind.ensures (goes_on _ _ c.in_ok-source.ensures (goes_on _ _ c.in_ok-destination.ensures (goes_on _ _ c.in_ok-end.ensures (goes_on _ _ c.in_ok-promise.ensures (stops _ (runs_moved _ _ _ _ _ c.most_of.ensures c.in_err-runs.ensures)))))))
+    goes_on _ _ c.in_ok-kind.ensures (goes_on _ _ c.in_ok-source.ensures (goes_on _ _ c.in_ok-destination.ensures (goes_on _ _ c.in_ok-end.ensures (goes_on _ _ c.in_ok-promise.ensures (rw (← c.most_of.ensures) (stopped _ _ c.from_residual-in_err-runs.ensures.1 c.in_err-runs.ensures))))))
 
 pub invariant_of-facts : goal.invariant_of-facts
 invariant_of-facts c =

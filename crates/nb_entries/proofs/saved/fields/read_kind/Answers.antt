@@ -1,13 +1,12 @@
-use Rattle.std.proofs.Common.{arith}
-use Rattle.std.proofs.lemmas.Result.{err_from_is_err_and}
+use Rattle.std.proofs.Common.{◌≢◌, arith}
 use Rattle.nb_datagram.specs.declared.kind.Kind.TheVariants.{Unique, Group, Broadcast}
-use Rattle.nb_entries.specs.SavedReading.{stops, goes_on, known, unknown}
-use Rattle.nb_entries.proofs.SavedReading.StandingLemmas.{no_kind}
+use Rattle.nb_datagram.specs.Kind.{type_of}
+use Rattle.nb_entries.specs.SavedReading.{goes_on, known, unknown}
+use Rattle.nb_entries.proofs.SavedReading.TurnLemmas.{stopped}
 use Rattle.nb_entries.proofs.saved.fields.read_kind.Goals as goal
 
 pub returns-in_err-number : goal.returns-in_err-number
-returns-in_err-number c =
-    let p = err_from_is_err_and c.from_residual.result c.from_residual.ensures.1 in rw (p.1, p.2) (stops _ c.in_err-number.ensures)
+returns-in_err-number c = stopped _ _ c.from_residual.ensures.1 c.in_err-number.ensures
 
 pub returns-in-16 : goal.returns-in-16
 returns-in-16 c = goes_on _ _ c.in_ok-number.ensures (known Unique (omega arith))
@@ -19,5 +18,8 @@ pub returns-in-18 : goal.returns-in-18
 returns-in-18 c = goes_on _ _ c.in_ok-number.ensures (known Broadcast (omega arith))
 
 pub returns-in_default : goal.returns-in_default
-returns-in_default c =
-    goes_on _ _ c.in_ok-number.ensures (unknown (no_kind _ (λ h. omega (arith, h)) (λ h. omega (arith, h)) (λ h. omega (arith, h))))
+returns-in_default c = goes_on _ _ c.in_ok-number.ensures (unknown (λ kind. elim kind as (λ k. c.in_ok-number.number ≢ type_of k) [
+  | Unique ↦ λ h. omega (arith, h)
+  | Group ↦ λ h. omega (arith, h)
+  | Broadcast ↦ λ h. omega (arith, h)
+]))

@@ -1,19 +1,16 @@
 use Rattle.std.proofs.Common.{arith}
 use Rattle.std.proofs.lemmas.List.{take_rest}
-use Rattle.std.proofs.lemmas.Result.{err_from_is_err_and}
-use Rattle.nb_entries.specs.SavedReading.{stops, goes_on}
+use Rattle.nb_entries.specs.SavedReading.{goes_on}
 use Rattle.nb_entries.specs.Shared.RowLemmas.{whole_row}
-use Rattle.nb_entries.proofs.SavedReading.TurnLemmas.{row_turn, row_stopped, row_ended}
+use Rattle.nb_entries.proofs.SavedReading.TurnLemmas.{stopped, row_turn, row_stopped, row_ended}
 use Rattle.nb_entries.proofs.saved.runs.read_runs.Goals as goal
 
 pub returns-in_err-count : goal.returns-in_err-count
-returns-in_err-count c =
-    let p = err_from_is_err_and c.from_residual.result c.from_residual.ensures.1 in rw (p.1, p.2) (stops _ c.in_err-count.ensures)
+returns-in_err-count c = stopped _ _ c.from_residual.ensures.1 c.in_err-count.ensures
 
 pub returns-in_err-run : goal.returns-in_err-run
 returns-in_err-run c =
-    let p = err_from_is_err_and c.from_residual-in_err-run.result c.from_residual-in_err-run.ensures.1 in
-    rw (p.1, p.2) (goes_on _ _ c.in_ok-count.ensures (row_stopped _ _ _ _ _ _ _ _ c.loop.invariant (omega arith) c.in_err-run.ensures))
+    goes_on _ _ c.in_ok-count.ensures (row_stopped _ _ _ _ _ _ _ _ _ c.loop.invariant (omega arith) c.from_residual-in_err-run.ensures.1 c.in_err-run.ensures)
 
 pub loop-preserved : goal.loop-preserved
 loop-preserved c = rw c.end-least.ensures (row_turn _ _ _ _ _ _ _ _ _ c.loop.invariant c.in_ok-run.ensures)

@@ -1,5 +1,0 @@
-use Rattle.nb_entries.specs.Shared.EntryLemmas.{join_entry-assoc}
-use Rattle.nb_entries.proofs.laws.join_laws.entry_join_is_associative.Goals as goal
-
-pub returns : goal.returns
-returns c = join_entry-assoc

@@ -103,15 +103,9 @@ grown_look r f m agree q = elim (cases_lt q r.start) [
   ]
 ]
 
--- ---- and by a third
-
-pub meet_more : (t f u : RunValue) → Meet t f → t.start ≤ u.start → u.start ≤ run_end f → Meet (grown t f) u
-meet_more t f u m order touch =
-    let size = grown_end t f m in
-    record { before = omega (arith, order); after = omega (arith, size, touch) }
-
-pub room_of : (t f : RunValue) (end cap : ℕ) → Meet t f → run_end f ≤ end → max (run_end t) end - min f.start t.start ≤ cap → length (grown t f).bytes ≤ cap
-room_of t f end cap m e r = omega (arith, e, r, grown_size t f m)
-
-pub room_more : (t f u : RunValue) (end cap : ℕ) → Meet t f → t.start ≤ u.start → u.start ≤ run_end f → run_end f ≤ end → run_end u ≤ end → max (run_end t) end - min f.start t.start ≤ cap → length (grown (grown t f) u).bytes ≤ cap
-room_more t f u end cap m order touch e d r = omega (arith, order, e, d, r, grown_end t f m, grown_size (grown t f) u (meet_more t f u m order touch))
+-- what meets a run and other bytes meets both in one
+pub meet_grown : (t f u : RunValue) → Meet t f → Meet f u → Meet t (grown f u)
+meet_grown t f u m n =
+    let end = grown_end f u n in
+    let before = m.before in
+    let after = m.after in record { before = omega (arith, end, before); after = omega (arith, after) }

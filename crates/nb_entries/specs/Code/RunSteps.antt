@@ -1,6 +1,5 @@
 -- What the code's own functions do to rows of runs; no public contract cites this.
 use Rattle.std.specs.Prelude.{◌≡◌, ◌+◌, ◌-◌, ◌<◌, ◌≤◌, ◌++◌, ℕ, List, [], ◌∷◌, length, map, take, drop, min, cond, nat_le, slice_get, Option, Some, None}
-use Rattle.std.specs.Vec.{vec_capacity}
 use Rattle.std.specs.List.{AllByRecursion}
 use Rattle.nb_entries.specs.Maps.{first_of}
 use Rattle.nb_entries.specs.Runs.{RunValue, run_end, AreApart}
@@ -9,10 +8,6 @@ use Rattle.nb_entries.specs.declared.cover.runs.Run.{Run}
 -- a run of the code as its value
 abbrev pub value_of : Run → RunValue
 value_of r = record { start = r.start; bytes = r.bytes.items }
-
--- how many bytes a run has room for
-abbrev pub room_in : Run → ℕ
-room_in r = vec_capacity r.bytes
 
 -- the values of runs of the code
 abbrev pub values_of : List Run → List RunValue

@@ -1,8 +1,7 @@
-use Rattle.std.proofs.Common.{rules, ◌≡◌, ◌++◌, ◌∷◌, [], length, ap, ◌∙◌, arith}
+use Rattle.std.proofs.Common.{rules, ◌≡◌, length, arith}
 use Rattle.std.specs.Vec.{vec_len}
-use Rattle.nb_entries.specs.Code.Rows.{runs_in}
 use Rattle.nb_entries.proofs.KeptRuns.RunCodeLemmas.{on_err_of}
-use Rattle.nb_entries.proofs.KeptRuns.RowsPutLemmas.{set_same_rows, last_pushed, rows_pushed}
+use Rattle.nb_entries.proofs.KeptRuns.RowsPutLemmas.{set_same_rows, last_pushed, rows-append}
 use Rattle.nb_entries.proofs.cover.runs.inserting.push_run.Goals as goal
 
 pub returns-in_err-push-clause-err : goal.returns-in_err-push-clause-err
@@ -18,8 +17,4 @@ returns-then-len-lt-MANY-clause-ok c =
     last_pushed rows _ c.index_mut.result.now c.push.new.self c.args.run (omega (arith, size, c.len-last.ensures, c.requires.any)) c.index_mut.ensures.value c.in_ok-push.ensures.items
 
 pub returns-clause-ok : goal.returns-clause-ok
-returns-clause-ok c =
-    let rows = c.args.rows.now.items in
-    ap runs_in c.in_ok-push-3.ensures.items
-    ∙ rows_pushed rows c.push-2.new.self
-    ∙ ap (λ xs. runs_in rows ++ xs) (c.in_ok-push-2.ensures.items ∙ ap (λ xs. xs ++ c.args.run ∷ []) c.in_ok-row.ensures.items)
+returns-clause-ok c = rw (c.in_ok-push-3.ensures.items, rows-append, c.in_ok-push-2.ensures.items, c.in_ok-row.ensures.items)

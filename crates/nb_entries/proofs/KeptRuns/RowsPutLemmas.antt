@@ -1,6 +1,6 @@
 -- Rows of runs that are cut, joined and put into.
 use Rattle.std.proofs.Common.{◌≡◌, ◌<◌, ◌≤◌, ◌+◌, ◌++◌, ℕ, zero, suc, inl, inr, List, [], ◌∷◌, length, take, drop, slice_set, slice_index_or, refl, sym, ap, ◌∙◌, arith, add-one, append_assoc}
-use Rattle.std.proofs.lemmas.List.{append-nil, drop_all, set_split, take_more_set, drop-set-lt}
+use Rattle.std.proofs.lemmas.List.{append-nil, drop_all, set_split, take_more_set, drop-set-lt, set_at, length-take-le}
 use Rattle.std.proofs.Math.Seq.{drop-cons}
 use Rattle.std.specs.List.{insert, remove}
 use Rattle.std.specs.declared.vec.Vec.{Vec}
@@ -44,15 +44,13 @@ halved {Z} rs i old front back l e both =
     let next : i < i + 1 = omega arith in
     rw (row_cut (runs_in rs) rs i old refl l e, ← both, take_more_set, drop-set-lt) (simp (rows-append, append_assoc))
 
-set_suc : {X : Type 0} (xs : List X) (i p : ℕ) (r s : X) → i < length xs → i < p → slice_set (take (suc i) (slice_set xs i r) ++ drop p (slice_set xs i r)) i s ≡ take i xs ++ s ∷ drop p xs
-set_suc [] i p r s h l = absurd (omega arith)
-set_suc (x ∷ xs) i zero r s h l = absurd (omega arith)
-set_suc (x ∷ xs) zero (suc p) r s h l = refl
-set_suc (x ∷ xs) (suc i) (suc p) r s h l = ap (λ ys. x ∷ ys) (set_suc xs i p r s (omega arith) (omega arith))
-
 -- a row set, the one after it removed, and the row set again
 pub rows_joined : {X : Type 0} (xs : List X) (i : ℕ) (r s : X) → i + 1 < length xs → slice_set (remove (slice_set xs i r) (i + 1)) i s ≡ take i xs ++ s ∷ drop (suc (suc i)) xs
-rows_joined xs i r s l = rw add-one (set_suc xs i (suc (suc i)) r s (omega arith) (omega arith))
+rows_joined xs i r s l =
+    let inside : i < length xs = omega (arith, l) in
+    let past : i < suc (i + 1) = omega arith in
+    let size : length (take i xs) ≡ i = length-take-le i xs (omega (arith, l)) in
+    rw (take_more_set, drop-set-lt, append_assoc, set_at, add-one)
 
 -- two rows made one
 pub joined : {Z : Type 0} → (rs : List (Vec Run Z)) (i : ℕ) (own new next : Vec Run Z) → i + 1 < length rs → own.items ≡ (slice_index_or rs i own).items → next ≡ slice_index_or rs (i + 1) next → new.items ≡ own.items ++ next.items →
@@ -66,15 +64,6 @@ joined {Z} rs i own new next l e f put =
 -- what a row has, the rows have
 pub row_agrees : {Z : Type 0} → (rs : List (Vec Run Z)) (i : ℕ) (row : Vec Run Z) (f : RunValue) → AreApart (values_in rs) → i < length rs → row ≡ slice_index_or rs i row → Agree (values_in rs) f → Agree (values_of row.items) f
 row_agrees rs i row f a l e h = agrees_between (runs_in rs) (runs_in (take i rs)) row.items (runs_in (drop (i + 1) rs)) f (row_cut (runs_in rs) rs i row refl l e) a h
-
--- one step of a list less on both sides
-pub drop_next : {X : Type 0} (xs ys : List X) (i j : ℕ) → drop i xs ≡ drop j ys → drop (i + 1) xs ≡ drop (j + 1) ys
-drop_next xs ys i j e = drop_one xs i ∙ ap (drop 1) e ∙ sym (drop_one ys j)
-  where
-    drop_one : {X : Type 0} (zs : List X) (n : ℕ) → drop (n + 1) zs ≡ drop 1 (drop n zs)
-    drop_one zs zero = refl
-    drop_one [] (suc n) = let step : suc n + 1 ≡ suc (n + 1) = omega arith in ap (λ k. drop k []) step
-    drop_one (z ∷ zs) (suc n) = let step : suc n + 1 ≡ suc (n + 1) = omega arith in ap (λ k. drop k (z ∷ zs)) step ∙ drop_one zs n
 
 -- ---- rows that agree with bytes
 

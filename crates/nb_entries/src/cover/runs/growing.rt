@@ -101,7 +101,7 @@ pub(super) fn insert_bytes(
     }
     let mut whole = Run::copy(alloc, start, bytes)?;
     if past <= first {
-        runs.insert(first, whole)?;
+        runs.insert(past, whole)?;
         return Ok(());
     }
     let last = &runs[past - 1];

@@ -45,8 +45,8 @@ halved {Z} rs i old front back l e both =
     rw (row_cut (runs_in rs) rs i old refl l e, ← both, take_more_set, drop-set-lt) (simp (rows-append, append_assoc))
 
 -- a row set, the one after it removed, and the row set again
-pub rows_joined : {X : Type 0} (xs : List X) (i : ℕ) (r s : X) → i + 1 < length xs → slice_set (remove (slice_set xs i r) (i + 1)) i s ≡ take i xs ++ s ∷ drop (suc (suc i)) xs
-rows_joined xs i r s l =
+pub next_removed : {X : Type 0} (xs : List X) (i : ℕ) (r s : X) → i + 1 < length xs → slice_set (remove (slice_set xs i r) (i + 1)) i s ≡ take i xs ++ s ∷ drop (suc (suc i)) xs
+next_removed xs i r s l =
     let inside : i < length xs = omega (arith, l) in
     let past : i < suc (i + 1) = omega arith in
     let size : length (take i xs) ≡ i = length-take-le i xs (omega (arith, l)) in

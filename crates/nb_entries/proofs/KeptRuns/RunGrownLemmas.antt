@@ -28,17 +28,7 @@ front_size : (r f : RunValue) → Meet r f → length (take (r.start - f.start) 
 front_size r f m = let before = m.before in omega (arith, before, length-take (r.start - f.start) f.bytes)
 
 pub grown_size : (r f : RunValue) → Meet r f → length (grown r f).bytes ≡ max (run_end r) (run_end f) - min f.start r.start
-grown_size r f m =
-    let before = m.before in let after = m.after in
-    omega (
-      arith,
-      before,
-      after,
-      front_size r f m,
-      length-drop (run_end r - f.start) f.bytes,
-      length-append (take (r.start - f.start) f.bytes) (r.bytes ++ drop (run_end r - f.start) f.bytes),
-      length-append r.bytes (drop (run_end r - f.start) f.bytes),
-    )
+grown_size r f m = let before = m.before in let after = m.after in simp (length-append, length-take, length-drop) (omega (arith, before, after))
 
 pub grown_end : (r f : RunValue) → Meet r f → run_end (grown r f) ≡ max (run_end r) (run_end f)
 grown_end r f m = let before = m.before in let after = m.after in omega (arith, before, after, grown_size r f m)

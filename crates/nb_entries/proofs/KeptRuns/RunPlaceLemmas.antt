@@ -1,10 +1,11 @@
 -- Where bytes lie among the code's runs, and what is left once they are put there.
 use Rattle.std.proofs.Common.{◌≡◌, ◌<◌, ◌≤◌, ◌+◌, ◌-◌, ◌++◌, ℕ, zero, suc, List, [], ◌∷◌, length, take, drop, get_or, refl, sym, ap, ◌∙◌, subst, arith, slice_set, slice_index_or, take-append-drop, append_assoc}
-use Rattle.std.proofs.lemmas.List.{get_or-map, map-append, take-map, drop-map, set_split, take_more_set, drop-set-lt, length-map}
+use Rattle.std.proofs.lemmas.List.{get_or-map, map-append, take-map, take-take, drop-map, set_split, take_more_set, drop-set-lt, length-map}
+use Rattle.std.proofs.ByRecursion.{All-take}
 use Rattle.nb_entries.specs.Runs.{RunValue, run_end, AreApart}
 use Rattle.nb_entries.specs.Code.RunSteps.{value_of, values_of, grown, Meet, EndBefore, EndFrom, StartTo, StartAfter, Agree, IsPut}
 use Rattle.nb_entries.specs.declared.cover.runs.Run.{Run}
-use Rattle.nb_entries.proofs.KeptRuns.RunRowLemmas.{split_at, all_take, all_at, all_from_at, apart_front, apart_back}
+use Rattle.nb_entries.proofs.KeptRuns.RunRowLemmas.{split_at, all_at, all_from_at, apart_front, apart_back}
 use Rattle.nb_entries.proofs.KeptRuns.RunPutLemmas.{put_alone, put_one, put_more, put_part, part_agrees}
 
 -- the runs before `first` end before the bytes, those from `past` on start after them
@@ -61,11 +62,7 @@ put_between xs ys bs ms new ss f e d a before after put =
 
 pub none_there : (xs : List Run) (f : RunValue) (first past : ℕ) (r : Run) → Lies xs f first past → past ≤ first → AreApart (values_of xs) → 0 < length f.bytes → value_of r ≡ f → IsPut (values_of xs) f (values_of (take past xs ++ r ∷ drop past xs))
 none_there xs f first past r h l a some e =
-    let size = length-map xs value_of in
-    let within = h.past_within in
-    let before : EndBefore f.start (take past (values_of xs)) = all_take (λ t. run_end t < f.start) value_of xs past (λ k d b. (
-        let inside : k < length xs = omega (arith, b, within) in
-        rw (at_value xs k d inside) at (all_at (λ t. run_end t < f.start) (values_of xs) first k (value_of d) h.before (omega (arith, b, l)) (omega (arith, inside, size))))) within in
+    let before = rw (take-take past first (values_of xs) l) at (All-take (λ t. run_end t < f.start) past (take first (values_of xs)) h.before) in
     put_between xs _ (take past xs) [] (r ∷ []) (drop past xs) f (sym (take-append-drop past xs)) refl a (rw take-map at before) (rw drop-map at h.after) (put_alone f (value_of r) some e)
 
 pub one_there : (xs : List Run) (f : RunValue) (first past : ℕ) (w r : Run) → Lies xs f first past → past ≡ first + 1 → AreApart (values_of xs) → Agree (values_of xs) f → w ≡ slice_index_or xs first w → value_of r ≡ grown (value_of w) f →

@@ -66,10 +66,7 @@ put_back ms new ss f a after put = record {
     | inl h ↦ let below = has_below f p x h in let from = look_after (run_end f) ss after q y g in omega (arith, below, from)
     | inr h ↦ parts_apart ms ss a p q x y h g
   ]);
-  look = λ q. look-append new ss q
-      ∙ ap (λ o. first_of o (look_in ss q)) (put.look q)
-      ∙ first_of_three (byte_in f q) (look_in ms q) (look_in ss q)
-      ∙ ap (first_of (byte_in f q)) (sym (look-append ms ss q));
+  look = λ q. rw (look-append new ss q, look-append ms ss q, put.look q) (first_of_three (byte_in f q) (look_in ms q) (look_in ss q));
 }
 
 put_front : (bs ms new : List RunValue) (f : RunValue) → AreApart (bs ++ ms) → EndBefore f.start bs → IsPut ms f new → IsPut (bs ++ ms) f (bs ++ new)
@@ -78,10 +75,8 @@ put_front bs ms new f a before put = record {
     | inl h ↦ let ends = look_before f.start bs before p x e in let from = has_from f q y h in omega (arith, ends, from)
     | inr h ↦ parts_apart bs ms a p q x y e h
   ]);
-  look = λ q. look-append bs new q
-      ∙ ap (first_of (look_in bs q)) (put.look q)
-      ∙ swap (look_in bs q) (byte_in f q) (look_in ms q) (λ x y g h. (let ends = look_before f.start bs before q x g in let from = has_from f q y h in absurd (omega (arith, ends, from))))
-      ∙ ap (first_of (byte_in f q)) (sym (look-append bs ms q));
+  look = λ q. rw (look-append bs new q, look-append bs ms q, put.look q)
+      (swap (look_in bs q) (byte_in f q) (look_in ms q) (λ x y g h. (let ends = look_before f.start bs before q x g in let from = has_from f q y h in absurd (omega (arith, ends, from)))));
 }
 
 -- a row is put into where a part of it is, and the bytes lie between the others
@@ -125,7 +120,7 @@ put_more t ms u f a m n agree =
       look = λ q. put.look q
           ∙ ap (λ o. first_of o (first_of (byte_in t q) None)) (grows q)
           ∙ all_there (byte_in t q) (byte_in u q) (byte_in f q) (look_in (t ∷ (ms ++ u ∷ [])) q) (λ x y g h. agree.same q x y g h) (first q) (last q)
-          (λ g h k. ap (λ o. first_of o (look_in (ms ++ u ∷ []) q)) g ∙ look-append ms (u ∷ []) q ∙ ap (λ o. first_of o (first_of (byte_in u q) None)) (between q k) ∙ ap (λ o. first_of o None) h);
+          (λ g h k. rw (g, look-append ms (u ∷ []) q, between q k, h));
     }
   where
     only : (r : RunValue) (q x : ℕ) → look_in (r ∷ []) q ≡ Some x → byte_in r q ≡ Some x

@@ -118,15 +118,6 @@ pub ends_min : (m n : ℕ) (rs : List RunValue) → EndBefore m rs → EndBefore
 ends_min m n [] h k = tt
 ends_min m n (r ∷ rs) h k = (let a = h.0 in let b = k.0 in omega (arith, a, b), ends_min m n rs h.1 k.1)
 
--- runs that start past both of two places
-pub past_max : (m n : ℕ) (rs : List RunValue) → StartsPast m rs → StartsPast n rs → StartsPast (max m n) rs
-past_max m n [] h k = tt
-past_max m n (r ∷ rs) h k = omega (arith, h, k)
-
-pub past_all : (n : ℕ) (rs : List RunValue) → StartAfter n rs → StartsPast n rs
-past_all n [] h = tt
-past_all n (r ∷ rs) h = h.0
-
 -- ---- elements and tests of each
 
 -- a list about one of its elements

@@ -178,14 +178,6 @@ fn insert_in_rows(
     growing::insert_bytes(alloc, &mut rows[at], start, bytes)
 }
 
-/// Whether bytes overlap or touch a run.
-fn meets(run: &Run, start: u32, bytes: &[u8]) -> bool
-    ensures { IsTrue result ↔ Meet (value_of run.now) (run_at start bytes.now) }
-{
-    let place = start as usize;
-    run.start() as usize <= place + bytes.len() && place <= run.end()
-}
-
 /// Inserts bytes that don't contradict them into the runs.
 pub(super) fn insert_bytes(
     alloc: Global,
@@ -205,7 +197,8 @@ pub(super) fn insert_bytes(
         return Ok(());
     }
     if let Kept::One(run) = kept {
-        if meets(run, start, bytes) {
+        let place = start as usize;
+        if run.start() as usize <= place + bytes.len() && place <= run.end() {
             return growing::join(run, start, bytes);
         }
     }

@@ -23,15 +23,13 @@ returns-then-at-len-clause-ok c =
 
 pub insert_bytes-requires-clause-apart : goal.insert_bytes-requires-clause-apart
 insert_bytes-requires-clause-apart c =
-    let xs = runs_in c.args.rows.now.items in
-    let cut = row_cut xs c.join_rows.new.rows.items c.in_ok-at.at c.index_mut.result.now (c.in_ok-join_rows.ensures.same ∙ c.in_ok-at.ensures.same) c.in_ok-join_rows.ensures.within c.index_mut.ensures.value in
-    apart_between xs _ c.index_mut.result.now.items _ cut c.requires.apart
+    apart_between _ _ c.index_mut.result.now.items _
+    (row_cut _ c.join_rows.new.rows.items c.in_ok-at.at _ (c.in_ok-join_rows.ensures.same ∙ c.in_ok-at.ensures.same) c.in_ok-join_rows.ensures.within c.index_mut.ensures.value) c.requires.apart
 
 pub insert_bytes-requires-clause-agree : goal.insert_bytes-requires-clause-agree
 insert_bytes-requires-clause-agree c =
-    let xs = runs_in c.args.rows.now.items in
-    let cut = row_cut xs c.join_rows.new.rows.items c.in_ok-at.at c.index_mut.result.now (c.in_ok-join_rows.ensures.same ∙ c.in_ok-at.ensures.same) c.in_ok-join_rows.ensures.within c.index_mut.ensures.value in
-    agrees_between xs _ c.index_mut.result.now.items _ _ cut c.requires.apart c.requires.agree
+    agrees_between _ _ c.index_mut.result.now.items _ _
+    (row_cut _ c.join_rows.new.rows.items c.in_ok-at.at _ (c.in_ok-join_rows.ensures.same ∙ c.in_ok-at.ensures.same) c.in_ok-join_rows.ensures.within c.index_mut.ensures.value) c.requires.apart c.requires.agree
 
 pub returns-clause-ok : goal.returns-clause-ok
 returns-clause-ok c =

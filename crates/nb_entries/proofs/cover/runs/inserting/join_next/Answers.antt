@@ -1,7 +1,8 @@
 use Rattle.std.proofs.Common.{◌≡◌, ◌<◌, ◌+◌, ◌∷◌, suc, length, take, drop, slice_index_or, ap, ◌∙◌, arith, length-append}
+use Rattle.std.proofs.lemmas.Grind.{common_steps}
 use Rattle.std.proofs.lemmas.List.{get_or_default, get_or-set_other, get_or-set_same}
-use Rattle.nb_entries.proofs.KeptRuns.RowsLemmas.{all_both, all_left, all_taken, some_at}
-use Rattle.nb_entries.proofs.KeptRuns.RowsPutLemmas.{set_same_rows, rows_joined, joined}
+use Rattle.nb_entries.proofs.KeptRuns.RowsLemmas.{some_at}
+use Rattle.nb_entries.proofs.KeptRuns.RowsPutLemmas.{set_same_rows, next_removed, joined}
 use Rattle.nb_entries.proofs.cover.runs.inserting.join_next.Goals as goal
 
 pub returns-in_err-reserve-clause-same : goal.returns-in_err-reserve-clause-same
@@ -11,14 +12,8 @@ returns-in_err-reserve-clause-same c =
 
 pub returns-clause-some : goal.returns-clause-some
 returns-clause-some c =
-    let rows = c.args.rows.now.items in
-    let next = c.remove-next.result in
-    let is : next ≡ slice_index_or rows (c.args.at + 1) next = c.remove-next.ensures.value ∙ get_or-set_other rows c.args.at (c.args.at + 1) c.reserve.new.self next (λ same. omega (arith, same)) in
-    let some : 0 < length next.items = rw (← is) at (some_at rows (c.args.at + 1) next c.requires.some c.requires.within) in
     let put = ap length (rw c.unwrap.ensures at c.append.ensures.items) in
-    rw (c.remove-next.ensures.items, rows_joined rows c.args.at c.reserve.new.self c.append.new.self c.requires.within)
-    (all_both (λ r. 0 < length r.items) (take c.args.at rows) (c.append.new.self ∷ drop (suc (suc c.args.at)) rows) (all_taken (λ r. 0 < length r.items) rows c.args.at c.requires.some)
-    (omega (arith, put, some, length-append c.index_mut-2.result.now.items next.items), all_left (λ r. 0 < length r.items) rows (suc (suc c.args.at)) c.requires.some))
+    grind (arith, common_steps, put)
 
 pub returns-clause-same : goal.returns-clause-same
 returns-clause-same c =
@@ -29,5 +24,5 @@ returns-clause-same c =
     let kept : c.index_mut-2.result.now ≡ c.reserve.new.self =
     c.index_mut-2.ensures.value ∙ c.remove-next.ensures.by_index.0 c.args.at c.index_mut-2.result.now (omega arith) ∙ get_or-set_same rows c.args.at c.reserve.new.self c.index_mut-2.result.now (omega (arith, within)) in
     let put = rw (c.unwrap.ensures) at c.append.ensures.items in
-    rw (c.remove-next.ensures.items, rows_joined rows c.args.at c.reserve.new.self c.append.new.self within)
+    rw (c.remove-next.ensures.items, next_removed rows c.args.at c.reserve.new.self c.append.new.self within)
     (joined rows c.args.at c.reserve.new.self c.append.new.self next within (c.in_ok-reserve.ensures.items ∙ ap (λ r. r.items) (c.index_mut.ensures.value ∙ get_or_default rows c.args.at c.index_mut.result.now c.reserve.new.self (omega (arith, within)))) is (rw kept at put))

@@ -1,7 +1,7 @@
 -- Rows of runs that are cut, joined and put into.
 use Rattle.std.proofs.Common.{◌≡◌, ◌<◌, ◌≤◌, ◌+◌, ◌++◌, ℕ, zero, suc, inl, inr, List, [], ◌∷◌, length, take, drop, slice_set, slice_index_or, refl, sym, ap, ◌∙◌, arith, add-one, append_assoc}
 use Rattle.std.proofs.lemmas.List.{append-nil, drop_all, set_split, take_more_set, drop-set-lt, set_at, length-take-le}
-use Rattle.std.proofs.Math.Seq.{drop-cons}
+use Rattle.std.proofs.Math.Seq.{drop-cons, take-suc-set}
 use Rattle.std.specs.List.{insert, remove}
 use Rattle.std.specs.declared.vec.Vec.{Vec}
 use Rattle.nb_entries.specs.Runs.{RunValue, run_end, AreApart}
@@ -28,38 +28,30 @@ pub row_cut : {Z : Type 0} → (xs : List Run) (rs : List (Vec Run Z)) (i : ℕ)
 row_cut xs rs i row same l e = sym same ∙ rw add-one (rw (← e) at (rows_split rs i row l))
 
 -- a row put back with its runs
-pub set_same_rows : {Z : Type 0} → (rs : List (Vec Run Z)) (i : ℕ) (old new : Vec Run Z) → i < length rs → old ≡ slice_index_or rs i old → new.items ≡ old.items → runs_in (slice_set rs i new) ≡ runs_in rs
-set_same_rows {Z} rs i old new l e same = set_rows rs i new l ∙ rw same (sym (row_cut (runs_in rs) rs i old refl l e))
+pub set_same_rows : {Z : Type 0} → (rs : List (Vec Run Z)) (i : ℕ) (new : Vec Run Z) → i < length rs → new.items ≡ (slice_index_or rs i new).items → runs_in (slice_set rs i new) ≡ runs_in rs
+set_same_rows rs i new l same = rw (set_rows rs i new l, same, rows_split rs i new l, add-one)
 
 -- a run pushed to the last row
-pub last_pushed : {Z : Type 0} → (rs : List (Vec Run Z)) (i : ℕ) (old new : Vec Run Z) (run : Run) → i + 1 ≡ length rs → old ≡ slice_index_or rs i old → new.items ≡ old.items ++ run ∷ [] → runs_in (slice_set rs i new) ≡ runs_in rs ++ run ∷ []
-last_pushed {Z} rs i old new run l e put =
+pub last_pushed : {Z : Type 0} → (rs : List (Vec Run Z)) (i : ℕ) (new : Vec Run Z) (run : Run) → i + 1 ≡ length rs → new.items ≡ (slice_index_or rs i new).items ++ run ∷ [] → runs_in (slice_set rs i new) ≡ runs_in rs ++ run ∷ []
+last_pushed rs i new run l put =
     let inside : i < length rs = omega (arith, l) in
-    let none = drop_all (i + 1) rs (omega (arith, l)) in
-    rw (set_rows rs i new inside, row_cut (runs_in rs) rs i old refl inside e, none, put) (simp (append-nil, append_assoc))
+    let none = drop_all (suc i) rs (omega (arith, l)) in
+    rw (set_rows rs i new inside, put, rows_split rs i new inside, add-one, none) (simp (append-nil, append_assoc))
 
 -- a row made two
-pub halved : {Z : Type 0} → (rs : List (Vec Run Z)) (i : ℕ) (old front back : Vec Run Z) → i < length rs → old ≡ slice_index_or rs i old → front.items ++ back.items ≡ old.items → runs_in (insert (slice_set rs i front) (i + 1) back) ≡ runs_in rs
-halved {Z} rs i old front back l e both =
+pub halved : {Z : Type 0} → (rs : List (Vec Run Z)) (i : ℕ) (front back : Vec Run Z) → i < length rs → front.items ++ back.items ≡ (slice_index_or rs i front).items → runs_in (insert (slice_set rs i front) (i + 1) back) ≡ runs_in rs
+halved rs i front back l both =
     let next : i < i + 1 = omega arith in
-    rw (row_cut (runs_in rs) rs i old refl l e, ← both, take_more_set, drop-set-lt) (simp (rows-append, append_assoc))
-
--- a row set, the one after it removed, and the row set again
-pub next_removed : {X : Type 0} (xs : List X) (i : ℕ) (r s : X) → i + 1 < length xs → slice_set (remove (slice_set xs i r) (i + 1)) i s ≡ take i xs ++ s ∷ drop (suc (suc i)) xs
-next_removed xs i r s l =
-    let inside : i < length xs = omega (arith, l) in
-    let past : i < suc (i + 1) = omega arith in
-    let size : length (take i xs) ≡ i = length-take-le i xs (omega (arith, l)) in
-    rw (take_more_set, drop-set-lt, append_assoc, set_at, add-one)
+    rw (rows_split rs i front l, ← both, take_more_set, drop-set-lt, add-one) (simp (rows-append, append_assoc))
 
 -- two rows made one
-pub joined : {Z : Type 0} → (rs : List (Vec Run Z)) (i : ℕ) (own new next : Vec Run Z) → i + 1 < length rs → own.items ≡ (slice_index_or rs i own).items → next ≡ slice_index_or rs (i + 1) next → new.items ≡ own.items ++ next.items →
-    runs_in (take i rs ++ new ∷ drop (suc (suc i)) rs) ≡ runs_in rs
-joined {Z} rs i own new next l e f put =
+pub joined : {Z : Type 0} → (rs : List (Vec Run Z)) (i : ℕ) (own new : Vec Run Z) → i + 1 < length rs → new.items ≡ (slice_index_or rs i new).items ++ (slice_index_or rs (i + 1) new).items → runs_in (slice_set (remove (slice_set rs i own) (i + 1)) i new) ≡ runs_in rs
+joined rs i own new l put =
     let inside : i < length rs = omega (arith, l) in
     let after : suc i < length rs = omega (arith, l) in
-    let g = rw add-one at f in
-    rw (rows-append, rows_split rs i own inside, drop-cons rs (suc i) next after, put, ← e, ← g, append_assoc)
+    let past : i < suc (suc i) = omega arith in
+    let size : length (take i rs) ≡ i = length-take-le i rs (omega (arith, l)) in
+    rw (add-one, take-suc-set, drop-set-lt, append_assoc, set_at, rows-append, put, rows_split rs i new inside, add-one, drop-cons rs (suc i) new after, append_assoc)
 
 -- what a row has, the rows have
 pub row_agrees : {Z : Type 0} → (rs : List (Vec Run Z)) (i : ℕ) (row : Vec Run Z) (f : RunValue) → AreApart (values_in rs) → i < length rs → row ≡ slice_index_or rs i row → Agree (values_in rs) f → Agree (values_of row.items) f

@@ -13,10 +13,10 @@ on_err_of (Ok x) p = tt
 on_err_of (Err y) p = p
 
 -- a run put back with its value leaves the values
-pub set_same : (xs : List Run) (i : ℕ) (old new : Run) → old ≡ slice_index_or xs i old → value_of new ≡ value_of old → values_of (slice_set xs i new) ≡ values_of xs
-set_same [] i old new e same = refl
-set_same (x ∷ xs) zero old new e same = ap (λ y. y ∷ values_of xs) (same ∙ ap value_of e)
-set_same (x ∷ xs) (suc i) old new e same = ap (λ ys. value_of x ∷ ys) (set_same xs i old new e same)
+pub set_same : (xs : List Run) (i : ℕ) (new : Run) → value_of new ≡ value_of (slice_index_or xs i new) → values_of (slice_set xs i new) ≡ values_of xs
+set_same [] i new same = refl
+set_same (x ∷ xs) zero new same = ap (λ y. y ∷ values_of xs) same
+set_same (x ∷ xs) (suc i) new same = ap (λ ys. value_of x ∷ ys) (set_same xs i new same)
 
 -- ---- runs that are apart ascend
 

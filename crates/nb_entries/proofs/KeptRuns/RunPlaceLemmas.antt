@@ -37,14 +37,14 @@ pub at_value : (xs : List Run) (i : ℕ) (d : Run) → i < length xs → get_or 
 at_value xs i d h = get_or-map value_of xs i d (value_of d) h
 
 -- the runs from `first` up to `past` meet the bytes
-pub meet_at : (xs : List Run) (f : RunValue) (first past k : ℕ) (d : Run) → Lies xs f first past → first ≤ k → k < past → Meet (value_of (slice_index_or xs k d)) f
-meet_at xs f first past k d h b l =
+pub meet_at : (xs : List Run) (f : RunValue) (first past k : ℕ) (w : Run) → Lies xs f first past → first ≤ k → k < past → w ≡ slice_index_or xs k w → Meet (value_of w) f
+meet_at xs f first past k w h b l e =
     let size = length-map xs value_of in
     let within = h.past_within in
     let inside : k < length xs = omega (arith, within, l) in
-    subst (λ r. Meet r f) (at_value xs k d inside) (record {
-      before = all_at (λ r. r.start ≤ run_end f) (values_of xs) past k (value_of d) h.to l (omega (arith, size, inside));
-      after = all_from_at (λ r. f.start ≤ run_end r) (values_of xs) first k (value_of d) h.from b (omega (arith, size, inside));
+    subst (λ r. Meet r f) (at_value xs k w inside ∙ ap value_of (sym e)) (record {
+      before = all_at (λ r. r.start ≤ run_end f) (values_of xs) past k (value_of w) h.to l (omega (arith, size, inside));
+      after = all_from_at (λ r. f.start ≤ run_end r) (values_of xs) first k (value_of w) h.from b (omega (arith, size, inside));
     })
 
 -- a part of a row is apart where the row is
@@ -73,7 +73,7 @@ one_there xs f first past w r h l a agree e g =
     let next : past ≡ suc first = omega (arith, l) in
     let cut : xs ≡ take first xs ++ (w ∷ [] ++ drop past xs) = rw next (split_at xs first w inside ∙ ap (λ (x : Run). take first xs ++ x ∷ drop (suc first) xs) (sym e)) in
     put_between xs (slice_set xs first r) (take first xs) (w ∷ []) (r ∷ []) (drop past xs) f cut (rw next (set_split xs first r inside)) a (rw take-map at h.before) (rw drop-map at h.after)
-    (rw g (put_one (value_of w) f (apart_between xs (take first xs) (w ∷ []) (drop past xs) cut a).0 (rw (← e) at (meet_at xs f first past first w h (omega arith) (omega (arith, l)))) (agrees_between xs (take first xs) (w ∷ []) (drop past xs) f cut a agree)))
+    (rw g (put_one (value_of w) f (apart_between xs (take first xs) (w ∷ []) (drop past xs) cut a).0 (meet_at xs f first past first w h (omega arith) (omega (arith, l)) e) (agrees_between xs (take first xs) (w ∷ []) (drop past xs) f cut a agree)))
 
 -- a row cut before a run, and after a later one
 cut_more : (xs : List Run) (i k : ℕ) (d e : Run) → i < k → k < length xs → xs ≡ take i xs ++ ((get_or xs i d ∷ (drop (suc i) (take k xs) ++ get_or xs k e ∷ [])) ++ drop (suc k) xs)
@@ -92,5 +92,5 @@ more_there xs f first past w l r h b a agree e d g =
     let ms = drop (suc first) (take (past - 1) xs) in
     let cut : xs ≡ take first xs ++ ((w ∷ (ms ++ l ∷ [])) ++ drop past xs) = rw (← e, ← d, ← next) at (cut_more xs first (past - 1) w l (omega (arith, b)) (omega (arith, within, b))) in
     put_between xs _ (take first xs) (w ∷ (ms ++ l ∷ [])) (r ∷ []) (drop past xs) f cut (rw (take_more_set, drop-set-lt, append_assoc)) a (rw take-map at h.before) (rw drop-map at h.after)
-    (rw g (simp map-append (put_more (value_of w) (values_of ms) (value_of l) f (simp map-append at (apart_between xs (take first xs) (w ∷ (ms ++ l ∷ [])) (drop past xs) cut a)) (rw (← e) at (meet_at xs f first past first w h (omega arith) (omega (arith, b))))
-    (rw (← d) at (meet_at xs f first past (past - 1) l h (omega (arith, b)) (omega (arith, b)))) (simp map-append at (agrees_between xs (take first xs) (w ∷ (ms ++ l ∷ [])) (drop past xs) f cut a agree)))))
+    (rw g (simp map-append (put_more (value_of w) (values_of ms) (value_of l) f (simp map-append at (apart_between xs (take first xs) (w ∷ (ms ++ l ∷ [])) (drop past xs) cut a)) (meet_at xs f first past first w h (omega arith) (omega (arith, b)) e)
+    (meet_at xs f first past (past - 1) l h (omega (arith, b)) (omega (arith, b)) d) (simp map-append at (agrees_between xs (take first xs) (w ∷ (ms ++ l ∷ [])) (drop past xs) f cut a agree)))))

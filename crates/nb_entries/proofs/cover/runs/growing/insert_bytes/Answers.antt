@@ -1,4 +1,5 @@
 use Rattle.std.proofs.Common.{◌≡◌, ◌-◌, ap, ap₂, ◌∙◌, arith}
+use Rattle.std.proofs.lemmas.Grind.{common_steps}
 use Rattle.std.proofs.lemmas.Result.{on_ok_weaker, on_err_weaker}
 use Rattle.nb_entries.specs.Code.RunSteps.{value_of, run_at, grown, Meet}
 use Rattle.nb_entries.proofs.KeptRuns.RunCodeLemmas.{on_err_of, set_same}
@@ -11,7 +12,7 @@ join-requires c =
     let xs = c.args.runs.now.items in
     let f = run_at c.args.start c.args.bytes.now in
     let lies : Lies xs f c.first_from-first.result c.past_to-past.result = lies_of xs _ _ f _ _ c.deref.ensures.value c.deref-2.ensures.value c.first_from-first.ensures.within c.first_from-first.ensures.before c.first_from-first.ensures.after c.past_to-past.ensures.within c.past_to-past.ensures.before c.past_to-past.ensures.after in
-    rw c.index_mut.ensures.value (meet_at xs f _ _ _ c.index_mut.result.now lies (omega arith) (omega arith))
+    meet_at xs f _ _ _ c.index_mut.result.now lies (omega arith) (omega arith) c.index_mut.ensures.value
 
 pub returns-then-past-first-clause-ok : goal.returns-then-past-first-clause-ok
 returns-then-past-first-clause-ok c =
@@ -21,8 +22,7 @@ returns-then-past-first-clause-ok c =
     on_ok_weaker c.join.result (λ e. one_there xs f _ _ c.index_mut.result.now c.join.new.run lies c.if-past-first.true c.requires.apart c.requires.agree c.index_mut.ensures.value e) c.join.ensures.ok
 
 pub returns-then-past-first-clause-err : goal.returns-then-past-first-clause-err
-returns-then-past-first-clause-err c =
-    on_err_weaker c.join.result (λ same. set_same c.args.runs.now.items c.first_from-first.result c.index_mut.result.now c.join.new.run c.index_mut.ensures.value same) c.join.ensures.err
+returns-then-past-first-clause-err c = grind (arith, common_steps, set_same)
 
 pub returns-then-past-first-2-clause-ok : goal.returns-then-past-first-2-clause-ok
 returns-then-past-first-2-clause-ok c =
@@ -36,8 +36,8 @@ join-requires-2 c =
     let xs = c.args.runs.now.items in
     let f = run_at c.args.start c.args.bytes.now in
     let lies : Lies xs f c.first_from-first.result c.past_to-past.result = lies_of xs _ _ f _ _ c.deref.ensures.value c.deref-2.ensures.value c.first_from-first.ensures.within c.first_from-first.ensures.before c.first_from-first.ensures.after c.past_to-past.ensures.within c.past_to-past.ensures.before c.past_to-past.ensures.after in
-    let m = meet_at xs f _ _ (c.past_to-past.result - 1) c.index-last.result.now lies (omega arith) (omega arith) in
-    rw (c.in_ok-whole.ensures, c.start.ensures, c.bytes.ensures, c.index-last.ensures) (record { before = m.after; after = m.before })
+    let m = meet_at xs f _ _ (c.past_to-past.result - 1) c.index-last.result.now lies (omega arith) (omega arith) c.index-last.ensures in
+    rw (c.in_ok-whole.ensures, c.start.ensures, c.bytes.ensures) (record { before = m.after; after = m.before })
 
 pub join-requires-3 : goal.join-requires-3
 join-requires-3 c =
@@ -45,14 +45,13 @@ join-requires-3 c =
     let f = run_at c.args.start c.args.bytes.now in
     let last = c.index-last.result.now in
     let lies : Lies xs f c.first_from-first.result c.past_to-past.result = lies_of xs _ _ f _ _ c.deref.ensures.value c.deref-2.ensures.value c.first_from-first.ensures.within c.first_from-first.ensures.before c.first_from-first.ensures.after c.past_to-past.ensures.within c.past_to-past.ensures.before c.past_to-past.ensures.after in
-    let n = meet_at xs f _ _ (c.past_to-past.result - 1) last lies (omega arith) (omega arith) in
-    let met : Meet f (value_of last) = rw c.index-last.ensures (record { before = n.after; after = n.before }) in
+    let n = meet_at xs f _ _ (c.past_to-past.result - 1) last lies (omega arith) (omega arith) c.index-last.ensures in
+    let met : Meet f (value_of last) = record { before = n.after; after = n.before } in
     let grows : value_of c.join-2.new.run ≡ grown f (value_of last) = c.in_ok-join.ensures.ok ∙ ap₂ grown c.in_ok-whole.ensures (ap₂ run_at c.start.ensures c.bytes.ensures) in
-    rw (c.start-2.ensures, c.bytes-2.ensures, grows, c.index_mut-2.ensures.value) (meet_grown _ f (value_of last) (meet_at xs f _ _ _ c.index_mut-2.result.now lies (omega arith) (omega arith)) met)
+    rw (c.start-2.ensures, c.bytes-2.ensures, grows) (meet_grown _ f (value_of last) (meet_at xs f _ _ _ c.index_mut-2.result.now lies (omega arith) (omega arith) c.index_mut-2.ensures.value) met)
 
 pub returns-in_err-join-2-clause-err : goal.returns-in_err-join-2-clause-err
-returns-in_err-join-2-clause-err c =
-    on_err_of _ (set_same c.args.runs.now.items c.first_from-first.result c.index_mut-2.result.now c.join-3.new.run c.index_mut-2.ensures.value c.in_err-join-2.ensures.err)
+returns-in_err-join-2-clause-err c = on_err_of c.from_residual-in_err-join-2.result (grind (arith, common_steps, set_same))
 
 pub returns-clause-ok : goal.returns-clause-ok
 returns-clause-ok c =

@@ -16,12 +16,12 @@ use Rattle.nb_entries.proofs.KeptRuns.RowsLemmas.{all_front, all_back, values_co
 
 -- ---- rows that are set, pushed, cut and joined
 
-pub rows-append : {Z : Type 0} → (rs ss : List (Vec Run Z)) → runs_in (rs ++ ss) ≡ runs_in rs ++ runs_in ss
-rows-append [] ss = refl
-rows-append (r ∷ rs) ss = ap (λ ys. r.items ++ ys) (rows-append rs ss) ∙ sym (append_assoc r.items (runs_in rs) (runs_in ss))
+pub rows_append : {Z : Type 0} → (rs ss : List (Vec Run Z)) → runs_in (rs ++ ss) ≡ runs_in rs ++ runs_in ss
+rows_append [] ss = refl
+rows_append (r ∷ rs) ss = ap (λ ys. r.items ++ ys) (rows_append rs ss) ∙ sym (append_assoc r.items (runs_in rs) (runs_in ss))
 
 pub set_rows : {Z : Type 0} → (rs : List (Vec Run Z)) (i : ℕ) (r : Vec Run Z) → i < length rs → runs_in (slice_set rs i r) ≡ runs_in (take i rs) ++ (r.items ++ runs_in (drop (i + 1) rs))
-set_rows rs i r l = rw (set_split rs i r l, rows-append, add-one)
+set_rows rs i r l = rw (set_split rs i r l, rows_append, add-one)
 
 -- the runs before a row, its own and those after it
 pub row_cut : {Z : Type 0} → (xs : List Run) (rs : List (Vec Run Z)) (i : ℕ) (row : Vec Run Z) → runs_in rs ≡ xs → i < length rs → row ≡ slice_index_or rs i row → xs ≡ runs_in (take i rs) ++ (row.items ++ runs_in (drop (i + 1) rs))
@@ -42,7 +42,7 @@ last_pushed rs i new run l put =
 pub halved : {Z : Type 0} → (rs : List (Vec Run Z)) (i : ℕ) (front back : Vec Run Z) → i < length rs → front.items ++ back.items ≡ (slice_index_or rs i front).items → runs_in (insert (slice_set rs i front) (i + 1) back) ≡ runs_in rs
 halved rs i front back l both =
     let next : i < i + 1 = omega arith in
-    rw (rows_split rs i front l, ← both, take_more_set, drop-set-lt, add-one) (simp (rows-append, append_assoc))
+    rw (rows_split rs i front l, ← both, take_more_set, drop-set-lt, add-one) (simp (rows_append, append_assoc))
 
 -- two rows made one
 pub joined : {Z : Type 0} → (rs : List (Vec Run Z)) (i : ℕ) (own new : Vec Run Z) → i + 1 < length rs → new.items ≡ (slice_index_or rs i new).items ++ (slice_index_or rs (i + 1) new).items → runs_in (slice_set (remove (slice_set rs i own) (i + 1)) i new) ≡ runs_in rs
@@ -51,7 +51,10 @@ joined rs i own new l put =
     let after : suc i < length rs = omega (arith, l) in
     let past : i < suc (suc i) = omega arith in
     let size : length (take i rs) ≡ i = length-take-le i rs (omega (arith, l)) in
-    rw (add-one, take-suc-set, drop-set-lt, append_assoc, set_at, rows-append, put, rows_split rs i new inside, add-one, drop-cons rs (suc i) new after, append_assoc)
+    rw (add-one, take-suc-set, drop-set-lt, append_assoc, set_at, rows_append, put, rows_split rs i new inside, add-one, drop-cons rs (suc i) new after, append_assoc)
+
+-- for the functions of rows, whose goals have no answers
+pub ruleset row_steps = (set_same_rows, last_pushed, rows_append, halved)
 
 -- what a row has, the rows have
 pub row_agrees : {Z : Type 0} → (rs : List (Vec Run Z)) (i : ℕ) (row : Vec Run Z) (f : RunValue) → AreApart (values_in rs) → i < length rs → row ≡ slice_index_or rs i row → Agree (values_in rs) f → Agree (values_of row.items) f

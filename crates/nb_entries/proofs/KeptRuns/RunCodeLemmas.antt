@@ -8,10 +8,6 @@ use Rattle.nb_entries.specs.Code.RunSteps.{value_of, values_of, StartTo, StartAf
 use Rattle.nb_entries.specs.declared.cover.runs.Run.{Run}
 use Rattle.nb_entries.proofs.KeptRuns.RunRowLemmas.{all_take, all_drop}
 
-pub on_err_of : {T E P : Type 0} (r : Result T E) → P → OnErr r P
-on_err_of (Ok x) p = tt
-on_err_of (Err y) p = p
-
 -- a run put back with its value leaves the values
 pub set_same : (xs : List Run) (i : ℕ) (new : Run) → value_of new ≡ value_of (slice_index_or xs i new) → values_of (slice_set xs i new) ≡ values_of xs
 set_same [] i new same = refl

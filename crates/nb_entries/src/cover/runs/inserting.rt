@@ -1,5 +1,7 @@
 //! Runs put into rows, none of which has many.
-ghost use Rattle.std.specs.Prelude.{◌≡◌, ◌↔◌, ◌≤◌, ◌<◌, ◌+◌, ◌++◌, ◌∷◌, [], length, take, drop, slice_index_or, IsTrue, OnOk, OnErr, IfOk};
+#![tactic(auto, using(std::proofs::lemmas::Grind::common_steps, crate::proofs::KeptRuns::RowsPutLemmas::row_steps))]
+
+ghost use Rattle.std.specs.Prelude.{◌≡◌, ◌≤◌, ◌<◌, ◌+◌, ◌++◌, ◌∷◌, [], length, take, drop, slice_index_or, OnOk, OnErr, IfOk};
 ghost use Rattle.nb_entries.specs.Runs.{AreApart};
 ghost use Rattle.nb_entries.specs.Code.RunSteps.{value_of, run_at, EndBefore, Meet, Agree, IsPut};
 ghost use Rattle.nb_entries.specs.Code.Rows.{runs_in, values_in, NoneEmpty, kept_runs, kept_values, AreFilled};

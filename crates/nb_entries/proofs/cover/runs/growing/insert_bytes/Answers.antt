@@ -1,8 +1,6 @@
 use Rattle.std.proofs.Common.{◌≡◌, ◌-◌, ap, ap₂, ◌∙◌, arith}
-use Rattle.std.proofs.lemmas.Grind.{common_steps}
-use Rattle.std.proofs.lemmas.Result.{on_ok_weaker, on_err_weaker}
+use Rattle.std.proofs.lemmas.Result.{on_ok_weaker}
 use Rattle.nb_entries.specs.Code.RunSteps.{value_of, run_at, grown, Meet}
-use Rattle.nb_entries.proofs.KeptRuns.RunCodeLemmas.{on_err_of, set_same}
 use Rattle.nb_entries.proofs.KeptRuns.RunGrownLemmas.{meet_grown}
 use Rattle.nb_entries.proofs.KeptRuns.RunPlaceLemmas.{Lies, lies_of, meet_at, none_there, one_there, more_there}
 use Rattle.nb_entries.proofs.cover.runs.growing.insert_bytes.Goals as goal
@@ -20,9 +18,6 @@ returns-then-past-first-clause-ok c =
     let f = run_at c.args.start c.args.bytes.now in
     let lies : Lies xs f c.first_from-first.result c.past_to-past.result = lies_of xs _ _ f _ _ c.deref.ensures.value c.deref-2.ensures.value c.first_from-first.ensures.within c.first_from-first.ensures.before c.first_from-first.ensures.after c.past_to-past.ensures.within c.past_to-past.ensures.before c.past_to-past.ensures.after in
     on_ok_weaker c.join.result (λ e. one_there xs f _ _ c.index_mut.result.now c.join.new.run lies c.if-past-first.true c.requires.apart c.requires.agree c.index_mut.ensures.value e) c.join.ensures.ok
-
-pub returns-then-past-first-clause-err : goal.returns-then-past-first-clause-err
-returns-then-past-first-clause-err c = grind (arith, common_steps, set_same)
 
 pub returns-then-past-first-2-clause-ok : goal.returns-then-past-first-2-clause-ok
 returns-then-past-first-2-clause-ok c =
@@ -49,9 +44,6 @@ join-requires-3 c =
     let met : Meet f (value_of last) = record { before = n.after; after = n.before } in
     let grows : value_of c.join-2.new.run ≡ grown f (value_of last) = c.in_ok-join.ensures.ok ∙ ap₂ grown c.in_ok-whole.ensures (ap₂ run_at c.start.ensures c.bytes.ensures) in
     rw (c.start-2.ensures, c.bytes-2.ensures, grows) (meet_grown _ f (value_of last) (meet_at xs f _ _ _ c.index_mut-2.result.now lies (omega arith) (omega arith) c.index_mut-2.ensures.value) met)
-
-pub returns-in_err-join-2-clause-err : goal.returns-in_err-join-2-clause-err
-returns-in_err-join-2-clause-err c = on_err_of c.from_residual-in_err-join-2.result (grind (arith, common_steps, set_same))
 
 pub returns-clause-ok : goal.returns-clause-ok
 returns-clause-ok c =

@@ -1,5 +1,5 @@
 -- Rows of runs: what a look-up finds in them, and how rows that are apart are cut and put together.
-use Rattle.std.proofs.Common.{◌≡◌, ◌<◌, ◌≤◌, ◌+◌, ◌-◌, ◌++◌, ℕ, zero, suc, Bool, true, false, cond, nat_le, inl, inr, List, [], ◌∷◌, length, take, drop, min, max, get_or, map, slice_get, Option, Some, None, refl, sym, ap, ap₂, ◌∙◌, arith}
+use Rattle.std.proofs.Common.{◌≡◌, ◌<◌, ◌≤◌, ◌+◌, ◌-◌, ◌++◌, ℕ, zero, suc, Bool, true, false, cond, nat_le, inl, inr, List, [], ◌∷◌, length, take, drop, min, get_or, map, slice_get, Option, Some, None, refl, sym, ap, ap₂, ◌∙◌, arith}
 use Rattle.std.proofs.lemmas.Bool.{leb-true, le-leb, lt-leb}
 use Rattle.std.proofs.lemmas.Option.{slice_get_within, slice_get-get_or, slice_get_past}
 use Rattle.std.specs.List.{AllByRecursion}
@@ -9,7 +9,7 @@ use Rattle.std.specs.FinMap as maps
 use Rattle.nb_entries.specs.Cover.{placed}
 use Rattle.nb_entries.specs.Maps.{first_of}
 use Rattle.nb_entries.specs.Runs.{RunValue, run_end, StartsPast, AreApart, places_of, map_of_runs}
-use Rattle.nb_entries.specs.Code.RunSteps.{byte_in, look_in, EndBefore, StartAfter}
+use Rattle.nb_entries.specs.Code.RunSteps.{byte_in, look_in, EndBefore}
 use Rattle.nb_entries.specs.Shared.CoverLemmas.{first_either, first_of_three}
 use Rattle.nb_entries.specs.Shared.PlacedLemmas.{find-placed, find-append}
 

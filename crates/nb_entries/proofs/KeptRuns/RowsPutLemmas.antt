@@ -1,6 +1,7 @@
 -- Rows of runs that are cut, joined and put into.
 use Rattle.std.proofs.Common.{◌≡◌, ◌<◌, ◌≤◌, ◌+◌, ◌++◌, ℕ, zero, suc, inl, inr, List, [], ◌∷◌, length, take, drop, slice_set, slice_index_or, refl, sym, ap, ◌∙◌, arith, add-one, append_assoc}
 use Rattle.std.proofs.lemmas.List.{append-nil, drop_all, set_split, take_more_set, drop-set-lt, set_at, length-take-le}
+use Rattle.std.proofs.lemmas.Grind.{common_steps}
 use Rattle.std.proofs.Math.Seq.{drop-cons, take-suc-set}
 use Rattle.std.specs.List.{insert, remove}
 use Rattle.std.specs.declared.vec.Vec.{Vec}
@@ -54,7 +55,7 @@ joined rs i own new l put =
     rw (add-one, take-suc-set, drop-set-lt, append_assoc, set_at, rows_append, put, rows_split rs i new inside, add-one, drop-cons rs (suc i) new after, append_assoc)
 
 -- for the functions of rows, whose goals have no answers
-pub ruleset row_steps = (set_same_rows, last_pushed, rows_append, halved)
+pub ruleset row_steps = (common_steps, set_same_rows, last_pushed, rows_append, halved)
 
 -- what a row has, the rows have
 pub row_agrees : {Z : Type 0} → (rs : List (Vec Run Z)) (i : ℕ) (row : Vec Run Z) (f : RunValue) → AreApart (values_in rs) → i < length rs → row ≡ slice_index_or rs i row → Agree (values_in rs) f → Agree (values_of row.items) f

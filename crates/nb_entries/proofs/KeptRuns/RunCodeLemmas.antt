@@ -1,6 +1,7 @@
 -- Lists of the code's runs, changed at a place, and their values.
 use Rattle.std.proofs.Common.{◌≡◌, ◌<◌, ◌≤◌, ◌+◌, ℕ, zero, suc, List, [], ◌∷◌, length, take, drop, refl, ap, ◌∙◌, arith, add-one, slice_set, slice_index_or}
 use Rattle.std.proofs.lemmas.List.{get_or_default}
+use Rattle.std.proofs.lemmas.Grind.{common_steps}
 use Rattle.std.specs.List.Sorted.{IsNonDecreasingBy}
 use Rattle.std.proofs.lemmas.List.Sorted.{IsNonDecreasingBy-from_all_adjacent}
 use Rattle.nb_entries.specs.Runs.{run_end, AreApart}
@@ -13,6 +14,8 @@ pub set_same : (xs : List Run) (i : ℕ) (new : Run) → value_of new ≡ value_
 set_same [] i new same = refl
 set_same (x ∷ xs) zero new same = ap (λ y. y ∷ values_of xs) same
 set_same (x ∷ xs) (suc i) new same = ap (λ ys. value_of x ∷ ys) (set_same xs i new same)
+
+pub ruleset set_steps = (common_steps, set_same)
 
 -- ---- runs that are apart ascend
 

@@ -1,6 +1,6 @@
 -- Runs in several rows: where they lie.
 use Rattle.std.proofs.Common.{◌≡◌, ◌<◌, ◌≤◌, ◌+◌, ◌-◌, ◌++◌, ℕ, zero, suc, inl, inr, List, [], ◌∷◌, length, take, drop, slice_get, slice_set, slice_index_or, Some, refl, sym, ap, ◌∙◌, subst, arith, length-append, append_assoc}
-use Rattle.std.proofs.lemmas.List.{map-append, length-map, take-append-le, get_or-append-add, get_or_append_left, take_all, drop_all}
+use Rattle.std.proofs.lemmas.List.{map-append, length-map, drop-map, take-append-drop, take_rest, drop_all}
 use Rattle.std.proofs.lemmas.Bool.{cases_lt}
 use Rattle.std.proofs.lemmas.Option.{same_Some}
 use Rattle.std.specs.List.{AllByRecursion}
@@ -9,7 +9,7 @@ use Rattle.std.proofs.lemmas.List.Sorted.{IsNonDecreasingBy-from_all_adjacent}
 use Rattle.std.specs.declared.vec.Vec.{Vec}
 use Rattle.nb_entries.specs.Runs.{RunValue, run_end, StartsPast, AreApart}
 use Rattle.nb_entries.specs.Code.RunSteps.{value_of, values_of, EndBefore, EndFrom, StartAfter}
-use Rattle.nb_entries.specs.Code.Rows.{runs_in, values_in, NoneEmpty, last_end, IsFirstTo}
+use Rattle.nb_entries.specs.Code.Rows.{runs_in, values_in, NoneEmpty, last_end, LastsTo, IsFrom}
 use Rattle.nb_entries.specs.declared.cover.runs.Run.{Run}
 use Rattle.nb_entries.proofs.KeptRuns.RunRowLemmas.{apart_front, apart_back, all_from_at}
 use Rattle.nb_entries.proofs.KeptRuns.RunPlaceLemmas.{at_value}
@@ -96,11 +96,6 @@ all_before (x ∷ y ∷ xs) n a h =
     let first = rest.0 in
     let past = a.1.0 in (omega (arith, first, past), rest)
 
-pub last_before : (xs : List Run) (n : ℕ) → 0 < length xs → EndBefore n (values_of xs) → last_end xs < n
-last_before [] n l h = absurd (omega arith)
-last_before (x ∷ []) n l h = h.0
-last_before (x ∷ y ∷ xs) n l h = last_before (y ∷ xs) n (omega arith) h.1
-
 last_from : (x : Run) (xs : List Run) → AreApart (values_of (x ∷ xs)) → (value_of x).start ≤ last_end (x ∷ xs)
 last_from x [] a = omega arith
 last_from x (y ∷ xs) a = let rest = last_from y xs a.1.1 in let past = a.1.0 in omega (arith, rest, past)
@@ -137,48 +132,54 @@ rows_before (r ∷ rs) n (suc i) a l h =
     (all_both (λ (v : RunValue). run_end v < n) (values_of r.items) (values_in (take i rs)) (all_before r.items n (row_apart r rs a) (h 0 r (omega arith)))
     (rows_before rs n i (rest_apart r rs a) (omega arith) (λ k d b. h (suc k) d (omega (arith, b)))))
 
--- the first runs of a list in three parts
-taken : (us vs ws : List RunValue) (k n : ℕ) → k ≤ length vs → EndBefore n us → EndBefore n (take k vs) → EndBefore n (take (length us + k) (us ++ (vs ++ ws)))
-taken [] vs ws k n l h g =
-    let none : 0 + k ≡ k = omega arith in
-    subst (λ j. EndBefore n (take j (vs ++ ws))) (sym none) (subst (EndBefore n) (sym (take-append-le k vs ws l)) g)
-taken (u ∷ us) vs ws k n l h g =
-    let more : length (u ∷ us) + k ≡ suc (length us + k) = omega arith in
-    subst (λ j. EndBefore n (take j (u ∷ (us ++ (vs ++ ws))))) (sym more) (h.0, taken us vs ws k n l h.1 g)
+-- ---- the runs from a place on
 
--- the first run of a row that ends at a place or after it, as one of all
-pub first_found : {Z : Type 0} → (rs : List (Vec Run Z)) (at first n : ℕ) (row : Vec Run Z) (run : Run) → NoneEmpty rs → AreApart (values_in rs) → at < length rs → row ≡ slice_index_or rs at row →
-    EndBefore n (values_in (take at rs)) → EndBefore n (take first (values_of row.items)) → EndFrom n (drop first (values_of row.items)) → first < length row.items → run ≡ slice_index_or row.items first run → IsFirstTo (runs_in rs) n run
-first_found {Z} rs at first n row run s a l e before early from within is =
-    let front = runs_in (take at rs) in
-    let back = runs_in (drop (suc at) rs) in
-    let cut : runs_in rs ≡ front ++ (row.items ++ back) = rows_split rs at row l ∙ ap (λ (v : Vec Run Z). front ++ (v.items ++ back)) (sym e) in
-    let size : length (values_of row.items) ≡ length row.items = length-map row.items value_of in
-    let parts : values_in rs ≡ values_of front ++ (values_of row.items ++ values_of back) =
-    values_split rs at row l ∙ ap (λ (v : Vec Run Z). values_of front ++ (values_of v.items ++ values_of back)) (sym e) in
+ends_from : (m n : ℕ) (rs : List RunValue) → n ≤ m → StartsPast m rs → AreApart rs → EndFrom n rs
+ends_from m n [] l p a = tt
+ends_from m n (r ∷ rs) l p a = (omega (arith, l, p), ends_from (run_end r) n rs (omega (arith, l, p)) a.1.0 a.1.1)
+
+-- where the last run of a row ends at a place or after it, so do the runs behind it
+behind_last : (xs : List Run) (rs : List RunValue) (n : ℕ) → 0 < length xs → AreApart (values_of xs ++ rs) → n ≤ last_end xs → EndFrom n rs
+behind_last [] rs n l a h = absurd (omega arith)
+behind_last (x ∷ []) rs n l a h = ends_from (run_end (value_of x)) n rs h a.1.0 a.1.1
+behind_last (x ∷ y ∷ xs) rs n l a h = behind_last (y ∷ xs) rs n (omega arith) a.1.1 h
+
+pub lasts_to : {Z : Type 0} → (rs : List (Vec Run Z)) (n i : ℕ) → ((d : Vec Run Z) → i < length rs → n ≤ last_end (slice_index_or rs i d).items) → LastsTo n (drop i rs)
+lasts_to [] n zero h = tt
+lasts_to [] n (suc i) h = tt
+lasts_to (r ∷ rs) n zero h = h r (omega arith)
+lasts_to (r ∷ rs) n (suc i) h = lasts_to rs n i (λ d l. h d (omega (arith, l)))
+
+joined_rows : {Z : Type 0} → (rs ss : List (Vec Run Z)) → values_in (rs ++ ss) ≡ values_in rs ++ values_in ss
+joined_rows [] ss = refl
+joined_rows (r ∷ rs) ss = simp (values_cons, joined_rows rs ss, append_assoc)
+
+-- rows about one of them
+row_parts : {Z : Type 0} → (rs : List (Vec Run Z)) (at : ℕ) (row : Vec Run Z) (rest : List (Vec Run Z)) → take (length rs - at) (drop at rs) ≡ row ∷ rest → values_in rs ≡ values_in (take at rs) ++ (values_of row.items ++ values_in rest)
+row_parts rs at row rest e =
+    ap values_in (sym (take-append-drop at rs) ∙ ap (λ us. take at rs ++ us) (sym (take_rest rs at) ∙ e))
+    ∙ joined_rows (take at rs) (row ∷ rest) ∙ ap (λ us. values_in (take at rs) ++ us) (values_cons row rest)
+
+pub row_apart_at : {Z : Type 0} → (rs : List (Vec Run Z)) (at : ℕ) (row : Vec Run Z) (rest : List (Vec Run Z)) → take (length rs - at) (drop at rs) ≡ row ∷ rest → AreApart (values_in rs) → AreApart (values_of row.items ++ values_in rest)
+row_apart_at rs at row rest e a = apart_back (values_in (take at rs)) (values_of row.items ++ values_in rest) (subst AreApart (row_parts rs at row rest e) a)
+
+-- the runs from a place on, of the first row that reaches it and of those behind it
+pub from_row : {Z : Type 0} → (rs : List (Vec Run Z)) (at n k : ℕ) (row : Vec Run Z) (rest : List (Vec Run Z)) → take (length rs - at) (drop at rs) ≡ row ∷ rest → NoneEmpty rs → AreApart (values_in rs) →
+    EndBefore n (values_in (take at rs)) → LastsTo n (drop at rs) → EndBefore n (take k (values_of row.items)) → EndFrom n (drop k (values_of row.items)) → IsFrom (values_in rs) n (values_of (take (length row.items - k) (drop k row.items) ++ runs_in rest))
+from_row {Z} rs at n k row rest e s a before last early late =
+    let vs = values_of row.items in
+    let front = values_in (take at rs) in
+    let there : drop at rs ≡ row ∷ rest = sym (take_rest rs at) ∙ e in
+    let left : values_of (take (length row.items - k) (drop k row.items) ++ runs_in rest) ≡ drop k vs ++ values_in rest =
+    ap (λ us. values_of (us ++ runs_in rest)) (take_rest row.items k) ∙ map-append value_of (drop k row.items) (runs_in rest) ∙ ap (λ us. us ++ values_in rest) (sym (drop-map value_of k row.items)) in
     record {
-      index = length front + first;
-      inside = subst (λ xs. length front + first < length xs) (sym cut) (omega (arith, within, length-append front (row.items ++ back), length-append row.items back));
-      is = is ∙ sym (subst (λ xs. slice_index_or xs (length front + first) run ≡ slice_index_or row.items first run) (sym cut)
-          (get_or-append-add front (row.items ++ back) first run ∙ get_or_append_left row.items back run first within));
-      before = subst (λ (us : List RunValue). EndBefore n (take (length front + first) us)) (sym parts)
-          (subst (λ k. EndBefore n (take (k + first) (values_of front ++ (values_of row.items ++ values_of back)))) (length-map front value_of)
-          (taken (values_of front) (values_of row.items) (values_of back) first n (omega (arith, size, within)) before early));
-      reaches = subst (λ (v : RunValue). n ≤ run_end v) (at_value row.items first run within ∙ ap value_of (sym is)) (all_from_at (λ v. n ≤ run_end v) (values_of row.items) first first (value_of run) from (omega arith) (omega (arith, size, within)));
+      front = front ++ take k vs;
+      cut = row_parts rs at row rest e ∙ ap (λ us. front ++ (us ++ values_in rest)) (sym (take-append-drop k vs)) ∙ ap (λ us. front ++ us) (append_assoc (take k vs) (drop k vs) (values_in rest))
+          ∙ sym (append_assoc front (take k vs) (drop k vs ++ values_in rest)) ∙ ap (λ us. (front ++ take k vs) ++ us) (sym left);
+      before = all_both (λ (v : RunValue). run_end v < n) front (take k vs) before early;
+      after = subst (EndFrom n) (sym left) (all_both (λ (v : RunValue). n ≤ run_end v) (drop k vs) (values_in rest) late
+          (behind_last row.items (values_in rest) n (subst NoneEmpty there (all_left (λ (r : Vec Run Z). 0 < length r.items) rs at s)).0 (row_apart_at rs at row rest e a) (subst (LastsTo n) there last)));
     }
-
--- the run that a place reaches is one of the row
-pub inside_row : {Z : Type 0} → (rs : List (Vec Run Z)) (at first n : ℕ) (row : Vec Run Z) (xs : List Run) → NoneEmpty rs → at < length rs → row ≡ slice_index_or rs at row → xs ≡ row.items → n ≤ last_end (slice_index_or rs at row).items → EndBefore n (take first (values_of xs)) → first < length row.items
-inside_row {Z} rs at first n row xs s l e same reach early = elim (cases_lt first (length row.items)) [
-  | inl inside ↦ inside
-  | inr past ↦
-      let size : length (values_of row.items) ≡ length row.items = length-map row.items value_of in
-      let some : 0 < length row.items = subst (λ (r : Vec Run Z). 0 < length r.items) (sym e) (some_at rs at row s l) in
-      let all : EndBefore n (values_of row.items) = subst (EndBefore n) (take_all first (values_of row.items) (omega (arith, size, past))) (subst (λ (ys : List Run). EndBefore n (take first (values_of ys))) same early) in
-      let ends = last_before row.items n some all in
-      let far : n ≤ last_end row.items = subst (λ (r : Vec Run Z). n ≤ last_end r.items) (sym e) reach in
-      absurd (omega (arith, ends, far))
-]
 
 -- ---- rows that start after a place
 

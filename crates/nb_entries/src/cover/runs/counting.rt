@@ -4,48 +4,35 @@ ghost use Rattle.std.specs.FinMap as maps;
 ghost use Rattle.nb_datagram.specs.declared.limits.TheConstants.{MAX_LENGTH};
 ghost use Rattle.nb_entries.specs.Cover.{BytesBelow};
 ghost use Rattle.nb_entries.specs.Ranges.{ranges_of_map};
-ghost use Rattle.nb_entries.specs.Runs.{AreApart};
-ghost use Rattle.nb_entries.specs.Code.RunSteps.{held_in};
-ghost use Rattle.nb_entries.specs.Code.Rows.{kept_values, AreFilled};
+ghost use Rattle.nb_entries.specs.Runs.{runs_of_map};
 
-use super::{EachRun, Kept, Runs};
+use super::{EachRun, Runs};
 use crate::ranges::Ranges;
 
-/// How many runs are kept.
-pub(super) fn runs_in(kept: &Kept) -> usize
-    requires some { AreFilled kept.now }
-    requires apart { AreApart (kept_values kept.now) }
-    ensures { result ≡ length (kept_values kept.now) }
-{
-    let mut count = 0;
-    for run in EachRun::of(kept) {
-        // a run starts past the one before, at a place of 32 bits, so that the count fits
-        let _ = run.start();
-        count += 1;
-    }
-    count
-}
-
-/// How many bytes all the runs have.
-fn bytes_in(kept: &Kept) -> usize
-    requires some { AreFilled kept.now }
-    requires few { held_in (kept_values kept.now) ≤ MAX_LENGTH }
-    ensures { result ≡ held_in (kept_values kept.now) }
-{
-    let mut held = 0;
-    for run in EachRun::of(kept) {
-        held += run.bytes().len();
-    }
-    held
-}
-
 impl Runs {
+    /// How many runs there are.
+    pub(crate) fn count(&self) -> usize
+        ensures { result ≡ length (runs_of_map self.now) }
+    {
+        let mut count = 0;
+        for run in EachRun::of(&self.kept) {
+            // a run starts past the one before, at a place of 32 bits, so that the count fits
+            let _ = run.start();
+            count += 1;
+        }
+        count
+    }
+
     /// How many bytes there are.
     pub(crate) fn held(&self) -> usize
         requires { maps.len self.now ≤ MAX_LENGTH }
         ensures { result ≡ maps.len self.now }
     {
-        bytes_in(&self.kept)
+        let mut held = 0;
+        for run in EachRun::of(&self.kept) {
+            held += run.bytes().len();
+        }
+        held
     }
 
     /// The ranges of their places.

@@ -1,7 +1,10 @@
 //! The runs of several rows, one after the other.
 ghost use Rattle.std.specs.Prelude.{◌≡◌, []};
-ghost use Rattle.nb_entries.specs.Code.Rows.{kept_runs, AreFilled};
+ghost use Rattle.nb_entries.specs.Runs.{AreApart};
+ghost use Rattle.nb_entries.specs.Code.RunSteps.{values_of};
+ghost use Rattle.nb_entries.specs.Code.Rows.{kept_runs, kept_values, AreFilled, IsFrom};
 
+use super::searching::{first_from, row_to};
 use super::{Kept, Run};
 use std::marker::Model;
 use std::slice::from_ref;
@@ -47,6 +50,26 @@ impl<'a> EachRun<'a> {
                 rows: &[],
             },
             Kept::Many(rows) => EachRun { row: &[], rows },
+        }
+    }
+
+    /// The runs from the first one on that ends at a place or after it.
+    pub(crate) fn from(kept: &'a Kept, place: usize) -> EachRun<'a>
+        requires some { AreFilled kept.now }
+        requires apart { AreApart (kept_values kept.now) }
+        ensures { IsFrom (kept_values kept.now) place (values_of result) }
+    {
+        let rows = match kept {
+            Kept::One(run) if run.end() < place => return EachRun::none(),
+            Kept::One(_) => return EachRun::of(kept),
+            Kept::Many(rows) => rows.as_slice(),
+        };
+        match rows[row_to(rows, place)..].split_first() {
+            Some((row, rest)) => EachRun {
+                row: &row[first_from(row, place)..],
+                rows: rest,
+            },
+            None => EachRun::none(),
         }
     }
 }

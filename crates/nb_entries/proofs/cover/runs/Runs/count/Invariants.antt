@@ -1,13 +1,12 @@
 use Rattle.std.proofs.Common.{◌≡◌, ◌+◌, length}
-use Rattle.nb_entries.specs.Runs.{AreApart}
+use Rattle.nb_entries.specs.Runs.{AreApart, runs_of_map}
 use Rattle.nb_entries.specs.Code.RunSteps.{values_of}
-use Rattle.nb_entries.specs.Code.Rows.{kept_values}
 use Rattle.nb_entries.proofs.KeptRuns.EachRunLemmas.{FewTo}
-use Rattle.nb_entries.proofs.cover.runs.counting.runs_in.Given as goal
+use Rattle.nb_entries.proofs.cover.runs.Runs.count.Given as goal
 
 abbrev pub invariant-loop-run : goal.invariant-loop-run
 invariant-loop-run l = record {
   apart : AreApart (values_of l.run-iterator);
   few : FewTo l.count (values_of l.run-iterator);
-  left : l.count + length (values_of l.run-iterator) ≡ length (kept_values l.kept);
+  left : l.count + length (values_of l.run-iterator) ≡ length (runs_of_map l.self);
 }

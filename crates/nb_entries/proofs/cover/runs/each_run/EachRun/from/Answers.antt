@@ -1,0 +1,37 @@
+use Rattle.std.proofs.Common.{◌∷◌, [], ap, sym, subst, ◌∙◌, arith}
+use Rattle.std.proofs.lemmas.List.{append-nil, length-drop, take_all, take_rest}
+use Rattle.nb_entries.specs.Code.RunSteps.{value_of, values_of, EndBefore}
+use Rattle.nb_entries.specs.Code.Rows.{values_in, NoneEmpty}
+use Rattle.nb_entries.specs.Runs.{AreApart}
+use Rattle.nb_entries.proofs.KeptRuns.RunRowLemmas.{apart_front}
+use Rattle.nb_entries.proofs.KeptRuns.RowsLemmas.{from_row, row_apart_at}
+use Rattle.nb_entries.proofs.cover.runs.each_run.EachRun.from.Goals as goal
+
+pub returns-in-One : goal.returns-in-One
+returns-in-One c =
+    let ends = c.end.ensures in
+    rw (c.in-One.is, c.none.ensures) (record { front = value_of c.in-One.run' ∷ []; cut = sym (append-nil _); before = (omega (arith, ends, c.if-end-place.true), tt); after = tt })
+
+pub first_from-requires : goal.first_from-requires
+first_from-requires c =
+    let apart : AreApart (values_in c.as_slice-rows.result.now) = rw c.as_slice-rows.ensures.value (rw c.in-Many.is at c.requires.apart) in
+    rw c.deref-in-Some.ensures.value (apart_front _ _ (row_apart_at c.as_slice-rows.result.now _ _ _ c.in-Some.ensures.cases.0 apart))
+
+pub returns-in-Some : goal.returns-in-Some
+returns-in-Some c =
+    let some : NoneEmpty c.as_slice-rows.result.now = rw c.as_slice-rows.ensures.value (rw c.in-Many.is at c.requires.some) in
+    let apart : AreApart (values_in c.as_slice-rows.result.now) = rw c.as_slice-rows.ensures.value (rw c.in-Many.is at c.requires.apart) in
+    rw (c.in-Many.is, ← c.as_slice-rows.ensures.value, c.deref.ensures.value)
+    (from_row c.as_slice-rows.result.now _ _ _ _ _ c.in-Some.ensures.cases.0 some apart c.row_to.ensures.before c.row_to.ensures.reaches
+    (rw c.deref-in-Some.ensures.value at c.first_from.ensures.before) (rw c.deref-in-Some.ensures.value at c.first_from.ensures.after))
+
+pub returns-in-None : goal.returns-in-None
+returns-in-None c =
+    let rows = c.as_slice-rows.result.now in
+    let none = rw take_rest at c.in-None.ensures.cases in
+    rw (c.in-Many.is, ← c.as_slice-rows.ensures.value, c.none-in-None.ensures) (record {
+      front = values_in rows;
+      cut = sym (append-nil _);
+      before = subst (λ rs. EndBefore c.args.place (values_in rs)) (take_all c.row_to.result rows (omega (arith, none, length-drop c.row_to.result rows))) c.row_to.ensures.before;
+      after = tt;
+    })

@@ -96,15 +96,20 @@ all_before (x ∷ y ∷ xs) n a h =
     let first = rest.0 in
     let past = a.1.0 in (omega (arith, first, past), rest)
 
-last_from : (x : Run) (xs : List Run) → AreApart (values_of (x ∷ xs)) → (value_of x).start ≤ last_end (x ∷ xs)
-last_from x [] a = omega arith
-last_from x (y ∷ xs) a = let rest = last_from y xs a.1.1 in let past = a.1.0 in omega (arith, rest, past)
+ends_from : (m n : ℕ) (rs : List RunValue) → n ≤ m → StartsPast m rs → AreApart rs → EndFrom n rs
+ends_from m n [] l p a = tt
+ends_from m n (r ∷ rs) l p a = (omega arith, ends_from (run_end r) n rs (omega arith) a.1.0 a.1.1)
 
-last_seam : (xs ys : List Run) → 0 < length xs → 0 < length ys → AreApart (values_of (xs ++ ys)) → last_end xs ≤ last_end ys
-last_seam [] ys l k a = absurd (omega arith)
-last_seam (x ∷ xs) [] l k a = absurd (omega arith)
-last_seam (x ∷ []) (y ∷ ys) l k a = let past = a.1.0 in let far = last_from y ys a.1.1 in omega (arith, past, far)
-last_seam (x ∷ z ∷ xs) (y ∷ ys) l k a = last_seam (z ∷ xs) (y ∷ ys) (omega arith) k a.1.1
+-- where the last run of a row ends at a place or after it, so do the runs behind it
+behind_last : (xs : List Run) (rs : List RunValue) (n : ℕ) → 0 < length xs → AreApart (values_of xs ++ rs) → n ≤ last_end xs → EndFrom n rs
+behind_last [] rs n l a h = absurd (omega arith)
+behind_last (x ∷ []) rs n l a h = ends_from (run_end (value_of x)) n rs h a.1.0 a.1.1
+behind_last (x ∷ y ∷ xs) rs n l a h = behind_last (y ∷ xs) rs n (omega arith) a.1.1 h
+
+last_reaches : (xs : List Run) (n : ℕ) → 0 < length xs → EndFrom n (values_of xs) → n ≤ last_end xs
+last_reaches [] n l h = absurd (omega arith)
+last_reaches (x ∷ []) n l h = h.0
+last_reaches (x ∷ y ∷ xs) n l h = last_reaches (y ∷ xs) n (omega arith) h.1
 
 pub some_at : {Z : Type 0} → (rs : List (Vec Run Z)) (i : ℕ) (d : Vec Run Z) → NoneEmpty rs → i < length rs → 0 < length (slice_index_or rs i d).items
 some_at {Z} rs i d h l = all_here (λ (r : Vec Run Z). 0 < length r.items) rs i d h l
@@ -113,8 +118,8 @@ ends_next : {Z : Type 0} → (rs : List (Vec Run Z)) → NoneEmpty rs → AreApa
 ends_next [] s a k d l = absurd (omega arith)
 ends_next (r ∷ []) s a k d l = absurd (omega arith)
 ends_next (r ∷ t ∷ rs) s a zero d l =
-    let both : AreApart (values_of ((r.items ++ t.items) ++ runs_in rs)) = subst (λ xs. AreApart (values_of xs)) (sym (append_assoc r.items t.items (runs_in rs))) a in
-    last_seam r.items t.items s.0 s.1.0 (apart_front (values_of (r.items ++ t.items)) (values_in rs) (subst AreApart (map-append value_of (r.items ++ t.items) (runs_in rs)) both))
+    let behind = behind_last r.items (values_in (t ∷ rs)) (last_end r.items) s.0 (subst AreApart (values_cons r (t ∷ rs)) a) (omega arith) in
+    last_reaches t.items (last_end r.items) s.1.0 (all_front (λ (v : RunValue). last_end r.items ≤ run_end v) (values_of t.items) (values_in rs) (subst (EndFrom (last_end r.items)) (values_cons t rs) behind))
 ends_next (r ∷ t ∷ rs) s a (suc k) d l = ends_next (t ∷ rs) s.1 (rest_apart r (t ∷ rs) a) k d (omega arith)
 
 -- the rows ascend by where they end
@@ -133,16 +138,6 @@ rows_before (r ∷ rs) n (suc i) a l h =
     (rows_before rs n i (rest_apart r rs a) (omega arith) (λ k d b. h (suc k) d (omega (arith, b)))))
 
 -- ---- the runs from a place on
-
-ends_from : (m n : ℕ) (rs : List RunValue) → n ≤ m → StartsPast m rs → AreApart rs → EndFrom n rs
-ends_from m n [] l p a = tt
-ends_from m n (r ∷ rs) l p a = (omega (arith, l, p), ends_from (run_end r) n rs (omega (arith, l, p)) a.1.0 a.1.1)
-
--- where the last run of a row ends at a place or after it, so do the runs behind it
-behind_last : (xs : List Run) (rs : List RunValue) (n : ℕ) → 0 < length xs → AreApart (values_of xs ++ rs) → n ≤ last_end xs → EndFrom n rs
-behind_last [] rs n l a h = absurd (omega arith)
-behind_last (x ∷ []) rs n l a h = ends_from (run_end (value_of x)) n rs h a.1.0 a.1.1
-behind_last (x ∷ y ∷ xs) rs n l a h = behind_last (y ∷ xs) rs n (omega arith) a.1.1 h
 
 pub lasts_to : {Z : Type 0} → (rs : List (Vec Run Z)) (n i : ℕ) → ((d : Vec Run Z) → i < length rs → n ≤ last_end (slice_index_or rs i d).items) → LastsTo n (drop i rs)
 lasts_to [] n zero h = tt
@@ -183,13 +178,9 @@ from_row {Z} rs at n k row rest e s a before last early late =
 
 -- ---- rows that start after a place
 
-pub after_all : (n : ℕ) (rs : List RunValue) → AreApart rs → StartsPast n rs → StartAfter n rs
-after_all n [] a h = tt
-after_all n (r ∷ rs) a h = (h, after_all n rs a.1.1 (later (run_end r) rs (omega (arith, h)) a.1.0))
-  where
-    later : (m : ℕ) (ss : List RunValue) → n ≤ m → StartsPast m ss → StartsPast n ss
-    later m [] l p = tt
-    later m (s ∷ ss) l p = omega (arith, l, p)
+starts_from : (m n : ℕ) (rs : List RunValue) → n ≤ m → StartsPast m rs → AreApart rs → StartAfter n rs
+starts_from m n [] l p a = tt
+starts_from m n (r ∷ rs) l p a = (omega arith, starts_from (run_end r) n rs (omega arith) a.1.0 a.1.1)
 
 past_more : (n : ℕ) (rs ss : List RunValue) → 0 < length rs → StartsPast n rs → StartsPast n (rs ++ ss)
 past_more n [] ss l h = absurd (omega arith)
@@ -201,7 +192,7 @@ rows_after [] n i row s a l e h = absurd (omega arith)
 rows_after {Z} (r ∷ rs) n zero row s a l e h =
     let some : 0 < length (values_of r.items) = omega (arith, length-map r.items value_of, s.0) in
     let starts : StartsPast n (values_of r.items) = subst (λ (v : Vec Run Z). StartsPast n (values_of v.items)) e h in
-    after_all n (values_in (r ∷ rs)) a (subst (StartsPast n) (sym (values_cons r rs)) (past_more n (values_of r.items) (values_in rs) some starts))
+    starts_from n n (values_in (r ∷ rs)) (omega arith) (subst (StartsPast n) (sym (values_cons r rs)) (past_more n (values_of r.items) (values_in rs) some starts)) a
 rows_after (r ∷ rs) n (suc i) row s a l e h = rows_after rs n i row s.1 (rest_apart r rs a) (omega arith) e h
 
 pub none_after : {Z : Type 0} → (rs : List (Vec Run Z)) (n i : ℕ) → length rs ≤ i → StartAfter n (values_in (drop i rs))

@@ -1,5 +1,5 @@
 -- The map of the code's runs: what its tests and changes say of it.
-use Rattle.std.proofs.Common.{◌≡◌, ◌<◌, ◌+◌, ◌-◌, ◌==◌, ◌&&◌, ℕ, zero, suc, inl, inr, Bool, true, false, List, [], ◌∷◌, length, get_or, slice_get, Option, Some, None, refl, sym, ap, ap₂, ◌∙◌, subst, arith}
+use Rattle.std.proofs.Common.{◌≡◌, ◌<◌, ◌≤◌, ◌+◌, ◌-◌, ◌==◌, ◌&&◌, ◌⊎◌, ℕ, zero, suc, inl, inr, Bool, true, false, List, [], ◌∷◌, length, get_or, slice_get, Option, Some, None, refl, sym, ap, ap₂, ◌∙◌, subst, arith}
 use Rattle.std.proofs.lemmas.Bool.{cases_lt, and_from}
 use Rattle.std.proofs.lemmas.List.{take_all}
 use Rattle.std.proofs.lemmas.List.Folds.{list_all-append}
@@ -22,7 +22,7 @@ use Rattle.nb_entries.specs.Shared.RowLemmas.{places_in_map}
 use Rattle.nb_entries.specs.Shared.WholeLemmas.{below_from, below_none}
 use Rattle.nb_entries.proofs.KeptRuns.RunRowLemmas.{has_of, byte_on, get-runs}
 use Rattle.nb_entries.proofs.KeptRuns.RunPutLemmas.{swap}
-use Rattle.nb_entries.proofs.KeptRuns.RunReadLemmas.{look_put}
+use Rattle.nb_entries.proofs.KeptRuns.RunReadLemmas.{look_put, other_look}
 
 -- ---- a test of each byte
 
@@ -86,10 +86,8 @@ held_test look s (x ∷ xs) (y ∷ ys) h =
 
 pub lacks_test : (look : ℕ → Option ℕ) (s : ℕ) (xs : List ℕ) → Lacks look s (s + length xs) → false ≡ list_all (λ (e : ℕ × ℕ). is_there (look e.0) e.1) (placed s xs)
 lacks_test look s xs l = both_ways _ _ (λ t. absurd (cc)) (λ t. (
-    let least = l.least in
     let k : ℕ = l.place - s in
-    let most = l.most in
-    let test : is_there (look l.place) (get_or xs k 0) ≡ true = each_from_all (λ i v. is_there (look i) v) s xs t l.place k _ (omega (arith, least)) (slice_get-get_or xs k 0 (omega (arith, least, most))) in
+    let test : is_there (look l.place) (get_or xs k 0) ≡ true = each_from_all (λ i v. is_there (look i) v) s xs t l.place k _ (omega arith) (slice_get-get_or xs k 0 (omega arith)) in
     sym (ap (λ o. is_there o (get_or xs k 0)) l.none) ∙ test))
 
 -- ---- bytes below a place
@@ -107,8 +105,8 @@ pub covered_lacks : (look : ℕ → Option ℕ) (n : ℕ) → Lacks look 0 n →
 covered_lacks look n h c = let there = c h.place h.most in let clash : Some there.0 ≡ None = sym there.1 ∙ h.none in cc clash
 
 -- a place that neither a map nor the bytes that are put have
-pub lacks_put : (m : maps.FinMap nat_cmp ℕ) (s n q : ℕ) (xs : List ℕ) → q < n → byte_in (run_at s xs) q ≡ None → maps.get m q ≡ None → bytes_below (with_bytes m s xs) n ≡ None
-lacks_put m s n q xs l e g = below_none _ n q l (look_put m s xs q ∙ ap₂ first_of e g)
+pub lacks_put : (m : maps.FinMap nat_cmp ℕ) (s n q : ℕ) (xs : List ℕ) → q < n → (q < s) ⊎ (s + length xs ≤ q) → maps.get m q ≡ None → bytes_below (with_bytes m s xs) n ≡ None
+lacks_put m s n q xs l h g = below_none _ n q l (other_look m s xs q h ∙ g)
 
 -- ---- maps united
 

@@ -1,5 +1,5 @@
 -- What the code reads of its runs.
-use Rattle.std.proofs.Common.{◌≡◌, ◌<◌, ◌≤◌, ◌+◌, ◌-◌, ◌++◌, ℕ, inl, inr, Bool, true, List, [], ◌∷◌, length, take, drop, min, max, slice_get, Some, None, refl, sym, ap, ap₂, ◌∙◌, subst, arith, length-take, length-drop, length-append, ◌==◌}
+use Rattle.std.proofs.Common.{◌≡◌, ◌<◌, ◌≤◌, ◌+◌, ◌-◌, ◌++◌, ◌⊎◌, ℕ, inl, inr, Bool, true, List, [], ◌∷◌, length, take, drop, min, max, slice_get, Option, Some, None, refl, sym, ap, ap₂, ◌∙◌, subst, arith, length-take, length-drop, length-append, ◌==◌}
 use Rattle.std.proofs.lemmas.Bool.{cases_lt}
 use Rattle.std.proofs.lemmas.List.{append-nil, ext_get_or}
 use Rattle.std.proofs.lemmas.Option.{same_Some, slice_get-get_or}
@@ -19,7 +19,7 @@ use Rattle.nb_entries.specs.Shared.WholeLemmas.{slice_get-front}
 use Rattle.nb_entries.proofs.Covers.PutLemmas.{get-with_bytes}
 use Rattle.nb_entries.proofs.KeptRuns.RunRowLemmas.{byte_on, byte_off, byte_past, has_below, has_from, byte_within, get-runs, look-append, none_from, look_before, look_past, apart_front, apart_back, apart_seam}
 use Rattle.nb_entries.proofs.KeptRuns.RunGrownLemmas.{slice_get-take, slice_get-drop, slice_get-back}
-use Rattle.nb_entries.proofs.KeptRuns.RunPutLemmas.{in_row, off}
+use Rattle.nb_entries.proofs.KeptRuns.RunPutLemmas.{in_row}
 use Rattle.nb_entries.proofs.KeptRuns.RowsLemmas.{all_both, all_back}
 
 -- ---- the runs from a place on
@@ -44,9 +44,9 @@ ends_below all n h q x e =
 pub not_below : (all : List RunValue) (r : RunValue) (rest : List RunValue) (n : ℕ) → AreApart all → IsFrom all (n + 1) (r ∷ rest) → ((q x : ℕ) → maps.get (map_of_runs all) q ≡ Some x → q < n) → ⊥
 not_below all r rest n a h below =
     let some = (apart_back h.front (r ∷ rest) (subst AreApart h.cut a)).0 in
-    let last = byte_within r (run_end r - 1) (omega (arith, some)) (omega (arith, some)) in
+    let last = byte_within r (run_end r - 1) (omega arith) (omega arith) in
     let less = below (run_end r - 1) last.0 (first_look all r rest (n + 1) a h (run_end r - 1) last.0 last.1) in
-    let far = h.after.0 in omega (arith, less, far)
+    omega (arith, h.after.0)
 
 -- ---- the bytes between two places
 
@@ -160,7 +160,7 @@ pub record Held (f : RunValue) (X : Type 0) (left : List RunValue) : Type 0 wher
 pub held_first : (all : List RunValue) (f : RunValue) (X : Type 0) (left : List RunValue) → AreApart all → IsFrom all f.start left → (Agree all f → X) → (X → Agree all f) → Held f X left
 held_first all f X left a h whole back =
     let apart : AreApart (h.front ++ left) = subst AreApart h.cut a in
-    let front = agrees_each f h.front (apart_front h.front left apart) (record { same = off f.start h.front f h.before (omega arith) }) in
+    let front = agrees_each f h.front (apart_front h.front left apart) (record { same = λ q x y e g. (let before = look_before f.start h.front h.before q x e in let from = has_from f q y g in absurd (omega arith)) }) in
     record {
       apart = apart_back h.front left apart;
       from = h.after;
@@ -176,36 +176,32 @@ held_next f X r left h one = record { apart = h.apart.1.1; from = h.from.1; whol
 pub look_put : (m : maps.FinMap nat_cmp ℕ) (s : ℕ) (xs : List ℕ) (q : ℕ) → maps.get (with_bytes m s xs) q ≡ first_of (byte_in (run_at s xs) q) (maps.get m q)
 look_put m s xs q = get-with_bytes m s xs q ∙ ap (λ o. first_of o (maps.get m q)) (find-placed s xs q)
 
+-- a place that the bytes don't have
+pub other_look : (m : maps.FinMap nat_cmp ℕ) (s : ℕ) (xs : List ℕ) (q : ℕ) → (q < s) ⊎ (s + length xs ≤ q) → maps.get (with_bytes m s xs) q ≡ maps.get m q
+other_look m s xs q (inl h) = look_put m s xs q ∙ ap (λ o. first_of o (maps.get m q)) (byte_off (run_at s xs) q h)
+other_look m s xs q (inr h) = look_put m s xs q ∙ ap (λ o. first_of o (maps.get m q)) (byte_past (run_at s xs) q h)
+
+both_between : (look : ℕ → Option ℕ) (a b c : ℕ) (xs ys : List ℕ) → a ≤ b → b ≤ c → AreBetween look a b xs → AreBetween look b c ys → AreBetween look a c (xs ++ ys)
+both_between look a b c xs ys l m h k = record {
+  sized = omega (arith, length-append xs ys);
+  each = λ q i e g. elim (cases_lt q b) [
+    | inl low ↦ h.each q i e low ∙ sym (slice_get-front xs ys i (omega arith))
+    | inr up ↦ k.each q (q - b) (omega arith) g ∙ sym (slice_get-back xs ys (q - b) i (omega arith))
+  ];
+}
+
 pub made_between : (m : maps.FinMap nat_cmp ℕ) (s : ℕ) (xs : List ℕ) (end first count : ℕ) (front back : List ℕ) → first ≡ min s end → count ≡ min (length xs) (end - first) → AreBetween (maps.get m) 0 first front → AreBetween (maps.get m) (first + count) end back →
     AreBetween (maps.get (with_bytes m s xs)) 0 end (front ++ (take count xs ++ back))
 made_between m s xs end first count front back e d a b =
-    let f = run_at s xs in
-    let one = a.sized in
-    let two = b.sized in
-    let mid : length (take count xs) ≡ count = omega (arith, d, length-take count xs) in
-    record {
-      sized = omega (arith, e, d, one, two, mid, length-append front (take count xs ++ back), length-append (take count xs) back);
-      each = λ q k g l. look_put m s xs q ∙ elim (cases_lt q first) [
-        | inl low ↦
-            ap (λ o. first_of o (maps.get m q)) (byte_off f q (omega (arith, e, low)))
-            ∙ a.each q k g low
-            ∙ sym (slice_get-front front (take count xs ++ back) k (omega (arith, one, g, low)))
-        | inr up ↦ elim (cases_lt q (first + count)) [
-          | inl inside ↦
-              let j : ℕ = q - first in
-              let start : first ≡ s = omega (arith, e, d, up, inside) in
-              let there = byte_within f q (omega (arith, start, up)) (omega (arith, start, d, inside)) in
-              ap (λ o. first_of o (maps.get m q)) there.1
-              ∙ sym there.1 ∙ byte_on f q j (omega (arith, start, up))
-              ∙ sym (slice_get-back front (take count xs ++ back) j k (omega (arith, one, g, up))
-              ∙ slice_get-front (take count xs) back j (omega (arith, mid, up, inside))
-              ∙ slice_get-take count xs j (omega (arith, up, inside)))
-          | inr past ↦
-              let j : ℕ = q - (first + count) in
-              ap (λ o. first_of o (maps.get m q)) (byte_past f q (omega (arith, e, d, past, l)))
-              ∙ b.each q j (omega (arith, past)) l
-              ∙ sym (slice_get-back front (take count xs ++ back) (length (take count xs) + j) k (omega (arith, one, mid, g, past))
-              ∙ slice_get-back (take count xs) back j _ refl)
-        ]
-      ];
-    }
+    let look = maps.get (with_bytes m s xs) in
+    let before : AreBetween look 0 first front = record { sized = a.sized; each = λ q k g l. other_look m s xs q (inl (omega arith)) ∙ a.each q k g l } in
+    let after : AreBetween look (first + count) end back = record { sized = b.sized; each = λ q k g l. other_look m s xs q (inr (omega arith)) ∙ b.each q k g l } in
+    let own : AreBetween look first (first + count) (take count xs) = record {
+      sized = omega (arith, length-take count xs);
+      each = λ q k g l. (
+          let there = byte_within (run_at s xs) q (omega arith) (omega arith) in
+          look_put m s xs q ∙ ap (λ o. first_of o (maps.get m q)) there.1
+          ∙ sym there.1 ∙ byte_on (run_at s xs) q k (omega arith) ∙ sym (slice_get-take count xs k (omega arith)));
+    } in
+    both_between look 0 first end front (take count xs ++ back) (omega arith) (omega arith) before
+    (both_between look first (first + count) end (take count xs) back (omega arith) (omega arith) own after)

@@ -1,9 +1,13 @@
-use Rattle.std.proofs.Common.{length, arith, sym, ap, ◌∙◌, subst}
-use Rattle.nb_entries.specs.Runs.{AreApart, runs_of_map}
+use Rattle.std.proofs.Common.{List, [], ◌∷◌, length, arith, sym, ap, ◌∙◌, subst}
+use Rattle.nb_entries.specs.Runs.{RunValue, AreApart, runs_of_map}
 use Rattle.nb_entries.specs.Code.RunSteps.{values_of}
 use Rattle.nb_entries.specs.Shared.RunsLemmas.{runs_back}
-use Rattle.nb_entries.proofs.KeptRuns.EachRunLemmas.{few_none}
+use Rattle.nb_entries.proofs.cover.runs.Runs.count.Invariants.{FewTo}
 use Rattle.nb_entries.proofs.cover.runs.Runs.count.Goals as goal
+
+few_none : (rs : List RunValue) → FewTo 0 rs
+few_none [] = tt
+few_none (r ∷ rs) = omega arith
 
 pub loop-run-init : goal.loop-run-init
 loop-run-init c =

@@ -1,8 +1,12 @@
-use Rattle.std.proofs.Common.{◌≡◌, ◌+◌, length}
-use Rattle.nb_entries.specs.Runs.{AreApart, runs_of_map}
+use Rattle.std.proofs.Common.{◌≡◌, ◌+◌, ◌≤◌, ℕ, List, [], ◌∷◌, length}
+use Rattle.nb_entries.specs.Runs.{RunValue, AreApart, runs_of_map}
 use Rattle.nb_entries.specs.Code.RunSteps.{values_of}
-use Rattle.nb_entries.proofs.KeptRuns.EachRunLemmas.{FewTo}
 use Rattle.nb_entries.proofs.cover.runs.Runs.count.Given as goal
+
+-- a count is at most where the next run starts
+abbrev pub FewTo : ℕ → List RunValue → Type 0
+FewTo n [] = Unit {0}
+FewTo n (r ∷ rs) = n ≤ r.start
 
 abbrev pub invariant-loop-run : goal.invariant-loop-run
 invariant-loop-run l = record {

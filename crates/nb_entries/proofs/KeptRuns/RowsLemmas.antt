@@ -1,7 +1,7 @@
 -- Runs in several rows: where they lie.
 use Rattle.std.proofs.Common.{◌≡◌, ◌<◌, ◌≤◌, ◌+◌, ◌-◌, ◌++◌, ℕ, zero, suc, inl, inr, List, [], ◌∷◌, length, take, drop, slice_get, slice_set, slice_index_or, Some, refl, sym, ap, ◌∙◌, subst, arith, length-append, append_assoc}
 use Rattle.std.proofs.lemmas.List.{map-append, length-map, drop-map, take-append-drop, take_rest, drop_all}
-use Rattle.std.proofs.lemmas.Bool.{cases_lt}
+use Rattle.std.proofs.lemmas.List.Elements.{All-set, All-from_recursion, recursion_from_All}
 use Rattle.std.proofs.lemmas.Option.{same_Some}
 use Rattle.std.specs.List.{AllByRecursion}
 use Rattle.std.specs.List.Sorted.{IsNonDecreasingBy}
@@ -11,7 +11,7 @@ use Rattle.nb_entries.specs.Runs.{RunValue, run_end, StartsPast, AreApart}
 use Rattle.nb_entries.specs.Code.RunSteps.{value_of, values_of, EndBefore, EndFrom, StartAfter}
 use Rattle.nb_entries.specs.Code.Rows.{runs_in, values_in, NoneEmpty, last_end, LastsTo, IsFrom}
 use Rattle.nb_entries.specs.declared.cover.runs.Run.{Run}
-use Rattle.nb_entries.proofs.KeptRuns.RunRowLemmas.{apart_front, apart_back, all_from_at}
+use Rattle.nb_entries.proofs.KeptRuns.RunRowLemmas.{apart_front, apart_back, split_at}
 use Rattle.nb_entries.proofs.KeptRuns.RunPlaceLemmas.{at_value}
 
 -- ---- what each of a list has
@@ -29,44 +29,28 @@ all_back P [] ys h = h
 all_back P (x ∷ xs) ys h = all_back P xs ys h.1
 
 pub all_taken : {X : Type 0} (P : X → Type 0) (xs : List X) (n : ℕ) → AllByRecursion P xs → AllByRecursion P (take n xs)
-all_taken P [] zero h = tt
-all_taken P [] (suc n) h = tt
-all_taken P (x ∷ xs) zero h = tt
-all_taken P (x ∷ xs) (suc n) h = (h.0, all_taken P xs n h.1)
+all_taken P xs n h = all_front P (take n xs) (drop n xs) (rw take-append-drop h)
 
 pub all_left : {X : Type 0} (P : X → Type 0) (xs : List X) (n : ℕ) → AllByRecursion P xs → AllByRecursion P (drop n xs)
-all_left P [] zero h = tt
-all_left P [] (suc n) h = tt
-all_left P (x ∷ xs) zero h = h
-all_left P (x ∷ xs) (suc n) h = all_left P xs n h.1
-
-pub all_here : {X : Type 0} (P : X → Type 0) (xs : List X) (n : ℕ) (d : X) → AllByRecursion P xs → n < length xs → P (slice_index_or xs n d)
-all_here P [] n d h l = absurd (omega arith)
-all_here P (x ∷ xs) zero d h l = h.0
-all_here P (x ∷ xs) (suc n) d h l = all_here P xs n d h.1 (omega arith)
+all_left P xs n h = all_back P (take n xs) (drop n xs) (rw take-append-drop h)
 
 pub all_set : {X : Type 0} (P : X → Type 0) (xs : List X) (n : ℕ) (x : X) → AllByRecursion P xs → P x → AllByRecursion P (slice_set xs n x)
-all_set P [] n x h k = tt
-all_set P (y ∷ xs) zero x h k = (k, h.1)
-all_set P (y ∷ xs) (suc n) x h k = (h.0, all_set P xs n x h.1 k)
+all_set P xs n x h k = recursion_from_All P _ (All-set P xs n x k (All-from_recursion P xs h))
 
 -- ---- the runs of rows
 
 pub values_cons : {Z : Type 0} → (r : Vec Run Z) (rs : List (Vec Run Z)) → values_in (r ∷ rs) ≡ values_of r.items ++ values_in rs
 values_cons r rs = map-append value_of r.items (runs_in rs)
 
+rows_joined : {Z : Type 0} → (rs ss : List (Vec Run Z)) → runs_in (rs ++ ss) ≡ runs_in rs ++ runs_in ss
+rows_joined [] ss = refl
+rows_joined (r ∷ rs) ss = rw (rows_joined rs ss, append_assoc) refl
+
 pub rows_split : {Z : Type 0} → (rs : List (Vec Run Z)) (i : ℕ) (d : Vec Run Z) → i < length rs → runs_in rs ≡ runs_in (take i rs) ++ ((slice_index_or rs i d).items ++ runs_in (drop (suc i) rs))
-rows_split [] i d l = absurd (omega arith)
-rows_split (r ∷ rs) zero d l = refl
-rows_split (r ∷ rs) (suc i) d l =
-    ap (λ xs. r.items ++ xs) (rows_split rs i d (omega arith))
-    ∙ sym (append_assoc r.items (runs_in (take i rs)) ((slice_index_or rs i d).items ++ runs_in (drop (suc i) rs)))
+rows_split rs i d l = ap runs_in (split_at rs i d l) ∙ rows_joined (take i rs) (slice_index_or rs i d ∷ drop (suc i) rs)
 
 pub values_split : {Z : Type 0} → (rs : List (Vec Run Z)) (i : ℕ) (d : Vec Run Z) → i < length rs → values_in rs ≡ values_in (take i rs) ++ (values_of (slice_index_or rs i d).items ++ values_in (drop (suc i) rs))
-values_split rs i d l =
-    ap values_of (rows_split rs i d l)
-    ∙ map-append value_of (runs_in (take i rs)) ((slice_index_or rs i d).items ++ runs_in (drop (suc i) rs))
-    ∙ ap (λ xs. values_in (take i rs) ++ xs) (map-append value_of (slice_index_or rs i d).items (runs_in (drop (suc i) rs)))
+values_split rs i d l = ap values_of (rows_split rs i d l) ∙ simp map-append
 
 pub row_apart : {Z : Type 0} → (r : Vec Run Z) (rs : List (Vec Run Z)) → AreApart (values_in (r ∷ rs)) → AreApart (values_of r.items)
 row_apart r rs a = apart_front (values_of r.items) (values_in rs) (subst AreApart (values_cons r rs) a)
@@ -75,9 +59,7 @@ pub rest_apart : {Z : Type 0} → (r : Vec Run Z) (rs : List (Vec Run Z)) → Ar
 rest_apart r rs a = apart_back (values_of r.items) (values_in rs) (subst AreApart (values_cons r rs) a)
 
 pub apart_at : {Z : Type 0} → (rs : List (Vec Run Z)) (i : ℕ) (d : Vec Run Z) → AreApart (values_in rs) → i < length rs → AreApart (values_of (slice_index_or rs i d).items)
-apart_at [] i d a l = absurd (omega arith)
-apart_at (r ∷ rs) zero d a l = row_apart r rs a
-apart_at (r ∷ rs) (suc i) d a l = apart_at rs i d (rest_apart r rs a) (omega arith)
+apart_at rs i d a l = apart_front _ _ (apart_back (values_in (take i rs)) (values_of (slice_index_or rs i d).items ++ values_in (drop (suc i) rs)) (subst AreApart (values_split rs i d l) a))
 
 -- ---- where the last run of a row ends
 
@@ -112,7 +94,7 @@ last_reaches (x ∷ []) n l h = h.0
 last_reaches (x ∷ y ∷ xs) n l h = last_reaches (y ∷ xs) n (omega arith) h.1
 
 pub some_at : {Z : Type 0} → (rs : List (Vec Run Z)) (i : ℕ) (d : Vec Run Z) → NoneEmpty rs → i < length rs → 0 < length (slice_index_or rs i d).items
-some_at {Z} rs i d h l = all_here (λ (r : Vec Run Z). 0 < length r.items) rs i d h l
+some_at {Z} rs i d h l = All-from_recursion (λ (r : Vec Run Z). 0 < length r.items) rs h i d l
 
 ends_next : {Z : Type 0} → (rs : List (Vec Run Z)) → NoneEmpty rs → AreApart (values_in rs) → (k : ℕ) (d : Vec Run Z) → suc k < length rs → last_end (slice_index_or rs k d).items ≤ last_end (slice_index_or rs (suc k) d).items
 ends_next [] s a k d l = absurd (omega arith)
@@ -145,15 +127,10 @@ lasts_to [] n (suc i) h = tt
 lasts_to (r ∷ rs) n zero h = h r (omega arith)
 lasts_to (r ∷ rs) n (suc i) h = lasts_to rs n i (λ d l. h d (omega (arith, l)))
 
-joined_rows : {Z : Type 0} → (rs ss : List (Vec Run Z)) → values_in (rs ++ ss) ≡ values_in rs ++ values_in ss
-joined_rows [] ss = refl
-joined_rows (r ∷ rs) ss = simp (values_cons, joined_rows rs ss, append_assoc)
-
 -- rows about one of them
 row_parts : {Z : Type 0} → (rs : List (Vec Run Z)) (at : ℕ) (row : Vec Run Z) (rest : List (Vec Run Z)) → take (length rs - at) (drop at rs) ≡ row ∷ rest → values_in rs ≡ values_in (take at rs) ++ (values_of row.items ++ values_in rest)
 row_parts rs at row rest e =
-    ap values_in (sym (take-append-drop at rs) ∙ ap (λ us. take at rs ++ us) (sym (take_rest rs at) ∙ e))
-    ∙ joined_rows (take at rs) (row ∷ rest) ∙ ap (λ us. values_in (take at rs) ++ us) (values_cons row rest)
+    ap values_in (sym (take-append-drop at rs) ∙ ap (λ us. take at rs ++ us) (sym (take_rest rs at) ∙ e)) ∙ ap values_of (rows_joined (take at rs) (row ∷ rest)) ∙ simp map-append
 
 pub row_apart_at : {Z : Type 0} → (rs : List (Vec Run Z)) (at : ℕ) (row : Vec Run Z) (rest : List (Vec Run Z)) → take (length rs - at) (drop at rs) ≡ row ∷ rest → AreApart (values_in rs) → AreApart (values_of row.items ++ values_in rest)
 row_apart_at rs at row rest e a = apart_back (values_in (take at rs)) (values_of row.items ++ values_in rest) (subst AreApart (row_parts rs at row rest e) a)

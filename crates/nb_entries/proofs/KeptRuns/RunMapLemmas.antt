@@ -12,7 +12,7 @@ use Rattle.std.specs.FinMap as maps
 use Rattle.std.specs.FinMap.{nat_cmp-IsAntisymmetric}
 use Rattle.nb_entries.specs.Cover.{placed, same_where, bytes_agree}
 use Rattle.nb_entries.specs.Maps.{first_of, union}
-use Rattle.nb_entries.specs.Code.CoverFacts.{AreCovered, is_there, with_bytes}
+use Rattle.nb_entries.specs.Code.CoverFacts.{is_there, with_bytes}
 use Rattle.nb_entries.specs.Runs.{RunValue, AreApart, places_of, map_of_runs}
 use Rattle.nb_entries.specs.Whole.{bytes_below}
 use Rattle.nb_entries.specs.Code.RunSteps.{run_at, byte_in, look_in, Agree, IsPut, AreBetween, Lacks}
@@ -20,6 +20,7 @@ use Rattle.nb_entries.specs.Shared.CoverLemmas.{same_at, at_same, first_either, 
 use Rattle.nb_entries.specs.Shared.MapsLemmas.{and_left, and_right, get-union, all_entries_found, all_entries_from}
 use Rattle.nb_entries.specs.Shared.RowLemmas.{places_in_map}
 use Rattle.nb_entries.specs.Shared.WholeLemmas.{below_from, below_none}
+use Rattle.nb_entries.proofs.Covers.PutLemmas.{first_alone}
 use Rattle.nb_entries.proofs.KeptRuns.RunRowLemmas.{has_of, byte_on, get-runs}
 use Rattle.nb_entries.proofs.KeptRuns.RunPutLemmas.{swap}
 use Rattle.nb_entries.proofs.KeptRuns.RunReadLemmas.{look_put, other_look}
@@ -95,15 +96,6 @@ lacks_test look s xs l = both_ways _ _ (λ t. absurd (cc)) (λ t. (
 pub below_is : (m : maps.FinMap nat_cmp ℕ) (n : ℕ) (xs : List ℕ) → AreBetween (maps.get m) 0 n xs → bytes_below m n ≡ Some xs
 below_is m n xs h = let size = h.sized in below_from m xs n (omega (arith, size)) (λ q l. h.each q q (omega arith) l) ∙ ap Some (take_all n xs (omega (arith, size)))
 
-pub below_lacks : (m : maps.FinMap nat_cmp ℕ) (n : ℕ) → Lacks (maps.get m) 0 n → bytes_below m n ≡ None
-below_lacks m n h = below_none m n h.place h.most h.none
-
-pub covered_is : (look : ℕ → Option ℕ) (n : ℕ) (xs : List ℕ) → AreBetween look 0 n xs → AreCovered look n
-covered_is look n xs h = λ i l. (let size = h.sized in (get_or xs i 0, h.each i i (omega arith) l ∙ slice_get-get_or xs i 0 (omega (arith, size, l))))
-
-pub covered_lacks : (look : ℕ → Option ℕ) (n : ℕ) → Lacks look 0 n → AreCovered look n → ⊥
-covered_lacks look n h c = let there = c h.place h.most in let clash : Some there.0 ≡ None = sym there.1 ∙ h.none in cc clash
-
 -- a place that neither a map nor the bytes that are put have
 pub lacks_put : (m : maps.FinMap nat_cmp ℕ) (s n q : ℕ) (xs : List ℕ) → q < n → (q < s) ⊎ (s + length xs ≤ q) → maps.get m q ≡ None → bytes_below (with_bytes m s xs) n ≡ None
 lacks_put m s n q xs l h g = below_none _ n q l (other_look m s xs q h ∙ g)
@@ -142,9 +134,5 @@ going_next all made new r left h put = record {
       ∙ ap (λ o. first_of o (look_in left q)) (sym (ap (λ n. maps.get n q) put ∙ look_put made r.start r.bytes q));
 }
 
-alone : (o : Option ℕ) → first_of o None ≡ o
-alone None = refl
-alone (Some x) = refl
-
 pub going_all : (all made : maps.FinMap nat_cmp ℕ) → IsGoing all made [] → made ≡ all
-going_all all made h = maps.same_map nat_cmp_total nat_cmp-IsAntisymmetric _ _ (λ q. sym (h.look q ∙ alone (maps.get made q)))
+going_all all made h = maps.same_map nat_cmp_total nat_cmp-IsAntisymmetric _ _ (λ q. sym (h.look q ∙ first_alone (maps.get made q)))

@@ -87,20 +87,12 @@ impl<'a> Iterator for EachRun<'a> {
 
     fn next(&mut self) -> Option<&'a Run> {
         if self.row.is_empty() {
-            match self.rows.split_first() {
-                Some((row, rest)) => {
-                    self.row = row.as_slice();
-                    self.rows = rest;
-                }
-                None => return None,
-            }
+            let (row, rest) = self.rows.split_first()?;
+            self.row = row.as_slice();
+            self.rows = rest;
         }
-        match self.row.split_first() {
-            Some((run, rest)) => {
-                self.row = rest;
-                Some(run)
-            }
-            None => None,
-        }
+        let (run, rest) = self.row.split_first()?;
+        self.row = rest;
+        Some(run)
     }
 }

@@ -51,10 +51,7 @@ impl Runs {
         if from == to {
             return Some(&[]);
         }
-        let run = match EachRun::from(&self.kept, to).next() {
-            Some(run) => run,
-            None => return None,
-        };
+        let run = EachRun::from(&self.kept, to).next()?;
         let start = run.start() as usize;
         if from < start {
             return None;

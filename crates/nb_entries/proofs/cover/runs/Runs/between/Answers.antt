@@ -4,20 +4,20 @@ use Rattle.nb_entries.specs.Code.Rows.{IsFrom}
 use Rattle.nb_entries.proofs.KeptRuns.RunReadLemmas.{none_reach, starts_late, between_read}
 use Rattle.nb_entries.proofs.cover.runs.Runs.between.Goals as goal
 
-pub returns-in-None : goal.returns-in-None
-returns-in-None c =
-    rw (← c.self.view_is) (none_reach _ c.args.from c.args.to c.self.invariant.1 (subst (IsFrom _ _) (ap values_of c.in-None.ensures.steps.0) c.from.ensures) (omega arith))
+pub returns-in_err-run : goal.returns-in_err-run
+returns-in_err-run c =
+    rw (c.from_residual.ensures, ← c.self.view_is) (none_reach _ c.args.from c.args.to c.self.invariant.1 (subst (IsFrom _ _) (ap values_of c.in_err-run.ensures.steps.0) c.from.ensures) (omega arith))
 
 pub returns-then-from-start : goal.returns-then-from-start
 returns-then-from-start c =
-    rw (← c.self.view_is) (starts_late _ _ _ c.args.from c.args.to c.self.invariant.1 (subst (IsFrom _ _) (ap values_of c.in-Some.ensures.steps) c.from.ensures) (omega arith) (omega arith))
+    rw (← c.self.view_is) (starts_late _ _ _ c.args.from c.args.to c.self.invariant.1 (subst (IsFrom _ _) (ap values_of c.in_ok-run.ensures.steps) c.from.ensures) (omega arith) (omega arith))
 
 pub slice_bounds-result-end-2 : goal.slice_bounds-result-end-2
 slice_bounds-result-end-2 c =
-    let far = (subst (IsFrom _ _) (ap values_of c.in-Some.ensures.steps) c.from.ensures).after.0 in
+    let far = (subst (IsFrom _ _) (ap values_of c.in_ok-run.ensures.steps) c.from.ensures).after.0 in
     omega (arith, far, ap length c.bytes.ensures)
 
 pub returns : goal.returns
 returns c =
     rw (← c.self.view_is, c.start-start.ensures)
-    (between_read _ _ _ c.args.from c.args.to _ c.self.invariant.1 (subst (IsFrom _ _) (ap values_of c.in-Some.ensures.steps) c.from.ensures) (omega arith) c.bytes.ensures)
+    (between_read _ _ _ c.args.from c.args.to _ c.self.invariant.1 (subst (IsFrom _ _) (ap values_of c.in_ok-run.ensures.steps) c.from.ensures) (omega arith) c.bytes.ensures)

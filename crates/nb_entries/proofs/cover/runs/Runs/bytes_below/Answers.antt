@@ -1,5 +1,6 @@
 use Rattle.std.proofs.Common.{ap, sym, ◌∙◌, Some}
-use Rattle.nb_entries.proofs.KeptRuns.RunMapLemmas.{below_is, below_lacks}
+use Rattle.nb_entries.specs.Shared.WholeLemmas.{below_none}
+use Rattle.nb_entries.proofs.KeptRuns.RunMapLemmas.{below_is}
 use Rattle.nb_entries.proofs.cover.runs.Runs.bytes_below.Goals as goal
 
 pub returns-in_ok-copy-in-Some : goal.returns-in_ok-copy-in-Some
@@ -11,4 +12,4 @@ pub returns-in_err-copy-in-Some-clause-no_memory_needed : goal.returns-in_err-co
 returns-in_err-copy-in-Some-clause-no_memory_needed c = λ none. absurd (cc (below_is _ c.args.end _ c.in-Some.ensures, none))
 
 pub returns-in-None-clause-value : goal.returns-in-None-clause-value
-returns-in-None-clause-value c = sym (below_lacks _ c.args.end c.in-None.ensures)
+returns-in-None-clause-value c = let lacks = c.in-None.ensures in sym (below_none _ c.args.end lacks.place lacks.most lacks.none)

@@ -60,16 +60,11 @@ least_is : (r : PlaceRange) (rs : List PlaceRange) → RangesApart (r ∷ rs) �
 least_is r rs a i (inl h) = h.0
 least_is r rs a i (inr h) = let past = past_all r.to rs a.1.0 a.1.1 i h in let some = a.0 in omega (arith, past, some)
 
--- the place at which the first range ends is in none
-not_end : (r : PlaceRange) (rs : List PlaceRange) → RangesApart (r ∷ rs) → OneHas (r ∷ rs) r.to → ⊥
-not_end r rs a (inl h) = let below = h.1 in omega (arith, below)
-not_end r rs a (inr h) = let past = past_all r.to rs a.1.0 a.1.1 r.to h in omega (arith, past)
-
 -- the first range ends no later than that of a row that has all its places
 end_by : (r s : PlaceRange) (rs ss : List PlaceRange) → RangesApart (r ∷ rs) → RangesApart (s ∷ ss) → r.from ≡ s.from → ((i : ℕ) → OneHas (r ∷ rs) i → OneHas (s ∷ ss) i) → r.to ≤ s.to
 end_by r s rs ss a b same h = elim (cases_lt s.to r.to) [
-  | inl past ↦ let some = b.0 in absurd (not_end s ss b (h s.to (inl (omega (arith, same, some), past))))
-  | inr by ↦ omega (arith, by)
+  | inl past ↦ elim (h s.to (inl (omega (arith, b.0), past))) [ inl g ↦ absurd (omega (arith, g.1)) | inr g ↦ absurd (omega (arith, past_all s.to ss b.1.0 b.1.1 s.to g)) ]
+  | inr by ↦ by
 ]
 
 -- what the others of a row have, the others of a row with the same first range and places have

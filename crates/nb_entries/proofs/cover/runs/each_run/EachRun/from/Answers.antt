@@ -1,16 +1,17 @@
-use Rattle.std.proofs.Common.{◌∷◌, [], ap, sym, subst, ◌∙◌, arith}
+use Rattle.std.proofs.Common.{ℕ, List, ◌∷◌, [], ap, sym, subst, ◌∙◌, arith}
 use Rattle.std.proofs.lemmas.List.{append-nil, length-drop, take_all, take_rest}
 use Rattle.nb_entries.specs.Code.RunSteps.{value_of, values_of, EndBefore}
-use Rattle.nb_entries.specs.Code.Rows.{values_in, NoneEmpty}
-use Rattle.nb_entries.specs.Runs.{AreApart}
+use Rattle.nb_entries.specs.Code.Rows.{values_in, NoneEmpty, IsFrom}
+use Rattle.nb_entries.specs.Runs.{RunValue, AreApart}
 use Rattle.nb_entries.proofs.KeptRuns.RunRowLemmas.{apart_front}
 use Rattle.nb_entries.proofs.KeptRuns.RowsLemmas.{from_row, row_apart_at}
 use Rattle.nb_entries.proofs.cover.runs.each_run.EachRun.from.Goals as goal
 
+none_from : (all : List RunValue) (n : ℕ) → EndBefore n all → IsFrom all n []
+none_from all n h = record { front = all; cut = sym (append-nil all); before = h; after = tt }
+
 pub returns-in-One : goal.returns-in-One
-returns-in-One c =
-    let ends = c.end.ensures in
-    rw (c.in-One.is, c.none.ensures) (record { front = value_of c.in-One.run' ∷ []; cut = sym (append-nil _); before = (omega (arith, ends, c.if-end-place.true), tt); after = tt })
+returns-in-One c = rw (c.in-One.is, c.none.ensures) (none_from (value_of c.in-One.run' ∷ []) c.args.place (omega arith, tt))
 
 pub first_from-requires : goal.first_from-requires
 first_from-requires c =
@@ -29,9 +30,5 @@ pub returns-in-None : goal.returns-in-None
 returns-in-None c =
     let rows = c.as_slice-rows.result.now in
     let none = rw take_rest at c.in-None.ensures.cases in
-    rw (c.in-Many.is, ← c.as_slice-rows.ensures.value, c.none-in-None.ensures) (record {
-      front = values_in rows;
-      cut = sym (append-nil _);
-      before = subst (λ rs. EndBefore c.args.place (values_in rs)) (take_all c.row_to.result rows (omega (arith, none, length-drop c.row_to.result rows))) c.row_to.ensures.before;
-      after = tt;
-    })
+    rw (c.in-Many.is, ← c.as_slice-rows.ensures.value, c.none-in-None.ensures)
+    (none_from (values_in rows) c.args.place (rw (take_all c.row_to.result rows (omega (arith, none, length-drop c.row_to.result rows))) at c.row_to.ensures.before))

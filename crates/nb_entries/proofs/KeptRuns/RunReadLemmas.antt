@@ -11,13 +11,13 @@ use Rattle.std.specs.FinMap as maps
 use Rattle.nb_entries.specs.Maps.{first_of}
 use Rattle.nb_entries.specs.Runs.{RunValue, run_end, StartsPast, AreApart, map_of_runs}
 use Rattle.nb_entries.specs.Code.CoverFacts.{with_bytes}
-use Rattle.nb_entries.specs.Code.RunSteps.{run_at, byte_in, look_in, Agree, AgreeOne, EndFrom, AreBetween, Lacks}
+use Rattle.nb_entries.specs.Code.RunSteps.{run_at, byte_in, look_in, Agree, AgreeOne, EndBefore, EndFrom, AreBetween, Lacks}
 use Rattle.nb_entries.specs.Code.Rows.{IsFrom}
 use Rattle.nb_entries.specs.Shared.CoverLemmas.{first_either}
 use Rattle.nb_entries.specs.Shared.PlacedLemmas.{find-placed}
 use Rattle.nb_entries.specs.Shared.WholeLemmas.{slice_get-front}
 use Rattle.nb_entries.proofs.Covers.PutLemmas.{get-with_bytes}
-use Rattle.nb_entries.proofs.KeptRuns.RunRowLemmas.{byte_on, byte_off, byte_past, has_below, has_from, byte_within, get-runs, look-append, none_from, look_before, look_past, apart_front, apart_back, apart_seam}
+use Rattle.nb_entries.proofs.KeptRuns.RunRowLemmas.{byte_on, byte_off, byte_past, has_below, has_from, byte_within, get-runs, look-append, none_from, look_before, look_past, apart_front, apart_back, apart_seam, ends_min}
 use Rattle.nb_entries.proofs.KeptRuns.RunGrownLemmas.{slice_get-take, slice_get-drop, slice_get-back}
 use Rattle.nb_entries.proofs.KeptRuns.RunPutLemmas.{in_row}
 use Rattle.nb_entries.proofs.KeptRuns.RowsLemmas.{all_both, all_back}
@@ -27,13 +27,6 @@ use Rattle.nb_entries.proofs.KeptRuns.RowsLemmas.{all_both, all_back}
 -- what the first of them has, the map has
 pub first_look : (all : List RunValue) (r : RunValue) (rest : List RunValue) (n : ℕ) → AreApart all → IsFrom all n (r ∷ rest) → (q x : ℕ) → byte_in r q ≡ Some x → maps.get (map_of_runs all) q ≡ Some x
 first_look all r rest n a h q x e = get-runs all q ∙ ap (λ rs. look_in rs q) h.cut ∙ in_row h.front r rest (subst AreApart h.cut a) q x e
-
--- a place that neither they nor those before them have
-gap : (all left : List RunValue) (n q : ℕ) → AreApart all → (h : IsFrom all n left) → StartsPast q left → ((x : ℕ) → look_in h.front q ≡ Some x → ⊥) → maps.get (map_of_runs all) q ≡ None
-gap all left n q a h p k = get-runs all q ∙ none_from (look_in all q) (λ x f. elim (first_either (look_in h.front q) (look_in left q) x (sym (look-append h.front left q) ∙ ap (λ rs. look_in rs q) (sym h.cut) ∙ f)) [
-  | inl g ↦ k x g
-  | inr g ↦ let past = look_past q left p (apart_back h.front left (subst AreApart h.cut a)) q x g in omega (arith, past)
-])
 
 -- ---- where the runs end
 
@@ -50,25 +43,21 @@ not_below all r rest n a h below =
 
 -- ---- the bytes between two places
 
-pub none_reach : (all : List RunValue) (from to : ℕ) → AreApart all → IsFrom all to [] → from < to → Lacks (maps.get (map_of_runs all)) from to
-none_reach all from to a h l = record {
-  place = to - 1;
-  least = omega (arith, l);
-  most = omega (arith, l);
-  none = gap all [] to (to - 1) a h tt (λ x g. (let before = look_before to h.front h.before (to - 1) x g in omega (arith, before, l)));
+-- where the runs before the place n end, and the others start there or after it, the place before n has no byte
+pub lacks_from : (all left : List RunValue) (from to n : ℕ) → AreApart all → (h : IsFrom all to left) → StartsPast (n - 1) left → EndBefore n h.front → from < n → n ≤ to → Lacks (maps.get (map_of_runs all)) from to
+lacks_from all left from to n a h p ends l m = record {
+  place = n - 1;
+  least = omega arith;
+  most = omega arith;
+  none = get-runs all (n - 1) ∙ none_from (look_in all (n - 1)) (λ x f. elim (first_either (look_in h.front (n - 1)) (look_in left (n - 1)) x (sym (look-append h.front left (n - 1)) ∙ ap (λ rs. look_in rs (n - 1)) (sym h.cut) ∙ f)) [
+    | inl g ↦ let before = look_before n h.front ends (n - 1) x g in omega arith
+    | inr g ↦ let past = look_past (n - 1) left p (apart_back h.front left (subst AreApart h.cut a)) (n - 1) x g in omega arith
+  ]);
 }
 
 pub starts_late : (all : List RunValue) (r : RunValue) (rest : List RunValue) (from to : ℕ) → AreApart all → IsFrom all to (r ∷ rest) → from < r.start → from < to → Lacks (maps.get (map_of_runs all)) from to
 starts_late all r rest from to a h late some =
-    let q : ℕ = min r.start to - 1 in
-    record {
-      place = q;
-      least = omega (arith, late, some);
-      most = omega (arith, some);
-      none = gap all (r ∷ rest) to q a h (omega (arith, late)) (λ x g. (
-          let seam = look_before r.start h.front (apart_seam h.front r rest (subst AreApart h.cut a)) q x g in
-          let ends = look_before to h.front h.before q x g in omega (arith, seam, ends, late, some)));
-    }
+    lacks_from all (r ∷ rest) from to (min r.start to) a h (omega arith) (ends_min r.start to h.front (apart_seam h.front r rest (subst AreApart h.cut a)) h.before) (omega arith) (omega arith)
 
 -- a part of a run's bytes
 part_at : (r : RunValue) (from to q k : ℕ) → r.start ≤ from → q ≡ from + k → q < to → slice_get (take (to - r.start - (from - r.start)) (drop (from - r.start) r.bytes)) k ≡ byte_in r q

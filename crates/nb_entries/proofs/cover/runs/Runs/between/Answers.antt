@@ -1,12 +1,13 @@
-use Rattle.std.proofs.Common.{arith, ap, length, subst}
+use Rattle.std.proofs.Common.{[], arith, ap, length, subst}
 use Rattle.nb_entries.specs.Code.RunSteps.{values_of}
 use Rattle.nb_entries.specs.Code.Rows.{IsFrom}
-use Rattle.nb_entries.proofs.KeptRuns.RunReadLemmas.{none_reach, starts_late, between_read}
+use Rattle.nb_entries.proofs.KeptRuns.RunReadLemmas.{lacks_from, starts_late, between_read}
 use Rattle.nb_entries.proofs.cover.runs.Runs.between.Goals as goal
 
 pub returns-in_err-run : goal.returns-in_err-run
 returns-in_err-run c =
-    rw (c.from_residual.ensures, ← c.self.view_is) (none_reach _ c.args.from c.args.to c.self.invariant.1 (subst (IsFrom _ _) (ap values_of c.in_err-run.ensures.steps.0) c.from.ensures) (omega arith))
+    let left = rw c.in_err-run.ensures.steps.0 at c.from.ensures in
+    rw (c.from_residual.ensures, ← c.self.view_is) (lacks_from _ [] c.args.from c.args.to c.args.to c.self.invariant.1 left tt left.before (omega arith) (omega arith))
 
 pub returns-then-from-start : goal.returns-then-from-start
 returns-then-from-start c =

@@ -74,9 +74,7 @@ pub all_before : (xs : List Run) (n : ℕ) → AreApart (values_of xs) → last_
 all_before [] n a h = tt
 all_before (x ∷ []) n a h = (h, tt)
 all_before (x ∷ y ∷ xs) n a h =
-    let rest = all_before (y ∷ xs) n a.1.1 h in
-    let first = rest.0 in
-    let past = a.1.0 in (omega (arith, first, past), rest)
+    let rest = all_before (y ∷ xs) n a.1.1 h in (omega (arith, rest.0, a.1.0), rest)
 
 ends_from : (m n : ℕ) (rs : List RunValue) → n ≤ m → StartsPast m rs → AreApart rs → EndFrom n rs
 ends_from m n [] l p a = tt
@@ -111,9 +109,8 @@ rows_rise {Z} rs s a = IsNonDecreasingBy-from_all_adjacent (λ (r : Vec Run Z). 
 
 -- rows whose last runs end before a place have no other
 pub rows_before : {Z : Type 0} → (rs : List (Vec Run Z)) (n i : ℕ) → AreApart (values_in rs) → i ≤ length rs → ((k : ℕ) (d : Vec Run Z) → k < i → last_end (slice_index_or rs k d).items < n) → EndBefore n (values_in (take i rs))
-rows_before [] n zero a l h = tt
+rows_before rs n zero a l h = tt
 rows_before [] n (suc i) a l h = tt
-rows_before (r ∷ rs) n zero a l h = tt
 rows_before (r ∷ rs) n (suc i) a l h =
     subst (EndBefore n) (sym (values_cons r (take i rs)))
     (all_both (λ (v : RunValue). run_end v < n) (values_of r.items) (values_in (take i rs)) (all_before r.items n (row_apart r rs a) (h 0 r (omega arith)))
@@ -146,8 +143,7 @@ from_row {Z} rs at n k row rest e s a before last early late =
     ap (λ us. values_of (us ++ runs_in rest)) (take_rest row.items k) ∙ map-append value_of (drop k row.items) (runs_in rest) ∙ ap (λ us. us ++ values_in rest) (sym (drop-map value_of k row.items)) in
     record {
       front = front ++ take k vs;
-      cut = row_parts rs at row rest e ∙ ap (λ us. front ++ (us ++ values_in rest)) (sym (take-append-drop k vs)) ∙ ap (λ us. front ++ us) (append_assoc (take k vs) (drop k vs) (values_in rest))
-          ∙ sym (append_assoc front (take k vs) (drop k vs ++ values_in rest)) ∙ ap (λ us. (front ++ take k vs) ++ us) (sym left);
+      cut = rw (row_parts rs at row rest e, left, append_assoc front (take k vs) (drop k vs ++ values_in rest), ← append_assoc (take k vs) (drop k vs) (values_in rest), take-append-drop) refl;
       before = all_both (λ (v : RunValue). run_end v < n) front (take k vs) before early;
       after = subst (EndFrom n) (sym left) (all_both (λ (v : RunValue). n ≤ run_end v) (drop k vs) (values_in rest) late
           (behind_last row.items (values_in rest) n (subst NoneEmpty there (all_left (λ (r : Vec Run Z). 0 < length r.items) rs at s)).0 (row_apart_at rs at row rest e a) (subst (LastsTo n) there last)));

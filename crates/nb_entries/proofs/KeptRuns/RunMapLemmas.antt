@@ -48,8 +48,7 @@ agree_at m es = list_all (λ (e : ℕ × ℕ). same_where (maps.get m e.0) e.1) 
 same_from : (m : maps.FinMap nat_cmp ℕ) (s : ℕ) (xs : List ℕ) → agree_at m (placed s xs) ≡ true → (q x y : ℕ) → maps.get m q ≡ Some x → byte_in (run_at s xs) q ≡ Some y → x ≡ y
 same_from m s xs h q x y e g =
     let has = has_of (run_at s xs) q y g in
-    let from = has.from in
-    sym (same_at (maps.get m q) y x (each_from_all (λ i v. same_where (maps.get m i) v) s xs h q (q - s) y (omega (arith, from)) has.is) e)
+    sym (same_at (maps.get m q) y x (each_from_all (λ i v. same_where (maps.get m i) v) s xs h q (q - s) y (omega arith) has.is) e)
 
 from_same : (m : maps.FinMap nat_cmp ℕ) (s : ℕ) (xs : List ℕ) → ((q x y : ℕ) → maps.get m q ≡ Some x → byte_in (run_at s xs) q ≡ Some y → x ≡ y) → agree_at m (placed s xs) ≡ true
 from_same m s xs h = all_from_each (λ i v. same_where (maps.get m i) v) s xs (λ q k y e g. at_same (maps.get m q) y (λ x i. sym (h q x y i (byte_on (run_at s xs) q k e ∙ g))))
@@ -78,12 +77,11 @@ map_put rs new s xs p = maps.same_map nat_cmp_total nat_cmp-IsAntisymmetric _ _ 
 
 pub held_test : (look : ℕ → Option ℕ) (s : ℕ) (xs held : List ℕ) → AreBetween look s (s + length xs) held → pointwise ◌==◌ held xs ≡ list_all (λ (e : ℕ × ℕ). is_there (look e.0) e.1) (placed s xs)
 held_test look s [] [] h = refl
-held_test look s [] (y ∷ ys) h = let size = h.sized in absurd (omega (arith, size))
-held_test look s (x ∷ xs) [] h = let size = h.sized in absurd (omega (arith, size))
+held_test look s [] (y ∷ ys) h = absurd (omega arith)
+held_test look s (x ∷ xs) [] h = absurd (omega arith)
 held_test look s (x ∷ xs) (y ∷ ys) h =
-    let size = h.sized in
     ap₂ (λ a b. a && b) (ap (λ o. is_there o x) (sym (h.each s 0 (omega arith) (omega arith))))
-    (held_test look (s + 1) xs ys (record { sized = omega (arith, size); each = λ q k e l. h.each q (suc k) (omega (arith, e)) (omega (arith, l)) }))
+    (held_test look (s + 1) xs ys (record { sized = omega arith; each = λ q k e l. h.each q (suc k) (omega (arith, e)) (omega (arith, l)) }))
 
 pub lacks_test : (look : ℕ → Option ℕ) (s : ℕ) (xs : List ℕ) → Lacks look s (s + length xs) → false ≡ list_all (λ (e : ℕ × ℕ). is_there (look e.0) e.1) (placed s xs)
 lacks_test look s xs l = both_ways _ _ (λ t. absurd (cc)) (λ t. (
@@ -94,7 +92,7 @@ lacks_test look s xs l = both_ways _ _ (λ t. absurd (cc)) (λ t. (
 -- ---- bytes below a place
 
 pub below_is : (m : maps.FinMap nat_cmp ℕ) (n : ℕ) (xs : List ℕ) → AreBetween (maps.get m) 0 n xs → bytes_below m n ≡ Some xs
-below_is m n xs h = let size = h.sized in below_from m xs n (omega (arith, size)) (λ q l. h.each q q (omega arith) l) ∙ ap Some (take_all n xs (omega (arith, size)))
+below_is m n xs h = below_from m xs n (omega arith) (λ q l. h.each q q (omega arith) l) ∙ ap Some (take_all n xs (omega arith))
 
 -- a place that neither a map nor the bytes that are put have
 pub lacks_put : (m : maps.FinMap nat_cmp ℕ) (s n q : ℕ) (xs : List ℕ) → q < n → (q < s) ⊎ (s + length xs ≤ q) → maps.get m q ≡ None → bytes_below (with_bytes m s xs) n ≡ None

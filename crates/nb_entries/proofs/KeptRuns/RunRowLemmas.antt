@@ -32,8 +32,7 @@ has_of r q x e = step (nat_le r.start q) refl e
 pub has_below : (r : RunValue) (q x : ℕ) → byte_in r q ≡ Some x → q < run_end r
 has_below r q x e =
     let h = has_of r q x e in
-    let inside = slice_get_within r.bytes (q - r.start) x h.is in
-    let from = h.from in omega (arith, inside, from)
+    let inside = slice_get_within r.bytes (q - r.start) x h.is in omega arith
 
 pub has_from : (r : RunValue) (q x : ℕ) → byte_in r q ≡ Some x → r.start ≤ q
 has_from r q x e = (has_of r q x e).from

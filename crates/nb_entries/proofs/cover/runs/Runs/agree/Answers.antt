@@ -13,14 +13,12 @@ loop-run-init c =
 pub agrees-requires : goal.agrees-requires
 agrees-requires c =
     let left = subst (Held _ _) (ap values_of c.in-Some.ensures.steps) c.loop-run.invariant in
-    let start = c.start.ensures in
-    record { before = omega (arith, start); after = left.from.0 }
+    record { before = omega arith; after = left.from.0 }
 
 pub returns-then-start-end : goal.returns-then-start-end
 returns-then-start-end c =
     let left = subst (Held _ _) (ap values_of c.in-Some.ensures.steps) c.loop-run.invariant in
-    let start = c.start.ensures in
-    sym (left.whole (past_agree (run_at c.args.start c.args.bytes.now) (value_of c.in-Some.run'.now ∷ values_of c.next.new.self) left.apart (omega (arith, start))))
+    sym (left.whole (past_agree (run_at c.args.start c.args.bytes.now) (value_of c.in-Some.run'.now ∷ values_of c.next.new.self) left.apart (omega arith)))
 
 pub returns-then-not-agrees : goal.returns-then-not-agrees
 returns-then-not-agrees c =

@@ -1,6 +1,6 @@
-use Rattle.std.proofs.Common.{ℕ, List, ◌∷◌, [], ap, sym, subst, ◌∙◌, arith}
+use Rattle.std.proofs.Common.{ℕ, List, ◌∷◌, [], sym, arith}
 use Rattle.std.proofs.lemmas.List.{append-nil, length-drop, take_all, take_rest}
-use Rattle.nb_entries.specs.Code.RunSteps.{value_of, values_of, EndBefore}
+use Rattle.nb_entries.specs.Code.RunSteps.{value_of, EndBefore}
 use Rattle.nb_entries.specs.Code.Rows.{values_in, NoneEmpty, IsFrom}
 use Rattle.nb_entries.specs.Runs.{RunValue, AreApart}
 use Rattle.nb_entries.proofs.KeptRuns.RunRowLemmas.{apart_front}

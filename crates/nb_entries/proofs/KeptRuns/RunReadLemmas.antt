@@ -60,24 +60,23 @@ starts_late all r rest from to a h late some =
     lacks_from all (r ∷ rest) from to (min r.start to) a h (omega arith) (ends_min r.start to h.front (apart_seam h.front r rest (subst AreApart h.cut a)) h.before) (omega arith) (omega arith)
 
 -- a part of a run's bytes
-part_at : (r : RunValue) (from to q k : ℕ) → r.start ≤ from → q ≡ from + k → q < to → slice_get (take (to - r.start - (from - r.start)) (drop (from - r.start) r.bytes)) k ≡ byte_in r q
-part_at r from to q k h e l =
-    slice_get-take (to - r.start - (from - r.start)) (drop (from - r.start) r.bytes) k (omega (arith, h, e, l))
-    ∙ slice_get-drop (from - r.start) r.bytes k _ refl
-    ∙ sym (byte_on r q (from - r.start + k) (omega (arith, h, e)))
-
-part_size : (r : RunValue) (from to : ℕ) → r.start ≤ from → to ≤ run_end r → length (take (to - r.start - (from - r.start)) (drop (from - r.start) r.bytes)) ≡ to - from
-part_size r from to h far = omega (arith, length-take (to - r.start - (from - r.start)) (drop (from - r.start) r.bytes), length-drop (from - r.start) r.bytes, h, far)
+part_between : (r : RunValue) (from to : ℕ) → r.start ≤ from → to ≤ run_end r → AreBetween (byte_in r) from to (take (to - r.start - (from - r.start)) (drop (from - r.start) r.bytes))
+part_between r from to h far = record {
+  sized = omega (arith, length-take (to - r.start - (from - r.start)) (drop (from - r.start) r.bytes), length-drop (from - r.start) r.bytes);
+  each = λ q k e l. byte_on r q (from - r.start + k) (omega arith)
+      ∙ sym (slice_get-take (to - r.start - (from - r.start)) (drop (from - r.start) r.bytes) k (omega arith) ∙ slice_get-drop (from - r.start) r.bytes k _ refl);
+}
 
 pub between_read : (all : List RunValue) (r : RunValue) (rest : List RunValue) (from to : ℕ) (bytes : List ℕ) → AreApart all → IsFrom all to (r ∷ rest) → r.start ≤ from → bytes ≡ r.bytes →
     AreBetween (maps.get (map_of_runs all)) from to (take (to - r.start - (from - r.start)) (drop (from - r.start) bytes))
 between_read all r rest from to bytes a h start same =
+    let part = part_between r from to start h.after.0 in
     let far = h.after.0 in
     subst (λ ys. AreBetween (maps.get (map_of_runs all)) from to (take (to - r.start - (from - r.start)) (drop (from - r.start) ys))) (sym same) (record {
-      sized = part_size r from to start far;
+      sized = part.sized;
       each = λ q k e l. (
-          let there = byte_within r q (omega (arith, start, e)) (omega (arith, far, l)) in
-          first_look all r rest to a h q there.0 there.1 ∙ sym (part_at r from to q k start e l ∙ there.1));
+          let there = byte_within r q (omega arith) (omega arith) in
+          first_look all r rest to a h q there.0 there.1 ∙ sym there.1 ∙ part.each q k e l);
     })
 
 -- ---- bytes that agree
@@ -90,8 +89,8 @@ pub agrees_is : (r f : RunValue) (from to : ℕ) (bytes : List ℕ) (b : Bool) �
     b ≡ pointwise ◌==◌ (take (to - r.start - (from - r.start)) (drop (from - r.start) bytes)) (take (to - f.start - (from - f.start)) (drop (from - f.start) f.bytes)) →
     (b ≡ true → AgreeOne r f) × (AgreeOne r f → b ≡ true)
 agrees_is r f from to bytes b same e d t =
-    let own = part_size r from to (omega (arith, e)) (omega (arith, d)) in
-    let other = part_size f from to (omega (arith, e)) (omega (arith, d)) in
+    let own = part_between r from to (omega arith) (omega arith) in
+    let other = part_between f from to (omega arith) (omega arith) in
     let test = t ∙ ap (λ xs. pointwise ◌==◌ (take (to - r.start - (from - r.start)) (drop (from - r.start) xs)) (take (to - f.start - (from - f.start)) (drop (from - f.start) f.bytes))) same in
     let decides = pointwise_decides unsigned_Decides (take (to - r.start - (from - r.start)) (drop (from - r.start) r.bytes)) (take (to - f.start - (from - f.start)) (drop (from - f.start) f.bytes)) in (
       λ h. record {
@@ -101,16 +100,14 @@ agrees_is r f from to bytes b same e d t =
             let v = has_below r q x g in
             let w = has_below f q y i in
             let k : ℕ = q - from in
-            let place : q ≡ from + k = omega (arith, e, a, c) in
-            same_Some x y (sym (part_at r from to q k (omega (arith, e)) place (omega (arith, d, v, w)) ∙ g) ∙ ap (λ ys. slice_get ys k) (decides.0 (sym test ∙ h)) ∙ part_at f from to q k (omega (arith, e)) place (omega (arith, d, v, w)) ∙ i);
+            same_Some x y (sym g ∙ own.each q k (omega arith) (omega arith) ∙ ap (λ ys. slice_get ys k) (decides.0 (sym test ∙ h)) ∙ sym (other.each q k (omega arith) (omega arith)) ∙ i);
       },
-      λ h. test ∙ decides.1 (same_by_get _ _ (own ∙ sym other) (λ k l.
+      λ h. test ∙ decides.1 (same_by_get _ _ (own.sized ∙ sym other.sized) (λ k l.
           (let q : ℕ = from + k in
-          let inside : q < to = omega (arith, own, l) in
-          let one = byte_within r q (omega (arith, e)) (omega (arith, d, inside)) in
-          let two = byte_within f q (omega (arith, e)) (omega (arith, d, inside)) in
-          part_at r from to q k (omega (arith, e)) refl inside ∙ one.1 ∙ ap Some (h.same q one.0 two.0 one.1 two.1)
-          ∙ sym (part_at f from to q k (omega (arith, e)) refl inside ∙ two.1)))),
+          let inside : q < to = omega (arith, own.sized, l) in
+          let one = byte_within r q (omega arith) (omega arith) in
+          let two = byte_within f q (omega arith) (omega arith) in
+          sym (own.each q k refl inside) ∙ one.1 ∙ ap Some (h.same q one.0 two.0 one.1 two.1) ∙ sym two.1 ∙ other.each q k refl inside))),
     )
 
 -- each of these runs agrees with bytes

@@ -8,7 +8,6 @@ ghost use Rattle.nb_entries.specs.Runs.{AreApart, run_end, map_of_runs};
 ghost use Rattle.nb_entries.specs.Code.RunSteps.{value_of, run_at};
 ghost use Rattle.nb_entries.specs.Code.Rows.{kept_values, AreFilled};
 
-mod counting;
 mod each_run;
 mod growing;
 mod inserting;

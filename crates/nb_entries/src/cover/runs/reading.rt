@@ -1,13 +1,17 @@
-//! What runs have that are apart.
-ghost use Rattle.std.specs.Prelude.{◌≡◌, ◌↔◌, ◌≤◌, ◌<◌, ℕ, IsTrue, IfOk, MatchOption, Some, None, Ok};
+//! What runs have that are apart: their bytes, how many there are, and where.
+ghost use Rattle.std.specs.Prelude.{◌≡◌, ◌↔◌, ◌≤◌, ◌<◌, ℕ, length, IsTrue, IfOk, MatchOption, Some, None, Ok};
 ghost use Rattle.std.specs.List.{list_all};
 ghost use Rattle.std.specs.FinMap as maps;
-ghost use Rattle.nb_entries.specs.Cover.{placed, same_where};
+ghost use Rattle.nb_datagram.specs.declared.limits.TheConstants.{MAX_LENGTH};
+ghost use Rattle.nb_entries.specs.Cover.{placed, same_where, BytesBelow};
+ghost use Rattle.nb_entries.specs.Ranges.{ranges_of_map};
+ghost use Rattle.nb_entries.specs.Runs.{runs_of_map};
 ghost use Rattle.nb_entries.specs.Whole.{bytes_below as map_below};
 ghost use Rattle.nb_entries.specs.Code.CoverFacts.{is_there, with_bytes, AreCovered};
 ghost use Rattle.nb_entries.specs.Code.RunSteps.{value_of, run_at, Meet, AgreeOne, AreBetween, Lacks};
 
 use super::{EachRun, Run, Runs};
+use crate::ranges::Ranges;
 use nb_names::{Bytes, NoMemory};
 use std::alloc::Global;
 
@@ -145,5 +149,38 @@ impl Runs {
             }
         }
         own.next().is_none()
+    }
+
+    /// How many runs there are.
+    pub(crate) fn count(&self) -> usize
+        ensures { result ≡ length (runs_of_map self.now) }
+    {
+        let mut count = 0;
+        for run in EachRun::of(&self.kept) {
+            // a run starts past the one before, at a place of 32 bits, so that the count fits
+            let _ = run.start();
+            count += 1;
+        }
+        count
+    }
+
+    /// How many bytes there are.
+    pub(crate) fn held(&self) -> usize
+        requires { maps.len self.now ≤ MAX_LENGTH }
+        ensures { result ≡ maps.len self.now }
+    {
+        let mut held = 0;
+        for run in EachRun::of(&self.kept) {
+            held += run.bytes().len();
+        }
+        held
+    }
+
+    /// The ranges of their places.
+    pub(crate) fn ranges(&self) -> Ranges<'_>
+        requires { BytesBelow MAX_LENGTH self.now }
+        ensures { result ≡ ranges_of_map self.now }
+    {
+        Ranges::of(EachRun::of(&self.kept))
     }
 }

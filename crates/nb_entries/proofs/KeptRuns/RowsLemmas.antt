@@ -1,5 +1,5 @@
 -- Runs in several rows: where they lie.
-use Rattle.std.proofs.Common.{◌≡◌, ◌<◌, ◌≤◌, ◌+◌, ◌-◌, ◌++◌, ℕ, zero, suc, inl, inr, List, [], ◌∷◌, length, take, drop, slice_get, slice_set, slice_index_or, Some, refl, sym, ap, ◌∙◌, subst, arith, length-append, append_assoc}
+use Rattle.std.proofs.Common.{◌≡◌, ◌<◌, ◌≤◌, ◌+◌, ◌-◌, ◌++◌, ℕ, zero, suc, List, [], ◌∷◌, length, take, drop, slice_get, slice_set, slice_index_or, Some, refl, sym, ap, ◌∙◌, subst, arith, append_assoc}
 use Rattle.std.proofs.lemmas.List.{map-append, length-map, drop-map, take-append-drop, take_rest, drop_all}
 use Rattle.std.proofs.lemmas.List.Elements.{All-set, All-from_recursion, recursion_from_All}
 use Rattle.std.proofs.lemmas.Option.{same_Some}
@@ -12,7 +12,6 @@ use Rattle.nb_entries.specs.Code.RunSteps.{value_of, values_of, EndBefore, EndFr
 use Rattle.nb_entries.specs.Code.Rows.{runs_in, values_in, NoneEmpty, last_end, LastsTo, IsFrom}
 use Rattle.nb_entries.specs.declared.cover.runs.Run.{Run}
 use Rattle.nb_entries.proofs.KeptRuns.RunRowLemmas.{apart_front, apart_back, split_at}
-use Rattle.nb_entries.proofs.KeptRuns.RunPlaceLemmas.{at_value}
 
 -- ---- what each of a list has
 

@@ -1,5 +1,5 @@
 -- What the code reads of its runs.
-use Rattle.std.proofs.Common.{◌≡◌, ◌<◌, ◌≤◌, ◌+◌, ◌-◌, ◌++◌, ◌⊎◌, ℕ, inl, inr, Bool, true, List, [], ◌∷◌, length, take, drop, min, max, slice_get, Option, Some, None, refl, sym, ap, ap₂, ◌∙◌, subst, arith, length-take, length-drop, length-append, ◌==◌}
+use Rattle.std.proofs.Common.{◌≡◌, ◌<◌, ◌≤◌, ◌+◌, ◌-◌, ◌++◌, ◌⊎◌, ℕ, inl, inr, Bool, true, List, [], ◌∷◌, length, take, drop, min, max, slice_get, Option, Some, refl, sym, ap, ◌∙◌, subst, arith, length-take, length-drop, length-append, ◌==◌}
 use Rattle.std.proofs.lemmas.Bool.{cases_lt}
 use Rattle.std.proofs.lemmas.List.{append-nil, ext_get_or}
 use Rattle.std.proofs.lemmas.Option.{same_Some, slice_get-get_or}

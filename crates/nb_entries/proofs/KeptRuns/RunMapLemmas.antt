@@ -34,9 +34,8 @@ all_from_each P i (x ∷ xs) h = and_from _ _ (h i 0 x (omega arith) refl) (all_
 each_from_all : (P : ℕ → ℕ → Bool) (i : ℕ) (xs : List ℕ) → list_all (λ (e : ℕ × ℕ). P e.0 e.1) (placed i xs) ≡ true → (q k x : ℕ) → q ≡ i + k → slice_get xs k ≡ Some x → P q x ≡ true
 each_from_all P i [] h q k x e g = absurd (cc)
 each_from_all P i (y ∷ ys) h q zero x e g =
-    let one : y ≡ x = cc in
-    let here : i ≡ q = omega (arith, e) in
-    subst (λ j. P j x ≡ true) here (subst (λ z. P i z ≡ true) one (and_left _ _ h))
+    let one : x ≡ y = cc in
+    let here : q ≡ i = omega arith in rw (here, one) (and_left _ _ h)
 each_from_all P i (y ∷ ys) h q (suc k) x e g = each_from_all P (i + 1) ys (and_right _ _ h) q k x (omega (arith, e)) g
 
 -- ---- bytes that agree

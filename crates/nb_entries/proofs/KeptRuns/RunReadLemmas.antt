@@ -1,7 +1,7 @@
 -- What the code reads of its runs.
 use Rattle.std.proofs.Common.{◌≡◌, ◌<◌, ◌≤◌, ◌+◌, ◌-◌, ◌++◌, ◌⊎◌, ℕ, inl, inr, Bool, true, List, [], ◌∷◌, length, take, drop, min, max, slice_get, Option, Some, refl, sym, ap, ◌∙◌, subst, arith, length-take, length-drop, length-append, ◌==◌}
 use Rattle.std.proofs.lemmas.Bool.{cases_lt}
-use Rattle.std.proofs.lemmas.List.{append-nil, ext_get_or}
+use Rattle.std.proofs.lemmas.List.{append-nil, append_assoc, ext_get_or}
 use Rattle.std.proofs.lemmas.Option.{same_Some, slice_get-get_or}
 use Rattle.std.specs.Cmp.{unsigned_Decides}
 use Rattle.std.specs.Cmp.Lexicographic.{pointwise, pointwise_decides}
@@ -20,7 +20,7 @@ use Rattle.nb_entries.proofs.Covers.PutLemmas.{get-with_bytes}
 use Rattle.nb_entries.proofs.KeptRuns.RunRowLemmas.{byte_on, byte_off, byte_past, has_below, has_from, byte_within, get-runs, look-append, none_from, look_before, look_past, apart_front, apart_back, apart_seam, ends_min}
 use Rattle.nb_entries.proofs.KeptRuns.RunGrownLemmas.{slice_get-take, slice_get-drop, slice_get-back}
 use Rattle.nb_entries.proofs.KeptRuns.RunPutLemmas.{in_row}
-use Rattle.nb_entries.proofs.KeptRuns.RowsLemmas.{all_both, all_back}
+use Rattle.nb_entries.proofs.KeptRuns.RowsLemmas.{all_both}
 
 -- ---- the runs from a place on
 
@@ -70,8 +70,8 @@ part_between r from to h far = record {
 pub between_read : (all : List RunValue) (r : RunValue) (rest : List RunValue) (from to : ℕ) (bytes : List ℕ) → AreApart all → IsFrom all to (r ∷ rest) → r.start ≤ from → bytes ≡ r.bytes →
     AreBetween (maps.get (map_of_runs all)) from to (take (to - r.start - (from - r.start)) (drop (from - r.start) bytes))
 between_read all r rest from to bytes a h start same =
-    let part = part_between r from to start h.after.0 in
     let far = h.after.0 in
+    let part = part_between r from to start far in
     subst (λ ys. AreBetween (maps.get (map_of_runs all)) from to (take (to - r.start - (from - r.start)) (drop (from - r.start) ys))) (sym same) (record {
       sized = part.sized;
       each = λ q k e l. (
@@ -120,19 +120,12 @@ each_agrees f (r ∷ rs) h = let rest = each_agrees f rs h.1 in record {
   same = λ q x y e g. elim (first_either (byte_in r q) (look_in rs q) x e) [ inl i ↦ h.0.same q x y i g | inr i ↦ rest.same q x y i g ];
 }
 
-agrees_each : (f : RunValue) (rs : List RunValue) → AreApart rs → Agree rs f → EachAgrees f rs
-agrees_each f [] a h = tt
-agrees_each f (r ∷ rs) a h = (
-  record { same = λ q x y e. h.same q x y (in_row [] r rs a q x e) },
-  agrees_each f rs a.1.1 (record {
-    same = λ q x y e. h.same q x y (
-        let past = look_past (run_end r) rs a.1.0 a.1.1 q x e in
-        ap (λ o. first_of o (look_in rs q)) (byte_past r q (omega (arith, past))) ∙ e);
-  }),
-)
+agrees_each : (f : RunValue) (bs rs : List RunValue) → AreApart (bs ++ rs) → Agree (bs ++ rs) f → EachAgrees f rs
+agrees_each f bs [] a h = tt
+agrees_each f bs (r ∷ rs) a h = (record { same = λ q x y e. h.same q x y (in_row bs r rs a q x e) }, agrees_each f (bs ++ r ∷ []) rs (rw append_assoc a) (rw append_assoc h))
 
 pub past_agree : (f : RunValue) (rs : List RunValue) → AreApart rs → StartsPast (run_end f) rs → EachAgrees f rs
-past_agree f rs a p = agrees_each f rs a (record {
+past_agree f rs a p = agrees_each f [] rs a (record {
   same = λ q x y e g. (let past = look_past (run_end f) rs p a q x e in let below = has_below f q y g in absurd (omega (arith, past, below)));
 })
 
@@ -146,12 +139,12 @@ pub record Held (f : RunValue) (X : Type 0) (left : List RunValue) : Type 0 wher
 pub held_first : (all : List RunValue) (f : RunValue) (X : Type 0) (left : List RunValue) → AreApart all → IsFrom all f.start left → (Agree all f → X) → (X → Agree all f) → Held f X left
 held_first all f X left a h whole back =
     let apart : AreApart (h.front ++ left) = subst AreApart h.cut a in
-    let front = agrees_each f h.front (apart_front h.front left apart) (record { same = λ q x y e g. (let before = look_before f.start h.front h.before q x e in let from = has_from f q y g in absurd (omega arith)) }) in
+    let front = agrees_each f [] h.front (apart_front h.front left apart) (record { same = λ q x y e g. (let before = look_before f.start h.front h.before q x e in let from = has_from f q y g in absurd (omega arith)) }) in
     record {
       apart = apart_back h.front left apart;
       from = h.after;
       whole = λ each. whole (subst (λ rs. Agree rs f) (sym h.cut) (each_agrees f (h.front ++ left) (all_both (λ r. AgreeOne r f) h.front left front each)));
-      back = λ x. all_back (λ r. AgreeOne r f) h.front left (agrees_each f (h.front ++ left) apart (subst (λ rs. Agree rs f) h.cut (back x)));
+      back = λ x. agrees_each f h.front left apart (subst (λ rs. Agree rs f) h.cut (back x));
     }
 
 pub held_next : (f : RunValue) (X : Type 0) (r : RunValue) (left : List RunValue) → Held f X (r ∷ left) → AgreeOne r f → Held f X left

@@ -40,7 +40,7 @@ each_from_all P i (y ∷ ys) h q (suc k) x e g = each_from_all P (i + 1) ys (and
 
 -- ---- bytes that agree
 
--- the bytes from a place on have no other value in a map
+-- none of these places has another byte in the map
 abbrev pub agree_at : maps.FinMap nat_cmp ℕ → List (ℕ × ℕ) → Bool
 agree_at m es = list_all (λ (e : ℕ × ℕ). same_where (maps.get m e.0) e.1) es
 

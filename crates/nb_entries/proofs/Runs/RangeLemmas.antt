@@ -79,14 +79,9 @@ same_ranges [] [] a b h k = refl
 same_ranges [] (s ∷ ss) a b h k = absurd (k s.from (inl (omega arith, b.0)))
 same_ranges (r ∷ rs) [] a b h k = absurd (h r.from (inl (omega arith, a.0)))
 same_ranges (r ∷ rs) (s ∷ ss) a b h k =
-    let low = least_is r rs a s.from (k s.from (inl (omega arith, b.0))) in
-    let high = least_is s ss b r.from (h r.from (inl (omega arith, a.0))) in
-    let from : r.from ≡ s.from = omega (arith, low, high) in
-    let by = end_by r s rs ss a b from h in
-    let back = end_by s r ss rs b a (sym from) k in
-    let to : r.to ≡ s.to = omega (arith, by, back) in
-    let first : r ≡ s = ap₂ (λ (m n : ℕ). record { from = m; to = n }) from to in
-    ap₂ (λ (q : PlaceRange) (qs : List PlaceRange). q ∷ qs) first
+    let from : r.from ≡ s.from = omega (arith, least_is r rs a s.from (k s.from (inl (omega arith, b.0))), least_is s ss b r.from (h r.from (inl (omega arith, a.0)))) in
+    let to : r.to ≡ s.to = omega (arith, end_by r s rs ss a b from h, end_by s r ss rs b a (sym from) k) in
+    ap₂ (λ (q : PlaceRange) (qs : List PlaceRange). q ∷ qs) (λ i. record { from = from i; to = to i })
     (same_ranges rs ss a.1.1 b.1.1 (others r s rs ss a to h) (others s r ss rs b (sym to) k))
 
 pub one_row_of_ranges : (m : maps.FinMap nat_cmp ℕ) (rs ss : List PlaceRange) → AreRangesOf m rs → AreRangesOf m ss → rs ≡ ss

@@ -27,11 +27,6 @@ lies_of xs ys zs f first past e d w b a v t s = record {
   after = subst (λ us. StartAfter (run_end f) (drop past (values_of us))) d s;
 }
 
--- runs that end before bytes start by their end
-pub start_before : (n m : ℕ) (rs : List RunValue) → n ≤ m → EndBefore n rs → StartTo m rs
-start_before n m [] l h = tt
-start_before n m (r ∷ rs) l h = (let ends = h.0 in omega (arith, l, ends), start_before n m rs l h.1)
-
 -- a run's value, at its place in the row
 pub at_value : (xs : List Run) (i : ℕ) (d : Run) → i < length xs → get_or (values_of xs) i (value_of d) ≡ value_of (slice_index_or xs i d)
 at_value xs i d h = get_or-map value_of xs i d (value_of d) h

@@ -13,11 +13,11 @@ use Rattle.nb_entries.specs.Code.CoverFacts.{Holds}
 use Rattle.nb_entries.specs.Shared.PromiseLemmas.{greater-comm, greater-assoc, greater-itself, greater_either, greater_left, greater_right, promised_adds, before_is, before_from}
 use Rattle.nb_entries.specs.Shared.SlotLemmas.{Unites}
 
-same_at : (o : Option ℕ) (x y : ℕ) → same_where o x ≡ true → o ≡ Some y → x ≡ y
+pub same_at : (o : Option ℕ) (x y : ℕ) → same_where o x ≡ true → o ≡ Some y → x ≡ y
 same_at None x y h e = absurd (none-some y e)
 same_at (Some z) x y h e = sym (eqb-true z x h) ∙ same_Some z y e
 
-at_same : (o : Option ℕ) (x : ℕ) → ((y : ℕ) → o ≡ Some y → x ≡ y) → same_where o x ≡ true
+pub at_same : (o : Option ℕ) (x : ℕ) → ((y : ℕ) → o ≡ Some y → x ≡ y) → same_where o x ≡ true
 at_same None x h = refl
 at_same (Some z) x h = eq-eqb z x (sym (h z refl))
 

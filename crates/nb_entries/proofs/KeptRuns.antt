@@ -7,6 +7,5 @@ pub mod RunPlaceLemmas
 pub mod RunPutLemmas
 pub mod RunReadLemmas
 pub mod RunRowLemmas
-pub mod EachRunLemmas
 pub mod RowsLemmas
 pub mod RowsPutLemmas

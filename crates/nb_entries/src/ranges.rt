@@ -80,9 +80,6 @@ impl<'a> Iterator for Ranges<'a> {
     ghost remaining = { item_count (λ r. r) };
 
     fn next(&mut self) -> Option<PlaceRange> {
-        match self.runs.next() {
-            Some(run) => Some(places_of(run)),
-            None => None,
-        }
+        Some(places_of(self.runs.next()?))
     }
 }

@@ -28,7 +28,7 @@ get-with_bytes m i (x ∷ xs) q =
         ap (λ o. first_of o (Some x)) (find_before q (i + 1) xs (omega (arith, here)))
     step false e = refl
 
-first_alone : (o : Option ℕ) → first_of o None ≡ o
+pub first_alone : (o : Option ℕ) → first_of o None ≡ o
 first_alone None = refl
 first_alone (Some x) = refl
 

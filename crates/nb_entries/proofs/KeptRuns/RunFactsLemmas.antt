@@ -51,8 +51,4 @@ union_is a b m o p made or promise = let end = or ∙ or_is a.end b.end in λ i.
 pub row_kept : (done new all : List RunValue) (n k : ℕ) (bs behind : List ℕ) (r : RunValue) (s : ℕ) (xs : List ℕ) → n ≡ suc k → r ≡ run_of bs → behind ≡ after_run bs → s ≡ r.start → xs ≡ r.bytes → new ≡ done ++ run_at s xs ∷ [] → done ++ row_of n bs ≡ all → new ++ row_of k behind ≡ all
 row_kept done new all n k bs behind r s xs e same rest start bytes put h =
     let run : run_at s xs ≡ run_of bs = (λ i. record { start = start i; bytes = bytes i }) ∙ same in
-    ap (λ zs. zs ++ row_of k behind) put
-    ∙ append_assoc done (run_at s xs ∷ []) (row_of k behind)
-    ∙ ap₂ (λ q b. done ++ q ∷ row_of k b) run rest
-    ∙ ap (λ m. done ++ row_of m bs) (sym e)
-    ∙ h
+    rw (put, append_assoc, run, rest) (rw e at h)

@@ -28,17 +28,7 @@ front_size : (r f : RunValue) → Meet r f → length (take (r.start - f.start) 
 front_size r f m = let before = m.before in omega (arith, before, length-take (r.start - f.start) f.bytes)
 
 pub grown_size : (r f : RunValue) → Meet r f → length (grown r f).bytes ≡ max (run_end r) (run_end f) - min f.start r.start
-grown_size r f m =
-    let before = m.before in let after = m.after in
-    omega (
-      arith,
-      before,
-      after,
-      front_size r f m,
-      length-drop (run_end r - f.start) f.bytes,
-      length-append (take (r.start - f.start) f.bytes) (r.bytes ++ drop (run_end r - f.start) f.bytes),
-      length-append r.bytes (drop (run_end r - f.start) f.bytes),
-    )
+grown_size r f m = let before = m.before in let after = m.after in simp (length-append, length-take, length-drop) (omega (arith, before, after))
 
 pub grown_end : (r f : RunValue) → Meet r f → run_end (grown r f) ≡ max (run_end r) (run_end f)
 grown_end r f m = let before = m.before in let after = m.after in omega (arith, before, after, grown_size r f m)
@@ -49,37 +39,31 @@ at_front : (r f : RunValue) → Meet r f → (q : ℕ) → q < r.start → byte_
 at_front r f m q h = elim (cases_lt q f.start) [
   | inl off ↦ byte_off (grown r f) q (omega (arith, off, h)) ∙ sym (byte_off f q off)
   | inr on ↦
-      let before = m.before in
       let k : ℕ = q - f.start in
       let size = front_size r f m in
       let inside : k < length (take (r.start - f.start) f.bytes) = omega (arith, size, on, h) in
       let fits : k < r.start - f.start = omega (arith, on, h) in
-      byte_on (grown r f) q k (omega (arith, on, h))
-      ∙ slice_get-front (take (r.start - f.start) f.bytes) (r.bytes ++ drop (run_end r - f.start) f.bytes) k inside
-      ∙ slice_get-take (r.start - f.start) f.bytes k fits
-      ∙ sym (byte_on f q k (omega (arith, on)))
+      rw (byte_on (grown r f) q k (omega (arith, on, h)), byte_on f q k (omega (arith, on)), slice_get-front, slice_get-take)
 ]
 
 at_own : (r f : RunValue) → Meet r f → (q : ℕ) → r.start ≤ q → q < run_end r → byte_in (grown r f) q ≡ byte_in r q
 at_own r f m q h l =
     let k : ℕ = q - r.start in
+    let front = take (r.start - f.start) f.bytes in
     let size = front_size r f m in
-    let place : q ≡ min f.start r.start + (length (take (r.start - f.start) f.bytes) + k) = omega (arith, size, h) in
     let inside : k < length r.bytes = omega (arith, h, l) in
-    byte_on (grown r f) q (length (take (r.start - f.start) f.bytes) + k) place
-    ∙ slice_get-back (take (r.start - f.start) f.bytes) (r.bytes ++ drop (run_end r - f.start) f.bytes) k _ refl
-    ∙ slice_get-front r.bytes (drop (run_end r - f.start) f.bytes) k inside
-    ∙ sym (byte_on r q k (omega (arith, h)))
+    rw (byte_on (grown r f) q (length front + k) (omega (arith, size, h)), byte_on r q k (omega (arith, h)), slice_get-back front (r.bytes ++ drop (run_end r - f.start) f.bytes) k (length front + k) refl, slice_get-front)
 
 at_back : (r f : RunValue) → Meet r f → (q : ℕ) → run_end r ≤ q → byte_in (grown r f) q ≡ byte_in f q
 at_back r f m q h =
     let after = m.after in
     let k : ℕ = q - run_end r in
+    let front = take (r.start - f.start) f.bytes in
+    let back = drop (run_end r - f.start) f.bytes in
     let size = front_size r f m in
-    let place : q ≡ min f.start r.start + (length (take (r.start - f.start) f.bytes) + (length r.bytes + k)) = omega (arith, size, h) in
-    byte_on (grown r f) q (length (take (r.start - f.start) f.bytes) + (length r.bytes + k)) place
-    ∙ slice_get-back (take (r.start - f.start) f.bytes) (r.bytes ++ drop (run_end r - f.start) f.bytes) (length r.bytes + k) _ refl
-    ∙ slice_get-back r.bytes (drop (run_end r - f.start) f.bytes) k _ refl
+    byte_on (grown r f) q (length front + (length r.bytes + k)) (omega (arith, size, h))
+    ∙ slice_get-back front (r.bytes ++ back) (length r.bytes + k) _ refl
+    ∙ slice_get-back r.bytes back k _ refl
     ∙ slice_get-drop (run_end r - f.start) f.bytes k _ refl
     ∙ sym (byte_on f q (run_end r - f.start + k) (omega (arith, h, after)))
 
@@ -103,15 +87,9 @@ grown_look r f m agree q = elim (cases_lt q r.start) [
   ]
 ]
 
--- ---- and by a third
-
-pub meet_more : (t f u : RunValue) → Meet t f → t.start ≤ u.start → u.start ≤ run_end f → Meet (grown t f) u
-meet_more t f u m order touch =
-    let size = grown_end t f m in
-    record { before = omega (arith, order); after = omega (arith, size, touch) }
-
-pub room_of : (t f : RunValue) (end cap : ℕ) → Meet t f → run_end f ≤ end → max (run_end t) end - min f.start t.start ≤ cap → length (grown t f).bytes ≤ cap
-room_of t f end cap m e r = omega (arith, e, r, grown_size t f m)
-
-pub room_more : (t f u : RunValue) (end cap : ℕ) → Meet t f → t.start ≤ u.start → u.start ≤ run_end f → run_end f ≤ end → run_end u ≤ end → max (run_end t) end - min f.start t.start ≤ cap → length (grown (grown t f) u).bytes ≤ cap
-room_more t f u end cap m order touch e d r = omega (arith, order, e, d, r, grown_end t f m, grown_size (grown t f) u (meet_more t f u m order touch))
+-- what meets a run and other bytes meets both in one
+pub meet_grown : (t f u : RunValue) → Meet t f → Meet f u → Meet t (grown f u)
+meet_grown t f u m n =
+    let end = grown_end f u n in
+    let before = m.before in
+    let after = m.after in record { before = omega (arith, end, before); after = omega (arith, after) }

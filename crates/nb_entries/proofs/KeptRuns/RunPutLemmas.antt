@@ -1,11 +1,12 @@
 -- Bytes put into a row of runs: on their own, joined with one run, or joined with several.
-use Rattle.std.proofs.Common.{◌≡◌, ◌<◌, ◌≤◌, ◌++◌, ℕ, inl, inr, List, [], ◌∷◌, length, min, Option, Some, None, refl, sym, ap, ◌∙◌, subst, arith}
+use Rattle.std.proofs.Common.{◌≡◌, ◌+◌, ◌-◌, ◌<◌, ◌++◌, ℕ, inl, inr, List, [], ◌∷◌, length, Option, Some, None, refl, sym, ap, ◌∙◌, subst, arith}
+use Rattle.std.proofs.lemmas.List.{append-nil}
 use Rattle.nb_entries.specs.Maps.{first_of}
-use Rattle.nb_entries.specs.Runs.{RunValue, run_end, StartsPast, AreApart}
-use Rattle.nb_entries.specs.Code.RunSteps.{byte_in, look_in, grown, Meet, EndBefore, Agree, IsPut}
+use Rattle.nb_entries.specs.Runs.{RunValue, run_end, AreApart}
+use Rattle.nb_entries.specs.Code.RunSteps.{byte_in, look_in, grown, Meet, EndBefore, StartAfter, Agree, IsPut}
 use Rattle.nb_entries.specs.Shared.CoverLemmas.{first_either, first_of_three}
-use Rattle.nb_entries.proofs.KeptRuns.RunRowLemmas.{has_below, has_from, byte_within, look-append, none_from, look_before, look_past, apart_front, apart_back, apart_seam, apart_both, ends_min, past_max}
-use Rattle.nb_entries.proofs.KeptRuns.RunGrownLemmas.{grown_size, grown_end, grown_look, meet_more}
+use Rattle.nb_entries.proofs.KeptRuns.RunRowLemmas.{has_below, has_from, byte_within, look-append, none_from, look_before, look_past, apart_front, apart_back, apart_seam, apart_both}
+use Rattle.nb_entries.proofs.KeptRuns.RunGrownLemmas.{grown_size, grown_look, meet_grown}
 
 -- of two that agree either may come first
 pub swap : (o p r : Option ℕ) → ((x y : ℕ) → o ≡ Some x → p ≡ Some y → x ≡ y) → first_of o (first_of p r) ≡ first_of p (first_of o r)
@@ -13,105 +14,127 @@ swap None p r h = refl
 swap (Some x) None r h = refl
 swap (Some x) (Some y) r h = ap Some (h x y refl refl)
 
--- what ends before a run has no byte of it
-pub off : (n : ℕ) (bs : List RunValue) (f : RunValue) → EndBefore n bs → n ≤ f.start → (q x y : ℕ) → look_in bs q ≡ Some x → byte_in f q ≡ Some y → x ≡ y
-off n bs f e h q x y a b = let before = look_before n bs e q x a in let from = has_from f q y b in absurd (omega (arith, before, from, h))
+-- what runs that start after n have lies past it
+pub look_after : (n : ℕ) (rs : List RunValue) → StartAfter n rs → (q x : ℕ) → look_in rs q ≡ Some x → n < q
+look_after n [] h q x e = absurd (cc)
+look_after n (r ∷ rs) h q x e = elim (first_either (byte_in r q) (look_in rs q) x e) [
+  | inl g ↦ let from = has_from r q x g in let starts = h.0 in omega (arith, from, starts)
+  | inr g ↦ look_after n rs h.1 q x g
+]
 
--- what a run of a row has, the row has
+-- ---- a row in parts
+
+-- between two places of the two parts of a row lies another one
+parts_apart : (bs ss : List RunValue) → AreApart (bs ++ ss) → (p q x y : ℕ) → look_in bs p ≡ Some x → look_in ss q ≡ Some y → p + 1 < q
+parts_apart bs [] a p q x y e f = absurd (cc)
+parts_apart bs (t ∷ ss) a p q x y e f = look_past (p + 1) (t ∷ ss) (look_before t.start bs (apart_seam bs t ss a) p x e) (apart_back bs (t ∷ ss) a) q y f
+
+-- what a part of a row has, the row has
+back_look : (bs ss : List RunValue) → AreApart (bs ++ ss) → (q x : ℕ) → look_in ss q ≡ Some x → look_in (bs ++ ss) q ≡ Some x
+back_look bs ss a q x e =
+    let none = none_from (look_in bs q) (λ y f. (let past = parts_apart bs ss a q q y x f e in absurd (omega (arith, past)))) in
+    look-append bs ss q ∙ ap (λ o. first_of o (look_in ss q)) none ∙ e
+
 pub in_row : (bs : List RunValue) (t : RunValue) (ss : List RunValue) → AreApart (bs ++ t ∷ ss) → (q x : ℕ) → byte_in t q ≡ Some x → look_in (bs ++ t ∷ ss) q ≡ Some x
-in_row bs t ss a q x e =
-    let before : look_in bs q ≡ None = none_from (look_in bs q) (λ y f. (let b = look_before t.start bs (apart_seam bs t ss a) q y f in let from = has_from t q x e in absurd (omega (arith, b, from)))) in
-    look-append bs (t ∷ ss) q
-    ∙ ap (λ o. first_of o (first_of (byte_in t q) (look_in ss q))) before
-    ∙ ap (λ o. first_of o (look_in ss q)) e
+in_row bs t ss a q x e = back_look bs (t ∷ ss) a q x (ap (λ o. first_of o (look_in ss q)) e)
 
-pub put_none : (bs ss : List RunValue) (f : RunValue) → AreApart (bs ++ ss) → EndBefore f.start bs → StartsPast (run_end f) ss → 0 < length f.bytes → IsPut (bs ++ ss) f (bs ++ f ∷ ss)
-put_none bs ss f a e p some = record {
-  apart = apart_both bs f ss (apart_front bs ss a) e some p (apart_back bs ss a);
-  look = λ q. look-append bs (f ∷ ss) q
-      ∙ swap (look_in bs q) (byte_in f q) (look_in ss q) (λ x y g h. off f.start bs f e (omega arith) q x y g h)
-      ∙ ap (first_of (byte_in f q)) (sym (look-append bs ss q));
+-- and agrees with what the row agrees with
+pub part_agrees : (bs ms ss : List RunValue) (f : RunValue) → AreApart (bs ++ (ms ++ ss)) → Agree (bs ++ (ms ++ ss)) f → Agree ms f
+part_agrees bs ms ss f a h = record { same = λ q x y e g. h.same q x y (back_look bs (ms ++ ss) a q x (look-append ms ss q ∙ ap (λ o. first_of o (look_in ss q)) e)) g }
+
+-- parts between whose places another one lies are apart
+apart_parts : (bs ss : List RunValue) → AreApart bs → AreApart ss → ((p q x y : ℕ) → look_in bs p ≡ Some x → look_in ss q ≡ Some y → p + 1 < q) → AreApart (bs ++ ss)
+apart_parts bs [] a b h = subst AreApart (sym (append-nil bs)) a
+apart_parts bs (t ∷ ss) a b h =
+    let some = b.0 in
+    let first = byte_within t t.start (omega arith) (omega (arith, some)) in
+    apart_both bs t ss a (ends_before t.start bs a (λ p x e. h p t.start x first.0 e (ap (λ o. first_of o (look_in ss t.start)) first.1))) some b.1.0 b.1.1
+  where
+    ends_before : (n : ℕ) (rs : List RunValue) → AreApart rs → ((p x : ℕ) → look_in rs p ≡ Some x → p + 1 < n) → EndBefore n rs
+    ends_before n [] a h = tt
+    ends_before n (r ∷ rs) a h =
+        let some = a.0 in
+        let last = byte_within r (run_end r - 1) (omega (arith, some)) (omega (arith, some)) in
+        let ends = h (run_end r - 1) last.0 (ap (λ o. first_of o (look_in rs (run_end r - 1))) last.1) in
+        (omega (arith, some, ends), ends_before n rs a.1.1 (λ p x e. h p x (back_look (r ∷ []) rs a p x e)))
+
+-- ---- bytes put into one of the parts
+
+put_back : (ms new ss : List RunValue) (f : RunValue) → AreApart (ms ++ ss) → StartAfter (run_end f) ss → IsPut ms f new → IsPut (ms ++ ss) f (new ++ ss)
+put_back ms new ss f a after put = record {
+  apart = apart_parts new ss put.apart (apart_back ms ss a) (λ p q x y e g. elim (first_either (byte_in f p) (look_in ms p) x (sym (put.look p) ∙ e)) [
+    | inl h ↦ let below = has_below f p x h in let from = look_after (run_end f) ss after q y g in omega (arith, below, from)
+    | inr h ↦ parts_apart ms ss a p q x y h g
+  ]);
+  look = λ q. rw (look-append new ss q, look-append ms ss q, put.look q) (first_of_three (byte_in f q) (look_in ms q) (look_in ss q));
 }
 
-pub put_one : (bs : List RunValue) (t : RunValue) (ss : List RunValue) (f : RunValue) → AreApart (bs ++ t ∷ ss) → Meet t f → EndBefore f.start bs → StartsPast (run_end f) ss → Agree (bs ++ t ∷ ss) f → IsPut (bs ++ t ∷ ss) f (bs ++ grown t f ∷ ss)
-put_one bs t ss f a m e p agree =
-    let own : AreApart (t ∷ ss) = apart_back bs (t ∷ ss) a in
-    let size = grown_size t f m in
-    let before = m.before in
-    let after = m.after in
-    let some = own.0 in record {
-      apart = apart_both bs (grown t f) ss (apart_front bs (t ∷ ss) a) (ends_min f.start t.start bs e (apart_seam bs t ss a)) (omega (arith, size, before, after, some))
-          (subst (λ n. StartsPast n ss) (sym (grown_end t f m)) (past_max (run_end t) (run_end f) ss own.1.0 p)) own.1.1;
-      look = λ q. look-append bs (grown t f ∷ ss) q
-          ∙ ap (λ o. first_of (look_in bs q) (first_of o (look_in ss q))) (grown_look t f m (λ q x y g h. agree.same q x y (in_row bs t ss a q x g) h) q)
-          ∙ ap (first_of (look_in bs q)) (first_of_three (byte_in f q) (byte_in t q) (look_in ss q))
-          ∙ swap (look_in bs q) (byte_in f q) (first_of (byte_in t q) (look_in ss q)) (λ x y g h. off f.start bs f e (omega arith) q x y g h)
-          ∙ ap (first_of (byte_in f q)) (sym (look-append bs (t ∷ ss) q));
-    }
+put_front : (bs ms new : List RunValue) (f : RunValue) → AreApart (bs ++ ms) → EndBefore f.start bs → IsPut ms f new → IsPut (bs ++ ms) f (bs ++ new)
+put_front bs ms new f a before put = record {
+  apart = apart_parts bs new (apart_front bs ms a) put.apart (λ p q x y e g. elim (first_either (byte_in f q) (look_in ms q) y (sym (put.look q) ∙ g)) [
+    | inl h ↦ let ends = look_before f.start bs before p x e in let from = has_from f q y h in omega (arith, ends, from)
+    | inr h ↦ parts_apart bs ms a p q x y e h
+  ]);
+  look = λ q. rw (look-append bs new q, look-append bs ms q, put.look q)
+      (swap (look_in bs q) (byte_in f q) (look_in ms q) (λ x y g h. (let ends = look_before f.start bs before q x g in let from = has_from f q y h in absurd (omega (arith, ends, from)))));
+}
 
--- ---- several
+-- a row is put into where a part of it is, and the bytes lie between the others
+pub put_part : (bs ms new ss : List RunValue) (f : RunValue) → AreApart (bs ++ (ms ++ ss)) → EndBefore f.start bs → StartAfter (run_end f) ss → IsPut ms f new → IsPut (bs ++ (ms ++ ss)) f (bs ++ (new ++ ss))
+put_part bs ms new ss f a before after put = put_front bs (ms ++ ss) (new ++ ss) f a before (put_back ms new ss f (apart_back bs (ms ++ ss) a) after put)
 
-mixed : (b t m u s f : Option ℕ) → (f ≡ None → m ≡ None) → ((x y : ℕ) → b ≡ Some y → f ≡ Some x → y ≡ x) → ((x y : ℕ) → u ≡ Some y → f ≡ Some x → y ≡ x) → ((x y : ℕ) → u ≡ Some y → t ≡ Some x → y ≡ x) →
-    first_of b (first_of (first_of u (first_of f t)) s) ≡ first_of f (first_of (first_of b (first_of t m)) (first_of u s))
-mixed None t m None s (Some x) none before last two = refl
-mixed None t m (Some y) s (Some x) none before last two = ap Some (last x y refl refl)
-mixed (Some y) t m u s (Some x) none before last two = ap Some (before x y refl refl)
-mixed (Some y) t m u s None none before last two = refl
-mixed None None m None s None none before last two = ap (λ o. first_of o s) (sym (none refl))
-mixed None None m (Some y) s None none before last two = ap (λ o. first_of o (Some y)) (sym (none refl))
-mixed None (Some x) m None s None none before last two = refl
-mixed None (Some x) m (Some y) s None none before last two = ap Some (two x y refl refl)
+-- ---- bytes put into runs that they all meet
 
--- where the bytes have none, the runs between the first and the last that they meet have none
-between : (t : RunValue) (ms : List RunValue) (u f : RunValue) → AreApart (t ∷ ms) → EndBefore u.start ms → f.start ≤ run_end t → u.start ≤ run_end f → (q : ℕ) → byte_in f q ≡ None → look_in ms q ≡ None
-between t ms u f a e from to q none = none_from (look_in ms q) (λ x h. (
-    let past = look_past (run_end t) ms a.1.0 a.1.1 q x h in
-    let before = look_before u.start ms e q x h in
-    let there = byte_within f q (omega (arith, past, from)) (omega (arith, before, to)) in
-    let both : Some there.0 ≡ None = sym there.1 ∙ none in
-    cc both))
+pub put_alone : (f g : RunValue) → 0 < length f.bytes → g ≡ f → IsPut [] f (g ∷ [])
+put_alone f g some e = rw e (record { apart = (some, (tt, tt)); look = λ q. refl })
 
-ends_back : (n : ℕ) (rs ss : List RunValue) → EndBefore n (rs ++ ss) → EndBefore n ss
-ends_back n [] ss h = h
-ends_back n (r ∷ rs) ss h = ends_back n rs ss h.1
+pub put_one : (t f : RunValue) → 0 < length t.bytes → Meet t f → Agree (t ∷ []) f → IsPut (t ∷ []) f (grown t f ∷ [])
+put_one t f some m agree = record {
+  apart = (let size = grown_size t f m in let before = m.before in let after = m.after in omega (arith, size, before, after, some), (tt, tt));
+  look = λ q. ap (λ o. first_of o None) (grown_look t f m (λ q x y g h. agree.same q x y (ap (λ o. first_of o None) g) h) q)
+      ∙ first_of_three (byte_in f q) (byte_in t q) None;
+}
 
-pub put_more : (bs : List RunValue) (t : RunValue) (ms : List RunValue) (u : RunValue) (ss : List RunValue) (f : RunValue) → AreApart ((bs ++ t ∷ ms) ++ u ∷ ss) → Meet t f → u.start ≤ run_end f → EndBefore f.start bs → StartsPast (run_end f) ss → Agree ((bs ++ t ∷ ms) ++ u ∷ ss) f →
-    IsPut ((bs ++ t ∷ ms) ++ u ∷ ss) f (bs ++ grown (grown t f) u ∷ ss)
-put_more bs t ms u ss f a m touch e p agree =
-    let front : AreApart (bs ++ t ∷ ms) = apart_front (bs ++ t ∷ ms) (u ∷ ss) a in
-    let back : AreApart (u ∷ ss) = apart_back (bs ++ t ∷ ms) (u ∷ ss) a in
-    let mid : AreApart (t ∷ ms) = apart_back bs (t ∷ ms) front in
-    let ends : EndBefore u.start (t ∷ ms) = ends_back u.start bs (t ∷ ms) (apart_seam (bs ++ t ∷ ms) u ss a) in
-    let order = ends.0 in
-    let some = mid.0 in
-    let n = meet_more t f u m (omega (arith, order)) touch in
-    let size = grown_size (grown t f) u n in
-    let far = grown_end t f m in
-    let past = grown_end (grown t f) u n in
-    let early : EndBefore (grown t f).start bs = ends_min f.start t.start bs e (apart_seam bs t ms front) in
-    let first : min u.start (grown t f).start ≡ (grown t f).start = omega (arith, order) in
-    let last_agrees : (q x y : ℕ) → byte_in u q ≡ Some y → byte_in f q ≡ Some x → y ≡ x = λ q x y g h. agree.same q y x (in_row (bs ++ t ∷ ms) u ss a q y g) h in
-    let two : (q x y : ℕ) → byte_in u q ≡ Some y → byte_in t q ≡ Some x → y ≡ x = λ q x y g h. (let below = has_below t q x h in let from = has_from u q y g in absurd (omega (arith, below, from, order))) in
-    let grows = grown_look t f m (λ q x y g h. agree.same q x y (in_front q x g) h) in
-    record {
-      apart = apart_both bs (grown (grown t f) u) ss (apart_front bs (t ∷ ms) front) (subst (λ k. EndBefore k bs) (sym first) early) (omega (arith, size, order, some))
-          (subst (λ k. StartsPast k ss) (sym past) (past_max (run_end (grown t f)) (run_end u) ss (subst (λ k. StartsPast k ss) (sym far) (past_max (run_end t) (run_end f) ss (sooner order) p)) back.1.0)) back.1.1;
-      look = λ q. look-append bs (grown (grown t f) u ∷ ss) q
-          ∙ ap (λ o. first_of (look_in bs q) (first_of o (look_in ss q)))
-          (grown_look (grown t f) u n (λ q x y g h. sym (elim (first_either (byte_in f q) (byte_in t q) x (sym (grows q) ∙ g)) [ inl k ↦ last_agrees q x y h k | inr k ↦ two q x y h k ])) q
-          ∙ ap (first_of (byte_in u q)) (grows q))
-          ∙ mixed (look_in bs q) (byte_in t q) (look_in ms q) (byte_in u q) (look_in ss q) (byte_in f q)
-          (between t ms u f mid ends.1 m.after touch q)
-          (λ x y g h. off f.start bs f e (omega arith) q y x g h) (λ x y g h. last_agrees q x y g h) (λ x y g h. two q x y g h)
-          ∙ ap (first_of (byte_in f q)) (sym (look-append (bs ++ t ∷ ms) (u ∷ ss) q ∙ ap (λ o. first_of o (first_of (byte_in u q) (look_in ss q))) (look-append bs (t ∷ ms) q)));
+-- what two runs and bytes have is all that is there: each has only what is there, and where they have nothing, nothing is
+all_there : (t u f o : Option ℕ) → ((x y : ℕ) → o ≡ Some x → f ≡ Some y → x ≡ y) → ((x : ℕ) → t ≡ Some x → o ≡ Some x) → ((x : ℕ) → u ≡ Some x → o ≡ Some x) → (t ≡ None → u ≡ None → f ≡ None → o ≡ None) →
+    first_of (first_of u f) (first_of t None) ≡ first_of f o
+all_there t (Some x) (Some y) o agree first last none = ap Some (agree x y (last x refl) refl)
+all_there t (Some x) None o agree first last none = sym (last x refl)
+all_there t None (Some y) o agree first last none = refl
+all_there (Some x) None None o agree first last none = sym (first x refl)
+all_there None None None o agree first last none = sym (none refl refl refl)
+
+pub put_more : (t : RunValue) (ms : List RunValue) (u f : RunValue) → AreApart (t ∷ (ms ++ u ∷ [])) → Meet t f → Meet u f → Agree (t ∷ (ms ++ u ∷ [])) f → IsPut (t ∷ (ms ++ u ∷ [])) f (grown t (grown f u) ∷ [])
+put_more t ms u f a m n agree =
+    let met : Meet f u = record { before = n.after; after = n.before } in
+    let first : (q x : ℕ) → byte_in t q ≡ Some x → look_in (t ∷ (ms ++ u ∷ [])) q ≡ Some x = in_row [] t (ms ++ u ∷ []) a in
+    let last : (q x : ℕ) → byte_in u q ≡ Some x → look_in (t ∷ (ms ++ u ∷ [])) q ≡ Some x = in_row (t ∷ ms) u [] a in
+    let grows = grown_look f u met (λ q x y g h. sym (agree.same q y x (last q y h) g)) in
+    let put = put_one t (grown f u) a.0 (meet_grown t f u m met) (record {
+      same = λ q x y g h. elim (first_either (byte_in u q) (byte_in f q) y (sym (grows q) ∙ h)) [
+        | inl k ↦ (let one = first q x (only t q x g) in let other = last q y k in cc)
+        | inr k ↦ agree.same q x y (first q x (only t q x g)) k
+      ];
+    }) in record {
+      apart = put.apart;
+      look = λ q. put.look q
+          ∙ ap (λ o. first_of o (first_of (byte_in t q) None)) (grows q)
+          ∙ all_there (byte_in t q) (byte_in u q) (byte_in f q) (look_in (t ∷ (ms ++ u ∷ [])) q) (λ x y g h. agree.same q x y g h) (first q) (last q)
+          (λ g h k. rw (g, look-append ms (u ∷ []) q, between q k, h));
     }
   where
-    in_front : (q x : ℕ) → byte_in t q ≡ Some x → look_in ((bs ++ t ∷ ms) ++ u ∷ ss) q ≡ Some x
-    in_front q x g = look-append (bs ++ t ∷ ms) (u ∷ ss) q ∙ ap (λ o. first_of o (first_of (byte_in u q) (look_in ss q))) (in_row bs t ms (apart_front (bs ++ t ∷ ms) (u ∷ ss) a) q x g)
+    only : (r : RunValue) (q x : ℕ) → look_in (r ∷ []) q ≡ Some x → byte_in r q ≡ Some x
+    only r q x e = elim (first_either (byte_in r q) None x e) [ inl g ↦ g | inr g ↦ absurd (cc) ]
 
-    sooner : run_end t < u.start → StartsPast (run_end t) ss
-    sooner order = less (run_end t) (run_end u) ss (omega (arith, order)) (apart_back (bs ++ t ∷ ms) (u ∷ ss) a).1.0
-      where
-        less : (k n : ℕ) (rs : List RunValue) → k ≤ n → StartsPast n rs → StartsPast k rs
-        less k n [] l h = tt
-        less k n (r ∷ rs) l h = omega (arith, l, h)
+    -- where the bytes have none, the runs between the first and the last have none
+    between : (q : ℕ) → byte_in f q ≡ None → look_in ms q ≡ None
+    between q none = none_from (look_in ms q) (λ x h. (
+        let back : AreApart (ms ++ u ∷ []) = a.1.1 in
+        let own = apart_front ms (u ∷ []) back in
+        let past = look_past (run_end t) (ms ++ u ∷ []) a.1.0 back q x (look-append ms (u ∷ []) q ∙ ap (λ o. first_of o (first_of (byte_in u q) None)) h) in
+        let before = look_before u.start ms (apart_seam ms u [] back) q x h in
+        let from = m.after in
+        let to = n.before in
+        let there = byte_within f q (omega (arith, past, from)) (omega (arith, before, to)) in
+        let both : Some there.0 ≡ None = sym there.1 ∙ none in
+        cc both))

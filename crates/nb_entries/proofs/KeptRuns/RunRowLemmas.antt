@@ -1,6 +1,8 @@
 -- Rows of runs: what a look-up finds in them, and how rows that are apart are cut and put together.
-use Rattle.std.proofs.Common.{◌≡◌, ◌<◌, ◌≤◌, ◌+◌, ◌-◌, ◌++◌, ℕ, zero, suc, Bool, true, false, cond, nat_le, inl, inr, List, [], ◌∷◌, length, take, drop, min, max, get_or, map, slice_get, Option, Some, None, refl, sym, ap, ap₂, ◌∙◌, arith}
+use Rattle.std.proofs.Common.{◌≡◌, ◌<◌, ◌≤◌, ◌+◌, ◌-◌, ◌++◌, ℕ, suc, Bool, true, false, cond, nat_le, inl, inr, List, [], ◌∷◌, length, take, drop, min, get_or, map, slice_get, Option, Some, None, refl, sym, ap, ap₂, ◌∙◌, subst, arith, length-take, length-drop, take-append-drop, drop-cons}
 use Rattle.std.proofs.lemmas.Bool.{leb-true, le-leb, lt-leb}
+use Rattle.std.proofs.lemmas.List.{take-map, drop-map, get_or-take, get_or-drop}
+use Rattle.std.proofs.lemmas.List.Elements.{All-map, All-from_recursion, recursion_from_All}
 use Rattle.std.proofs.lemmas.Option.{slice_get_within, slice_get-get_or, slice_get_past}
 use Rattle.std.specs.List.{AllByRecursion}
 use Rattle.std.specs.Ordering.{nat_cmp}
@@ -9,7 +11,7 @@ use Rattle.std.specs.FinMap as maps
 use Rattle.nb_entries.specs.Cover.{placed}
 use Rattle.nb_entries.specs.Maps.{first_of}
 use Rattle.nb_entries.specs.Runs.{RunValue, run_end, StartsPast, AreApart, places_of, map_of_runs}
-use Rattle.nb_entries.specs.Code.RunSteps.{byte_in, look_in, EndBefore, StartAfter}
+use Rattle.nb_entries.specs.Code.RunSteps.{byte_in, look_in, EndBefore}
 use Rattle.nb_entries.specs.Shared.CoverLemmas.{first_either, first_of_three}
 use Rattle.nb_entries.specs.Shared.PlacedLemmas.{find-placed, find-append}
 
@@ -30,8 +32,7 @@ has_of r q x e = step (nat_le r.start q) refl e
 pub has_below : (r : RunValue) (q x : ℕ) → byte_in r q ≡ Some x → q < run_end r
 has_below r q x e =
     let h = has_of r q x e in
-    let inside = slice_get_within r.bytes (q - r.start) x h.is in
-    let from = h.from in omega (arith, inside, from)
+    let inside = slice_get_within r.bytes (q - r.start) x h.is in omega arith
 
 pub has_from : (r : RunValue) (q x : ℕ) → byte_in r q ≡ Some x → r.start ≤ q
 has_from r q x e = (has_of r q x e).from
@@ -118,44 +119,24 @@ pub ends_min : (m n : ℕ) (rs : List RunValue) → EndBefore m rs → EndBefore
 ends_min m n [] h k = tt
 ends_min m n (r ∷ rs) h k = (let a = h.0 in let b = k.0 in omega (arith, a, b), ends_min m n rs h.1 k.1)
 
--- runs that start past both of two places
-pub past_max : (m n : ℕ) (rs : List RunValue) → StartsPast m rs → StartsPast n rs → StartsPast (max m n) rs
-past_max m n [] h k = tt
-past_max m n (r ∷ rs) h k = omega (arith, h, k)
-
-pub past_all : (n : ℕ) (rs : List RunValue) → StartAfter n rs → StartsPast n rs
-past_all n [] h = tt
-past_all n (r ∷ rs) h = h.0
-
 -- ---- elements and tests of each
 
 -- a list about one of its elements
 pub split_at : {X : Type 0} (xs : List X) (i : ℕ) (d : X) → i < length xs → xs ≡ take i xs ++ get_or xs i d ∷ drop (suc i) xs
-split_at [] i d h = absurd (omega arith)
-split_at (x ∷ xs) zero d h = refl
-split_at (x ∷ xs) (suc i) d h = ap (λ ys. x ∷ ys) (split_at xs i d (omega arith))
+split_at xs i d h = sym (take-append-drop i xs) ∙ ap (λ ys. take i xs ++ ys) (drop-cons xs i d h)
 
 pub all_take : {X : Type 0} (P : RunValue → Type 0) (v : X → RunValue) (xs : List X) (n : ℕ) → ((k : ℕ) (d : X) → k < n → P (v (get_or xs k d))) → n ≤ length xs → AllByRecursion P (take n (map v xs))
-all_take P v [] zero h l = tt
-all_take P v [] (suc n) h l = tt
-all_take P v (x ∷ xs) zero h l = tt
-all_take P v (x ∷ xs) (suc n) h l = (h zero x (omega arith), all_take P v xs n (λ k d b. h (suc k) d (omega (arith, b))) (omega arith))
+all_take P v xs n h l =
+    rw take-map (recursion_from_All P _ (All-map P v (take n xs) (λ k d b. (let inside : k < n = omega (arith, length-take n xs) in rw get_or-take (h k d inside)))))
 
 pub all_drop : {X : Type 0} (P : RunValue → Type 0) (v : X → RunValue) (xs : List X) (n : ℕ) → ((k : ℕ) (d : X) → n ≤ k → k < length xs → P (v (get_or xs k d))) → AllByRecursion P (drop n (map v xs))
-all_drop P v [] zero h = tt
-all_drop P v [] (suc n) h = tt
-all_drop P v (x ∷ xs) zero h = (h zero x (omega arith) (omega arith), all_drop P v xs zero (λ k d a b. h (suc k) d (omega arith) (omega (arith, b))))
-all_drop P v (x ∷ xs) (suc n) h = all_drop P v xs n (λ k d a b. h (suc k) d (omega (arith, a)) (omega (arith, b)))
+all_drop P v xs n h =
+    rw drop-map (recursion_from_All P _ (All-map P v (drop n xs) (λ k d b. rw get_or-drop (h (n + k) d (omega arith) (omega (arith, length-drop n xs))))))
 
 pub all_at : (P : RunValue → Type 0) (rs : List RunValue) (n k : ℕ) (d : RunValue) → AllByRecursion P (take n rs) → k < n → k < length rs → P (get_or rs k d)
-all_at P [] n k d h a b = absurd (omega arith)
-all_at P (r ∷ rs) zero k d h a b = absurd (omega arith)
-all_at P (r ∷ rs) (suc n) zero d h a b = h.0
-all_at P (r ∷ rs) (suc n) (suc k) d h a b = all_at P rs n k d h.1 (omega arith) (omega arith)
+all_at P rs n k d h a b = subst P (get_or-take n rs k d a) (All-from_recursion P (take n rs) h k d (omega (arith, length-take n rs)))
 
 pub all_from_at : (P : RunValue → Type 0) (rs : List RunValue) (n k : ℕ) (d : RunValue) → AllByRecursion P (drop n rs) → n ≤ k → k < length rs → P (get_or rs k d)
-all_from_at P [] n k d h a b = absurd (omega arith)
-all_from_at P (r ∷ rs) zero zero d h a b = h.0
-all_from_at P (r ∷ rs) zero (suc k) d h a b = all_from_at P rs zero k d h.1 (omega arith) (omega arith)
-all_from_at P (r ∷ rs) (suc n) zero d h a b = absurd (omega arith)
-all_from_at P (r ∷ rs) (suc n) (suc k) d h a b = all_from_at P rs n k d h (omega arith) (omega arith)
+all_from_at P rs n k d h a b =
+    let place : n + (k - n) ≡ k = omega arith in
+    subst P (get_or-drop n rs (k - n) d ∙ ap (λ j. get_or rs j d) place) (All-from_recursion P (drop n rs) h (k - n) d (omega (arith, length-drop n rs)))

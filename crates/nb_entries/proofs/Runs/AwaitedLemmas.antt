@@ -1,21 +1,18 @@
 -- A promise is awaited exactly where it reaches past all that is known.
-use Rattle.std.proofs.Common.{◌≡◌, ℕ, Bool, true, false, cond, Option, Some, None, refl, sym, ◌∙◌, ap}
+use Rattle.std.proofs.Common.{◌≡◌, ℕ, Bool, true, cond, Option, Some, None, sym, ◌∙◌, ap}
 use Rattle.std.specs.Option.{option_and_then}
 use Rattle.std.specs.Ordering.{nat_cmp}
 use Rattle.std.specs.FinMap as maps
 use Rattle.nb_entries.specs.Cover.{CoverFacts, bytes_lie_below}
 use Rattle.nb_entries.specs.Outline.{IsAwaited, awaited_of}
+use Rattle.nb_entries.specs.Shared.PlacedLemmas.{taken}
+use Rattle.std.proofs.lemmas.Option.{same_Some}
 use Rattle.nb_entries.specs.Shared.CoverLemmas.{bytes_below_decides}
-
-kept : (m : maps.FinMap nat_cmp ℕ) (q r : ℕ) (b : Bool) → bytes_lie_below q m ≡ b → cond b (Some q) None ≡ Some r → (q ≡ r) × (bytes_lie_below q m ≡ true)
-kept m q r true h e = let one : q ≡ r = cc e in (one, h)
-kept m q r false h e = absurd (cc e)
 
 found : (m : maps.FinMap nat_cmp ℕ) (o : Option ℕ) (r : ℕ) → option_and_then (λ q. cond (bytes_lie_below q m) (Some q) None) o ≡ Some r → (o ≡ Some r) × (bytes_lie_below r m ≡ true)
 found m None r e = absurd (cc e)
 found m (Some q) r e =
-    let is = kept m q r (bytes_lie_below q m) refl e in
-    (ap Some is.0, ap (λ (n : ℕ). bytes_lie_below n m) (sym is.0) ∙ is.1)
+    let is = taken (bytes_lie_below q m) (Some q) r e in (is.1, ap (λ (n : ℕ). bytes_lie_below n m) (sym (same_Some q r is.1)) ∙ is.0)
 
 pub awaited_is : (c : CoverFacts) (r : ℕ) → awaited_of c ≡ Some r → IsAwaited c r
 awaited_is c r e =

@@ -1,5 +1,5 @@
 -- Runs that are apart have as many bytes as their map has places.
-use Rattle.std.proofs.Common.{◌≡◌, ◌+◌, ℕ, suc, List, [], ◌∷◌, length, refl, sym, ap, ap₂, ◌∙◌}
+use Rattle.std.proofs.Common.{◌≡◌, ◌+◌, ℕ, suc, List, [], ◌∷◌, length, refl, sym, ap, ◌∙◌}
 use Rattle.std.proofs.lemmas.List.{length-append}
 use Rattle.std.specs.Ordering.{nat_cmp}
 use Rattle.std.specs.FinMap as maps
@@ -15,9 +15,7 @@ length-placed i (x ∷ xs) = ap suc (length-placed (i + 1) xs)
 
 length-places : (rs : List RunValue) → length (places_of rs) ≡ held_in rs
 length-places [] = refl
-length-places (r ∷ rs) =
-    length-append (placed r.start r.bytes) (places_of rs)
-    ∙ ap₂ (λ (a b : ℕ). a + b) (length-placed r.start r.bytes) (length-places rs)
+length-places (r ∷ rs) = simp (length-append, length-placed, length-places rs)
 
 pub held-runs : (rs : List RunValue) → AreApart rs → held_in rs ≡ maps.len (map_of_runs rs)
 held-runs rs a = sym (maps.len-entries (map_of_runs rs) ∙ ap length (places_in_map rs a) ∙ length-places rs)

@@ -60,16 +60,11 @@ least_is : (r : PlaceRange) (rs : List PlaceRange) → RangesApart (r ∷ rs) �
 least_is r rs a i (inl h) = h.0
 least_is r rs a i (inr h) = let past = past_all r.to rs a.1.0 a.1.1 i h in let some = a.0 in omega (arith, past, some)
 
--- the place at which the first range ends is in none
-not_end : (r : PlaceRange) (rs : List PlaceRange) → RangesApart (r ∷ rs) → OneHas (r ∷ rs) r.to → ⊥
-not_end r rs a (inl h) = let below = h.1 in omega (arith, below)
-not_end r rs a (inr h) = let past = past_all r.to rs a.1.0 a.1.1 r.to h in omega (arith, past)
-
 -- the first range ends no later than that of a row that has all its places
 end_by : (r s : PlaceRange) (rs ss : List PlaceRange) → RangesApart (r ∷ rs) → RangesApart (s ∷ ss) → r.from ≡ s.from → ((i : ℕ) → OneHas (r ∷ rs) i → OneHas (s ∷ ss) i) → r.to ≤ s.to
 end_by r s rs ss a b same h = elim (cases_lt s.to r.to) [
-  | inl past ↦ let some = b.0 in absurd (not_end s ss b (h s.to (inl (omega (arith, same, some), past))))
-  | inr by ↦ omega (arith, by)
+  | inl past ↦ elim (h s.to (inl (omega (arith, b.0), past))) [ inl g ↦ absurd (omega (arith, g.1)) | inr g ↦ absurd (omega (arith, past_all s.to ss b.1.0 b.1.1 s.to g)) ]
+  | inr by ↦ by
 ]
 
 -- what the others of a row have, the others of a row with the same first range and places have
@@ -84,14 +79,9 @@ same_ranges [] [] a b h k = refl
 same_ranges [] (s ∷ ss) a b h k = absurd (k s.from (inl (omega arith, b.0)))
 same_ranges (r ∷ rs) [] a b h k = absurd (h r.from (inl (omega arith, a.0)))
 same_ranges (r ∷ rs) (s ∷ ss) a b h k =
-    let low = least_is r rs a s.from (k s.from (inl (omega arith, b.0))) in
-    let high = least_is s ss b r.from (h r.from (inl (omega arith, a.0))) in
-    let from : r.from ≡ s.from = omega (arith, low, high) in
-    let by = end_by r s rs ss a b from h in
-    let back = end_by s r ss rs b a (sym from) k in
-    let to : r.to ≡ s.to = omega (arith, by, back) in
-    let first : r ≡ s = ap₂ (λ (m n : ℕ). record { from = m; to = n }) from to in
-    ap₂ (λ (q : PlaceRange) (qs : List PlaceRange). q ∷ qs) first
+    let from : r.from ≡ s.from = omega (arith, least_is r rs a s.from (k s.from (inl (omega arith, b.0))), least_is s ss b r.from (h r.from (inl (omega arith, a.0)))) in
+    let to : r.to ≡ s.to = omega (arith, end_by r s rs ss a b from h, end_by s r ss rs b a (sym from) k) in
+    ap₂ (λ (q : PlaceRange) (qs : List PlaceRange). q ∷ qs) (λ i. record { from = from i; to = to i })
     (same_ranges rs ss a.1.1 b.1.1 (others r s rs ss a to h) (others s r ss rs b (sym to) k))
 
 pub one_row_of_ranges : (m : maps.FinMap nat_cmp ℕ) (rs ss : List PlaceRange) → AreRangesOf m rs → AreRangesOf m ss → rs ≡ ss

@@ -1,9 +1,9 @@
 -- Runs that are kept: one in place, or several rows, one after the other; no public contract cites this.
-use Rattle.std.specs.Prelude.{◌≡◌, ◌<◌, ◌≤◌, ◌++◌, ℕ, List, [], ◌∷◌, length, take, slice_index_or}
+use Rattle.std.specs.Prelude.{◌≡◌, ◌<◌, ◌≤◌, ◌++◌, ℕ, List, [], ◌∷◌, length}
 use Rattle.std.specs.declared.vec.Vec.{Vec}
 use Rattle.std.specs.List.{AllByRecursion}
 use Rattle.nb_entries.specs.Runs.{RunValue, run_end}
-use Rattle.nb_entries.specs.Code.RunSteps.{value_of, values_of, EndBefore}
+use Rattle.nb_entries.specs.Code.RunSteps.{value_of, values_of, EndBefore, EndFrom}
 use Rattle.nb_entries.specs.declared.cover.runs.Run.{Run}
 use Rattle.nb_entries.specs.declared.cover.runs.Kept.{Kept}
 use Rattle.nb_entries.specs.declared.cover.runs.Kept.TheVariants.{One, Many}
@@ -41,10 +41,14 @@ last_end [] = 0
 last_end (r ∷ []) = run_end (value_of r)
 last_end (r ∷ s ∷ rs) = last_end (s ∷ rs)
 
--- the run is the first one that ends at the place n or after it
-pub record IsFirstTo (rs : List Run) (n : ℕ) (r : Run) : Type 0 where
-  pub index : ℕ
-  pub inside : index < length rs
-  pub is : r ≡ slice_index_or rs index r
-  pub before : EndBefore n (take index (values_of rs))
-  pub reaches : n ≤ run_end (value_of r)
+-- the last run of the first of these rows, if there is one, ends at the place n or after it
+abbrev pub LastsTo : {Z : Type 0} → ℕ → List (Vec Run Z) → Type 0
+LastsTo n [] = Unit {0}
+LastsTo n (r ∷ rs) = n ≤ last_end r.items
+
+-- the runs `rest` are those of all from the first one on that ends at the place n or after it
+pub record IsFrom (all : List RunValue) (n : ℕ) (rest : List RunValue) : Type 0 where
+  pub front : List RunValue
+  pub cut : all ≡ front ++ rest
+  pub before : EndBefore n front
+  pub after : EndFrom n rest

@@ -1,6 +1,5 @@
 -- What the code's own functions do to rows of runs; no public contract cites this.
 use Rattle.std.specs.Prelude.{◌≡◌, ◌+◌, ◌-◌, ◌<◌, ◌≤◌, ◌++◌, ℕ, List, [], ◌∷◌, length, map, take, drop, min, cond, nat_le, slice_get, Option, Some, None}
-use Rattle.std.specs.Vec.{vec_capacity}
 use Rattle.std.specs.List.{AllByRecursion}
 use Rattle.nb_entries.specs.Maps.{first_of}
 use Rattle.nb_entries.specs.Runs.{RunValue, run_end, AreApart}
@@ -9,10 +8,6 @@ use Rattle.nb_entries.specs.declared.cover.runs.Run.{Run}
 -- a run of the code as its value
 abbrev pub value_of : Run → RunValue
 value_of r = record { start = r.start; bytes = r.bytes.items }
-
--- how many bytes a run has room for
-abbrev pub room_in : Run → ℕ
-room_in r = vec_capacity r.bytes
 
 -- the values of runs of the code
 abbrev pub values_of : List Run → List RunValue
@@ -78,37 +73,13 @@ pub record AgreeOne (r f : RunValue) : Type 0 where
   pub same : (q x y : ℕ) → byte_in r q ≡ Some x → byte_in f q ≡ Some y → x ≡ y
 
 -- these are the bytes at the places from `from` up to `to`
-pub record AreBetween (rs : List RunValue) (from to : ℕ) (xs : List ℕ) : Type 0 where
+pub record AreBetween (look : ℕ → Option ℕ) (from to : ℕ) (xs : List ℕ) : Type 0 where
   pub sized : length xs ≡ to - from
-  pub each : (k : ℕ) → k < to - from → look_in rs (from + k) ≡ slice_get xs k
+  pub each : (q k : ℕ) → q ≡ from + k → q < to → look q ≡ slice_get xs k
 
 -- one of the places from `from` up to `to` has no byte
-pub record Lacks (rs : List RunValue) (from to : ℕ) : Type 0 where
+pub record Lacks (look : ℕ → Option ℕ) (from to : ℕ) : Type 0 where
   pub place : ℕ
   pub least : from ≤ place
   pub most : place < to
-  pub none : look_in rs place ≡ None
-
--- the byte at a place of the runs with others, which come first
-abbrev pub look_with : List RunValue → RunValue → ℕ → Option ℕ
-look_with rs f i = first_of (byte_in f i) (look_in rs i)
-
--- these are the bytes at the places below n
-pub record AreFirst (look : ℕ → Option ℕ) (n : ℕ) (xs : List ℕ) : Type 0 where
-  pub sized : length xs ≡ n
-  pub each : (k : ℕ) → k < n → look k ≡ slice_get xs k
-
--- one of the places below n has no byte
-pub record LacksOne (look : ℕ → Option ℕ) (n : ℕ) : Type 0 where
-  pub place : ℕ
-  pub most : place < n
   pub none : look place ≡ None
-
--- no place has another byte in the one row than in the other
-pub record RowsAgree (rs ss : List RunValue) : Type 0 where
-  pub same : (q x y : ℕ) → look_in rs q ≡ Some x → look_in ss q ≡ Some y → x ≡ y
-
--- a row has the bytes of both others
-pub record IsUnion (rs ss all : List RunValue) : Type 0 where
-  pub apart : AreApart all
-  pub look : (q : ℕ) → look_in all q ≡ first_of (look_in rs q) (look_in ss q)

@@ -47,7 +47,7 @@ get-cover_of f q = map.get-from_entries nat_cmp_total (placed f.offset f.bytes) 
 
 -- ---- tests and relations of one fragment
 
-taken : {X : Type 0} (b : Bool) (o : Option X) (x : X) → cond b o None ≡ Some x → (b ≡ true) × (o ≡ Some x)
+pub taken : {X : Type 0} (b : Bool) (o : Option X) (x : X) → cond b o None ≡ Some x → (b ≡ true) × (o ≡ Some x)
 taken true o x e = (refl, e)
 taken false o x e = absurd (cc)
 

@@ -1,7 +1,10 @@
 //! The runs of several rows, one after the other.
 ghost use Rattle.std.specs.Prelude.{◌≡◌, []};
-ghost use Rattle.nb_entries.specs.Code.Rows.{kept_runs, AreFilled};
+ghost use Rattle.nb_entries.specs.Runs.{AreApart};
+ghost use Rattle.nb_entries.specs.Code.RunSteps.{values_of};
+ghost use Rattle.nb_entries.specs.Code.Rows.{kept_runs, kept_values, AreFilled, IsFrom};
 
+use super::searching::{first_from, row_to};
 use super::{Kept, Run};
 use std::marker::Model;
 use std::slice::from_ref;
@@ -49,6 +52,26 @@ impl<'a> EachRun<'a> {
             Kept::Many(rows) => EachRun { row: &[], rows },
         }
     }
+
+    /// The runs from the first one on that ends at a place or after it.
+    pub(crate) fn from(kept: &'a Kept, place: usize) -> EachRun<'a>
+        requires some { AreFilled kept.now }
+        requires apart { AreApart (kept_values kept.now) }
+        ensures { IsFrom (kept_values kept.now) place (values_of result) }
+    {
+        let rows = match kept {
+            Kept::One(run) if run.end() < place => return EachRun::none(),
+            Kept::One(_) => return EachRun::of(kept),
+            Kept::Many(rows) => rows.as_slice(),
+        };
+        match rows[row_to(rows, place)..].split_first() {
+            Some((row, rest)) => EachRun {
+                row: &row[first_from(row, place)..],
+                rows: rest,
+            },
+            None => EachRun::none(),
+        }
+    }
 }
 
 impl<'a> Iterator for EachRun<'a> {
@@ -64,20 +87,12 @@ impl<'a> Iterator for EachRun<'a> {
 
     fn next(&mut self) -> Option<&'a Run> {
         if self.row.is_empty() {
-            match self.rows.split_first() {
-                Some((row, rest)) => {
-                    self.row = row.as_slice();
-                    self.rows = rest;
-                }
-                None => return None,
-            }
+            let (row, rest) = self.rows.split_first()?;
+            self.row = row.as_slice();
+            self.rows = rest;
         }
-        match self.row.split_first() {
-            Some((run, rest)) => {
-                self.row = rest;
-                Some(run)
-            }
-            None => None,
-        }
+        let (run, rest) = self.row.split_first()?;
+        self.row = rest;
+        Some(run)
     }
 }

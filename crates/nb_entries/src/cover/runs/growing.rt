@@ -1,9 +1,9 @@
 //! A row of runs, which grow in place.
-ghost use Rattle.std.specs.Prelude.{◌≡◌, ◌+◌, ◌-◌, ◌<◌, ◌≤◌, ◌++◌, ◌∷◌, length, take, drop, min, max, slice_index_or, OnOk, OnErr};
+ghost use Rattle.std.specs.Prelude.{◌≡◌, ◌+◌, ◌<◌, ◌≤◌, ◌++◌, length, take, drop, OnOk, OnErr};
 ghost use Rattle.std.specs.Vec.{vec_capacity, vec_len};
-ghost use Rattle.nb_entries.specs.Runs.{run_end, AreApart};
+ghost use Rattle.nb_entries.specs.Runs.{AreApart};
 ghost use Rattle.nb_entries.specs.declared.cover.runs.growing.TheConstants.{FEW};
-ghost use Rattle.nb_entries.specs.Code.RunSteps.{value_of, values_of, room_in, run_at, grown, Meet, Agree, IsPut};
+ghost use Rattle.nb_entries.specs.Code.RunSteps.{value_of, values_of, run_at, grown, Meet, Agree, IsPut};
 
 use super::Run;
 use super::searching::{first_from, past_to};
@@ -47,54 +47,6 @@ fn grow_front(items: &mut Vec<u8>, front: &[u8])
     items.rotate_right(count);
 }
 
-/// Adds what bytes that overlap or touch a run have before and after it, for which there is room.
-fn grow(run: &mut Run, start: u32, bytes: &[u8])
-    requires meet { Meet (value_of run.old) (run_at start bytes.now) }
-    requires room { length (grown (value_of run.old) (run_at start bytes.now)).bytes
-        ≤ room_in run.old }
-    ensures value { value_of run.new ≡ grown (value_of run.old) (run_at start bytes.now) }
-    ensures room { room_in run.old ≤ room_in run.new }
-{
-    let place = start as usize;
-    let end = run.end();
-    if end < place + bytes.len() {
-        run.bytes.extend_from_slice(&bytes[end - place..]).unwrap();
-    }
-    if start < run.start {
-        let count = (run.start - start) as usize;
-        grow_front(&mut run.bytes, &bytes[..count]);
-        run.start = start;
-    }
-}
-
-/// Takes the runs from `from` up to `past` out, and gives the last of them.
-fn take_out(runs: &mut Vec<Run>, from: usize, past: usize) -> Run
-    requires some { from < past }
-    requires within { past ≤ length runs.old.items }
-    ensures left { runs.new.items ≡ take from runs.old.items ++ drop past runs.old.items }
-    ensures last { result ≡ slice_index_or runs.old.items (past - 1) result }
-{
-    let left = runs.len() - (past - from);
-    runs[from..].rotate_left(past - from);
-    let last = runs.pop().unwrap();
-    runs.truncate(left);
-    last
-}
-
-/// Takes the room that a run wants, once it reaches from `start` or before to `end` or past it.
-fn reserve(run: &mut Run, start: u32, end: usize) -> Result<(), NoMemory>
-    ensures same { value_of run.new ≡ value_of run.old }
-    ensures room { OnOk result
-        (max (run_end (value_of run.old)) end - min start (value_of run.old).start
-        ≤ room_in run.new) }
-{
-    let first = run.start.min(start) as usize;
-    let past = run.end().max(end);
-    let more = past - first - run.bytes.len();
-    run.bytes.reserve(more)?;
-    Ok(())
-}
-
 /// Joins bytes with a run that they overlap or touch.
 pub(super) fn join(run: &mut Run, start: u32, bytes: &[u8]) -> Result<(), NoMemory>
     requires { Meet (value_of run.old) (run_at start bytes.now) }
@@ -102,65 +54,31 @@ pub(super) fn join(run: &mut Run, start: u32, bytes: &[u8]) -> Result<(), NoMemo
         (value_of run.new ≡ grown (value_of run.old) (run_at start bytes.now)) }
     ensures err { OnErr result (value_of run.new ≡ value_of run.old) }
 {
-    reserve(run, start, start as usize + bytes.len())?;
-    grow(run, start, bytes);
+    let place = start as usize;
+    let past = place + bytes.len();
+    let end = run.end();
+    let before = run.start.saturating_sub(start) as usize;
+    run.bytes.reserve(before + past.saturating_sub(end))?;
+    if end < past {
+        run.bytes.extend_from_slice(&bytes[end - place..]).unwrap();
+    }
+    if before > 0 {
+        grow_front(&mut run.bytes, &bytes[..before]);
+        run.start = start;
+    }
     Ok(())
 }
 
-/// Joins bytes with the several runs that they overlap or touch.
-fn join_more(
-    runs: &mut Vec<Run>,
-    first: usize,
-    past: usize,
-    start: u32,
-    bytes: &[u8],
-) -> Result<(), NoMemory>
-    requires several { first + 1 < past }
-    requires within { past ≤ length runs.old.items }
-    requires first { (d : Run)
-        → Meet (value_of (slice_index_or runs.old.items first d)) (run_at start bytes.now) }
-    requires last { (d : Run)
-        → (value_of (slice_index_or runs.old.items (past - 1) d)).start
-        ≤ start + length bytes.now }
-    requires order { (d e : Run) → (value_of (slice_index_or runs.old.items first d)).start
-        ≤ (value_of (slice_index_or runs.old.items (past - 1) e)).start }
-    ensures ok { (d e : Run) → OnOk result (values_of runs.new.items
-        ≡ take first (values_of runs.old.items)
-        ++ grown (grown (value_of (slice_index_or runs.old.items first d)) (run_at start bytes.now))
-        (value_of (slice_index_or runs.old.items (past - 1) e))
-        ∷ drop past (values_of runs.old.items)) }
-    ensures err { OnErr result (values_of runs.new.items ≡ values_of runs.old.items) }
+/// Drops the runs from `from` up to `past`.
+fn drop_runs(runs: &mut Vec<Run>, from: usize, past: usize)
+    requires { from ≤ past × past ≤ length runs.old.items }
+    ensures { runs.new.items ≡ take from runs.old.items ++ drop past runs.old.items }
 {
-    let reach = start as usize + bytes.len();
-    let end = runs[past - 1].end().max(reach);
-    reserve(&mut runs[first], start, end)?;
-    let last = take_out(runs, first + 1, past);
-    let run = &mut runs[first];
-    grow(run, start, bytes);
-    grow(run, last.start(), last.bytes());
-    Ok(())
-}
-
-/// Puts bytes before the runs from `place` on, as a run of their own.
-fn insert_at(
-    alloc: Global,
-    runs: &mut Vec<Run>,
-    place: usize,
-    start: u32,
-    bytes: &[u8],
-) -> Result<(), NoMemory>
-    requires { place ≤ length runs.old.items }
-    ensures ok { OnOk result (values_of runs.new.items
-        ≡ take place (values_of runs.old.items)
-        ++ run_at start bytes.now ∷ drop place (values_of runs.old.items)) }
-    ensures err { OnErr result (values_of runs.new.items ≡ values_of runs.old.items) }
-{
-    let run = Run::copy(alloc, start, bytes)?;
-    runs.insert(place, run)?;
-    Ok(())
+    runs.drain(from..past);
 }
 
 /// Inserts bytes that don't contradict them into a row of runs.
+#[tactic(auto, using(crate::proofs::KeptRuns::RunCodeLemmas::set_steps))]
 pub(super) fn insert_bytes(
     alloc: Global,
     runs: &mut Vec<Run>,
@@ -168,19 +86,28 @@ pub(super) fn insert_bytes(
     bytes: &[u8],
 ) -> Result<(), NoMemory>
     requires put { 0 < length bytes.now }
+    requires some { 0 < length runs.old.items }
     requires apart { AreApart (values_of runs.old.items) }
     requires agree { Agree (values_of runs.old.items) (run_at start bytes.now) }
+    ensures some { 0 < length runs.new.items }
     ensures ok { OnOk result
         (IsPut (values_of runs.old.items) (run_at start bytes.now) (values_of runs.new.items)) }
     ensures err { OnErr result (values_of runs.new.items ≡ values_of runs.old.items) }
 {
-    let first = first_from(runs, start as usize);
-    let past = past_to(runs, first, start as usize + bytes.len());
-    if past <= first {
-        return insert_at(alloc, runs, first, start, bytes);
-    }
+    let place = start as usize;
+    let first = first_from(runs, place);
+    let past = past_to(runs, first, place + bytes.len());
     if past == first + 1 {
         return join(&mut runs[first], start, bytes);
     }
-    join_more(runs, first, past, start, bytes)
+    let mut whole = Run::copy(alloc, start, bytes)?;
+    if past <= first {
+        runs.insert(past, whole)?;
+        return Ok(());
+    }
+    let last = &runs[past - 1];
+    join(&mut whole, last.start(), last.bytes())?;
+    join(&mut runs[first], whole.start(), whole.bytes())?;
+    drop_runs(runs, first + 1, past);
+    Ok(())
 }

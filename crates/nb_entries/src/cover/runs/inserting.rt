@@ -1,5 +1,7 @@
 //! Runs put into rows, none of which has many.
-ghost use Rattle.std.specs.Prelude.{◌≡◌, ◌↔◌, ◌≤◌, ◌<◌, ◌+◌, ◌++◌, ◌∷◌, [], length, take, drop, slice_index_or, IsTrue, OnOk, OnErr, IfOk};
+#![tactic(auto, using(crate::proofs::KeptRuns::RowsPutLemmas::row_steps))]
+
+ghost use Rattle.std.specs.Prelude.{◌≡◌, ◌≤◌, ◌<◌, ◌+◌, ◌++◌, ◌∷◌, [], length, take, drop, slice_index_or, OnOk, OnErr, IfOk};
 ghost use Rattle.nb_entries.specs.Runs.{AreApart};
 ghost use Rattle.nb_entries.specs.Code.RunSteps.{value_of, run_at, EndBefore, Meet, Agree, IsPut};
 ghost use Rattle.nb_entries.specs.Code.Rows.{runs_in, values_in, NoneEmpty, kept_runs, kept_values, AreFilled};
@@ -80,23 +82,10 @@ pub(crate) fn add_run(
     pushed
 }
 
-/// The row for bytes from a place on: that of the first run which they may touch, or else the
-/// last one.
-fn row_for(rows: &[Vec<Run>], place: usize) -> usize
-    requires any { 0 < length rows.now }
-    requires some { NoneEmpty rows.now }
-    requires apart { AreApart (values_in rows.now) }
-    ensures within { result < length rows.now }
-    ensures before { EndBefore place (values_in (take result rows.now)) }
-{
-    row_to(rows, place).min(rows.len() - 1)
-}
-
 /// Makes two rows of one.
 fn halve(rows: &mut Vec<Vec<Run>>, at: usize) -> Result<(), NoMemory>
     requires within { at < length rows.old.items }
-    requires many { (d : _)
-        → 1 < length (slice_index_or rows.old.items at d).items }
+    requires many { (d : _) → 1 < length (slice_index_or rows.old.items at d).items }
     requires some { NoneEmpty rows.old.items }
     ensures some { NoneEmpty rows.new.items }
     ensures same { runs_in rows.new.items ≡ runs_in rows.old.items }
@@ -109,22 +98,24 @@ fn halve(rows: &mut Vec<Vec<Run>>, at: usize) -> Result<(), NoMemory>
     Ok(())
 }
 
-/// The row for bytes from a place on, which then has room for a run more.
+/// How many rows have no run that ends at a place or after it. The row behind them, if there is
+/// one, then has room for a run more.
 fn roomy_row(rows: &mut Vec<Vec<Run>>, place: usize) -> Result<usize, NoMemory>
     requires any { 0 < length rows.old.items }
     requires some { NoneEmpty rows.old.items }
     requires apart { AreApart (values_in rows.old.items) }
     ensures some { NoneEmpty rows.new.items }
     ensures same { runs_in rows.new.items ≡ runs_in rows.old.items }
-    ensures within { IfOk result (λ at. at < length rows.new.items) }
+    ensures any { 0 < length rows.new.items }
+    ensures within { IfOk result (λ at. at ≤ length rows.new.items) }
     ensures before { IfOk result (λ at. EndBefore place (values_in (take at rows.new.items))) }
 {
-    let at = row_for(rows, place);
-    if rows[at].len() < MANY {
+    let at = row_to(rows, place);
+    if at == rows.len() || rows[at].len() < MANY {
         return Ok(at);
     }
     halve(rows, at)?;
-    Ok(row_for(rows, place))
+    Ok(row_to(rows, place))
 }
 
 /// Joins a row with the one after it.
@@ -181,17 +172,12 @@ fn insert_in_rows(
 {
     let place = start as usize;
     let at = roomy_row(rows, place)?;
+    if at == rows.len() {
+        return push_run(alloc, rows, Run::copy(alloc, start, bytes)?);
+    }
     let past = rows_to(rows, at + 1, place + bytes.len());
     join_rows(rows, at, past)?;
     growing::insert_bytes(alloc, &mut rows[at], start, bytes)
-}
-
-/// Whether bytes overlap or touch a run.
-fn meets(run: &Run, start: u32, bytes: &[u8]) -> bool
-    ensures { IsTrue result ↔ Meet (value_of run.now) (run_at start bytes.now) }
-{
-    let place = start as usize;
-    run.start() as usize <= place + bytes.len() && place <= run.end()
 }
 
 /// Inserts bytes that don't contradict them into the runs.
@@ -213,7 +199,8 @@ pub(super) fn insert_bytes(
         return Ok(());
     }
     if let Kept::One(run) = kept {
-        if meets(run, start, bytes) {
+        let place = start as usize;
+        if run.start() as usize <= place + bytes.len() && place <= run.end() {
             return growing::join(run, start, bytes);
         }
     }

@@ -1,36 +1,19 @@
-//! What runs have that are apart.
-ghost use Rattle.std.specs.Prelude.{◌≡◌, ◌↔◌, ◌≤◌, IsTrue, IfOk, MatchOption};
-ghost use Rattle.nb_entries.specs.Runs.{AreApart};
-ghost use Rattle.nb_entries.specs.Code.Rows.{kept_values, AreFilled};
-ghost use Rattle.nb_entries.specs.Code.RunSteps.{value_of, values_of, run_at, Meet, Agree, AgreeOne, look_with, AreBetween, Lacks, AreFirst, LacksOne};
+//! What runs have that are apart: their bytes, how many there are, and where.
+ghost use Rattle.std.specs.Prelude.{◌≡◌, ◌↔◌, ◌≤◌, ◌<◌, ℕ, length, IsTrue, IfOk, MatchOption, Some, None, Ok};
+ghost use Rattle.std.specs.List.{list_all};
+ghost use Rattle.std.specs.FinMap as maps;
+ghost use Rattle.nb_datagram.specs.declared.limits.TheConstants.{MAX_LENGTH};
+ghost use Rattle.nb_entries.specs.Cover.{placed, same_where, BytesBelow};
+ghost use Rattle.nb_entries.specs.Ranges.{ranges_of_map};
+ghost use Rattle.nb_entries.specs.Runs.{runs_of_map};
+ghost use Rattle.nb_entries.specs.Whole.{bytes_below as map_below};
+ghost use Rattle.nb_entries.specs.Code.CoverFacts.{is_there, with_bytes, AreCovered};
+ghost use Rattle.nb_entries.specs.Code.RunSteps.{value_of, run_at, Meet, AgreeOne, AreBetween, Lacks};
 
-use super::searching::{first_from, first_to, past_to, row_to, rows_to};
-use super::{EachRun, Kept, Run};
-use nb_names::NoMemory;
+use super::{EachRun, Run, Runs};
+use crate::ranges::Ranges;
+use nb_names::{Bytes, NoMemory};
 use std::alloc::Global;
-use std::slice::from_ref;
-
-/// The bytes from one place up to another, in order, if each is there.
-pub(super) fn bytes_between<'a>(kept: &'a Kept, from: usize, to: usize) -> Option<&'a [u8]>
-    requires some { AreFilled kept.now }
-    requires apart { AreApart (kept_values kept.now) }
-    requires order { from ≤ to }
-    ensures { MatchOption result (Lacks (kept_values kept.now) from to)
-        (λ bytes. AreBetween (kept_values kept.now) from to bytes.now) }
-{
-    if from == to {
-        return Some(&[]);
-    }
-    let run = match first_to(kept, to) {
-        Some(run) => run,
-        None => return None,
-    };
-    let start = run.start() as usize;
-    if from < start {
-        return None;
-    }
-    Some(&run.bytes()[from - start..to - start])
-}
 
 /// Whether a run has no other byte at a place of these, which overlap or touch it.
 fn agrees(run: &Run, start: u32, bytes: &[u8]) -> bool
@@ -44,92 +27,160 @@ fn agrees(run: &Run, start: u32, bytes: &[u8]) -> bool
     run.bytes()[from - own..to - own] == bytes[from - place..to - place]
 }
 
-/// Whether no place of a row has another byte among these.
-fn row_agrees(runs: &[Run], start: u32, bytes: &[u8]) -> bool
-    requires { AreApart (values_of runs.now) }
-    ensures { IsTrue result ↔ Agree (values_of runs.now) (run_at start bytes.now) }
-{
-    let first = first_from(runs, start as usize);
-    let past = past_to(runs, first, start as usize + bytes.len());
-    if past <= first {
-        return true;
+impl Runs {
+    /// Whether no place has another byte among these, which stand from `start` on.
+    pub(crate) fn agree(&self, start: u32, bytes: &[u8]) -> bool
+        ensures { result
+            ≡ list_all (λ e. same_where (maps.get self.now e.0) e.1) (placed start bytes.now) }
+    {
+        let place = start as usize;
+        let end = place + bytes.len();
+        for run in EachRun::from(&self.kept, place) {
+            if run.start() as usize > end {
+                return true;
+            }
+            if !agrees(run, start, bytes) {
+                return false;
+            }
+        }
+        true
     }
-    let touched = &runs[first..past];
-    for run in touched {
-        if !agrees(run, start, bytes) {
-            return false;
+
+    /// The bytes from one place up to another, in order, if each is there.
+    fn between(&self, from: usize, to: usize) -> Option<&[u8]>
+        requires { from ≤ to }
+        ensures { MatchOption result (Lacks (maps.get self.now) from to)
+            (λ bytes. AreBetween (maps.get self.now) from to bytes.now) }
+    {
+        if from == to {
+            return Some(&[]);
+        }
+        let run = EachRun::from(&self.kept, to).next()?;
+        let start = run.start() as usize;
+        if from < start {
+            return None;
+        }
+        Some(&run.bytes()[from - start..to - start])
+    }
+
+    /// Whether each of these bytes, which stand from `start` on, is there.
+    pub(crate) fn hold(&self, start: u32, bytes: &[u8]) -> bool
+        ensures { result
+            ≡ list_all (λ e. is_there (maps.get self.now e.0) e.1) (placed start bytes.now) }
+    {
+        let place = start as usize;
+        match self.between(place, place + bytes.len()) {
+            Some(held) => held == bytes,
+            None => false,
         }
     }
-    true
-}
 
-/// Whether no place has another byte among these.
-pub(super) fn bytes_agree(kept: &Kept, start: u32, bytes: &[u8]) -> bool
-    requires some { AreFilled kept.now }
-    requires apart { AreApart (kept_values kept.now) }
-    ensures { IsTrue result ↔ Agree (kept_values kept.now) (run_at start bytes.now) }
-{
-    let rows = match kept {
-        Kept::One(run) => return row_agrees(from_ref(run), start, bytes),
-        Kept::Many(rows) => rows.as_slice(),
-    };
-    let place = start as usize;
-    let first = row_to(rows, place);
-    let past = rows_to(rows, first, place + bytes.len());
-    let touched = &rows[first..past];
-    for row in touched {
-        if !row_agrees(row, start, bytes) {
-            return false;
+    /// Whether each place lies below the end.
+    pub(crate) fn lie_below(&self, end: u32) -> bool
+        ensures { IsTrue result ↔ ((i x : ℕ) → maps.get self.now i ≡ Some x → i < end) }
+    {
+        match EachRun::from(&self.kept, end as usize + 1).next() {
+            Some(_) => false,
+            None => true,
         }
     }
-    true
-}
 
-/// The bytes below a place, in order, of the runs with others, if each is there. No memory is taken
-/// where one isn't.
-pub(super) fn bytes_with(
-    alloc: Global,
-    kept: &Kept,
-    end: usize,
-    start: u32,
-    bytes: &[u8],
-) -> Result<Option<Vec<u8>>, NoMemory>
-    requires some { AreFilled kept.now }
-    requires apart { AreApart (kept_values kept.now) }
-    ensures { IfOk result (λ made. MatchOption made
-        (LacksOne (look_with (kept_values kept.now) (run_at start bytes.now)) end)
-        (λ bytes_made. AreFirst (look_with (kept_values kept.now) (run_at start bytes.now)) end
-        bytes_made.items)) }
-{
-    let first = (start as usize).min(end);
-    let count = bytes.len().min(end - first);
-    let front = match bytes_between(kept, 0, first) {
-        Some(front) => front,
-        None => return Ok(None),
-    };
-    let back = match bytes_between(kept, first + count, end) {
-        Some(back) => back,
-        None => return Ok(None),
-    };
-    let mut made = Vec::with_capacity(alloc, end)?;
-    made.extend_from_slice(front)?;
-    made.extend_from_slice(&bytes[..count])?;
-    made.extend_from_slice(back)?;
-    Ok(Some(made))
-}
-
-/// Whether the runs of two are the same.
-pub(super) fn are_equal(kept: &Kept, others: &Kept) -> bool
-    requires some { AreFilled kept.now }
-    requires other_some { AreFilled others.now }
-    ensures { IsTrue result ↔ (kept_values kept.now ≡ kept_values others.now) }
-{
-    let mut own = EachRun::of(kept);
-    for other in EachRun::of(others) {
-        match own.next() {
-            Some(run) if run == other => {}
-            _ => return false,
+    /// Whether each place below the end is covered.
+    pub(crate) fn cover_below(&self, end: u32) -> bool
+        ensures { IsTrue result ↔ AreCovered (maps.get self.now) end }
+    {
+        match self.between(0, end as usize) {
+            Some(_) => true,
+            None => false,
         }
     }
-    own.next().is_none()
+
+    /// The bytes at the places below the end, in order, if each is covered. No memory is taken
+    /// where one isn't.
+    pub(crate) fn bytes_below(&self, alloc: Global, end: u32) -> Result<Option<Bytes>, NoMemory>
+        ensures value { IfOk result (λ bytes. bytes ≡ map_below self.now end) }
+        ensures no_memory_needed { map_below self.now end ≡ None → result ≡ Ok None }
+    {
+        match self.between(0, end as usize) {
+            Some(bytes) => Ok(Some(Bytes::copy(alloc, bytes)?)),
+            None => Ok(None),
+        }
+    }
+
+    /// The bytes below the end, in order, together with these, which stand from `start` on, if each
+    /// place is covered. No memory is taken where one isn't.
+    pub(crate) fn bytes_with(
+        &self,
+        alloc: Global,
+        end: u32,
+        start: u32,
+        bytes: &[u8],
+    ) -> Result<Option<Bytes>, NoMemory>
+        ensures { IfOk result (λ made.
+            made ≡ map_below (with_bytes self.now start bytes.now) end) }
+    {
+        let size = end as usize;
+        let first = (start as usize).min(size);
+        let count = bytes.len().min(size - first);
+        let front = match self.between(0, first) {
+            Some(front) => front,
+            None => return Ok(None),
+        };
+        let back = match self.between(first + count, size) {
+            Some(back) => back,
+            None => return Ok(None),
+        };
+        let mut made = Vec::with_capacity(alloc, size)?;
+        made.extend_from_slice(front)?;
+        made.extend_from_slice(&bytes[..count])?;
+        made.extend_from_slice(back)?;
+        Ok(Some(Bytes::from_vec(made)))
+    }
+
+    /// Whether both have the same bytes.
+    pub(crate) fn are(&self, other: &Runs) -> bool
+        ensures { IsTrue result ↔ (self.now ≡ other.now) }
+    {
+        let mut own = EachRun::of(&self.kept);
+        for run in EachRun::of(&other.kept) {
+            match own.next() {
+                Some(one) if one == run => {}
+                _ => return false,
+            }
+        }
+        own.next().is_none()
+    }
+
+    /// How many runs there are.
+    pub(crate) fn count(&self) -> usize
+        ensures { result ≡ length (runs_of_map self.now) }
+    {
+        let mut count = 0;
+        for run in EachRun::of(&self.kept) {
+            // a run starts past the one before, at a place of 32 bits, so that the count fits
+            let _ = run.start();
+            count += 1;
+        }
+        count
+    }
+
+    /// How many bytes there are.
+    pub(crate) fn held(&self) -> usize
+        requires { maps.len self.now ≤ MAX_LENGTH }
+        ensures { result ≡ maps.len self.now }
+    {
+        let mut held = 0;
+        for run in EachRun::of(&self.kept) {
+            held += run.bytes().len();
+        }
+        held
+    }
+
+    /// The ranges of their places.
+    pub(crate) fn ranges(&self) -> Ranges<'_>
+        requires { BytesBelow MAX_LENGTH self.now }
+        ensures { result ≡ ranges_of_map self.now }
+    {
+        Ranges::of(EachRun::of(&self.kept))
+    }
 }

@@ -1,10 +1,10 @@
 //! Where runs lie that are apart, in a row and in several.
-ghost use Rattle.std.specs.Prelude.{◌≡◌, ◌≤◌, ◌<◌, length, take, drop, slice_index_or, ltb, MatchOption, IsTrue};
+ghost use Rattle.std.specs.Prelude.{◌≡◌, ◌≤◌, ◌<◌, length, take, drop, ltb, IsTrue};
 ghost use Rattle.nb_entries.specs.Runs.{AreApart, StartsPast};
 ghost use Rattle.nb_entries.specs.Code.RunSteps.{values_of, EndBefore, EndFrom, StartTo, StartAfter};
-ghost use Rattle.nb_entries.specs.Code.Rows.{values_in, NoneEmpty, last_end, kept_runs, kept_values, AreFilled, IsFirstTo};
+ghost use Rattle.nb_entries.specs.Code.Rows.{values_in, NoneEmpty, last_end, LastsTo};
 
-use super::{Kept, Run};
+use super::Run;
 
 /// How many runs end before a place.
 pub(super) fn first_from(runs: &[Run], place: usize) -> usize
@@ -50,30 +50,9 @@ pub(super) fn row_to(rows: &[Vec<Run>], place: usize) -> usize
     requires apart { AreApart (values_in rows.now) }
     ensures within { result ≤ length rows.now }
     ensures before { EndBefore place (values_in (take result rows.now)) }
-    ensures reaches { (d : _) → result < length rows.now
-        → place ≤ last_end (slice_index_or rows.now result d).items }
+    ensures reaches { LastsTo place (drop result rows.now) }
 {
     rows.partition_point(|row| ends_before(row, place))
-}
-
-/// The first run that ends at a place or after it.
-pub(super) fn first_to<'a>(kept: &'a Kept, place: usize) -> Option<&'a Run>
-    requires some { AreFilled kept.now }
-    requires apart { AreApart (kept_values kept.now) }
-    ensures { MatchOption result (EndBefore place (kept_values kept.now))
-        (λ run. IsFirstTo (kept_runs kept.now) place run.now) }
-{
-    let rows = match kept {
-        Kept::One(run) if run.end() < place => return None,
-        Kept::One(run) => return Some(run),
-        Kept::Many(rows) => rows.as_slice(),
-    };
-    let at = row_to(rows, place);
-    if at == rows.len() {
-        return None;
-    }
-    let row = &rows[at];
-    Some(&row[first_from(row, place)])
 }
 
 /// Whether the first run of a row starts after a place.

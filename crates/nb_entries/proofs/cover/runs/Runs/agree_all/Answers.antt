@@ -1,8 +1,11 @@
-use Rattle.nb_entries.specs.Code.Rows.{kept_values}
-use Rattle.nb_entries.proofs.KeptRuns.RunMapLemmas.{rows_test}
+use Rattle.std.proofs.Common.{ap, ◌∙◌}
+use Rattle.nb_entries.specs.Cover.{bytes_agree}
+use Rattle.nb_entries.specs.Runs.{places_of}
+use Rattle.nb_entries.specs.Code.RunSteps.{values_of}
+use Rattle.nb_entries.proofs.KeptRuns.RunMapLemmas.{agree_at, agree_each}
 use Rattle.nb_entries.proofs.cover.runs.Runs.agree_all.Goals as goal
 
-pub returns : goal.returns
-returns c =
-    rw (← c.self.view_is, ← c.other.view_is)
-    (rows_test (kept_values c.self.inside.kept) (kept_values c.other.inside.kept) c.rows_agree.result c.rows_agree.ensures)
+pub loop-run-init : goal.loop-run-init
+loop-run-init c =
+    ap (λ rs. agree_at c.args.self.now (places_of (values_of rs))) (c.into_iter-run-iterator.ensures.into_iter_gives ∙ c.of-run-items.ensures)
+    ∙ agree_each c.args.self.now _ c.other.invariant.1 ∙ ap (bytes_agree c.args.self.now) c.other.view_is

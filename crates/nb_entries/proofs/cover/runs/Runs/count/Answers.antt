@@ -1,8 +1,16 @@
-use Rattle.std.proofs.Common.{◌∙◌, length, ap, sym}
-use Rattle.nb_entries.specs.Code.Rows.{kept_values}
+use Rattle.std.proofs.Common.{List, [], ◌∷◌, length, arith, sym, ap, ◌∙◌, subst}
+use Rattle.nb_entries.specs.Runs.{RunValue, AreApart, runs_of_map}
+use Rattle.nb_entries.specs.Code.RunSteps.{values_of}
 use Rattle.nb_entries.specs.Shared.RunsLemmas.{runs_back}
+use Rattle.nb_entries.proofs.cover.runs.Runs.count.Invariants.{FewTo}
 use Rattle.nb_entries.proofs.cover.runs.Runs.count.Goals as goal
 
-pub returns : goal.returns
-returns c =
-    rw (← c.self.view_is) (c.runs_in.ensures ∙ ap length (sym (runs_back (kept_values c.self.inside.kept) c.self.invariant.1)))
+few_none : (rs : List RunValue) → FewTo 0 rs
+few_none [] = tt
+few_none (r ∷ rs) = omega arith
+
+pub loop-run-init : goal.loop-run-init
+loop-run-init c =
+    let order = ap values_of (c.into_iter-run-iterator.ensures.into_iter_gives ∙ c.of-run-items.ensures) in
+    let same = ap length (order ∙ sym (runs_back _ c.self.invariant.1) ∙ ap runs_of_map c.self.view_is) in
+    record { apart = subst AreApart (sym order) c.self.invariant.1; few = few_none _; left = omega (arith, same) }

@@ -1,12 +1,9 @@
-use Rattle.std.proofs.Common.{refl}
-use Rattle.nb_entries.specs.Code.Rows.{kept_values}
-use Rattle.nb_entries.proofs.KeptRuns.RunMapLemmas.{first_of_between, lacks_first, covered_is, covered_lacks}
+use Rattle.std.proofs.Common.{get_or, arith, refl, ◌∙◌}
+use Rattle.std.proofs.lemmas.Option.{slice_get-get_or}
 use Rattle.nb_entries.proofs.cover.runs.Runs.cover_below.Goals as goal
 
 pub returns-in-Some : goal.returns-in-Some
-returns-in-Some c =
-    rw (← c.self.view_is) (λ _. covered_is _ c.args.end _ (first_of_between (kept_values c.self.inside.kept) c.args.end _ c.in-Some.ensures), λ _. refl)
+returns-in-Some c = let all = c.in-Some.ensures in (λ _ q l. (get_or _ q 0, all.each q q (omega arith) l ∙ slice_get-get_or _ q 0 (omega arith)), λ _. refl)
 
 pub returns-in-None : goal.returns-in-None
-returns-in-None c =
-    rw (← c.self.view_is) (λ h. absurd (cc), λ h. absurd (covered_lacks _ c.args.end (lacks_first (kept_values c.self.inside.kept) c.args.end c.in-None.ensures) h))
+returns-in-None c = let lacks = c.in-None.ensures in (λ h. absurd (cc), λ h. (let there = h lacks.place lacks.most in absurd (cc (there.1, lacks.none))))

@@ -1,15 +1,22 @@
-use Rattle.std.proofs.Common.{ap₂, ◌∙◌}
-use Rattle.nb_entries.specs.Cover.{bytes_agree}
-use Rattle.nb_entries.specs.Code.Rows.{kept_values}
-use Rattle.nb_entries.proofs.KeptRuns.RunMapLemmas.{rows_from, map_union}
+use Rattle.std.proofs.Common.{ap, subst}
+use Rattle.nb_entries.specs.Code.RunSteps.{value_of, values_of}
+use Rattle.nb_entries.proofs.KeptRuns.RunMapLemmas.{IsGoing, going_first, going_agrees, going_next, going_all}
 use Rattle.nb_entries.proofs.cover.runs.Runs.together.Goals as goal
 
-pub united-requires-clause-agree : goal.united-requires-clause-agree
-united-requires-clause-agree c =
-    rows_from (kept_values c.self.inside.kept) (kept_values c.other.inside.kept)
-    (ap₂ bytes_agree c.self.view_is c.other.view_is ∙ c.requires)
+pub loop-run-init : goal.loop-run-init
+loop-run-init c =
+    rw (← c.other.view_is, c.in_ok-made.ensures, c.into_iter-run-iterator.ensures.into_iter_gives, c.of-run-items.ensures)
+    (going_first _ _ c.other.invariant.1 (rw c.other.view_is c.requires))
+
+pub insert-requires : goal.insert-requires
+insert-requires c =
+    rw (c.start.ensures, c.bytes.ensures)
+    (going_agrees _ _ (value_of c.in-Some.run'.now) _ (subst (IsGoing _ _) (ap values_of c.in-Some.ensures.steps) c.loop-run.invariant))
+
+pub loop-run-preserved : goal.loop-run-preserved
+loop-run-preserved c =
+    going_next _ _ _ (value_of c.in-Some.run'.now) _ (subst (IsGoing _ _) (ap values_of c.in-Some.ensures.steps) c.loop-run.invariant)
+    (rw (c.start.ensures, c.bytes.ensures) at c.in_ok-insert.ensures.ok)
 
 pub returns : goal.returns
-returns c =
-    rw (← c.self.view_is, ← c.other.view_is)
-    (map_union (kept_values c.self.inside.kept) (kept_values c.other.inside.kept) (kept_values c.in_ok-kept.kept) c.in_ok-kept.ensures.union)
+returns c = going_all _ _ (subst (IsGoing _ _) (ap values_of c.in-None.ensures.steps.0) c.loop-run.invariant)

@@ -1,5 +1,5 @@
-use Rattle.std.proofs.Common.{◌≡◌, ◌+◌, drop, ap, ◌∙◌, arith}
-use Rattle.nb_entries.proofs.KeptRuns.RowsPutLemmas.{drop_next}
+use Rattle.std.proofs.Common.{◌≡◌, ◌+◌, drop, ap, sym, ◌∙◌, arith}
+use Rattle.std.proofs.lemmas.List.{drop-drop}
 use Rattle.nb_entries.proofs.cover.runs.inserting.join_rows.Goals as goal
 
 pub loop-preserved : goal.loop-preserved
@@ -11,6 +11,6 @@ loop-preserved c =
       some = c.in_ok-join_next.ensures.some;
       same = c.in_ok-join_next.ensures.same ∙ c.loop.invariant.same;
       front = c.in_ok-join_next.ensures.front ∙ c.loop.invariant.front;
-      back = c.in_ok-join_next.ensures.back ∙ ap (λ n. drop n c.loop.rows.items) next ∙ drop_next c.loop.rows.items c.args.rows.now.items (c.args.at + 1) c.loop.counter c.loop.invariant.back;
+      back = c.in_ok-join_next.ensures.back ∙ ap (λ n. drop n c.loop.rows.items) next ∙ sym (drop-drop 1 (c.args.at + 1) c.loop.rows.items) ∙ ap (drop 1) c.loop.invariant.back ∙ drop-drop 1 c.loop.counter c.args.rows.now.items;
       size = omega (arith, size, before);
     }

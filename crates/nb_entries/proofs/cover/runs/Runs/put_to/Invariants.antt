@@ -1,12 +1,12 @@
 use Rattle.std.proofs.Common.{map}
 use Rattle.std.specs.List.{concat}
+use Rattle.nb_entries.specs.Runs.{runs_of_map}
 use Rattle.nb_entries.specs.Code.RunSteps.{values_of}
-use Rattle.nb_entries.specs.Code.Rows.{kept_values}
 use Rattle.nb_entries.specs.Sinks.{ToPut}
 use Rattle.nb_entries.specs.Saved.{run_bytes, runs_bytes}
-use Rattle.nb_entries.proofs.cover.runs.saving.put_runs.Given as goal
+use Rattle.nb_entries.proofs.cover.runs.Runs.put_to.Given as goal
 
 abbrev pub invariant-loop-run : goal.invariant-loop-run
 invariant-loop-run g l =
-    ToPut g.S.ByteSink.takes g.S.ByteSink.breaks l.fn.sink (runs_bytes (kept_values l.kept))
+    ToPut g.S.ByteSink.takes g.S.ByteSink.breaks l.fn.sink (runs_bytes (runs_of_map l.self))
     l.sink (concat (map run_bytes (values_of l.run-iterator)))

@@ -1,0 +1,12 @@
+use Rattle.std.proofs.Common.{◌≡◌, ◌++◌}
+use Rattle.nb_entries.specs.Runs.{AreApart, map_of_runs}
+use Rattle.nb_entries.specs.Code.RunSteps.{values_of}
+use Rattle.nb_entries.specs.Code.Rows.{kept_values, AreFilled}
+use Rattle.nb_entries.proofs.cover.runs.Runs.copied.Given as goal
+
+abbrev pub invariant-loop-run : goal.invariant-loop-run
+invariant-loop-run l = record {
+  some : AreFilled l.kept;
+  apart : AreApart (kept_values l.kept ++ values_of l.run-iterator);
+  left : map_of_runs (kept_values l.kept ++ values_of l.run-iterator) ≡ l.self;
+}

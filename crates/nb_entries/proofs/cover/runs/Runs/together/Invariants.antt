@@ -1,0 +1,7 @@
+use Rattle.nb_entries.specs.Maps.{union}
+use Rattle.nb_entries.specs.Code.RunSteps.{values_of}
+use Rattle.nb_entries.proofs.KeptRuns.RunMapLemmas.{IsGoing}
+use Rattle.nb_entries.proofs.cover.runs.Runs.together.Given as goal
+
+abbrev pub invariant-loop-run : goal.invariant-loop-run
+invariant-loop-run l = IsGoing (union l.self l.other) l.made (values_of l.run-iterator)

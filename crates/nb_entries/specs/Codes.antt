@@ -7,7 +7,7 @@ use Rattle.nb_names.specs.Name.{NetbiosName, name_code}
 use Rattle.nb_datagram.specs.declared.kind.Kind.{Kind}
 use Rattle.nb_datagram.specs.Kind.{kind_code}
 use Rattle.nb_entries.specs.Slot.{Slot, Spoilt, Held}
-use Rattle.nb_entries.specs.Cover.{CoverFacts, CoverValue}
+use Rattle.nb_entries.specs.Cover.{CoverFacts}
 use Rattle.nb_entries.specs.Entry.{EntryFacts, EntryValue}
 
 -- the facts, if they are held
@@ -35,10 +35,6 @@ cover_facts_code =
     code_by (maps.FinMap nat_cmp ℕ × (Option ℕ × Option ℕ))
     (coded× (maps.code coded_ℕ coded_ℕ) (coded× (coded_option coded_ℕ) (coded_option coded_ℕ)))
     (λ c. (c.bytes, (c.end, c.promise))) (λ p. record { bytes = p.0; end = p.1.0; promise = p.1.1 }) (λ _. refl)
-
--- a cover as its facts, if it isn't clashed
-abbrev pub cover_code : Coded CoverValue
-cover_code = slot_code cover_facts_code
 
 -- an entry's facts as the tuple of them
 abbrev pub entry_facts_code : Coded EntryFacts

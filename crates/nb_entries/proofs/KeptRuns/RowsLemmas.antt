@@ -1,7 +1,6 @@
 -- Runs in several rows: where they lie.
 use Rattle.std.proofs.Common.{◌≡◌, ◌<◌, ◌≤◌, ◌+◌, ◌-◌, ◌++◌, ℕ, zero, suc, List, [], ◌∷◌, length, take, drop, slice_get, slice_index_or, Some, refl, sym, ap, ◌∙◌, subst, arith, append_assoc}
 use Rattle.std.proofs.lemmas.List.{map-append, length-map, drop-map, take-append-drop, take_rest, drop_all}
-use Rattle.std.proofs.lemmas.List.Elements.{All-from_recursion}
 use Rattle.std.proofs.lemmas.Option.{same_Some}
 use Rattle.std.specs.List.{AllByRecursion}
 use Rattle.std.specs.List.Sorted.{IsNonDecreasingBy}
@@ -45,17 +44,11 @@ rows_joined (r ∷ rs) ss = rw (rows_joined rs ss, append_assoc) refl
 pub rows_split : {Z : Type 0} → (rs : List (Vec Run Z)) (i : ℕ) (d : Vec Run Z) → i < length rs → runs_in rs ≡ runs_in (take i rs) ++ ((slice_index_or rs i d).items ++ runs_in (drop (suc i) rs))
 rows_split rs i d l = ap runs_in (split_at rs i d l) ∙ rows_joined (take i rs) (slice_index_or rs i d ∷ drop (suc i) rs)
 
-pub values_split : {Z : Type 0} → (rs : List (Vec Run Z)) (i : ℕ) (d : Vec Run Z) → i < length rs → values_in rs ≡ values_in (take i rs) ++ (values_of (slice_index_or rs i d).items ++ values_in (drop (suc i) rs))
-values_split rs i d l = ap values_of (rows_split rs i d l) ∙ simp map-append
-
 pub row_apart : {Z : Type 0} → (r : Vec Run Z) (rs : List (Vec Run Z)) → AreApart (values_in (r ∷ rs)) → AreApart (values_of r.items)
 row_apart r rs a = apart_front (values_of r.items) (values_in rs) (subst AreApart (values_cons r rs) a)
 
 pub rest_apart : {Z : Type 0} → (r : Vec Run Z) (rs : List (Vec Run Z)) → AreApart (values_in (r ∷ rs)) → AreApart (values_in rs)
 rest_apart r rs a = apart_back (values_of r.items) (values_in rs) (subst AreApart (values_cons r rs) a)
-
-pub apart_at : {Z : Type 0} → (rs : List (Vec Run Z)) (i : ℕ) (d : Vec Run Z) → AreApart (values_in rs) → i < length rs → AreApart (values_of (slice_index_or rs i d).items)
-apart_at rs i d a l = apart_front _ _ (apart_back (values_in (take i rs)) (values_of (slice_index_or rs i d).items ++ values_in (drop (suc i) rs)) (subst AreApart (values_split rs i d l) a))
 
 -- ---- where the last run of a row ends
 
@@ -86,9 +79,6 @@ last_reaches : (xs : List Run) (n : ℕ) → 0 < length xs → EndFrom n (values
 last_reaches [] n l h = absurd (omega arith)
 last_reaches (x ∷ []) n l h = h.0
 last_reaches (x ∷ y ∷ xs) n l h = last_reaches (y ∷ xs) n (omega arith) h.1
-
-pub some_at : {Z : Type 0} → (rs : List (Vec Run Z)) (i : ℕ) (d : Vec Run Z) → NoneEmpty rs → i < length rs → 0 < length (slice_index_or rs i d).items
-some_at {Z} rs i d h l = All-from_recursion (λ (r : Vec Run Z). 0 < length r.items) rs h i d l
 
 ends_next : {Z : Type 0} → (rs : List (Vec Run Z)) → NoneEmpty rs → AreApart (values_in rs) → (k : ℕ) (d : Vec Run Z) → suc k < length rs → last_end (slice_index_or rs k d).items ≤ last_end (slice_index_or rs (suc k) d).items
 ends_next [] s a k d l = absurd (omega arith)

@@ -102,7 +102,7 @@ either_first None (Some y) same = refl
 either_first (Some x) None same = refl
 either_first (Some x) (Some y) same = ap Some (sym (same x y refl refl))
 
-or_is : (o p : Option ℕ) → option_or o p ≡ first_of o p
+pub or_is : (o p : Option ℕ) → option_or o p ≡ first_of o p
 or_is None p = refl
 or_is (Some x) p = refl
 

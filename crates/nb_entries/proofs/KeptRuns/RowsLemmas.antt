@@ -37,12 +37,12 @@ all_left P xs n h = all_back P (take n xs) (drop n xs) (rw take-append-drop h)
 pub values_cons : {Z : Type 0} → (r : Vec Run Z) (rs : List (Vec Run Z)) → values_in (r ∷ rs) ≡ values_of r.items ++ values_in rs
 values_cons r rs = map-append value_of r.items (runs_in rs)
 
-rows_joined : {Z : Type 0} → (rs ss : List (Vec Run Z)) → runs_in (rs ++ ss) ≡ runs_in rs ++ runs_in ss
-rows_joined [] ss = refl
-rows_joined (r ∷ rs) ss = rw (rows_joined rs ss, append_assoc) refl
+pub rows_append : {Z : Type 0} → (rs ss : List (Vec Run Z)) → runs_in (rs ++ ss) ≡ runs_in rs ++ runs_in ss
+rows_append [] ss = refl
+rows_append (r ∷ rs) ss = rw (rows_append rs ss, append_assoc) refl
 
 pub rows_split : {Z : Type 0} → (rs : List (Vec Run Z)) (i : ℕ) (d : Vec Run Z) → i < length rs → runs_in rs ≡ runs_in (take i rs) ++ ((slice_index_or rs i d).items ++ runs_in (drop (suc i) rs))
-rows_split rs i d l = ap runs_in (split_at rs i d l) ∙ rows_joined (take i rs) (slice_index_or rs i d ∷ drop (suc i) rs)
+rows_split rs i d l = ap runs_in (split_at rs i d l) ∙ rows_append (take i rs) (slice_index_or rs i d ∷ drop (suc i) rs)
 
 pub row_apart : {Z : Type 0} → (r : Vec Run Z) (rs : List (Vec Run Z)) → AreApart (values_in (r ∷ rs)) → AreApart (values_of r.items)
 row_apart r rs a = apart_front (values_of r.items) (values_in rs) (subst AreApart (values_cons r rs) a)
@@ -113,7 +113,7 @@ lasts_to (r ∷ rs) n (suc i) h = lasts_to rs n i (λ d l. h d (omega (arith, l)
 -- rows about one of them
 row_parts : {Z : Type 0} → (rs : List (Vec Run Z)) (at : ℕ) (row : Vec Run Z) (rest : List (Vec Run Z)) → take (length rs - at) (drop at rs) ≡ row ∷ rest → values_in rs ≡ values_in (take at rs) ++ (values_of row.items ++ values_in rest)
 row_parts rs at row rest e =
-    ap values_in (sym (take-append-drop at rs) ∙ ap (λ us. take at rs ++ us) (sym (take_rest rs at) ∙ e)) ∙ ap values_of (rows_joined (take at rs) (row ∷ rest)) ∙ simp map-append
+    ap values_in (sym (take-append-drop at rs) ∙ ap (λ us. take at rs ++ us) (sym (take_rest rs at) ∙ e)) ∙ ap values_of (rows_append (take at rs) (row ∷ rest)) ∙ simp map-append
 
 pub row_apart_at : {Z : Type 0} → (rs : List (Vec Run Z)) (at : ℕ) (row : Vec Run Z) (rest : List (Vec Run Z)) → take (length rs - at) (drop at rs) ≡ row ∷ rest → AreApart (values_in rs) → AreApart (values_of row.items ++ values_in rest)
 row_apart_at rs at row rest e a = apart_back (values_in (take at rs)) (values_of row.items ++ values_in rest) (subst AreApart (row_parts rs at row rest e) a)

@@ -1,5 +1,5 @@
 -- Rows of runs that are cut, joined and put into.
-use Rattle.std.proofs.Common.{◌≡◌, ◌<◌, ◌+◌, ◌++◌, ℕ, suc, List, [], ◌∷◌, length, take, drop, slice_set, slice_index_or, refl, sym, ap, ◌∙◌, arith, add-one, append_assoc}
+use Rattle.std.proofs.Common.{◌≡◌, ◌<◌, ◌+◌, ◌++◌, ℕ, suc, List, [], ◌∷◌, length, take, drop, slice_set, slice_index_or, sym, ◌∙◌, arith, add-one, append_assoc}
 use Rattle.std.proofs.lemmas.List.{append-nil, drop_all, set_split, take_more_set, drop-set-lt, set_at, length-take-le}
 use Rattle.std.proofs.lemmas.Grind.{common_steps}
 use Rattle.std.proofs.Math.Seq.{drop-cons, take-suc-set}
@@ -7,13 +7,9 @@ use Rattle.std.specs.List.{insert, remove}
 use Rattle.std.specs.declared.vec.Vec.{Vec}
 use Rattle.nb_entries.specs.Code.Rows.{runs_in}
 use Rattle.nb_entries.specs.declared.cover.runs.Run.{Run}
-use Rattle.nb_entries.proofs.KeptRuns.RowsLemmas.{rows_split}
+use Rattle.nb_entries.proofs.KeptRuns.RowsLemmas.{rows_append, rows_split}
 
 -- ---- rows that are set, pushed, cut and joined
-
-pub rows_append : {Z : Type 0} → (rs ss : List (Vec Run Z)) → runs_in (rs ++ ss) ≡ runs_in rs ++ runs_in ss
-rows_append [] ss = refl
-rows_append (r ∷ rs) ss = ap (λ ys. r.items ++ ys) (rows_append rs ss) ∙ sym (append_assoc r.items (runs_in rs) (runs_in ss))
 
 pub set_rows : {Z : Type 0} → (rs : List (Vec Run Z)) (i : ℕ) (r : Vec Run Z) → i < length rs → runs_in (slice_set rs i r) ≡ runs_in (take i rs) ++ (r.items ++ runs_in (drop (i + 1) rs))
 set_rows rs i r l = rw (set_split rs i r l, rows_append, add-one)

@@ -1,11 +1,11 @@
 -- What is known of a datagram's data, kept as runs.
-use Rattle.std.proofs.Common.{◌≡◌, ◌+◌, ◌++◌, ℕ, suc, true, List, [], ◌∷◌, Option, Some, None, refl, sym, ap, ap₂, ◌∙◌, append_assoc}
+use Rattle.std.proofs.Common.{◌≡◌, ◌+◌, ◌++◌, ℕ, suc, true, List, [], ◌∷◌, Option, Some, refl, sym, ap, ap₂, ◌∙◌, append_assoc}
 use Rattle.std.specs.List.{list_all}
 use Rattle.std.specs.Ordering.{nat_cmp}
 use Rattle.std.specs.Option.{option_or}
 use Rattle.std.specs.FinMap as maps
 use Rattle.nb_datagram.specs.Fragment.{Core}
-use Rattle.nb_entries.specs.Maps.{first_of, union}
+use Rattle.nb_entries.specs.Maps.{union}
 use Rattle.nb_entries.specs.Cover.{CoverFacts, CoversFit, placed, same_where, cover_of, covers_together}
 use Rattle.nb_entries.specs.Promise.{greater, promise_of_one}
 use Rattle.nb_entries.specs.Code.CoverFacts.{with_bytes}
@@ -16,7 +16,7 @@ use Rattle.nb_entries.specs.Whole.{bytes_below, bytes_to}
 use Rattle.std.proofs.lemmas.Bool.{and_from}
 use Rattle.nb_entries.specs.Shared.MapsLemmas.{and_left}
 use Rattle.nb_entries.specs.Shared.CoverLemmas.{agree_of}
-use Rattle.nb_entries.proofs.Covers.CoverFactsLemmas.{bytes_agree_is, with_is}
+use Rattle.nb_entries.proofs.Covers.CoverFactsLemmas.{bytes_agree_is, or_is, with_is}
 
 -- no bytes contradict none
 pub empty_agrees : (m : maps.FinMap nat_cmp ℕ) (s : ℕ) (xs : List ℕ) → m ≡ maps.empty → list_all (λ (e : ℕ × ℕ). same_where (maps.get m e.0) e.1) (placed s xs) ≡ true
@@ -39,10 +39,6 @@ pub whole_put : (a : CoverFacts) (f : Core) (s : ℕ) (xs : List ℕ) (n : ℕ) 
 whole_put a f s xs n o fit start bytes is or =
     ap (bytes_to (with_bytes a.bytes s xs)) (sym is)
     ∙ ap (λ (c : CoverFacts). bytes_to c.bytes c.end) (put_is a f s xs (with_bytes a.bytes s xs) o (greater a.promise (promise_of_one f)) fit start bytes refl or refl)
-
-or_is : (o p : Option ℕ) → option_or o p ≡ first_of o p
-or_is None p = refl
-or_is (Some x) p = refl
 
 pub union_is : (a b : CoverFacts) (m : maps.FinMap nat_cmp ℕ) (o p : Option ℕ) → m ≡ union a.bytes b.bytes → o ≡ option_or a.end b.end → p ≡ greater a.promise b.promise → ◌≡◌ {A = CoverFacts} (record { bytes = m; end = o; promise = p }) (covers_together a b)
 union_is a b m o p made or promise = let end = or ∙ or_is a.end b.end in λ i. record { bytes = made i; end = end i; promise = promise i }

@@ -265,6 +265,14 @@ struct nbt_service_unit {
  * NBT_OTHER_RDATA as of nbt_service_node, NBT_TRUNCATED where fewer than six bytes stand there. */
 uint32_t nbt_service_unit(uint16_t type, const uint8_t *data, size_t data_length, struct nbt_service_unit *unit, size_t *at);
 
+/* The name in RDATA of type NS: RFC 1002 section 4.2.1.3. Its pointers lead into the payload, so the call is given the whole of it,
+ * and `data` and `data_length` as nbt_service_item told of the record; it may be made with any two numbers. It writes the spelling
+ * of the name, in which pointers were followed, its last zero byte included: at most 255 bytes. nbt_name_text gives the text, where it
+ * is a NetBIOS name. `*at` counts in the payload.
+ * 20, 21, 23 or 26, NBT_NAME_RDATA, NBT_NO_ROOM, judged in this order. No memory is taken. */
+uint32_t nbt_service_domain(const uint8_t *payload, size_t payload_length, size_t data, size_t data_length,
+                            uint8_t *into, size_t into_length, size_t *used, size_t *at);
+
 /* A packet of the datagram service: RFC 1002 section 4.4. Places and lengths are in bytes of the payload. */
 struct nbt_datagram {
     uint8_t type;               /* MSG_TYPE: 0x10 to 0x12 a fragment, 0x13 an error, 0x14 to 0x16 a query */

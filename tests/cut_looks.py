@@ -16,7 +16,8 @@ HERE = os.path.dirname(os.path.abspath(__file__))
 sys.path.insert(1, f'{HERE}/lib')
 from cut_captures import capture, payloads
 from fronts_model import front_of
-from object_model import SECTIONS, shown
+from fuzz_packets import Refused, read_labels
+from object_model import HEADER, SECTIONS, domain_text, shown
 
 TOOL = os.path.join(HERE, '../tools/nbt-look')
 SNAPS = (42, 43, 52, 54, 60, 76, 89, 90, 92, 96, 110, 111, 124, 130, 160, 400)
@@ -81,22 +82,36 @@ def expected(number, snap, port, payload):
     of_frame = {'frame': number, 'size': BEFORE + size, 'captured': min(snap, BEFORE + size)}
     told = {'port': port, 'moment': number - 1}
     if held >= size:
-        return of_frame | told | shown(port, payload)
+        said = shown(port, payload)
+        return of_frame | told | said | (front_of(port, payload) | about(port, payload) if 'refused' in said else {})
     if not held:
         return of_frame | {'left_out': REASON}
     said = shown(port, payload[:held])
     if 'truncated' in said.get('refused', '') and said['at'] >= held:
         said = {}
-    front = said | front_of(port, payload[:held])
+    front = said | front_of(port, payload[:held]) | about(port, payload[:held])
     phrase = phrase_of(front)
     return of_frame | {'cut': True} | told | {'brief': f'cut: {phrase}{held} of {size} bytes'} | front
 
 
+def about(port, payload):
+    """The name of the first question or record of a front in which none stands whole, and its type, where class and type stand."""
+    front = front_of(port, payload)
+    if port != 137 or not front or any(front[section] for section in SECTIONS):
+        return {}
+    try:
+        labels, end = read_labels(payload, HEADER, pointers=True)
+    except Refused:
+        return {}
+    name = {'name': domain_text(labels)}
+    return {'about': name | {'type': payload[end:end + 2].hex()} if len(payload) >= end + 4 else name}
+
+
 def phrase_of(front):
     """The phrase of a front: of requests and responses each word that the packets have."""
-    items = [each['name'] for section in SECTIONS for each in front.get(section, ())]
-    if items:
-        return f'{verb_of(front, front["questions"] or front["answers"])} {items[0]}{ending_of(front)}, '
+    items = [each for section in SECTIONS for each in front.get(section, ())] or ([front['about']] if 'about' in front else [])
+    if 'op' in front:
+        return f'{verb_of(front, items)} {items[0]["name"] if items else "a name"}{ending_of(front)}, '
     if 'source' in front:
         kind = {'unique': '', 'group': 'group ', 'broadcast': 'broadcast '}[front['kind']]
         return f'{kind}datagram from {front["source"]}' + (f' to {front["destination"]}' if 'destination' in front else '') + ', '
@@ -108,11 +123,14 @@ def verb_of(front, items):
     response, opcode, code, demands = word >> 15, word >> 11 & 15, word & 15, word & 0x0100
     if not response:
         if opcode == 0:
-            return 'asks for the node status of' if items[0]['type'] == '0021' else 'asks for'
+            kind = items[0].get('type') if items else None
+            return {'0021': 'asks for the node status of', None: 'asks about'}.get(kind, 'asks for')
         words = {5: 'claims' if demands else 'overwrites', 6: 'releases', 8: 'refreshes', 15: 'claims as one of several addresses'}
         return words.get(opcode, 'makes another request about')
     if opcode == 5:
         return 'conflict about' if code == 7 else 'refuses' if code else 'grants' if word & 0x80 else 'asks to challenge'
+    if opcode in (8, 9, 15):
+        return 'refuses' if code else 'grants'
     if opcode == 0 and code:
         return 'answers:'
     words = {0: 'answers about', 6: 'refuses the release of' if code else 'grants the release of', 7: 'asks to wait for'}
@@ -120,8 +138,12 @@ def verb_of(front, items):
 
 
 def ending_of(front):
-    """What comes after the name of a query that isn't answered by an address."""
-    return ' is not found' if front['op'] == 'query' and front['rcode'] != 'ok' else ''
+    """What comes after the name of a query that isn't answered by an address, and why a station refuses."""
+    word = int(front['word'], 16)
+    code = f' ({front["rcode"]})' if isinstance(front['rcode'], str) else ''
+    if not word >> 15 or not word & 15 or word & 0x780f == 0x2807 or front['op'] not in ('query', 'registration', 'refresh', 'release', 15):
+        return ''
+    return f' is not found{code}' if front['op'] == 'query' else code
 
 
 def counts_of(objects):
@@ -138,13 +160,13 @@ def is_cut(found):
 
 
 def is_named(found):
-    names = [each['name'] for section in SECTIONS for each in found.get(section, ())]
-    return 'FRED<20>' in names + [found.get('source'), found.get('destination')]
+    items = [each for section in SECTIONS for each in found.get(section, ())] + [found.get('about', {'name': ''})]
+    return 'FRED<20>' in [each['name'] for each in items] + [found.get('source'), found.get('destination')]
 
 
 def is_registration(found):
-    """A registration, of which a name stands; the operation 15 is one too."""
-    return found.get('op') in ('registration', 15) and is_named(found)
+    """A registration; the operation 15 is one too."""
+    return found.get('op') in ('registration', 15)
 
 
 FILTERS = (('--name', 'fred<20>', is_named), ('--kind', 'left-out', is_cut), ('--kind', 'registration', is_registration))

@@ -1,9 +1,9 @@
 #!/usr/bin/env bash
-# The library for C: what it is made of, the examples of bindings/c, a caller's worst (tests/lib/library.c) beside `nbt
-# show`, sanitizers, memory that runs out, what payloads say beside a slow model, the programs of examples/, the package for
-# Python and its types, nbt-station, and the crate for Rust. Usage: [AFTER_RT_CI=1] [MODULE=FILE] tests/library.sh
-# [PROGRAM]; its last line is 'N passed, M failed, K skipped'. The library is built over what `rt ci` has just left, where
-# AFTER_RT_CI says so, and else by `rt lib`. MODULE then gets its LLVM module.
+# The library for C: that the bindings read no packet by themselves, what it is made of, the examples of bindings/c, a
+# caller's worst (tests/lib/library.c) beside `nbt show`, sanitizers, memory that runs out, what payloads say beside a slow
+# model, the programs of examples/, the package for Python and its types, nbt-station, and the crate for Rust. Usage:
+# [AFTER_RT_CI=1] [MODULE=FILE] tests/library.sh [PROGRAM]; its last line is 'N passed, M failed, K skipped'. The library is
+# built over what `rt ci` has just left, where AFTER_RT_CI says so, and else by `rt lib`. MODULE then gets its LLVM module.
 set -uo pipefail
 # What stands last in a pipe counts its cases here.
 shopt -s lastpipe
@@ -494,6 +494,7 @@ block() {
 }
 
 part shims compile refuse_memory
+part readers counted_by packet_readers.py
 part files files
 part examples examples
 if command -v valgrind >/dev/null; then part valgrind under_valgrind; else lacks valgrind valgrind; fi

@@ -169,17 +169,17 @@ stations
   192.0.2.2  -    0        FRED<20>  -        -       -
 
 queries without an answer
-  name      kind   by         times  frames  since     answered
-  FRED<20>  query  192.0.2.1  1      4       1.200000  never
+  name      kind   by         asked      times  frames  since     answered
+  FRED<20>  query  192.0.2.1  192.0.2.2  1      4       1.200000  never
 
 sessions
   calling  called    from       to         calls  accepted  refused  sent  received
   JOE<00>  FRED<20>  192.0.2.1  192.0.2.2  1      1         -        5     0
 
 datagrams
-  source   destination  kind    whole  incomplete  spoilt
-  ANN<00>  JOE<00>      unique  1      0           0
-  JOE<00>  FRED<20>     group   1      1           0
+  source   destination  kind    whole  incomplete  spoilt  cut
+  ANN<00>  JOE<00>      unique  1      0           0       0
+  JOE<00>  FRED<20>     group   1      1           0       0
 
 failed datagrams
   key                state       source   destination  bytes known  size  missing             frames
@@ -196,11 +196,11 @@ import json, sys
 found = json.loads(open(sys.argv[1]).read())
 assert found['names'][0] == {'name': 'ANN<00>', 'kind': 'workstation', 'address': '10.0.0.7', 'group': False, 'how': 'refused',
     'since': '2023-11-14T22:13:20.300000Z', 'until': None, 'lifetime': None, 'conflicts': 0, 'refusals': 1}, found['names'][0]
-assert found['names'][1]['lifetime'] == 300_000 and found['names'][1]['until'] is None, found['names'][1]
+assert found['names'][4]['lifetime'] == 300_000 and found['names'][4]['until'] is None, found['names'][4]
 assert found['conflicts'] == [
     {'name': 'FRED<20>', 'holder': ['10.0.0.6'], 'refused': '10.0.0.8', 'by': '10.0.0.6', 'frame': 3},
     {'name': 'FRED<20>', 'holder': [], 'refused': '10.0.0.6', 'by': '10.0.0.8', 'frame': 22}], found['conflicts']
-assert found['queries_without_an_answer'][0]['frames'] == [7, 8, 9] and found['queries_without_an_answer'][0]['answered'] is None
+assert found['queries_without_an_answer'][0]['frames'] == [7, 8, 9] and found['queries_without_an_answer'][0]['answered'] is None and found['queries_without_an_answer'][0]['answer'] == 'never'
 assert found['failed_datagrams'][1] == {'key': '10.0.0.5:138/0002', 'state': 'incomplete', 'source': 'JOE<00>', 'destination': 'FRED<20>',
     'bytes_known': 8, 'size': 12, 'missing': [{'from': 4, 'bytes': 4}], 'frames': [19, 20]}, found['failed_datagrams']
 assert [(each['frame'], each['payload_byte']) for each in found['malformed']] == [(15, 48)] and found['left_out'] == {'cut by the snap length': 1}
@@ -215,6 +215,9 @@ END
         looks --kind conflict "$room/life.pcap" && [ "$(head -n 3 "$room/output" | cut -c 1-5 | tr -s ' \n' ' ')" = ' 2 3 22 ' ]
     count $? 'nbt-look --kind conflict: who claims a name too, is refused it, and has to give it up'
 }
+
+# What makes a row of each table, by docs/SUMMARY.md.
+summaries() { counted "$here/summary.py" "$program"; }
 
 # What is said of words that are no kinds, and of a kind of which there is no packet.
 guesses() {
@@ -278,11 +281,43 @@ END
     count $? 'a frame that is left out'
 }
 
+# --html: what stands at PAGE, or beside it, stays where it isn't a page's place.
+pages() {
+    local shared=$room/share folder=$room/pages each
+    mkdir "$shared" "$folder"
+    cp -r "$here/../tools/nbt_look" "$here/../tools/nbt_pcap" "$here/../tools/nbt_shards" "$here/../tools/nbt-look" "$shared"
+    echo '<p><script type="application/octet-stream" id="given" data-name=""></script>' >"$shared/nbt.html"
+    cp "$office" "$folder/in.pcap"
+    echo kept >"$folder/page.html.part"
+    (umask 027 && "$shared/nbt-look" --html "$folder/page.html" "$office") && grep -q 'data-name="office.pcap">1MOyoQ' "$folder/page.html" &&
+        [ "$(stat -c %a "$folder/page.html")" = 640 ] && [ "$(cat "$folder/page.html.part")" = kept ] && [ "$(ls -A "$folder" | wc -l)" -eq 3 ]
+    count $? 'nbt-look --html writes its page, and nothing beside it'
+    chmod 604 "$folder/page.html" && "$shared/nbt-look" --html "$folder/page.html" - <"$folder/in.pcap" &&
+        grep -q 'data-name="standard input">1MOyoQ' "$folder/page.html" && [ "$(stat -c %a "$folder/page.html")" = 604 ]
+    count $? 'a page is written anew, and keeps its mode'
+    ln -s page.html "$folder/link" && mkfifo "$folder/fifo"
+    for each in 'link a link' 'fifo no regular file' '. a folder' 'in.pcap the capture'; do
+        "$shared/nbt-look" --html "$folder/${each%% *}" "$folder/in.pcap" 2>"$room/errors"
+        [ $? -eq 3 ] && [ "$(cat "$room/errors")" = "nbt-look: $folder/${each%% *}: it is ${each#* }, and stays as it is" ]
+        count $? "nbt-look --html ${each%% *}: $(cat "$room/errors")"
+    done
+    "$shared/nbt-look" --html "$folder/in.pcap" - <"$folder/in.pcap" 2>"$room/errors"
+    [ $? -eq 3 ] && cmp -s "$folder/in.pcap" "$office" && [ "$(readlink "$folder/link")" = page.html ]
+    count $? "nbt-look --html over its standard input: $(cat "$room/errors")"
+}
+
 # ---- What is no capture, or a bad one.
 
 bad() {
     local each text=$here/../README.md
     ends 'a text' 1 "nbt-look: $text: line 3 is none of a capture" "$text"
+    for each in 2026-99-01 0000-01-01 2026-02-30; do
+        printf '# frame 1 %sT00:00:01.000002Z 10.0.0.5:137 > 10.0.0.9:137\n137 5 00ff\n' $each >"$room/timed"
+        ends "a comment of $each" 1 "nbt-look: $room/timed: line 1: no calendar has the time ${each}T00:00:01.000002Z" "$room/timed"
+        nbt-cap2pcap <"$room/timed" 2>"$room/errors" >"$room/output"
+        [ $? -eq 1 ] && [ "$(cat "$room/errors")" = "nbt-cap2pcap: line 1: no calendar has the time ${each}T00:00:01.000002Z" ]
+        count $? "a comment of $each: $(cat "$room/errors")"
+    done
     printf 'no\tcapture\n' >"$room/other"
     look "$room/other" >"$room/output" 2>"$room/errors"
     [ $? -eq 2 ] && [ ! -s "$room/output" ] && grep -q "^nbt-look: tshark: .*isn't a capture file" "$room/errors"
@@ -455,8 +490,10 @@ part samba samba
 part filters filters
 part objects objects
 part summary summary
+part summaries summaries
 part guesses guesses
 part frames frames
+part pages pages
 part bad bad
 part random random
 if /usr/bin/python3 -c 'import scapy' 2>/dev/null; then part scapy scapy; part cut cuts; else lacks scapy python3-scapy; lacks cut python3-scapy; fi

@@ -4,6 +4,7 @@
 Usage: tests/page.py [--pictures] [--part=NAME].. [FOLDER [PROGRAM]]; its last line is 'N passed, M failed, K skipped'. FOLDER has nbt.wasm, of `make targets`;
 without it out is meant. --pictures writes the pictures of README.md too. --part runs this part alone, and others so named. What can't run is a failure where CI is true.
 """
+import glob
 import os
 import re
 import shutil
@@ -17,11 +18,13 @@ TOP = os.path.realpath(f'{TESTS}/..')
 sys.path.insert(1, f'{TESTS}/lib')
 import page_files
 import page_program
+from page_access import AccessCases
 from page_checks import check, counts
 from page_looks import LookCases
 from page_opening import OpeningCases
 from page_packets import PacketCases
 from page_placing import PlacingCases
+from page_sources import SourceCases
 from page_views import ViewCases
 
 WORDS = [each for each in sys.argv[1:] if not each.startswith('--')]
@@ -30,6 +33,7 @@ FOLDER = os.path.realpath(WORDS[0]) if WORDS else f'{TOP}/out'
 PROGRAM = os.path.realpath(WORDS[1]) if WORDS[1:] else f'{TOP}/crates/nbt/out/nbt'
 LACKS = 'chromium, chromium-driver, python3-selenium, esbuild, nodejs, node-typescript and tshark'
 CAPTURES = 20
+EMPTY_CATCH = re.compile(r'catch\s*(?:\(\w*\))?\s*\{\s*\}|catch\(\(\w*\) => \{\s*\}\)')
 
 
 def least():
@@ -49,13 +53,26 @@ def is_lacking():
 
 
 def modules():
-    """The modules that read files, by node's own runner; their types; and random files beside nbt-pcap2cap."""
+    """The modules that read files, by node's own runner; their types; random files beside nbt-pcap2cap; and the cases of tests/summary/."""
     said = subprocess.run(['node', '--test', '--test-reporter=tap', f'{TOP}/page/tests/'], capture_output=True, text=True).stdout
     for passed, name in re.findall(r'^(ok|not ok) \d+ - (.*)$', said, re.MULTILINE):
         check(passed == 'ok', f'page/tests: {name}')
     types = subprocess.run(['tsc', '-p', f'{TOP}/page'], capture_output=True, text=True)
     check(types.returncode == 0, f'tsc -p page: {types.stdout[:300]}')
-    said = subprocess.run([f'{TESTS}/page_captures.py', str(CAPTURES)], capture_output=True, text=True).stdout.splitlines()
+    check(not (empty := empty_catches()), f'faults that nobody hears of: {empty}')
+    counted([f'{TESTS}/page_captures.py', str(CAPTURES)])
+    counted([f'{TESTS}/summary.py', '--page', PROGRAM])
+
+
+def empty_catches():
+    """The modules that pass over a fault, whatever it is."""
+    return [path for path in glob.glob(f'{TOP}/page/src/**/*.js', recursive=True)
+            if EMPTY_CATCH.search(re.sub(r'//.*', '', open(path, encoding='utf-8').read()))]
+
+
+def counted(words):
+    """The cases of a script whose last line has their counts."""
+    said = subprocess.run(words, capture_output=True, text=True).stdout.splitlines()
     for line in said[:-1]:
         print(line, flush=True)
     passed, failed = re.fullmatch(r'(\d+) passed, (\d+) failed', said[-1]).groups()
@@ -63,7 +80,7 @@ def modules():
     counts['failed'] += int(failed)
 
 
-class Cases(PacketCases, ViewCases, OpeningCases, PlacingCases, LookCases):
+class Cases(PacketCases, ViewCases, OpeningCases, PlacingCases, SourceCases, AccessCases, LookCases):
     """The parts, over one window."""
 
     top, tests = TOP, TESTS
@@ -80,7 +97,7 @@ class Cases(PacketCases, ViewCases, OpeningCases, PlacingCases, LookCases):
         return path
 
 
-PARTS = ('modules', 'rows', 'names', 'faults', 'filters', 'deliveries', 'taps', 'exports', 'bad', 'hostile', 'keys', 'given', 'placing', 'stop',
+PARTS = ('modules', 'rows', 'names', 'faults', 'filters', 'datagrams', 'deliveries', 'taps', 'exports', 'bad', 'hostile', 'keys', 'given', 'placing', 'stop', 'unread', 'changed', 'addressed', 'packed', 'access', 'singles',
          'controls', 'looks', 'quiet')
 
 

@@ -17,9 +17,9 @@ import tempfile
 import time
 
 sys.path.insert(1, f'{sys.path[0]}/lib')
-from process_inputs import CAPTURE, COMMANDS, FRED, READING, REPORT, captures, chained, roomy
-from process_runs import (TESTS, broken_pipe, bytes_of, closed, instructions, limited, lines_of, rest_of, run, small_pipe, start,
-                          starts, wait)
+from process_inputs import CAPTURE, COMMANDS, FRED, READING, REPORT, captures, chained, repeated, roomy
+from process_runs import (TESTS, broken_pipe, bytes_of, closed, instructions, limited, lines_of, requests as counted_requests, rest_of,
+                          run, small_pipe, start, starts, wait)
 from process_terminals import advised, at_terminals, dropped, looked, mistaken, plain, short_of_memory
 
 counts = {'passed': 0, 'failed': 0, 'skipped': 0}
@@ -332,6 +332,14 @@ def room():
         check(ended == (0, output, b''), f'nbt {words[0]}, {name} in {limit} kB: {ended[0]} {ended[2][:60]}')
 
 
+def requests():
+    """What a line takes is used again for the next one: ten times as many lines make as many requests for memory."""
+    with tempfile.TemporaryDirectory() as folder:
+        for words in (['show'], ['show', '--json'], ['replay', 'FRED<20>'], ['replay', '--json', 'FRED<20>'], ['save']):
+            few, many = (counted_requests(words, repeated(times), folder) for times in (100, 1_000))
+            check(0 < many == few, f'nbt {" ".join(words)}, requests for memory: {many} for 5,000 lines, {few} for 500')
+
+
 def pointers():
     """Names that lead to the end of a chain of pointers cost what those at its front do: it is followed once for all."""
     if not shutil.which('valgrind'):
@@ -370,7 +378,7 @@ def is_told(ended, whole):
 
 
 for part in (ordinary, failing_outputs, closed_reports, cut_reports, inputs, open_inputs, halting_inputs, terminals,
-             full_disks, short_files, short_memory, room, pointers, short_stack):
+             full_disks, short_files, short_memory, room, requests, pointers, short_stack):
     before = sum(counts.values())
     part()
     count = sum(counts.values()) - before

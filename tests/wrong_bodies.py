@@ -6,9 +6,14 @@ checked over the crates below it as they were built last. RT_JOBS says how many 
 
 A function is proved over what others promise, whatever their bodies are. So wrong bodies of different functions are planted in
 one copy of the crate, in which the bodies of the others are left out, and one check of those functions tells of each. A second one of
-a function waits for a further check; a change outside of functions, such as that of a constant, has one of its own. A case is a wrong
-body, which its own function has to be refused for, at the clause that is stated; and a check, in which nothing else may be refused. The
-table has the processor seconds of a crate's checks. The last line is 'N passed, M failed', and the status 1 where one failed.
+a function waits for a further check; a change outside of functions, such as that of a constant, has one of its own. The copy is
+the same for all checks of a crate, and the first one, the control, is of it as it stands, without a wrong body: each function that
+one is planted in has to be proved there, so that what refuses it later is the wrong body, and not what was left out.
+
+A case is a wrong body, which its own function has to be refused for, at the goal that is stated; a check, in which nothing else may
+be refused; and a control. A crate below whose library is older than its sources, or was built over another one than lies there, is
+a failure, and its crate isn't checked. The table has the processor seconds of a crate's checks. The last line is 'N passed, M
+failed', and the status 1 where one failed. With --goals the goals that each wrong body leaves open are printed too.
 """
 import os
 import re
@@ -31,7 +36,11 @@ ANSWERED = re.compile(r'\./proofs/(\S+)/(?:Answers|Invariants|Proof)\.antt:\d+:\
 OPEN = re.compile(r'note: `([^`]+)` of proofs/(\S+)/(?:Answers|Proof)\.antt must prove')
 PLACED = re.compile(r'note: src/\S+: it is not proved that .*?\(`([^`]+)`\)')
 FUNCTION = re.compile(r'fn \w+::(\S+): (.*)')
-# A function that is proved, or would be if bodies that are left out were.
+# What a goal's name begins or ends with, which says no more than that the function is refused.
+KINDS = ('returns', 'requires', 'loop')
+# The kit's own words for a library that was built over another one than lies there.
+STALE = re.compile(r'module .Rattle-(\w+)-.*Run the lower steps again')
+# What is said of a function that is proved, or would be if bodies that are left out were.
 WELL = re.compile(r'no holes|depends on a hole')
 # A function that isn't proved since it calls one that isn't.
 CALLS = re.compile(r'it calls .* (?:is|are) not proved')
@@ -45,9 +54,9 @@ class WrongBody:
     path: Path
     what: str = ''
     why: str = ''
-    # The function that is refused, and the clause: that of a named one, or `returns`, `loop`, `requires`.
+    # The function that is refused, and the goal: its name or the front of it, or the clause that it is of.
     function: str = ''
-    clause: str = ''
+    goal: str = ''
     # Of each change the file, the lines as they stand, and as they are planted.
     changes: list = field(default_factory=list)
 
@@ -65,7 +74,7 @@ def read(path):
         if head in ('what', 'why'):
             setattr(body, head, rest)
         elif head == 'refused':
-            body.function, _, body.clause = rest.partition(' ')
+            body.function, _, body.goal = rest.partition(' ')
         elif head == 'file':
             file = rest
         elif head == 'old':
@@ -96,46 +105,76 @@ def batches(crate, bodies):
     return found
 
 
-def clause(goal):
-    """The clause that a goal is of."""
-    if goal.startswith('loop'):
-        return 'loop'
-    if 'requires' in goal:
-        return 'requires'
-    return goal.rpartition('-clause-')[2] if '-clause-' in goal else goal.partition('-')[0]
+def is_of(goal, stated):
+    """Whether a goal is the one that is stated: by its name, by a front of it that ends at a hyphen, or by its clause."""
+    return goal == stated or stated not in KINDS and (goal.startswith(f'{stated}-') or goal.rpartition('-clause-')[2] == stated)
 
 
 def refused(output):
-    """The clauses at which each function is refused, by what the prover printed."""
+    """The goals that stay open of each function, by what the prover printed; none where it is refused without one."""
     found, placed = defaultdict(set), []
     for line in output.splitlines():
         if (met := ANSWERED.match(line)) and not GONE.search(met[3]):
-            found[met[1].replace('/', '::')].add(clause(met[2]))
+            found[met[1].replace('/', '::')].add(met[2])
         elif met := OPEN.match(line):
-            found[met[2].replace('/', '::')].add(clause(met[1]))
+            found[met[2].replace('/', '::')].add(met[1])
         elif met := PLACED.match(line):
             placed.append(met[1])
         elif met := FUNCTION.match(line):
             if not WELL.match(met[2]) and (placed or not CALLS.search(met[2])):
-                found[met[1]].update(map(clause, placed))
+                found[met[1]].update(placed)
             placed = []
     return found
 
 
+def well(output):
+    """The functions that are proved, or would be if bodies that are left out were."""
+    return {met[1] for met in map(FUNCTION.match, output.splitlines()) if met and WELL.match(met[2])}
+
+
+def below(crate):
+    """The crates of the repository that a crate stands on."""
+    listed = dict(re.findall(r'^(\w+)[^:#\n]*:(.*)', (ROOT / 'crates.txt').read_text(encoding='utf-8'), re.MULTILINE))
+    found, left = set(), [crate]
+    while left:
+        new = {it for it in listed[left.pop()].split() if it in listed} - found
+        found |= new
+        left += new
+    return sorted(found)
+
+
+def stale(crate):
+    """The crates below whose library isn't there, or is older than their sources."""
+    for name in below(crate):
+        folder = ROOT / 'crates' / name
+        built = folder / 'out' / 'rlib' / f'{name}.rlib' / 'format'
+        files = [it for part in ('src', 'specs', 'proofs') for it in (folder / part).rglob('*') if it.is_file()]
+        # Since when it lies there: what is copied keeps the time of its last change.
+        if not built.exists() or built.stat().st_ctime < max(it.stat().st_mtime for it in files):
+            yield name
+
+
 @dataclass
 class Check:
-    """One check of a crate in which wrong bodies are planted."""
+    """One check of a crate in which wrong bodies are planted, or none, for all of those that are planted in the others."""
     crate: str
     bodies: list
+    every: list
     seconds: float = 0
     output: str = ''
     status: int = 0
+
+    def only(self):
+        """The functions that are checked."""
+        return sorted({it.function for it in self.bodies or self.every})
 
     def plant(self, room):
         """Puts a copy of the crate into a folder, with the wrong bodies. Answers what went wrong."""
         for part in ('src', 'specs', 'proofs'):
             if (ROOT / 'crates' / self.crate / part).is_dir():
                 shutil.copytree(ROOT / 'crates' / self.crate / part, f'{room}/{part}')
+        lines = {old for body in self.every for _, old, _ in body.changes}
+        leave_out_bodies(Path(room), self.crate, {body.function for body in self.every}, lines)
         for body in self.bodies:
             for file, old, new in body.changes:
                 path = Path(room, file)
@@ -143,8 +182,6 @@ class Check:
                 if text.count(old) != 1:
                     return f'{body.path.stem}: its old line stands {text.count(old)} times'
                 path.write_text(text.replace(old, new), encoding='utf-8')
-        leave_out_bodies(
-            Path(room), self.crate, {body.function for body in self.bodies}, {new for body in self.bodies for _, _, new in body.changes})
         return ''
 
     def run(self, kept):
@@ -154,7 +191,7 @@ class Check:
             if self.output:
                 return
             words = subprocess.run([ROOT / 'tests/lib/crate_words', self.crate], stdout=subprocess.PIPE, text=True, check=True)
-            only = [word for body in self.bodies for word in ('--only', body.function)]
+            only = [word for it in self.only() for word in ('--only', it)]
             root = next(it for it in ('src/main.rt', 'src/lib.rt') if Path(room, it).exists())
             command = ['timeout', LONGEST, 'rattle', 'check', *words.stdout.split(), *kept, *only, '--allow-holes', root]
             with open(f'{room}/said', 'w+', encoding='utf-8', errors='replace') as said:
@@ -165,31 +202,39 @@ class Check:
                 self.output = said.read()
             self.seconds = used.ru_utime + used.ru_stime
 
-    def failures(self):
-        """Each wrong body with why it fails, or None; and then the check itself."""
-        found = refused(self.output)
+    def unchecked(self):
+        """Why the check says nothing, if it does so."""
         last = self.output.rstrip().rpartition('\n')[2]
+        if met := STALE.search(self.output):
+            return f'the library of {met[1]} was built over another one than lies there: rt check in crates/{met[1]}, or rt ci'
         is_checked = self.status in (0, 1) and re.fullmatch(r'only=\d+ holes=\d+', last)
+        return None if is_checked else f'not checked, status {self.status}: {last[:200]}'
+
+    def failures(self):
+        """What each case is of, with why it fails, or None: each wrong body, and then the check itself."""
+        found, unchecked = refused(self.output), self.unchecked()
         for body in self.bodies:
-            seen = found.get(body.function, set())
-            why = None if body.clause in seen else f'refused at {sorted(seen)}, not at {body.clause}' if seen else 'it is not refused'
-            yield body, why if is_checked else f'not checked, status {self.status}: {last[:200]}'
-        others = sorted(set(found) - {it.function for it in self.bodies})
-        is_fair = not others or self.bodies[0].is_alone(self.crate)
-        yield None, None if is_fair else f'{others} refused beside {len(self.bodies)} wrong bodies'
+            goals = found.get(body.function)
+            why = 'it is not refused' if goals is None else f'refused at {sorted(goals)}, not at {body.goal}'
+            yield f'/{body.path.stem}', unchecked or (None if any(is_of(it, body.goal) for it in goals or ()) else why)
+        planted = {it.function for it in self.bodies}
+        others = sorted(set(found) - planted | set(self.only()) - planted - well(self.output))
+        is_fair = not others or self.bodies and self.bodies[0].is_alone(self.crate)
+        name = f' beside {len(self.bodies)} wrong bodies' if self.bodies else ', the control'
+        yield name, unchecked or (None if is_fair else f'not proved without a wrong body: {others}')
 
 
 def checks(crate):
-    """The checks of a crate."""
+    """The checks of a crate, of which the control comes first."""
     bodies = [read(path) for path in sorted((ROOT / 'crates' / crate / 'wrong-bodies').glob('*.edit'))]
-    return [Check(crate, batch) for batch in batches(crate, bodies)]
+    return [Check(crate, batch, bodies) for batch in ([], *batches(crate, bodies))] if bodies else []
 
 
 def run(own):
     """Runs the checks of a crate, one after the other."""
     with tempfile.TemporaryDirectory(prefix='wrong-bodies-') as kept:
         for check in own:
-            check.run(['--incremental', kept] if len(own) > 1 else [])
+            check.run(['--incremental', kept])
 
 
 def table(done):
@@ -204,23 +249,24 @@ def table(done):
 
 def main():
     """Runs all checks, counts the cases that are right, and answers the exit status."""
-    crates = sys.argv[1:] or sorted(path.parent.name for path in (ROOT / 'crates').glob('*/wrong-bodies'))
-    by_crate = sorted(map(checks, crates), key=lambda own: -sum(len(it.bodies) for it in own))
+    words = [it for it in sys.argv[1:] if it != '--goals']
+    crates = words or sorted(path.parent.name for path in (ROOT / 'crates').glob('*/wrong-bodies'))
+    failures = [(crate, f': the library of {it} is not there, or older than its sources: remove crates/{it}/out/rlib, then rt check in crates/{crate}')
+                for crate in crates for it in stale(crate)]
+    by_crate = {crate: checks(crate) for crate in crates if crate not in dict(failures)}
+    failures += [(crate, ': it has no wrong bodies') for crate, own in by_crate.items() if not own]
     with ThreadPoolExecutor(max(1, int(os.environ.get('RT_JOBS') or os.cpu_count()))) as pool:
-        list(pool.map(run, by_crate))
-    done = [check for own in by_crate for check in own]
-    missing = [crate for crate in crates if crate not in {it.crate for it in done}]
-    for crate in missing:
-        print(f'failed: {crate} has no wrong bodies')
-    passed, failed = 0, len(missing)
-    for check in done:
-        for body, why in check.failures():
-            passed, failed = passed + (why is None), failed + (why is not None)
-            if why:
-                print(f'failed: {check.crate}{"/" + body.path.stem if body else ""}: {why}')
+        list(pool.map(run, sorted(by_crate.values(), key=len, reverse=True)))
+    done = [check for own in by_crate.values() for check in own]
+    cases = [(check.crate, name, why) for check in done for name, why in check.failures()]
+    failures += [(crate, f'{name}: {why}') for crate, name, why in cases if why]
+    for body, goals in ((body, refused(it.output)[body.function]) for it in done for body in it.bodies) if words != sys.argv[1:] else ():
+        print(f'{body.path.parents[1].name}/{body.path.stem}: {body.goal} of {sorted(goals)}')
+    for crate, case in failures:
+        print(f'failed: {crate}{case}')
     print(*table(done), sep='\n')
-    print(f'{passed} passed, {failed} failed')
-    return 1 if failed else 0
+    print(f'{sum(not why for _, _, why in cases)} passed, {len(failures)} failed')
+    return 1 if failures else 0
 
 
 if __name__ == '__main__':

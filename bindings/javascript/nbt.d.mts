@@ -195,6 +195,9 @@ export interface Nbt {
     readSession(payload: Bytes, offset?: number): SessionPacket;
     writeSession(type: number, body?: Bytes): Uint8Array;
     request(kind: 'query' | 'nodeStatus' | 'registration' | 'refresh' | 'release', request: Request): Uint8Array;
+    /** The spelling of the name of a server, which is RDATA of type NS: so many bytes of a payload of port 137, from a place on. Pointers in
+     * it are followed. NbtError: NAME_TRUNCATED, NAME_RESERVED_LABEL, NAME_LONG, NAME_BAD_POINTER, NAME_RDATA, whose places count in the payload. */
+    readDomain(payload: Bytes, place: number, length: number): Uint8Array;
     /** NbtError: BAD_TEXT, LONG_TEXT, of type NS NAME_TRUNCATED to NAME_LONG and NAME_TRAILING_BYTES, whose places count in the data, LONG_DATA. */
     response(response: Response): Uint8Array;
     /** Joins two saved tables; keys is 65,535 without it. */

@@ -357,6 +357,9 @@ function libraryOf(calls) {
             return written('nbt_service_request', ...words);
         },
 
+        readDomain: (payload, place, length) =>
+            written('nbt_service_domain', bytesOf(payload, 'payload'), BigInt(numberOf(place, 53, 'place')), BigInt(numberOf(length, 53, 'length'))),
+
         response: ({ identifier, word, name, type, timeToLive = 0, data = new Uint8Array() }) =>
             written('nbt_service_response', numberOf(identifier, 16, 'identifier'), numberOf(word, 16, 'word'), encoded(name, 'name'),
                 numberOf(type, 16, 'type'), numberOf(timeToLive, 32, 'timeToLive'), bytesOf(data, 'data')),
@@ -377,10 +380,10 @@ const MEMORY64 = Uint8Array.of(0, 97, 115, 109, 1, 0, 0, 0, 5, 3, 1, 4, 1);
 /** What a module has to have. */
 const CALLS = [
     'heap_give_back', 'heap_limit', 'heap_take', 'nbt_brief', 'nbt_datagram_error', 'nbt_datagram_front', 'nbt_datagram_query',
-    'nbt_datagram_read', 'nbt_datagram_write', 'nbt_json', 'nbt_name_spell', 'nbt_name_text', 'nbt_service_request', 'nbt_service_response',
-    'nbt_session_names', 'nbt_session_read', 'nbt_session_retarget', 'nbt_session_write', 'nbt_show', 'nbt_station_absorb',
-    'nbt_station_create', 'nbt_station_free', 'nbt_station_list', 'nbt_station_save', 'nbt_station_take', 'nbt_station_tick',
-    'nbt_status_text', 'nbt_table_differ', 'nbt_table_json', 'nbt_table_list', 'nbt_table_merge', 'nbt_version',
+    'nbt_datagram_read', 'nbt_datagram_write', 'nbt_json', 'nbt_name_spell', 'nbt_name_text', 'nbt_service_domain', 'nbt_service_request',
+    'nbt_service_response', 'nbt_session_names', 'nbt_session_read', 'nbt_session_retarget', 'nbt_session_write', 'nbt_show',
+    'nbt_station_absorb', 'nbt_station_create', 'nbt_station_free', 'nbt_station_list', 'nbt_station_save', 'nbt_station_take',
+    'nbt_station_tick', 'nbt_status_text', 'nbt_table_differ', 'nbt_table_json', 'nbt_table_list', 'nbt_table_merge', 'nbt_version',
 ];
 
 /** Loads nbt.wasm: from beside this file, or what `module` is. Its memory grows to `limit` bytes at most. */

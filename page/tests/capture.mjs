@@ -16,7 +16,7 @@ let first = null;
 const reader = new PayloadReader((item) => {
     if (item.kind === 'comment') packets.comment(item.text);
     else if (item.kind === 'payload') packets.add(item.mark, item);
-    else if (!ALONE.includes(item.why)) {
+    else if (item.kind === 'left out' && !ALONE.includes(item.why)) {
         packets.add(item.mark, { port: LEFT_OUT, mac: null, vlan: null, bytes: new Uint8Array(0) });
         left.set(item.why, (left.get(item.why) ?? 0) + 1);
     }

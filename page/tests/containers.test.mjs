@@ -127,6 +127,38 @@ test('frames of no use are counted by why', () => {
     assert.deepEqual(read(pcap(frames.slice(0, 1), { link: 147 })).others, { 'unknown link type': 1 });
 });
 
+const unread = (file) => read(file).seen.filter((each) => each.kind === 'unread').map(({ frame, link, why }) => [frame, link, why]);
+
+test('frames of a link type that is not read are counted by it', () => {
+    const bytes = ethernet(ipv4(udp(QUERY)));
+    const named = [[9, 'PPP (9)'], [50, 'PPP in HDLC (50)'], [51, 'PPPoE (51)'], [105, '802.11 (105)'], [119, 'Prism (119)'], [127, 'radiotap (127)'], [189, '189']];
+    for (const [link, name] of named) assert.deepEqual(unread(pcap([{ bytes }, { bytes }], { link })), [[1, name, 'link type'], [2, name, 'link type']]);
+});
+
+test('packets of IP inside of what is not read are counted by it, and others are not', () => {
+    const inner = ipv4(udp(QUERY));
+    const snap = (type) => bytesOf([0xaa, 0xaa, 3, 0, 0, 0], number(type, 2), inner);
+    const cooked = (type, rest) => bytesOf([0, 0, 0, 1, 0, 6, 2, 0, 0, 0, 0, 9, 0, 0], number(type, 2), rest);
+    const cooked2 = (type, rest) => bytesOf(number(type, 2), [0, 0, 0, 0, 0, 1, 0, 1, 0, 6, 2, 0, 0, 0, 0, 9, 0, 0], rest);
+    const wrapped = [
+        ['PPPoE', ethernet(bytesOf([0x11, 0, 0, 1], number(inner.length + 2, 2), [0, 0x21], inner), { type: 0x8864 })],
+        ['MPLS', ethernet(bytesOf([0, 1, 0x41, 64], inner), { type: 0x8847 })], ['MPLS', ethernet(bytesOf([0, 1, 0x41, 64], inner), { type: 0x8848, tags: [5] })],
+        ['LLC', ethernet(snap(0x0800), { type: inner.length + 8 })], ['LLC', ethernet(snap(0x86dd), { type: 60 })], ['LLC', ethernet(bytesOf([6, 6, 3], inner), { type: 60 })],
+        ['more than 4 VLAN tags', ethernet(inner, { tags: [1, 2, 3, 4, 5] })], ['GRE', ethernet(ipv4(bytesOf([0, 0, 8, 0], inner), { protocol: 47 }))],
+        ['GRE', ethernet(ipv6(bytesOf([0, 0, 8, 0], inner), { protocol: 47 }))], ['IP in IP', ethernet(ipv4(inner, { protocol: 4 }))],
+        ['6in4', ethernet(ipv4(ipv6(udp(QUERY)), { protocol: 41 }))], ['AH', ethernet(ipv4(bytesOf([17, 4], new Array(22).fill(0), udp(QUERY)), { protocol: 51 }))],
+        ['IP in IP', ethernet(ipv6(ipv6(udp(QUERY)), { protocol: 41 }))],
+        ['VXLAN', ethernet(ipv4(udp(bytesOf([8, 0, 0, 0, 0, 0, 1, 0], ethernet(inner)), { source: 50_000, destination: 4789 })))],
+    ];
+    for (const [why, bytes] of wrapped) assert.deepEqual(unread(pcap([{ bytes }])), [[1, 'Ethernet (1)', why]], why);
+    assert.deepEqual(unread(pcap([{ bytes: cooked(4, snap(0x0800)) }], { link: 113 })), [[1, 'Linux cooked (113)', 'LLC']]);
+    assert.deepEqual(unread(pcap([{ bytes: cooked2(0x8847, bytesOf([0, 1, 0x41, 64], inner)) }], { link: 276 })), [[1, 'Linux cooked, version 2 (276)', 'MPLS']]);
+    assert.deepEqual(unread(pcap([{ bytes: ipv4(inner, { protocol: 4 }) }], { link: 101 })), [[1, 'IP (101)', 'IP in IP']]);
+    const others = [ethernet([0, 1], { type: 0x0806 }), ethernet(bytesOf([0x42, 0x42, 3], new Array(35).fill(0)), { type: 38 }), ethernet(bytesOf([0xaa, 0xaa, 3, 0, 0, 0xc, 0x20, 0]), { type: 8 }),
+        ethernet([0x11, 9, 0, 0, 0, 0], { type: 0x8863 }), ethernet(ipv4([8, 0, 0, 0], { protocol: 1 })), ethernet(ipv4(udp(QUERY))), bytesOf([1, 2, 3])];
+    assert.deepEqual(unread(pcap(others.map((bytes) => ({ bytes })))), []);
+});
+
 test('files that lie end in one fault, with its place, after what stood before', () => {
     const bytes = ethernet(ipv4(udp(QUERY)));
     const good = pcap([{ bytes }]);

@@ -1,19 +1,24 @@
 import assert from 'node:assert/strict';
+import { execFileSync } from 'node:child_process';
 import test from 'node:test';
+import { gzipSync } from 'node:zlib';
 
 import { LineFault, linesOf, payloadsIn } from '../src/containers/lines.js';
 import { hostOf, portOf, shown } from '../src/containers/ends.js';
 import { slicesOf } from '../src/containers/slices.js';
 import { Blocks, Column, Texts } from '../src/model/columns.js';
 import { commentOf, made, textOf, written } from '../src/model/capture.js';
+import { keyOf } from '../src/model/keys.js';
 import { LEFT_OUT, Packets } from '../src/model/packets.js';
 import { Seen } from '../src/model/seen.js';
 import { momentOf, since, utc } from '../src/model/times.js';
 import { Advice, placed } from '../src/view/advice.js';
 import { Filter } from '../src/view/filter.js';
 import { outcome, summary } from '../src/view/conflicts.js';
-import { keyOf, known } from '../src/view/keys.js';
+import { known } from '../src/view/keys.js';
+import { quoted } from '../src/view/shell.js';
 import { conclusion, sidesOf } from '../src/view/sides.js';
+import { isPacked, unpacked } from '../src/worker/unpack.js';
 import { hashOf, placeOf } from '../src/view/address.js';
 import { TAKES, hintOf } from '../src/view/hint.js';
 import { answersTo } from '../src/view/placing.js';
@@ -125,19 +130,19 @@ test('claims of one name: conflicts, refusals, releases', () => {
     seen.take(service('registration', 'FRED<20>'), '', ends(2, '10.0.0.5', '10.0.0.255'));
     seen.take(service('registration', 'FRED<20>', { address: '10.0.0.6' }), '', ends(3, '10.0.0.6', '10.0.0.255'));
     seen.take(service('registration', 'FRED<20>', { word: 'ad86', rcode: 'ACT_ERR' }), '', ends(4, '10.0.0.5', '10.0.0.6'));
-    seen.take(service('release', 'FRED<20>'), '', ends(5, '10.0.0.5', '10.0.0.255'));
+    seen.take(service('release', 'FRED<20>', { word: '3010' }), '', ends(5, '10.0.0.5', '10.0.0.255'));
     seen.take(service('registration', 'ANN<00>', { word: 'ad87', rcode: 'CFT_ERR' }), '', ends(6, '10.0.0.7', '10.0.0.8'));
     const rows = seen.tables().names.map(({ name, address, how, until, conflicts, refusals, kind }) => [name, address, how, until, conflicts, refusals, kind]);
-    assert.deepEqual(rows, [['ANN<00>', '', 'nobody', null, 1, 0, 'workstation'], ['FRED<20>', '10.0.0.5', 'released', 5_000_000_000n, 1, 0, 'file server'],
-        ['FRED<20>', '10.0.0.6', 'refused', null, 1, 1, 'file server']]);
+    assert.deepEqual(rows, [['ANN<00>', '10.0.0.8', 'lost', 6_000_000_000n, 1, 0, 'workstation'],
+        ['FRED<20>', '10.0.0.5', 'released', 5_000_000_000n, 1, 0, 'file server'], ['FRED<20>', '10.0.0.6', 'refused', null, 1, 1, 'file server']]);
     assert.deepEqual(seen.tables().names.map(({ lifetime }) => lifetime), [null, null, null]);
     assert.deepEqual(seen.tables().stations.filter(({ refused }) => refused.length).map(({ address, refused }) => [address, refused]), [['10.0.0.6', ['FRED<20>']]]);
 });
 
 test('conflicts: who holds a name, who was refused it and by whom', () => {
     const claim = (seen, frame, address, name = 'FRED<20>') => seen.take(service('registration', name, { address }), '', ends(frame, address, '10.0.0.255'));
-    const answer = (seen, frame, by, to, rcode, address = '10.0.0.5') =>
-        seen.take(service('registration', 'FRED<20>', { word: 'ad86', rcode, address }), '', ends(frame, by, to));
+    const answer = (seen, frame, by, to, rcode, address = '10.0.0.5', id = '0001') =>
+        seen.take(service('registration', 'FRED<20>', { word: 'ad86', rcode, address, id }), '', ends(frame, by, to));
     const said = (seen) => seen.tables().conflicts.map((each) => [each.frame, outcome(each)]);
     const own = new Seen();
     assert.deepEqual([claim(own, 1, '10.0.0.5'), claim(own, 2, '10.0.0.6')], [false, true]);
@@ -156,7 +161,7 @@ test('conflicts: who holds a name, who was refused it and by whom', () => {
     assert.deepEqual(said(echoed), [[1, "FRED<20>: 10.0.0.1 refused it to 10.0.0.6; who holds it isn't in the capture."]]);
     const demanded = new Seen();
     for (const last of [5, 6, 7]) claim(demanded, last, `10.0.0.${last}`);
-    answer(demanded, 8, '10.0.0.6', '10.0.0.5', 'CFT_ERR', '10.0.0.6');
+    answer(demanded, 8, '10.0.0.6', '10.0.0.5', 'CFT_ERR', '10.0.0.6', '0002');
     assert.deepEqual(said(demanded), [[6, 'FRED<20>: 10.0.0.6 and 10.0.0.7 claim it, and nobody was refused it.'],
         [8, 'FRED<20>: 10.0.0.6 holds it; 10.0.0.5 was refused it.']]);
     const policy = new Seen();
@@ -164,7 +169,9 @@ test('conflicts: who holds a name, who was refused it and by whom', () => {
     assert.deepEqual([answer(policy, 2, '10.0.0.1', '10.0.0.6', 'RFS_ERR'), said(policy), summary(policy.tables().conflicts)], [false, [], 'No name is in conflict.']);
     const asked = new Seen();
     assert.equal(asked.take(service('query', 'FRED<20>', { word: '8507', rcode: 'CFT_ERR' }), '', ends(1, '10.0.0.1', '10.0.0.9')), true);
-    assert.deepEqual(said(asked), []);
+    assert.deepEqual(said(asked), [[1, "FRED<20>: 10.0.0.1 says that it is in conflict; who holds it isn't in the capture."]]);
+    const group = { name: 'WORK<00>', claimants: ['10.0.0.1', '10.0.0.2'], refused: '10.0.0.3', by: '10.0.0.1', frame: 4 };
+    assert.equal(outcome(group), 'WORK<00>: 10.0.0.1 and 10.0.0.2 hold it; 10.0.0.3 was refused it by 10.0.0.1.');
 });
 
 test('queries without an answer', () => {
@@ -270,4 +277,27 @@ test('where a file goes', () => {
     assert.deepEqual(said(['a', 'b'], 1), [['Instead of tap 1, a', 0, null], ['Instead of tap 2, b', 1, null], ['Alone, instead of both', 0, 1]]);
     assert.deepEqual(said(['a', 'b'], 2), [['Instead of a and b', 0, 1, null]]);
     assert.deepEqual(said(['a', null], 2), [['Instead of a', 0, 1, null]]);
+});
+
+test('a file of any name is one word of a shell', () => {
+    for (const name of ['a.pcap', 'two words.pcap', "it's.pcap", '$HOME `id`.pcap', 'a"b\\c\nd', 'é*?', '~x', '#x', ';x', '']) {
+        assert.equal(execFileSync('sh', ['-c', `printf %s ${quoted(name)}`]).toString(), name);
+    }
+    assert.deepEqual(['a.pcap', '-x.pcap'].map(quoted), ['a.pcap', './-x.pcap']);
+});
+
+test('what gzip packed is unpacked up to a bound, and as long as it is wanted', async () => {
+    const data = Uint8Array.from({ length: 100_000 }, (_, at) => (at * at) >> 3);
+    const file = new Blob([gzipSync(data)]);
+    assert.equal(isPacked(slicesOf(new Uint8Array(gzipSync(data)))), true);
+    assert.equal(isPacked(slicesOf(data)), false);
+    const places = [];
+    const all = await unpacked(file, async (done) => places.push(done) > 0);
+    assert.deepEqual([new Uint8Array(await all.blob.arrayBuffer()), all.fault, places.at(-1)], [data, null, file.size]);
+    const some = await unpacked(file, async () => true, 70_000);
+    assert.deepEqual([some.blob.size, some.fault], [70_000, 'more than 70000 bytes once unpacked: what follows is left out; nbt-look reads all of it']);
+    assert.equal((await unpacked(file, async () => true, data.length)).fault, null);
+    const stopped = await unpacked(file, async () => false);
+    assert.equal(stopped.fault, null);
+    assert.ok(stopped.blob.size < data.length);
 });

@@ -97,6 +97,7 @@ static void reads_items(void) {
         nbt_service_address(item.type, payload + item.data, item.data_length, 0, &address, &at);
         nbt_service_node(item.type, payload + item.data, item.data_length, 0, &node, &at);
         nbt_service_unit(item.type, payload + item.data, item.data_length, &unit, &at);
+        nbt_service_domain(payload, payload_length, item.data, item.data_length, text, sizeof text, &used, &at);
         place = item.next;
     }
 }

@@ -27,6 +27,10 @@ Wireshark: frame.number == 3
 of the same: nbns.id == 0x0003
 END
     prints 'nbt-look --summary of cut packets' --summary "$room/cut-60.pcap" <<'END'
+stations
+  address   mac                packets  names  refused  status  unit
+  10.0.0.5  02:00:00:00:00:05  25       -      -        -       -
+
 left out
   reason                  frames
   cut by the snap length  25

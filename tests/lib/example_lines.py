@@ -10,7 +10,7 @@ In the words of a call letters in `'` are bytes too; in a capture, `;` in them i
 `ID:FLAGS:OFFSET:BYTES`, a group fragment of 10.0.0.5:138/ID from JOE<00> to FRED<20>, and may have after it what is otherwise:
 `:kind=unique`, `:ip=10.0.0.6`, `:port=139`, `:from=ANN<00>`, `:to=FRED<20>.A`. A table's first number is how many keys it may
 hold, or `8:2` where two of one address may be among them. A station is `NAMES/KEYS/LONGEST/ADDRESS`; what is left out from the
-right on is 16 keys, 65,535 bytes, and 10.0.0.9:138.
+right on is 16 keys, 65,535 bytes, and 10.0.0.9:138; `<00..fd>` among its names is `<00>`, `<01>` and so on to `<fd>`.
 """
 import pathlib
 import re
@@ -18,8 +18,8 @@ import re
 FOLDER = pathlib.Path(__file__).resolve().parents[2] / 'crates' / 'nb_examples' / 'examples'
 SUBJECTS = ('names', 'service', 'session', 'datagram', 'text', 'table', 'member', 'memory', 'quiet')
 # Calls whose words end with a capture, and those whose first word is a station.
-OF_CAPTURES = ('member.replay', 'member.within', 'member.next', 'member.next_within')
-OF_STATIONS = ('member.names', 'member.hears', 'member.take', 'member.run', 'member.two', 'member.replay', 'member.within')
+OF_CAPTURES = ('member.replay', 'member.within', 'member.commented', 'member.over', 'member.next', 'member.next_within')
+OF_STATIONS = ('member.names', 'member.hears', 'member.take', 'member.run', 'member.two', *OF_CAPTURES[:4])
 STATION = ('16', '65535', '10.0.0.9:138')
 # As many keys of one address as a table has of all.
 ANY_SOURCE = '4294967295'
@@ -91,10 +91,17 @@ def of_table(part):
     return ' '.join(fragment(it) if re.match(r'[0-9a-f]+:[0-9a-f]{2}:\d+:', it) else it for it in part.split(' '))
 
 
+def all_between(found):
+    """The names without letters whose last bytes are these and those between them."""
+    first, last = (int(it, 16) for it in found.groups())
+    return ','.join(f'<{it:02x}>' for it in range(first, last + 1))
+
+
 def of_station(words):
     """The words after a station, which has all its parts."""
     station, *others = words.split(' ')
     names, *limits = station.split('/')
+    names = re.sub(r'<(\w\w)\.\.(\w\w)>', all_between, names)
     limits += STATION[len(limits) :]
     if ':' not in limits[0]:
         limits[0] += f':{ANY_SOURCE}'
@@ -114,10 +121,16 @@ def asked(call, words):
     if call in OF_CAPTURES:
         words = re.sub(r"'[^']*'", lambda found: found[0].replace(';', '\n'), words)
     words = re.sub(r"'([^']*)'", lambda found: found[1].encode().hex(), words)
-    if call.startswith('table.') and call != 'table.reassembled':
+    if call == 'table.write_saved':
+        *device, table = words.split(' ', 3)
+        words = ' '.join((*device, of_table(table)))
+    elif call.startswith('table.') and call != 'table.reassembled':
         words = ' | '.join(map(of_table, words.split(' | ')))
     if call in OF_STATIONS:
         words = of_station(words)
+    if call == 'member.both':
+        one, others = words.split(' ', 1)
+        words = f'{of_station(one)} {of_station(others)}'
     return ' '.join(map(shorter, words.split(' ')))
 
 

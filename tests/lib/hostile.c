@@ -61,6 +61,11 @@ static uint32_t service_item(const struct asked *asked, void *into, size_t *at) 
     return nbt_service_item(asked->first.at, asked->first.length, (uint32_t)asked->number, asked->place, into, at);
 }
 
+/* The record's RDATA stands at `place`, and has `number` bytes. */
+static uint32_t service_domain(const struct asked *asked, uint8_t *into, size_t length, size_t *used, size_t *at) {
+    return nbt_service_domain(asked->first.at, asked->first.length, asked->place, (size_t)asked->number, into, length, used, at);
+}
+
 #define READS_PART(name) \
     static uint32_t name(const struct asked *asked, void *into, size_t *at) { \
         return nbt_##name((uint16_t)asked->number, asked->first.at, asked->first.length, asked->place, into, at); \
@@ -162,12 +167,16 @@ static void parts(struct bytes data) {
 static void of_137(struct bytes payload) {
     const size_t places[] = {0, 11, 12, payload.length - (payload.length > 0), payload.length, payload.length + 1, SIZE_MAX / 2, SIZE_MAX};
     static const uint32_t numbers[] = {0, 1, 2, UINT16_MAX, UINT32_MAX};
+    static const size_t rdata[] = {12, 23, SIZE_MAX}, sizes[] = {0, 3, UINT16_MAX, SIZE_MAX};
     size_t i, j;
     FILL_IN(service_header, nbt_service_header, .first = payload);
     FILL_IN(service_read, nbt_service_header, .first = payload);
     for (i = 0; i < COUNT(places); i++)
         for (j = 0; j < COUNT(numbers); j++)
             FILL_IN(service_item, nbt_service_item, .first = payload, .number = numbers[j], .place = places[i]);
+    for (i = 0; i < COUNT(rdata); i++)
+        for (j = 0; j < COUNT(sizes); j++)
+            WRITE(service_domain, .first = payload, .number = sizes[j], .place = rdata[i]);
     told(payload);
 }
 

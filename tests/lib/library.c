@@ -270,6 +270,40 @@ static void answered(const struct nbt_service_header *front, const struct nbt_se
     expect(memcmp(into + wanted - item->data_length, data, item->data_length) == 0 && is_filled(into + wanted, 3), "nbt_service_response: RDATA");
 }
 
+/* The name that stands from a place to an end of a payload is read as this one, in each room, and nowhere else is its end. */
+static void domain(const uint8_t *payload, size_t length, size_t place, size_t end, const uint8_t *wanted, size_t wanted_length)
+{
+    uint8_t *into;
+    size_t used, at, rest, i;
+    uint32_t status;
+    for (i = 0; i < 3; i++) {
+        rest = i == 0 ? 0 : i == 1 ? wanted_length - 1 : wanted_length + 3;
+        into = room(packets, rest);
+        used = 77;
+        at = 88;
+        status = nbt_service_domain(payload, length, place, end - place, into, rest, &used, &at);
+        expect(status == (i < 2 ? NBT_NO_ROOM : NBT_DONE) && used == wanted_length && at == 88, "nbt_service_domain: how many bytes");
+        expect(is_filled(into + (i < 2 ? 0 : wanted_length), i < 2 ? rest : 3), "nbt_service_domain: bytes that it shouldn't write");
+    }
+    expect(memcmp(into, wanted, wanted_length) == 0, "nbt_service_domain: the spelling");
+    for (i = 0; i < 2; i++) {
+        used = 77;
+        status = nbt_service_domain(payload, length, place, end - place + (i == 0 ? 1 : (size_t)0 - 1), into, rest, &used, &at);
+        expect(status == NBT_NAME_RDATA && at == place && used == 77, "nbt_service_domain: another end");
+    }
+    calls += 5;
+}
+
+/* An item that a name's fault refuses: its own name has that fault, or it stands, and the fault is that of the name in its RDATA. */
+static void nameless(const uint8_t *payload, size_t length, size_t place, uint32_t status, size_t fault)
+{
+    uint8_t into[255];
+    size_t used = 77, at = 88;
+    uint32_t found = nbt_service_domain(payload, length, place, SIZE_MAX, into, sizeof into, &used, &at);
+    expect(used == 77 && (found == status ? at == fault : found == NBT_NAME_RDATA && at == place), "nbt_service_domain: the fault of a name");
+    calls += 1;
+}
+
 /* The questions and records of a payload, one by one: those of the packet or, where there is none, those before its fault. */
 static void service(const uint8_t *payload, size_t length)
 {
@@ -291,11 +325,14 @@ static void service(const uint8_t *payload, size_t length)
         calls += 1;
         if (last != NBT_DONE) {
             expect(is_filled((const uint8_t *)&item, sizeof item), "nbt_service_item: an item is filled in though nothing is done");
+            if (last >= NBT_NAME_TRUNCATED && last <= NBT_NAME_BAD_POINTER)
+                nameless(payload, length, place, last, other);
             break;
         }
         expect(other == 99 && place < item.data && item.data + item.data_length == item.next && item.next <= length, "nbt_service_item: the places");
         expect(item.name_length > 0 && item.name[item.name_length - 1] == 0, "nbt_service_item: the name");
         expect(item.section > 0 || (item.data_length == 0 && item.time_to_live == 0), "nbt_service_item: a question");
+        domain(payload, length, place, item.data - (item.section > 0 ? 10 : 4), item.name, item.name_length);
         addresses(item.type, payload + item.data, item.data_length);
         nodes(item.type, payload + item.data, item.data_length);
         if (item.section > 0 && item.netbios == 1)
@@ -695,10 +732,10 @@ static void faulty(void)
 {
     static const uint8_t pointer[] = "\0\1\0\0" "\0\1\0\0\0\0\0\0" "\xc0\x0c\0\x20\0\1";
     static const uint8_t server[] = "\0\1\0\0" "\0\0\0\0\0\1\0\0" "\0\0\2\0\1" "\0\0\0\0" "\0\3" "\1A\0" "..";
-    uint8_t longer[sizeof server];
+    uint8_t longer[sizeof server], into[3];
     struct nbt_service_header header;
     struct nbt_service_item item;
-    size_t at = 88;
+    size_t used = 77, at = 88;
     expect(nbt_service_read(pointer, 18, &header, &at) == NBT_NAME_BAD_POINTER && at == 12, "nbt_service_read: a pointer to itself");
     expect(nbt_service_item(pointer, 18, 0, 12, &item, &at) == NBT_NAME_BAD_POINTER && at == 12, "nbt_service_item: a pointer to itself");
     expect(nbt_service_read(server, 26, &header, &at) == NBT_DONE && header.used == 26, "nbt_service_read: a name in RDATA");
@@ -711,7 +748,12 @@ static void faulty(void)
     longer[22] = 4;
     expect(nbt_service_read(longer, 27, &header, &at) == NBT_NAME_RDATA && at == 23, "nbt_service_read: RDATA longer than its name");
     expect(nbt_service_item(longer, 27, 0, 12, &item, &at) == NBT_NAME_RDATA && at == 23, "nbt_service_item: RDATA longer than its name");
-    calls += 10;
+    expect(nbt_service_domain(longer, 27, 23, 4, into, sizeof into, &used, &at) == NBT_NAME_RDATA && at == 23, "nbt_service_domain: RDATA longer than its name");
+    expect(nbt_service_domain(server, 26, 23, 3, into, sizeof into, &used, &at) == NBT_DONE && used == 3 && memcmp(into, server + 23, 3) == 0, "nbt_service_domain: a name in RDATA");
+    expect(nbt_service_domain(server, 26, 23, SIZE_MAX, into, sizeof into, &used, &at) == NBT_NAME_RDATA && at == 23, "nbt_service_domain: the greatest length");
+    expect(nbt_service_domain(server, 26, SIZE_MAX, 3, into, sizeof into, &used, &at) == NBT_NAME_TRUNCATED && at == SIZE_MAX, "nbt_service_domain: the last place of all");
+    expect(nbt_service_domain(pointer, 18, 12, 2, into, sizeof into, &used, &at) == NBT_NAME_BAD_POINTER && at == 12, "nbt_service_domain: a pointer to itself");
+    calls += 15;
 }
 
 /* Inputs and outputs of no bytes, which stand nowhere: null is as good as any other place. */
@@ -747,6 +789,7 @@ static void nowhere(void)
     expect(nbt_service_address(0x20, NULL, 0, 0, &entry, &at) == NBT_NO_PART && at == 0, "nbt_service_address: null");
     expect(nbt_service_node(0x21, NULL, 0, 0, &node, &at) == NBT_OTHER_RDATA, "nbt_service_node: null");
     expect(nbt_service_unit(0x21, NULL, 0, &unit, &at) == NBT_OTHER_RDATA, "nbt_service_unit: null");
+    expect(nbt_service_domain(NULL, 0, 0, 0, NULL, 0, &used, &at) == NBT_NAME_TRUNCATED && at == 0, "nbt_service_domain: null");
     expect(nbt_datagram_read(NULL, 0, &of_138, &at) == NBT_TRUNCATED && at == 0, "nbt_datagram_read: null");
     expect(nbt_datagram_front(NULL, 0, &front, &at) == NBT_TRUNCATED && at == 0, "nbt_datagram_front: null");
     expect(nbt_session_read(NULL, 0, &of_139, &at) == NBT_MORE && at == 4, "nbt_session_read: null");

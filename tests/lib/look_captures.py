@@ -153,7 +153,7 @@ def disputes():
     for at, both, place, data in ((70, ends, 100, REQUEST), (71, ends[::-1], 500, POSITIVE), (72, ends, 100 + len(REQUEST), SHORT),
                                   (73, ends[::-1], 500 + len(POSITIVE), OTHER)):
         lan.segment(at, both, place, data)
-    lan.says(80, 5, 6, 137, bytes.fromhex('000c01100001000000000000') + b'\x40' + bytes(8))
+    lan.says(400, 5, 6, 137, bytes.fromhex('000c01100001000000000000') + b'\x40' + bytes(8))
     return pcap(lan.frames)
 
 

@@ -18,6 +18,19 @@ def frame(data):
     return struct.pack('<LLLL', 1, 0, len(data), len(data)) + data
 
 
+PLAIN_GRE = bytes([0, 0, 8, 0])
+
+
+def packet(data, protocol=17, is_udp=True):
+    """A packet of IPv4 with data, on port 137 where it is UDP."""
+    inside = struct.pack('>HHHH', 137, 137, 8 + len(data), 0) + data if is_udp else data
+    return struct.pack('>BBHHHBBH', 0x45, 0, 20 + len(inside), 1, 0, 64, protocol, 0) + bytes([10, 0, 0, 5, 10, 0, 0, 9]) + inside
+
+
+def ethernet(data):
+    return bytes([1, 2, 3, 4, 5, 6, 2, 0, 0, 0, 0, 9, 8, 0]) + data
+
+
 def at(line, moment, number, source='10.0.0.5', target='10.0.0.255'):
     """A line of `nbt build` at a moment, after the comment on its frame."""
     port, _, digits = line.split()
@@ -28,15 +41,15 @@ def at(line, moment, number, source='10.0.0.5', target='10.0.0.255'):
 def conflicts(program):
     """Claims of one name by several stations, refusals, a demand, node statuses, and a query without an answer."""
     made = [
-        (program.build('registration', '0001', 'FRED<20>', '300', '0000', '10.0.0.5'), '10.0.0.5', '10.0.0.255'),
-        (program.build('registration', '0002', 'FRED<20>', '300', '0000', '10.0.0.6'), '10.0.0.6', '10.0.0.255'),
+        (program.build('--broadcast', 'registration', '0001', 'FRED<20>', '300', '0000', '10.0.0.5'), '10.0.0.5', '10.0.0.255'),
+        (program.build('--broadcast', 'registration', '0002', 'FRED<20>', '300', '0000', '10.0.0.6'), '10.0.0.6', '10.0.0.255'),
         (program.build('response', '0002', 'ad86', 'FRED<20>', '0020', '0', '00000a000005'), '10.0.0.5', '10.0.0.6'),
-        (program.build('registration', '0003', 'GROUP<00>', '0', '8000', '10.0.0.5'), '10.0.0.5', '10.0.0.255'),
-        (program.build('registration', '0004', 'ANN<00>', '60', '0000', '10.0.0.7'), '10.0.0.7', '10.0.0.255'),
-        (program.build('registration', '0005', 'ANN<00>', '60', '0000', '10.0.0.8'), '10.0.0.8', '10.0.0.255'),
+        (program.build('--broadcast', 'registration', '0003', 'GROUP<00>', '0', '8000', '10.0.0.5'), '10.0.0.5', '10.0.0.255'),
+        (program.build('--broadcast', 'registration', '0004', 'ANN<00>', '60', '0000', '10.0.0.7'), '10.0.0.7', '10.0.0.255'),
+        (program.build('--broadcast', 'registration', '0005', 'ANN<00>', '60', '0000', '10.0.0.8'), '10.0.0.8', '10.0.0.255'),
         (program.build('response', '0005', 'ad07', 'ANN<00>', '0020', '0', '00000a000007'), '10.0.0.7', '10.0.0.8'),
-        (program.build('release', '0006', 'GROUP<00>', '8000', '10.0.0.5'), '10.0.0.5', '10.0.0.255'),
-        (program.build('query', '0007', 'NOBODY<20>'), '10.0.0.9', '10.0.0.255'),
+        (program.build('--broadcast', 'release', '0006', 'GROUP<00>', '8000', '10.0.0.5'), '10.0.0.5', '10.0.0.255'),
+        (program.build('--broadcast', 'query', '0007', 'NOBODY<20>'), '10.0.0.9', '10.0.0.255'),
         (program.build('status', '0008', 'FRED<20>'), '10.0.0.9', '10.0.0.5'),
         (program.build('response', '0008', '8400', 'FRED<20>', '0021', '0', '0146524544202020202020202020202020200400020000000001'), '10.0.0.5', '10.0.0.9'),
         (['137 0 0003011000010000\n'], '10.0.0.66', '10.0.0.255'),

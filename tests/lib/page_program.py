@@ -15,7 +15,7 @@ class Program:
     """The program and its tools, by the names that they have once installed."""
 
     def __init__(self, program, top):
-        self.top = top
+        self.path, self.top = program, top
         self.folder = tempfile.TemporaryDirectory()
         for name, path in (('nbt', program), ('nbt-look', f'{top}/tools/nbt-look'), ('nbt-pcap2cap', f'{top}/tools/pcap2cap'),
                            ('nbt-cap2pcap', f'{top}/tools/cap2pcap')):

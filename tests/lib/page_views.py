@@ -2,6 +2,7 @@
 import os
 
 import page_files
+import summary_cases
 from page_checks import check, equal
 
 # What is known of a datagram whose first bytes came alone.
@@ -18,16 +19,27 @@ class ViewCases:
             self.browser.open(self.page)
             self.browser.give(path)
             self.browser.view('names')
-            self.browser.wait(self.browser.tables)
+            self.browser.wait(self.names_are_drawn)
             shown, wanted = self.browser.tables(), self.program.summary(path)
-            for title in ('datagrams', 'failed datagrams'):
-                wanted.pop(title, None)
             equal(sorted(shown), sorted(wanted), f'the tables of {os.path.basename(path)}')
             for title, rows in wanted.items():
                 equal(shown.get(title), rows, f'{os.path.basename(path)}, {title}')
-        equal([row[7] for row in shown['names'][1:] if row[4] == 'refused'], ['-'], 'a refused claim has no lifetime')
+        equal([row[7] for row in shown['names'][1:] if row[4] == 'refused'], ['-', '-'], 'a refused claim has no lifetime')
         equal(shown['conflicts'][1:], [['FRED<20>', '10.0.0.5', '10.0.0.6', '10.0.0.5', '3'], ['ANN<00>', '10.0.0.7', '10.0.0.8', '10.0.0.7', '7']], 'the conflicts')
         self.losers()
+
+    def names_are_drawn(self):
+        """Whether all tables of names are there, those of datagrams too, which come later."""
+        return self.browser.tables() and self.browser.id('view-names').get_attribute('aria-busy') is None
+
+    def datagrams(self):
+        """The tables of datagrams are those of the cases of tests/summary/."""
+        for number, case in enumerate(each for each in summary_cases.cases() if each.file == 'datagrams.txt'):
+            self.browser.open(self.page, '#names')
+            self.browser.give(self.path(f'case-{number}.pcap', summary_cases.capture_of(case, self.program.path)))
+            self.browser.wait(self.names_are_drawn)
+            shown = {title: summary_cases.Table(*[rows[0], rows[1:]]) for title, rows in self.browser.tables().items()}
+            equal(summary_cases.difference(case, shown), '', f'{case.file}: {case.what}')
 
     def losers(self):
         """Who holds a name and who was refused it is said, and has another color."""
@@ -43,7 +55,7 @@ class ViewCases:
         self.browser.all('.outcomes a')[1].click()
         self.browser.wait(lambda: self.browser.texts('#packet h2') == ['Frame 7'])
         self.browser.open(self.page)
-        self.browser.give(self.path('undecided.pcap', self.program.pcap(page_files.conflicts(self.program)[:4])))
+        self.browser.give(self.path('undecided.pcap', self.program.pcap([*page_files.conflicts(self.program)[:4], *page_files.conflicts(self.program)[-2:]])))
         self.browser.view('names')
         self.browser.wait(self.browser.tables)
         equal(self.browser.texts('.outcomes li'), ['FRED<20>: 10.0.0.5 and 10.0.0.6 claim it, and nobody was refused it. frame 2'], 'a conflict that nobody decided')

@@ -2,7 +2,7 @@
 """The pages beside the sources: what they name is there, and what they list is all.
 
 Usage: tests/lib/pages.py, whose last line is 'N passed, M failed'; --write writes docs/LAWS.md anew, --wrong-bodies prints what the
-files of wrong-bodies/ say. A case is
+files of must-fail/ and wrong-bodies/ say. A case is
 
 - a file, a folder, or a name of the sources in backticks, on a page;
 - a public call of a library, which docs/PROMISES.md has in a row, or which answers a part of its value; a row, which has each
@@ -10,6 +10,8 @@ files of wrong-bodies/ say. A case is
 - a word of docs/DEFINITIONS.md or docs/REASSEMBLY.md, which stands in the file that its row or its heading names;
 - docs/LAWS.md, which is what the sources say of the laws;
 - a file of wrong-bodies/, which says what is wrong, why and where it is refused, and whose old lines stand once in the file that it changes;
+  a file of must-fail/, which says what is wrong and why, and stands in the table of named wrong bodies in docs/PROOFS.md, and each that
+  stands there;
 - the crates of the table of costs in docs/PROOFS.md.
 """
 import functools
@@ -81,7 +83,9 @@ def names():
     for path, text in pages():
         for ticked in sorted(set(TICKED.findall(text))):
             if re.fullmatch(r'(?:\w+/)?\w+-[a-z0-9]+(?:_[a-z0-9]+)+', ticked):
-                yield f'/wrong-bodies/{ticked.split("/")[-1]}.edit' in endings(), f'{path.relative_to(ROOT)} names the wrong body `{ticked}`'
+                name = ticked.split('/')[-1]
+                is_there = not {f'/wrong-bodies/{name}.edit', f'/must-fail/{name}.edit'}.isdisjoint(endings())
+                yield is_there, f'{path.relative_to(ROOT)} names the wrong body `{ticked}`'
             elif re.fullmatch(r'(?:\w+::)*(?:[A-Za-z]\w*_\w+|[A-Z][a-z]+[A-Z]\w*)|\w+(?:::\w+)+', ticked):
                 yield ticked in ELSEWHERE or all(it in named() for it in ticked.split('::')), f'{path.relative_to(ROOT)} names `{ticked}`'
 
@@ -167,23 +171,45 @@ def laws():
 
 
 def edits():
-    """Each file of wrong-bodies/, with its crate and its lines."""
-    for path in sorted(CRATES.glob('*/wrong-bodies/*.edit')):
-        fields = [line.split(': ', 1) for line in path.read_text(encoding='utf-8').splitlines() if ': ' in line]
-        yield path.parents[1].name, path.stem, fields
+    """Each file of must-fail/ and wrong-bodies/, by its path in crates/, with its lines."""
+    for path in sorted(it for folder in ('must-fail', 'wrong-bodies') for it in CRATES.glob(f'*/{folder}/*.edit')):
+        lines = (line.removeprefix('# ').partition(':') for line in path.read_text(encoding='utf-8').splitlines())
+        yield path.relative_to(CRATES), [(head, rest.removeprefix(' ')) for head, _, rest in lines]
+
+
+def is_planted(crate, fields):
+    """Whether each old line stands once in its file, as the changes before it leave that."""
+    texts, file, old = {}, None, None
+    for head, rest in fields:
+        if head == 'file':
+            file = CRATES / crate / rest
+            texts.setdefault(file, file.read_text(encoding='utf-8') if file.is_file() else '')
+        elif head == 'old':
+            if texts.get(file, '').count(rest) != 1:
+                return False
+            old = rest
+        elif head == 'new':
+            texts[file] = texts[file].replace(old, rest)
+    return old is not None
 
 
 def wrong_bodies():
-    """Whether each file of wrong-bodies/ says what is wrong and why, and its old lines stand once where it changes them."""
-    for crate, name, fields in edits():
-        heads = [it for it, _ in fields[:4]]
-        changed = CRATES / crate / dict(fields).get('file', '')
-        text = changed.read_text(encoding='utf-8') if changed.is_file() else ''
-        is_there = all(text.count(old) == 1 for head, old in fields if head == 'old')
-        yield {'what', 'why', 'refused', 'file'} == set(heads) and is_there, f'{crate}/wrong-bodies/{name}.edit: what, why, refused, file, old lines'
+    """Whether each such file says what is wrong and why, and its old lines stand once where it changes them."""
+    for path, fields in edits():
+        heads = {'what', 'why', 'file'} | ({'refused'} if 'wrong-bodies' in path.parts else set())
+        is_right = heads <= {it for it, _ in fields} and is_planted(path.parts[0], fields)
+        yield is_right, f'{path}: {", ".join(sorted(heads))}, old lines'
         why = dict(fields).get('why', '')
         unknown = [it for it in re.findall(r'`(\w+(?:::\w+)*)`', why) if any(each not in named() for each in it.split('::'))]
-        yield not unknown, f'{crate}/wrong-bodies/{name}.edit names {unknown}'
+        yield not unknown, f'{path} names {unknown}'
+
+
+def named_bodies():
+    """Whether the table of named wrong bodies in docs/PROOFS.md has each file of must-fail/, and no other."""
+    stated = set(re.findall(r'`(nb\w*/must-fail/[\w-]+\.edit)`', (ROOT / 'docs' / 'PROOFS.md').read_text(encoding='utf-8')))
+    there = {str(path) for path, _ in edits() if path.parts[1] == 'must-fail'}
+    for it in sorted(stated | there):
+        yield it in stated & there, f'PROOFS.md has the named wrong body {it}' if it in there else f'{it}, a named wrong body, is there'
 
 
 def costs():
@@ -199,10 +225,10 @@ def main(word=''):
         LAWS.write_text(laws(), encoding='utf-8')
         return
     if word == '--wrong-bodies':
-        for crate, name, fields in edits():
-            print(f'{crate}/{name}: {dict(fields)["what"]}\n    {dict(fields)["why"]}')
+        for path, fields in edits():
+            print(f'{path.parts[0]}/{path.stem}: {dict(fields)["what"]}\n    {dict(fields)["why"]}')
         return
-    cases = [it for check in (places, names, promises, words, wrong_bodies, costs) for it in check()]
+    cases = [it for check in (places, names, promises, words, wrong_bodies, named_bodies, costs) for it in check()]
     cases.append((LAWS.exists() and LAWS.read_text(encoding='utf-8') == laws(), 'docs/LAWS.md is what tests/lib/pages.py --write makes'))
     for is_right, case in cases:
         if not is_right:

@@ -46,11 +46,25 @@ def captures(count, data=''):
     return b''.join(f'138 0 {packet(it, data=data)}\n'.encode() for it in range(count))
 
 
+def repeated(count):
+    """A capture whose lines say the same again and again: a packet of each port, a payload that is refused, a look at the clock."""
+    line = f'138 0 {packet(1, data="5a" * 300)}\n137 0 {"00" * 300}\n138 0 17\n139 0 85000000\ntick 1\n'
+    return line.encode() * count
+
+
 def pieces(*rows):
     """A capture of pieces with more to come, each an identifier, an offset and data, and what a replay says of them."""
     lines = (f'138 0 {packet(key, 1 if offset else 3, offset, data)}\n' for key, offset, data in rows)
     report = (f'{number} kept 10.0.0.5:138/{key:04x}\n' for number, (key, _, _) in enumerate(rows, 1))
     return ''.join(lines).encode(), ''.join(report).encode()
+
+
+def passing(addresses):
+    """A capture of first fragments, each of another address, and after each hundred a look at the clock, which drops them."""
+    start, end = packet(1).split('0a000005')
+    return b''.join(
+        f'138 {2_000 * (it // 100)} {start}{it:08x}{end}\n'.encode() + (b'tick %d\n' % (2_000 * (it // 100 + 1)) if it % 100 == 99 else b'')
+        for it in range(addresses))
 
 
 def chained(place):
@@ -82,6 +96,7 @@ def roomy():
              [(key, offset, half) for offset in (0, 32_000) for key in range(120)])]:
         given, report = pieces(*rows)
         yield name, ['replay', '--keys', '65535', 'FRED<20>'], given, report, limit
+    yield 'ever new addresses, a key each', ['save', '--per-source', '1'], passing(90_000), b'4e42543200000000\n', 3_700
     comments = (b'#' * 4_000 + b'\n') * 4_000
     for words, output in [(['show'], b''), (['replay', 'FRED<20>'], b''), (['save'], b'4e42543200000000\n')]:
         yield '16 MB of comments', words, comments, output, 3_500

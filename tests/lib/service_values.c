@@ -49,24 +49,16 @@ static void print_labels(const uint8_t *spelling, size_t length) {
     }
 }
 
-/* The name at a place where the library found one, so that its pointers go back and its spelling has at most 255 bytes. */
-static void print_name_at(const uint8_t *payload, size_t at) {
+/* The name of a server, in RDATA that stands in a payload. */
+static void print_domain(const uint8_t *payload, size_t payload_length, const struct nbt_service_item *it) {
     uint8_t spelling[255], text[1024];
-    size_t length = 0, used, fault;
-    while (payload[at] != 0) {
-        if (payload[at] >= 0xc0) {
-            at = ((size_t)payload[at] & 0x3f) << 8 | payload[at + 1];
-            continue;
-        }
-        memcpy(spelling + length, payload + at, 1 + (size_t)payload[at]);
-        length += 1 + (size_t)payload[at];
-        at += 1 + (size_t)payload[at];
-    }
-    spelling[length] = 0;
-    if (nbt_name_text(spelling, length + 1, text, sizeof text, &used, &fault) == NBT_DONE)
+    size_t length, used, at;
+    check(nbt_service_domain(payload, payload_length, it->data, it->data_length, spelling, sizeof spelling, &length, &at) == NBT_DONE,
+          "no name of a server");
+    if (nbt_name_text(spelling, length, text, sizeof text, &used, &at) == NBT_DONE)
         fwrite(text, 1, used, stdout);
     else
-        print_labels(spelling, length + 1);
+        print_labels(spelling, length);
 }
 
 /* The addresses of a name; false where the RDATA has another form. */
@@ -110,7 +102,7 @@ static bool print_nodes(const uint8_t *data, size_t length) {
     return true;
 }
 
-static void print_item(const uint8_t *payload, const struct nbt_service_item *it) {
+static void print_item(const uint8_t *payload, size_t payload_length, const struct nbt_service_item *it) {
     const uint8_t *data = payload + it->data;
     printf("  %u ", (unsigned)it->section);
     if (it->netbios) {
@@ -124,7 +116,7 @@ static void print_item(const uint8_t *payload, const struct nbt_service_item *it
         printf(" %u", (unsigned)it->time_to_live);
         if (it->type == NS) {
             printf(" domain ");
-            print_name_at(payload, it->data);
+            print_domain(payload, payload_length, it);
         } else if (!(it->type == NB && print_addresses(data, it->data_length))
                    && !(it->type == NBSTAT && print_nodes(data, it->data_length))) {
             printf(" bytes ");
@@ -155,7 +147,7 @@ static void print_payload(const uint8_t *payload, size_t length) {
     printf("  header %04x %04x %u %u %u %u used %zu\n", header.identifier, header.word, header.questions, header.answers,
            header.authorities, header.additional, used);
     for (number = 0; (last = nbt_service_item(payload, length, number, place, &item, &fault)) == NBT_DONE; number++) {
-        print_item(payload, &item);
+        print_item(payload, length, &item);
         place = item.next;
     }
     check(status == NBT_DONE ? last == NBT_NO_ITEM && whole.used == used : last == status && fault == at, "items and packet agree");

@@ -143,6 +143,7 @@ static void packets(uint32_t port)
         said("session_read", status, 0);
     if (length > 4)
         WRITE("session_write", nbt_session_write(payload[0], payload + 4, length - 4, into, room, &used, &at));
+    WRITE("service_domain", nbt_service_domain(payload, length, 12, number % 2 == 0 ? 34 : number % 50, into, room, &used, &at));
     WRITE("datagram_write", nbt_datagram_write((uint8_t)(0x10 + number % 4), (uint16_t)(number * 7), (uint32_t)number * 2654435761u, (uint16_t)(number * 3),
           bytes(name_of(number)), strlen(name_of(number)), bytes(name_of(number / 2)), strlen(name_of(number / 2)),
           payload, length, (uint16_t)(number * 37 % 600), into, room, &used, &at));

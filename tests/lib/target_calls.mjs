@@ -119,6 +119,7 @@ function packets(port, length) {
     if (status === DONE) fields('session', byte(0), ...sizes(8, 16, 24));
     else said('session_read', status, 0);
     if (length > 4) write('session_write', 'nbt_session_write', [memory[payload], big(payload + 4), big(length - 4)]);
+    write('service_domain', 'nbt_service_domain', [...given, 12n, big(number % 2 === 0 ? 34 : number % 50)]);
     write('datagram_write', 'nbt_datagram_write', [
         0x10 + (number % 4), times(7) & 0xffff, times(2654435761), times(3) & 0xffff, ...textAt(nameOf(number), 0),
         ...textAt(nameOf(number / 2), 64), ...given, (number * 37) % 600,

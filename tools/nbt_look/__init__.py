@@ -2,7 +2,7 @@
 
 arguments    its command line
 looking      one pass over a capture: from packets to what is printed of them
-items        packets, cut ones, and frames of which something is left out
+items        packets, cut ones, frames of which something is left out, and connections that are opened
 frames       items of the rows that tshark prints
 fragments    fragments of IP whose others are missing
 others       what tshark counts of packets that aren't read
@@ -10,7 +10,8 @@ without      frames that have no packet, and what they are
 texts        items of a capture that is text
 piped        standard input where it is a pipe
 telling      `nbt show --json` as children
-fronts       what stands of cut packets, in words
+reading      the texts that they answer
+fronts       what stands of packets that are cut or malformed, in words
 ordering     items by their frames
 filters      which packets are wanted
 kinds        the kinds of packets
@@ -24,13 +25,18 @@ whole        all of one frame
 advice       what to do about a fault, by its port
 tally        what the last line counts
 counts       counts in words
-summary      the summary, whose parts are these:
-claims       the claims of names, and what becomes of them
-names        who claims which name
+summary      the summary, by docs/SUMMARY.md, whose parts are these:
+messages     packets of port 137, by what they do with a name
+owners       which addresses are one station's
+waiting      requests, and which responses answer them
+tenures      a name at an address, from when to when
+claims       who claims and holds which name
+names        the same in rows
 conflicts    who holds a name, and who was refused it
 stations     who sends packets, and what they are called
 queries      queries without an answer
 sessions     who called whom
+replaying    `nbt replay` as a child, and what it reports
 datagrams    which are whole, incomplete, spoilt, and what those lack
 rooms        how many entries a part keeps
 page         a page for a browser with a capture in it

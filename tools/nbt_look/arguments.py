@@ -37,6 +37,7 @@ def judge(options):
     """Puts together what the words say, and refuses what doesn't go together."""
     options.kinds = [each for group in options.kinds for each in group]
     options.ports = [(each, each) for each in arguments.SERVICES] + [each for each in options.given_ports if isinstance(each, tuple)]
+    options.session_ports = {str(each) for each, service in options.ports if service == 139}
     options.only_ports = [each for each in options.given_ports if isinstance(each, str)]
     options.live = options.live or options.interface is not None
     if options.help:

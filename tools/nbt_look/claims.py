@@ -1,117 +1,305 @@
-"""The claims of names, and what becomes of them, packet by packet."""
-from .conflicts import TAKEN, Conflicts
-from .kinds import is_response
-from .parts import GROUP, entries, subject
+"""Who claims and holds which name, packet by packet: RFC 1002 sections 4.2.2 to 4.2.11 and 5.1. docs/SUMMARY.md has the rules."""
+from .conflicts import Conflicts
+from .messages import Act, Front
+from .owners import Owners
+from .parts import GROUP, names_of
 from .rooms import Room
+from .tenures import CLAIMING, KEPT, OBJECTING, Standing, Tenure
+from .waiting import SECOND, Waiting
 
-CLAIMS = ('registration', 'refresh', 15)
-ENDED = ('released', 'refused')
-# How many claims of a name are looked at for conflicts.
-MOST_HOLDERS = 16
-
-
-class Claim:
-    """That an address has a name: by whom, as a group or not, how it is known, since when, how many seconds from then on, and when it ended."""
-
-    def __init__(self, source, group, how, since):
-        self.source, self.group, self.how, self.since = source, group, how, since
-        self.lifetime = self.until = None
-        self.refusals = 0
+# What a response says of a name that another station has: RFC 1002 section 4.2.6.
+TAKEN = ('ACT_ERR', 'CFT_ERR')
+# How many tenures of a name are looked at for conflicts.
+MOST_OF_NAME = 64
+NO_UNIT = '000000000000'
 
 
 class Claims:
-    """All claims, and the conflicts among them."""
+    """The tenures of all names, and the conflicts among them."""
 
     def __init__(self):
-        self.room = Room()           # by name and address
-        self.faults = Room()         # conflicts by name, and refusals that are told to others than those who claim it
-        self.holders = Room()        # the first claims of each name, by address
+        self.tenures = Room()        # by name and address
+        self.of_name = Room()        # by name: the first of its tenures
+        self.owners = Owners()
+        self.waiting = Waiting(self.owners)
         self.conflicts = Conflicts()
+        self.latest = 0
+        self.acts = {Act.CLAIMS: self.claimed, Act.OVERWRITES: self.claimed, Act.GRANTS: self.granted, Act.REFUSES: self.refused,
+                     Act.DEMANDS: self.refused_or_demanded, Act.RELEASES: self.releases, Act.RELEASED: self.released, Act.ANSWERS: self.answered,
+                     Act.FINDS_NONE: self.finds_none, Act.WAITS: self.waits}
 
-    def take(self, item, shown):
+    def take(self, message):
         """Takes a packet; answers whether it is of a conflict."""
-        if item.service != 137 or 'op' not in shown:
+        self.see(message.at)
+        self.settle(message.name, message.at)
+        act = self.acts.get(message.act)
+        return bool(act and act(message))
+
+    def see(self, at):
+        """Takes the time of any packet: claims are over at the end of the capture that are over by then."""
+        self.latest = max(self.latest, at)
+
+    # ---- Claims, and what answers them.
+
+    def claimed(self, message):
+        """A claim holds by an overwrite demand, and without one where nobody objects to a broadcast."""
+        if message.name is None:
             return False
-        if is_response(shown):
-            return self.answered(item, shown, subject(shown))
-        if shown['op'] in CLAIMS:
-            return self.claimed(item, shown, 'claims')
-        if shown['op'] == 'release':
-            self.released(item, shown, subject(shown))
-        return False
-
-    def released(self, item, shown, name):
-        for each in entries(shown):
-            claim = self.room.entries.get((name, each['address']))
-            if claim:
-                claim.until, claim.how = item.frame.at, 'released'
-
-    def answered(self, item, shown, name):
-        op, code = shown['op'], shown['rcode']
-        if code == 'ok':
-            if op == 'query':
-                self.claimed(item, shown, 'is said to be')
-            return False
-        is_demand = code == 'CFT_ERR'
-        if op == 'query' and not is_demand:
-            return False
-        is_taken = code in TAKEN and op != 'release'
-        is_new = is_taken and op != 'query' and self.refused(item, shown, name)
-        claim = self.room.entries.get((name, item.target))
-        if claim and not is_demand:
-            claim.how, claim.refusals = 'refused', claim.refusals + 1
-        self.count(name, conflicts=is_demand or is_new, refusals=not is_demand and not claim)
-        return is_taken
-
-    def refused(self, item, shown, name):
-        """A station is told that another one has a name; answers whether nothing was known of that."""
-        others = [(address, each) for address, each in self.standing(name) if address != item.target]
-        named = next((each['address'] for each in entries(shown) if each['address'] != item.target), None)
-        return self.conflicts.refuse(name, others, named, item)
-
-    def standing(self, name):
-        """The claims of a name that are neither released nor refused, with their addresses."""
-        return [each for each in self.holders.entries.get(name, {}).items() if each[1].how not in ENDED]
-
-    def claimed(self, item, shown, how):
-        """Takes the addresses of each record; answers whether one of them is contested."""
-        at, is_contested = item.frame.at, False
-        for record in shown['answers'] + shown['additional']:
-            for each in record.get('entries', ()):
-                group = bool(int(each['flags'], 16) & GROUP)
-                name, address = record['name'], each['address']
-                claim = self.room.get((name, address), lambda group=group: Claim(item.source, group, how, at))
-                if claim is None:
-                    continue
-                if how == 'claims' and self.contest(item, name, address, claim, group):
-                    is_contested = True
-                if how == 'claims' or claim.how in ENDED:
-                    claim.how, claim.until = how, None
-                claim.group, claim.lifetime = group, record['ttl']
+        if message.is_broadcast and message.item.frame.source_mac:
+            self.owners.join(message.item.frame.source_mac, message.source)
+        request = self.waiting.put(message, 'claim')
+        request.subject, is_contested = [], False
+        for name, address, group, lifetime in message.places():
+            tenure = self.tenure(name, address, message.source)
+            if not tenure:
+                continue
+            request.subject.append(tenure)
+            if message.is_multihomed and message.source:
+                self.owners.join(message.source, address)
+            is_new = self.claim(tenure, group, message)
+            tenure.renew(lifetime, message.at)
+            if message.is_broadcast:
+                self.wait(tenure, message, request.times > 1)
+            if is_new and self.contest(tenure, message.at):
+                is_contested = True
         return is_contested
 
-    def contest(self, item, name, address, claim, group):
-        """Counts a claim of a unique name that another station claims, once for each of them; answers whether it is such."""
-        holders = self.holders.get(name, dict)
-        if holders is None or address in holders or len(holders) >= MOST_HOLDERS:
-            return False
-        others = self.standing(name)
-        holders[address] = claim
-        if group or all(each.source == item.source for _, each in others):
-            return False
-        self.count(name, conflicts=True)
-        self.conflicts.contest(name, [each for each, _ in others] + [address], item.frame.number)
+    @staticmethod
+    def claim(tenure, group, message):
+        """Takes a claim; answers whether it is more than one that stood already. What is cut changes nothing that is known."""
+        is_known = tenure.standing in CLAIMING
+        is_new = not is_known or group not in (None, tenure.group)
+        if not is_known:
+            tenure.begin(Standing.CLAIMS, message.at)
+            tenure.group = None
+        if message.front is Front.WHOLE or not is_known:
+            tenure.front = '' if message.front is Front.WHOLE else message.front.value
+        tenure.group = tenure.group if group is None else group
+        tenure.frame, tenure.is_multihomed = message.frame, message.is_multihomed
+        return is_new
+
+    @staticmethod
+    def wait(tenure, message, is_repeat):
+        """A broadcast claim, and each repeat of it, gives others time to object; an overwrite demand gives none."""
+        if is_repeat and tenure.is_silent:
+            tenure.begin(Standing.CLAIMS, message.at)
+        if tenure.standing is Standing.CLAIMS and message.act is Act.OVERWRITES:
+            tenure.begin(Standing.HOLDS, message.at)
+            tenure.due = None
+        elif tenure.standing is Standing.CLAIMS:
+            tenure.due = message.at + OBJECTING
+
+    def granted(self, message):
+        """A positive response; where its claim isn't in the capture, its record has the name and the address."""
+        for tenure in self.asked_for(message) or self.recorded(message):
+            is_new = tenure.standing is not Standing.HOLDS
+            tenure.begin(Standing.HOLDS, message.at)
+            tenure.due = None
+            tenure.renew(message.lifetime, message.at)
+            if is_new:
+                self.contest(tenure, message.at)
+
+    def refused(self, message):
+        """A negative response, whatever its code: it refuses what its request claims, or its target where that isn't in the capture."""
+        tenures = self.asked_for(message)
+        if message.name is None:
+            return self.left_open(tenures)
+        tenures = tenures or self.known(message.name, message.target)
+        addresses = [each.address for each in tenures]
+        for each in tenures:
+            each.end(Standing.REFUSED, None)
+            each.refusals += 1
+        is_taken = message.code in TAKEN
+        if is_taken or self.conflicts.is_open(message.name, addresses):
+            self.decide(message, addresses)
+        return is_taken
+
+    def refused_or_demanded(self, message):
+        """CFT_ERR with the identifier of a claim refuses it; with another one it is a conflict demand to its target."""
+        if message.name is None or self.asked_for(message):
+            return self.refused(message)
+        for each in self.known(message.name, message.target):
+            each.end(Standing.LOST, message.at)
+        self.decide(message, [message.target])
         return True
 
-    def count(self, name, conflicts=False, refusals=False):
-        if not conflicts and not refusals:
-            return
-        fault = self.faults.get(name, lambda: [0, 0])
-        if fault:
-            fault[0] += conflicts
-            fault[1] += refusals
+    def waits(self, message):
+        """A WACK: the answer may take as long as its TTL says."""
+        for each in self.waiting.of(message):
+            each.until = max(each.until, message.at + (message.lifetime or 0) * SECOND)
+
+    def asked_for(self, message):
+        """The tenures of the claims that a response answers."""
+        return [tenure for request in self.waiting.of(message) if request.kind == 'claim' for tenure in request.subject]
+
+    @staticmethod
+    def left_open(tenures):
+        """An answer of which no name stands may be an objection: silence decides nothing then."""
+        for each in tenures:
+            each.due = None
+        return False
+
+    # ---- Releases.
+
+    def releases(self, message):
+        """A broadcast release of a holder ends what it names; another one waits for its answer."""
+        if not message.is_broadcast and message.name is not None:
+            self.waiting.put(message, 'release').subject = message.places()
+        for name, address, *_ in message.places() if message.is_broadcast else ():
+            found = self.tenures.entries.get((name, address))
+            if not message.source or self.owners.are_one(message.source, address) or (found and self.is_of(found, message.source)):
+                self.release(name, address, message.at)
+
+    def released(self, message):
+        """A positive release response."""
+        requests = [each for each in self.waiting.of(message) if each.kind == 'release']
+        for name, address, *_ in [each for request in requests for each in request.subject] or message.places():
+            self.release(name, address, message.at)
+
+    def release(self, name, address, at):
+        tenure = self.tenure(name, address, address)
+        if tenure:
+            tenure.end(Standing.RELEASED, at)
+
+    # ---- What other packets say of names.
+
+    def answered(self, message):
+        """A positive query response holds for the addresses of its sender; a node status response for the names of its sender."""
+        own = [address for address in message.named() if self.owners.are_one(address, message.source)]
+        for name, address, group, lifetime in message.places():
+            tenure = self.tenure(name, address, address)
+            if not tenure:
+                continue
+            if own and group is False:
+                self.owners.join(message.source, address)
+            if own and self.owners.are_one(address, message.source):
+                self.hold(tenure, group, message)
+            elif tenure.standing not in KEPT:
+                tenure.begin(Standing.SAID, message.at)
+                tenure.group = group
+            tenure.renew(lifetime, message.at)
+        return self.status(message)
+
+    def hold(self, tenure, group, message):
+        is_new = tenure.standing is not Standing.HOLDS or tenure.group != group
+        tenure.begin(Standing.HOLDS, message.at)
+        tenure.group, tenure.due = group, None
+        if is_new:
+            tenure.frame = message.frame
+            self.contest(tenure, message.at)
+
+    def status(self, message):
+        """The names of a node status: those that are active are held, those in conflict are lost, by its sender's own word."""
+        is_conflict = False
+        for record in message.shown['answers']:
+            if record.get('unit', NO_UNIT) != NO_UNIT and message.source:
+                self.owners.join(record['unit'], message.source)
+        for each in names_of(message.shown) if message.source else ():
+            self.settle(each['name'], message.at)
+            tenure = self.tenure(each['name'], message.source, message.source)
+            if not tenure:
+                continue
+            if 'CNF' in each['set']:
+                is_conflict = True
+                tenure.end(Standing.LOST, message.at)
+                self.conflicts.decide(each['name'], message.source, self.holders(each['name'], [message.source], message), message.source, message.frame)
+            elif 'ACT' in each['set'] and 'DRG' not in each['set']:
+                self.hold(tenure, bool(int(each['flags'], 16) & GROUP), message)
+        return is_conflict
+
+    def finds_none(self, message):
+        """A negative query response with CFT_ERR says that a name is in conflict, and not who has it."""
+        if message.code != 'CFT_ERR' or message.name is None:
+            return False
+        self.conflicts.decide(message.name, '', [], message.source, message.frame)
+        return True
+
+    # ---- Tenures.
+
+    def tenure(self, name, address, station):
+        """The tenure of a name at an address, made where there is none; None where there is no room for it."""
+        found = self.tenures.get((name, address), lambda: Tenure(name, address, station or address))
+        kept = found and self.of_name.get(name, list)
+        if kept is not None and found not in kept:
+            if len(kept) >= MOST_OF_NAME:
+                kept[:] = [each for each in kept if each.standing in CLAIMING]
+            if len(kept) < MOST_OF_NAME:
+                kept.append(found)
+        return found
+
+    def recorded(self, message):
+        """The tenures that a response's own records name."""
+        found = []
+        for name, address, group, _ in message.places():
+            tenure = self.tenure(name, address, address)
+            if tenure:
+                tenure.group = group
+                found.append(tenure)
+        return found
+
+    def known(self, name, address):
+        """The tenures of a name that a station has, or one more for its address."""
+        found = [each for each in self.of_name.entries.get(name, ()) if each.standing in KEPT and self.is_of(each, address)]
+        made = None if found else self.tenure(name, address, address)
+        return found or ([made] if made else [])
+
+    def is_of(self, tenure, address):
+        """Whether a tenure is the station's that has this address."""
+        return bool(address) and (self.owners.are_one(tenure.address, address) or self.owners.are_one(tenure.station, address))
+
+    def settle(self, name, at):
+        """Looks at the clock for the tenures of a name."""
+        for each in self.of_name.entries.get(name, ()):
+            self.settle_one(each, at)
+
+    def settle_one(self, tenure, at):
+        held = tenure.settle(at)
+        if held is not None:
+            self.contest(tenure, held)
+
+    def finish(self):
+        """What is known at the end alone."""
+        for each in self.tenures.entries.values():
+            self.settle_one(each, self.latest)
+
+    # ---- Conflicts.
+
+    def contest(self, tenure, at):
+        """Opens a conflict with those that claim or hold the name too; answers whether one of them holds it, or will by silence."""
+        others = [each for each in self.of_name.entries.get(tenure.name, ()) if self.is_against(each, tenure, at)]
+        if not others:
+            return False
+        is_held = any(each.standing is Standing.HOLDS for each in (*others, tenure))
+        self.conflicts.open(tenure.name, [each.address for each in others], tenure.address, is_held, tenure.frame)
+        return is_held or any(each.due is not None for each in (*others, tenure))
+
+    def is_against(self, other, tenure, at):
+        """Whether two tenures of a name are in conflict: of two stations, and not of one group. By operation 15 two claims are of one station."""
+        if other is tenure or not other.stands(at) or other.is_multihomed and tenure.is_multihomed:
+            return False
+        if None in (other.group, tenure.group) or (other.group and tenure.group):
+            return False
+        return not self.owners.are_one(other.station, tenure.station) and not self.owners.are_one(other.address, tenure.address)
+
+    def decide(self, message, addresses):
+        """Somebody is refused a name, or has to give it up."""
+        holders = self.holders(message.name, addresses, message)
+        for each in addresses:
+            self.conflicts.decide(message.name, each, holders, message.source, message.frame)
+
+    def holders(self, name, lost, message):
+        """Who holds a name that others are refused: who refuses it, if that one does, with its group; else whom the response names; else those
+        that hold it in the capture, or are said to. Nobody is invented."""
+        others = [each for each in self.of_name.entries.get(name, ()) if each.standing in KEPT and each.address not in lost]
+        holding = [each for each in others if each.standing is Standing.HOLDS] or [each for each in others if each.due is not None]
+        own = [each for each in holding if self.is_of(each, message.source)]
+        if own:
+            return [each.address for each in (holding if own[0].group else own)]
+        named = [each for each in message.named() if each not in lost and not any(self.owners.are_one(each, one) for one in lost)]
+        said = [each for each in others if each.standing is Standing.SAID]
+        return named or [each.address for each in holding or said]
 
     def is_refused(self, name, address):
         """Whether a name was claimed for an address, and that was refused."""
-        claim = self.room.entries.get((name, address))
-        return claim is not None and claim.how == 'refused'
+        found = self.tenures.entries.get((name, address))
+        return found is not None and found.standing is Standing.REFUSED

@@ -1,19 +1,37 @@
-"""Conflicts about names: who holds one, who was refused it, and by whom; or who claims it, while nobody is refused."""
+"""Conflicts about names: who holds one, who was refused it or has to give it up, and by whom; or who claims it, while nobody is refused."""
+from dataclasses import dataclass, field
+
 from .rooms import Room
 
-# What a response says of a name that another station has: RFC 1002 section 4.2.6.
-TAKEN = ('ACT_ERR', 'CFT_ERR')
 
-
+@dataclass
 class Conflict:
-    """A conflict. Where nobody is refused it has several claimants, and where it isn't known who holds the name none."""
+    """A conflict in which somebody is refused a name. Where it isn't known who holds it there is no holder."""
 
-    def __init__(self, name, claimants, frame, refused=None, by=None):
-        self.name, self.claimants, self.frame = name, claimants, frame
-        self.refused, self.by = refused, by
+    name: str
+    holders: list
+    frame: int
+    refused: str
+    by: str = None
 
     def row(self):
-        return {'name': self.name, 'holder': self.claimants, 'refused': self.refused, 'by': self.by, 'frame': self.frame}
+        return {'name': self.name, 'holder': self.holders, 'refused': self.refused or None, 'by': self.by or None, 'frame': self.frame}
+
+
+@dataclass
+class Undecided:
+    """A conflict in which nobody is refused: pairs of addresses of which both claim a name. It counts once one of them holds the name."""
+
+    name: str
+    frame: int
+    pairs: dict = field(default_factory=dict)
+    is_held: bool = False
+
+    def claimants(self):
+        return list(dict.fromkeys(each for pair in self.pairs for each in pair))
+
+    def row(self):
+        return {'name': self.name, 'holder': self.claimants(), 'refused': None, 'by': None, 'frame': self.frame}
 
 
 class Conflicts:
@@ -21,44 +39,46 @@ class Conflicts:
 
     title = 'conflicts'
     head = ('name', 'holder', 'refused', 'by', 'frame')
-    texts = {'holder': lambda claimants: ' or '.join(claimants) or 'not in the capture', 'refused': lambda refused: refused or 'nobody'}
+    texts = {'holder': lambda claimants, row: (', ' if row['by'] else ' or ').join(claimants) or 'not in the capture',
+             'refused': lambda refused, row: refused or 'nobody'}
 
     def __init__(self):
-        self.open = Room()           # by name: those in which nobody is refused until now
+        self.undecided = Room()      # by name: those in which nobody is refused until now
         self.decided = Room()        # by name and who is refused it
 
-    def contest(self, name, claimants, frame):
-        """A station claims a name that others claim."""
-        conflict = self.open.get(name, lambda: Conflict(name, claimants, frame))
+    def open(self, name, others, claimant, is_held, frame):
+        """A station claims a name that others claim, of which one may hold it."""
+        conflict = self.undecided.get(name, lambda: Undecided(name, frame))
         if conflict:
-            conflict.claimants = claimants
+            conflict.pairs.update(dict.fromkeys((each, claimant) for each in others))
+            conflict.is_held |= is_held
 
-    def refuse(self, name, others, named, item):
-        """A response says that another station has the name: one of the others that claim it, or the one that is named there.
-        Answers whether no conflict of who is refused it was known."""
-        by, refused, frame = item.source, item.target, item.frame.number
-        left = self.open.entries.get(name)
-        is_new = (name, refused) not in self.decided.entries and not (left and refused in left.claimants)
-        conflict = self.decided.get((name, refused), lambda: Conflict(name, [], frame, refused))
+    def is_open(self, name, addresses):
+        """Whether one of these claims a name that another station holds."""
+        conflict = self.undecided.entries.get(name)
+        return conflict is not None and conflict.is_held and not set(addresses).isdisjoint(conflict.claimants())
+
+    def decide(self, name, refused, holders, by, frame):
+        """A station is refused a name, or has to give it up."""
+        conflict = self.decided.get((name, refused), lambda: Conflict(name, holders, frame, refused))
         if conflict:
-            conflict.claimants = holder_of(others, by, named)
+            conflict.holders = holders or conflict.holders
             conflict.by, conflict.frame = by, frame
+        left = self.undecided.entries.get(name)
         if left:
-            left.claimants = [each for each in left.claimants if each != refused]
-            if len(left.claimants) < 2:
-                del self.open.entries[name]
-        return is_new
+            left.pairs = {pair: None for pair in left.pairs if refused not in pair}
+            if not left.pairs:
+                del self.undecided.entries[name]
+
+    def all(self):
+        return [*self.decided.entries.values(), *(each for each in self.undecided.entries.values() if each.is_held)]
+
+    def count(self, name):
+        """How many rows a name has."""
+        return sum(each.name == name for each in self.all())
 
     def rows(self, _times):
-        found = [each.row() for room in (self.decided, self.open) for each in room.entries.values()]
-        return sorted(found, key=lambda row: row['frame'])
+        return sorted((each.row() for each in self.all()), key=lambda row: row['frame'])
 
     def others(self):
-        return self.open.others + self.decided.others
-
-
-def holder_of(others, by, named):
-    """Who holds a name that somebody is refused: who refuses it, if that one claims it; else whom the response names; else the only other claimant."""
-    own = next((address for address, claim in others if by in (address, claim.source)), None)
-    address = own or named or (others[0][0] if len(others) == 1 else None)
-    return [address] if address else []
+        return self.undecided.others + self.decided.others

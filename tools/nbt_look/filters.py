@@ -3,6 +3,7 @@ from .claims import Claims
 from .items import LeftOut, Packet
 from .kinds import kinds_of, names_in
 from .kindwords import about
+from .messages import message_of
 from .sessions import Streams
 
 
@@ -14,13 +15,17 @@ class Filter:
         self.hosts, self.ports, self.kinds = set(options.hosts), set(options.only_ports), set(options.kinds)
         self.is_all = not (self.names or self.hosts or self.ports or self.kinds)
         self.claims = Claims() if 'conflict' in self.kinds else None
-        self.streams = Streams() if self.names else None
+        self.streams = Streams(options.session_ports) if self.names else None
+
+    def opened(self, item):
+        if self.streams:
+            self.streams.opened(item)
 
     def wants(self, item, shown):
         """Whether an item is wanted, by the object of a packet; None stands for what is left out. Takes each item in turn."""
-        is_packet = isinstance(item, Packet)
-        is_conflict = self.claims is not None and is_packet and self.claims.take(item, shown)
-        called = self.streams.called(item, shown) if self.streams and is_packet else ()
+        message = message_of(item, shown) if self.claims and shown else None
+        is_conflict = message is not None and self.claims.take(message)
+        called = self.streams.called(item, shown) if self.streams and isinstance(item, Packet) else ()
         ends = item.frame if isinstance(item, LeftOut) else item
         if self.hosts and not self.hosts & {ends.source, ends.target}:
             return False

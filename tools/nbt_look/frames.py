@@ -4,7 +4,7 @@ from nbt_pcap.report import CUT, Report
 from nbt_pcap.rows import is_joined, values_of
 
 from .fragments import Unfinished
-from .items import Cut, Frame, LeftOut, Packet
+from .items import Cut, Frame, LeftOut, Opened, Packet
 from .others import STATISTIC, Others
 from .screen import safe
 from .without import PACKET, Without
@@ -13,6 +13,7 @@ from .without import PACKET, Without
 FIELDS = ('frame.interface_name', 'frame.interface_id', 'vlan.id', 'eth.src', 'eth.dst', 'ip.id', 'ip.proto',
           'ip.frag_offset', 'ipv6.fraghdr.ident', 'ipv6.fraghdr.nxt', 'ipv6.fraghdr.offset', 'data.data')
 STATISTICS = (STATISTIC,)
+SYN, ACK = 0x02, 0x10
 
 
 class Noted(Report):
@@ -84,6 +85,15 @@ class Frames(Reader):
         if name != self.named[0]:
             self.named = name, safe(name)
         return self.named[1]
+
+    def segment(self, row, packet):
+        """A segment with a SYN says who opens the connection: its sender, or where it has an ACK too its target."""
+        flags = int(packet.flags or '0', 16)
+        if flags & SYN and packet.target:
+            sides = (packet.host.source.strip('[]'), packet.source), (packet.host.target.strip('[]'), packet.target)
+            (source, port), (target, to) = sides if not flags & ACK else sides[::-1]
+            self.items.append(Opened(self.report.mark, source, port, target, to, packet.stream, packet.sequence, not flags & ACK))
+        super().segment(row, packet)
 
     def payload(self, row, service, digits, packet):
         self.items.append(self.packet_of(service, digits, packet))

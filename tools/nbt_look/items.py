@@ -1,10 +1,12 @@
-"""What a capture has: packets, the fronts of those that are cut, and frames of which something is left out."""
+"""What a capture has: packets, the fronts of those that are cut, frames of which something is left out, and connections that are opened."""
 import collections
 
 Packet = collections.namedtuple('Packet', 'frame service moment digits source source_port target target_port stream')
 # `size` is how many bytes the payload had, of which `digits` are those that the file has.
 Cut = collections.namedtuple('Cut', (*Packet._fields, 'size'))
 LeftOut = collections.namedtuple('LeftOut', 'frame reason')
+# That a connection of port 139 is opened, by the source: with a SYN, or else by the SYN that an answer acknowledges.
+Opened = collections.namedtuple('Opened', 'frame source source_port target target_port stream sequence is_first')
 
 
 class Frame:

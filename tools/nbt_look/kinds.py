@@ -1,28 +1,32 @@
 """The kinds of packets."""
+from .parts import is_response
+
 FRAGMENTS = ('unique', 'group', 'broadcast')
 
 
 def kinds_of(shown):
-    """The kinds of a packet, by its object of JSON; None stands for what is left out."""
+    """The kinds of a packet, by its object of JSON; None stands for what is left out. Of one that is cut or malformed those that its header
+    says are kinds of it too."""
     if shown is None:
         return {'left-out'}
-    if 'cut' in shown:
-        return {'left-out', *(told_kinds(shown) if any(names_in(shown)) else ())}
-    return {'malformed'} if 'refused' in shown else told_kinds(shown)
+    fault = {'left-out'} if 'cut' in shown else {'malformed'} if 'refused' in shown else set()
+    return fault | told_kinds(shown)
 
 
 def told_kinds(shown):
-    """The kinds of a packet, or of a front in which a name stands."""
+    """The kinds that a header says; none where it doesn't stand."""
     if shown['port'] == 137:
-        return service_kinds(shown)
-    kind = shown.get('kind', 'message')
+        return service_kinds(shown) if 'op' in shown else set()
+    kind = shown.get('kind', None if 'refused' in shown or 'cut' in shown else 'message')
+    if kind is None:
+        return set()
     if shown['port'] == 139:
         return {kind, 'session'}
     return datagram_kinds(shown, kind) if kind in FRAGMENTS else {kind, *{'found': ('positive',), 'missing': ('negative',)}.get(kind, ())}
 
 
 def service_kinds(shown):
-    asks_status = any(each['type'] == '0021' for each in shown['questions'] + shown['answers'])
+    asks_status = any(each.get('type') == '0021' for each in (*shown['questions'], *shown['answers'], shown.get('about', {})))
     operation = 'registration' if shown['op'] == 15 else shown['op']
     kinds = {'status' if asks_status else operation}
     if is_response(shown):
@@ -45,15 +49,13 @@ def datagram_kinds(shown, kind):
     return {kind, 'datagram', 'fragment'} if is_piece else {kind, 'datagram'}
 
 
-def is_response(shown):
-    return shown['word'][0] >= '8'
-
-
 def names_in(shown):
     """The texts of all names in a packet."""
     for key in ('source', 'destination', 'called', 'calling'):
         if key in shown:
             yield shown[key]
+    if 'about' in shown:
+        yield shown['about']['name']
     for section in ('questions', 'answers', 'authorities', 'additional'):
         for each in shown.get(section, ()):
             yield each['name']

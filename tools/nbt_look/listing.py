@@ -27,6 +27,9 @@ class Listing:
         sizes = ', %d of %d bytes' % (frame.captured, frame.size) if frame.captured < frame.size else ''
         self.row(frame, ends(frame, SERVICES), 'left out: ' + item.reason + sizes, 'left out')
 
+    def opened(self, item):
+        """Nothing is said of it."""
+
     def finish(self, tally, left_out):
         """All is listed."""
 

@@ -2,7 +2,6 @@
 import collections
 import gc
 import os
-from json.decoder import JSONDecoder
 
 from nbt_pcap import arguments as pcap_arguments
 from nbt_pcap import tshark
@@ -15,11 +14,12 @@ from nbt_shards.programs import local_program
 
 from .filters import Filter
 from .frames import FIELDS, STATISTICS, Frames
-from .fronts import front_of
-from .items import Cut, Packet
+from .fronts import front_of, malformed_of
+from .items import Cut, Opened, Packet
 from .listing import Listing
 from .objects import Objects
 from .ordering import WINDOW, Ordering
+from .reading import READ
 from .screen import Screen
 from .summary import Summary
 from .tally import Tally
@@ -84,10 +84,6 @@ def at_frames(options, settings, errors, pipe):
     return status, look.sink.status
 
 
-# The object of a text, and where it ends.
-READ = JSONDecoder().raw_decode
-
-
 class Look:
     """What is done with items: each packet is told by nbt, filtered, counted, and shown in its place."""
 
@@ -110,25 +106,38 @@ class Look:
         if options.frame is not None:
             return Whole(self.screen, self.times, options.frame, self.program)
         if options.summary:
-            return Summary(self.screen, self.times, options.json, self.program)
+            return Summary(self.screen, self.times, options, self.program)
         return Objects(self.screen, self.times) if options.json else Listing(self.screen, self.times)
 
     def put(self, items):
         self.telling.put(items, self.at_once)
         self.screen.flush()
 
-    def told(self, item, text):
-        """Takes an item with the object of JSON that nbt made of it; None stands for what is left out."""
-        shown = None
+    def told(self, told):
+        """Takes an item with what nbt says of it."""
+        item, text = told.item, told.text
+        if isinstance(item, Opened):
+            self.filter.opened(item)
+            self.sink.opened(item)
+            return
         self.times.see(item.frame.at)
         if isinstance(item, Packet):
             self.tally.take(text)
-            shown = READ(text)[0] if self.reads_objects else None
-        elif isinstance(item, Cut):
-            shown = front_of(item, READ(text)[0])
+        shown = self.shown(told)
         if self.filter.is_all or self.filter.wants(item, shown):
             self.tally.shown += 1
             self.ordering.put(item, shown, text)
+
+    def shown(self, told):
+        """The object of an item, with what stands of a front; None stands for what is left out, and for what nobody looks at."""
+        fronts = [READ(each)[0] for each in told.fronts]
+        question = dict(fronts[1], is_filled=bool(told.filled)) if len(fronts) > 1 else None
+        if isinstance(told.item, Cut):
+            return front_of(told.item, fronts[0], question)
+        if isinstance(told.item, Packet) and (fronts or self.reads_objects):
+            shown = READ(told.text)[0]
+            return malformed_of(shown, fronts[0], question) if fronts else shown
+        return None
 
     def show(self, item, shown, text):
         if isinstance(item, Packet):

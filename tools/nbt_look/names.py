@@ -1,5 +1,7 @@
-"""Who claims which name."""
-from .claims import ENDED
+"""Who claims and holds which name."""
+import collections
+
+from .tenures import KEPT
 
 HEAD = ('name', 'kind', 'address', 'group', 'how', 'since', 'until', 'lifetime', 'conflicts', 'refusals')
 # What the last byte of a name says, where it is unique and where it is a group's.
@@ -15,13 +17,13 @@ def kind_of(name, group):
     return pair[bool(group)] or pair[not group]
 
 
-def lifetime_text(seconds):
+def lifetime_text(seconds, _row):
     """A lifetime as the phrase of a claim has it; what that means of none."""
     return '-' if seconds is None else '%d s%s' % (seconds, '' if seconds else ', no end')
 
 
 class Names:
-    """The claims of names, and the names that nobody claims, in rows."""
+    """The tenures of names in rows."""
 
     title = 'names'
     head = HEAD
@@ -31,21 +33,18 @@ class Names:
         self.claims = claims
 
     def rows(self, times):
-        faults = self.claims.faults.entries
-        found = [self.row(key, claim, faults.get(key[0], (0, 0))[0], times) for key, claim in self.claims.room.entries.items()]
-        claimed = {name for name, _ in self.claims.room.entries}
-        for name, (conflicts, refusals) in faults.items():
-            if refusals or name not in claimed:
-                found.append(dict(zip(HEAD, (name, kind_of(name, False), None, False, 'nobody', None, None, None, conflicts, refusals))))
+        self.claims.finish()
+        conflicts = collections.Counter(each.name for each in self.claims.conflicts.all())
+        found = [self.row(each, conflicts[each.name], times) for each in self.claims.tenures.entries.values() if each.standing]
         return sorted(found, key=lambda row: (row['name'], row['address'] or ''))
 
     @staticmethod
-    def row(key, claim, conflicts, times):
-        name, address = key
-        until = None if claim.until is None else times(claim.until)
-        lifetime = None if claim.how in ENDED else claim.lifetime
-        return dict(zip(HEAD, (name, kind_of(name, claim.group), address, claim.group, claim.how, times(claim.since), until, lifetime,
-                               conflicts, claim.refusals)))
+    def row(tenure, conflicts, times):
+        how = tenure.standing.value + (', ' + tenure.front if tenure.front else '')
+        since, until = (None if at is None else times(at) for at in (tenure.since, tenure.until))
+        lifetime = tenure.lifetime if tenure.standing in KEPT else None
+        return dict(zip(HEAD, (tenure.name, kind_of(tenure.name, tenure.group), tenure.address or None, tenure.group, how, since, until,
+                               lifetime, conflicts, tenure.refusals)))
 
     def others(self):
-        return self.claims.room.others + self.claims.faults.others
+        return self.claims.tenures.others

@@ -12,8 +12,12 @@ class Objects:
     def __init__(self, screen, times):
         self.screen, self.times = screen, times
 
-    def packet(self, item, _shown, text):
+    def packet(self, item, shown, text):
         ends = (item.source, item.target, item.source_port, item.target_port)
+        if shown and 'refused' in shown:
+            members = {key: value for key, value in shown.items() if key not in ('line', 'comment')}
+            self.screen.lines.append(self.front(item.frame, ends)[:-1] + ',' + ENCODE(members)[1:])
+            return
         # All of the text but its first member, the number of its line, which no file has.
         self.screen.lines.append(self.front(item.frame, ends)[:-1] + ',' + text.split(',', 1)[1])
 
@@ -25,6 +29,9 @@ class Objects:
         frame = item.frame
         ends = (frame.source, frame.target, frame.source_port, frame.target_port)
         self.screen.lines.append(self.front(frame, ends)[:-1] + ',"left_out":%s}' % ENCODE(item.reason))
+
+    def opened(self, item):
+        """Nothing is said of it."""
 
     def finish(self, tally, left_out):
         """All is listed."""

@@ -1,8 +1,11 @@
 """The page with a capture in it, for a browser: `make page` makes the page."""
 import base64
+import contextlib
 import html
 import os
+import stat
 import sys
+import tempfile
 
 from nbt_pcap.process import Stopped
 
@@ -12,6 +15,10 @@ PLACES = (os.path.join(HERE, '..', 'nbt.html'), os.path.join(HERE, '..', '..', '
 GIVEN = '<script type="application/octet-stream" id="given" data-name=""></script>'
 # How many bytes of a capture a page is given: it grows by a third more.
 MOST = 20_000_000
+OTHERS = {stat.S_IFLNK: 'a link', stat.S_IFDIR: 'a folder'}
+PREFIX = '.nbt-look.'
+UMASK = os.umask(0o077)
+os.umask(UMASK)
 
 
 def write(options):
@@ -23,10 +30,13 @@ def write(options):
         text = file.read()
     if text.count(GIVEN) != 1:
         raise Stopped(3, f'{place}: it is of another version, and has no room for a capture')
+    with faults_of(options.html):
+        before = judged(options.html, options.file)
     data = read(options.file)
     name = 'standard input' if options.file == '-' else os.path.basename(options.file)
     given = f'data-name="{html.escape(name)}">{base64.b64encode(data).decode()}</script>'
-    put(options.html, text.replace(GIVEN, GIVEN.replace('data-name=""></script>', given)))
+    with faults_of(options.html):
+        put(options.html, text.replace(GIVEN, GIVEN.replace('data-name=""></script>', given)), before)
     return 0
 
 
@@ -42,14 +52,38 @@ def read(path):
     return data
 
 
-def put(path, text):
-    """Writes the file whole, or not at all."""
-    part = f'{path}.part'
+@contextlib.contextmanager
+def faults_of(path):
+    """What goes wrong with a file, as the reason to stop."""
     try:
-        with open(part, 'w', encoding='utf-8', errors='surrogateescape') as file:
-            file.write(text)
-        os.replace(part, path)
+        yield
     except OSError as error:
-        if os.path.exists(part):
-            os.remove(part)
         raise Stopped(3, f'{path}: {error.strerror}') from error
+
+
+def judged(path, given):
+    """What the system says of the file at a path, None where nothing stands there; Stopped where it is no file that may be written anew."""
+    try:
+        found = os.lstat(path)
+    except FileNotFoundError:
+        return None
+    if not stat.S_ISREG(found.st_mode):
+        raise Stopped(3, f'{path}: it is {OTHERS.get(stat.S_IFMT(found.st_mode), "no regular file")}, and stays as it is')
+    with contextlib.suppress(OSError):
+        if os.path.samestat(found, os.fstat(0) if given == '-' else os.stat(given)):
+            raise Stopped(3, f'{path}: it is the capture, and stays as it is')
+    return found
+
+
+def put(path, text, before):
+    """Writes the file whole, by a name that nobody has, or not at all. The mode of one before it stays."""
+    folder = os.path.dirname(os.path.abspath(path))
+    with tempfile.NamedTemporaryFile('w', dir=folder, prefix=PREFIX, delete=False, encoding='utf-8', errors='surrogateescape') as file:
+        try:
+            file.write(text)
+            file.flush()
+            os.fchmod(file.fileno(), stat.S_IMODE(before.st_mode) if before else 0o666 & ~UMASK)
+            os.replace(file.name, path)
+        finally:
+            with contextlib.suppress(FileNotFoundError):
+                os.unlink(file.name)

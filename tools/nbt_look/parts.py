@@ -5,13 +5,27 @@ NBSTAT = '0021'
 SECTIONS = ('questions', 'answers', 'authorities', 'additional')
 
 
+def is_response(shown):
+    """The bit R."""
+    return shown['word'][0] >= '8'
+
+
+def first_of(shown):
+    """The first question, or else the first record; of a front perhaps its name and type alone. None where none stands."""
+    return next((shown[section][0] for section in SECTIONS if shown[section]), shown.get('about'))
+
+
 def subject(shown):
-    """The name of the first question, or else of the first record."""
-    return next((shown[section][0]['name'] for section in SECTIONS if shown[section]), 'no name')
+    """The name that a packet is about; None where none stands in a front."""
+    first = first_of(shown)
+    if first is None:
+        return None if 'cut' in shown or 'refused' in shown else 'no name'
+    return first['name']
 
 
 def type_of(shown):
-    return next((shown[section][0]['type'] for section in SECTIONS if shown[section]), None)
+    first = first_of(shown)
+    return first and first.get('type')
 
 
 def records_of(shown):
@@ -21,6 +35,11 @@ def records_of(shown):
 def entries(shown):
     """The entries of all NB records."""
     return [each for record in records_of(shown) for each in record.get('entries', ())]
+
+
+def group_of(entry):
+    """Whether an entry, or a name of a node status, is a group's: the bit G of NB_FLAGS and NAME_FLAGS."""
+    return bool(int(entry['flags'], 16) & GROUP)
 
 
 def names_of(shown):

@@ -1,76 +1,123 @@
-"""Queries that nobody answers."""
+"""Queries and node status requests that nobody answers: RFC 1002 sections 4.2.12 to 4.2.18."""
 import collections
+import enum
+from dataclasses import dataclass, field
 
-from .kinds import is_response
-from .parts import NBSTAT, subject, type_of
+from .messages import Act, Front
 from .rooms import Room
+from .waiting import MOST_FRAMES, SECOND, Waiting
 
-# How many queries wait for an answer; the one that came first is then taken for one without. And how many frames of one name are kept.
-MOST_WAITING, MOST_FRAMES = 4_096, 16
+# Of how many frames that can't be read at all the times are kept, for who sent them to whom.
+MOST_UNREAD = 64
+KINDS = {Act.ASKS: 'query', Act.ASKS_STATUS: 'status'}
+RESPONSES = (Act.ANSWERS, Act.FINDS_NONE)
 
 
+class Answer(enum.Enum):
+    """What answered a request."""
+
+    NEVER = 'never'
+    UNKNOWN = 'not known'            # something came whose name doesn't stand
+    CUT = 'cut'                      # identifier and name stand
+    MALFORMED = 'malformed'
+    WHOLE = 'whole'
+
+
+OF_FRONT = {Front.WHOLE: Answer.WHOLE, Front.CUT: Answer.CUT, Front.MALFORMED: Answer.MALFORMED}
+RANKS = list(Answer)
+
+
+@dataclass
 class Unanswered:
-    """The queries of one name and sender without an answer: how often, their frames, and since when."""
+    """The requests of one name, asker and station asked that have no answer which stands whole: how often, their frames, since when."""
 
-    def __init__(self, at):
-        self.times, self.frames, self.since = 0, [], at
+    since: int
+    times: int = 0
+    frames: list = field(default_factory=list)
+    answer: Answer = Answer.NEVER
+    answered: int = None
 
-    def count(self, frames, times):
-        self.times += times
-        self.frames += frames[:MOST_FRAMES - len(self.frames)]
+    def count(self, request, answer, frame):
+        self.times += request.times
+        self.frames += request.frames[:MOST_FRAMES - len(self.frames)]
+        if RANKS.index(answer) >= RANKS.index(self.answer):
+            self.answer, self.answered = answer, frame
 
 
 class Queries:
-    """Queries and node status requests without an answer, by name and sender."""
+    """Queries and node status requests without an answer, by name, asker and station asked."""
 
     title = 'queries without an answer'
-    head = ('name', 'kind', 'by', 'times', 'frames', 'since', 'answered')
-    texts = {'answered': lambda frame: 'never' if frame is None else 'a later one, in frame %d' % frame}
+    head = ('name', 'kind', 'by', 'asked', 'times', 'frames', 'since', 'answered')
 
-    def __init__(self):
-        self.waiting = collections.OrderedDict()     # by sender, name and number: the kind, how often, the frames, and when the first came
-        self.room = Room()
-        self.answered = Room()                       # by name, kind and sender: the frame of the latest answer
+    def __init__(self, owners):
+        self.waiting = Waiting(owners, self.over)
+        self.room = Room()                           # those without an answer
+        self.answered = Room()                       # the frame of the latest answer
+        self.unread = Room()                         # the times of what can't be read, by who sent it, or anybody, to whom
+        self.texts = {'answered': answered_text}
 
-    def take(self, item, shown):
-        if shown.get('op') not in ('query', 'wack'):
+    def take(self, message):
+        if message.act in KINDS and message.name is not None:
+            self.waiting.put(message, KINDS[message.act])
+        elif message.act is Act.WAITS:
+            for each in self.waiting.of(message):
+                each.until = max(each.until, message.at + (message.lifetime or 0) * SECOND)
+        elif message.act in RESPONSES:
+            answer = Answer.UNKNOWN if message.name is None else OF_FRONT[message.front]
+            for each in self.waiting.of(message):
+                self.answer(each, answer, message.frame)
+
+    def answer(self, request, answer, frame):
+        """Keeps the first answer that says the most."""
+        if request.answer is not None and RANKS.index(answer) <= RANKS.index(request.answer[0]):
             return
-        name = subject(shown)
-        if is_response(shown):
-            if shown['op'] == 'query':
-                self.answer(item, self.waiting.pop((item.target, name, shown['id']), None), name)
-            return
-        kind = 'status' if type_of(shown) == NBSTAT else 'query'
-        entry = self.waiting.setdefault((item.source, name, shown['id']), [kind, 0, [], item.frame.at])
-        entry[1] += 1
-        if len(entry[2]) < MOST_FRAMES:
-            entry[2].append(item.frame.number)
-        if len(self.waiting) > MOST_WAITING:
-            self.unanswered(*self.waiting.popitem(last=False))
-
-    def answer(self, item, entry, name):
-        """Keeps the frame of an answer, for queries before it that have none."""
-        if entry:
-            found = self.answered.get((name, entry[0], item.target), lambda: [0])
-            if found:
-                found[0] = item.frame.number
-
-    def unanswered(self, key, entry):
-        kind, times, frames, at = entry
-        found = self.room.get((key[1], kind, key[0]), lambda: Unanswered(at))
+        request.answer = answer, None if answer is Answer.UNKNOWN else frame
+        found = answer is Answer.WHOLE and self.answered.get(key_of(request), lambda: [0])
         if found:
-            found.count(frames, times)
+            found[0] = max(found[0], frame)
+
+    def cannot_read(self, source, target, at):
+        """Takes a frame of port 137 of which not even the header stands."""
+        for each in (source, None):
+            times = self.unread.get((each, target), lambda: collections.deque(maxlen=MOST_UNREAD))
+            if times is not None:
+                times.append(at)
+
+    def over(self, request):
+        """Counts a request that waits no longer, unless its answer stands whole."""
+        answer, frame = request.answer or (self.unread_answer(request), None)
+        found = answer is not Answer.WHOLE and self.room.get(key_of(request), lambda: Unanswered(request.since))
+        if found:
+            found.count(request, answer, frame)
+
+    def unread_answer(self, request):
+        times = self.unread.entries.get((None if request.is_broadcast else request.asked, request.asker), ())
+        return Answer.UNKNOWN if any(request.since <= at <= request.until for at in times) else Answer.NEVER
 
     def rows(self, times):
-        while self.waiting:
-            self.unanswered(*self.waiting.popitem(last=False))
-        return [dict(zip(self.head, (*key, each.times, each.frames, times(each.since), self.later(key, each))))
-                for key, each in sorted(self.room.entries.items())]
+        self.waiting.finish()
+        return [self.row(key, each, times) for key, each in sorted(self.room.entries.items())]
 
-    def later(self, key, unanswered):
-        """The frame of the latest answer to the same sender about the same name, if it comes after the first of these."""
-        frame = self.answered.entries.get(key, [0])[0]
-        return frame if frame > unanswered.frames[0] else None
+    def row(self, key, each, times):
+        """A later answer that stands whole says more than a front of one."""
+        name, kind, by, asked = key
+        answer, frame = each.answer.value, each.answered
+        later = self.answered.entries.get(key, [0])[0]
+        if later > each.frames[0]:
+            answer, frame = 'later', later
+        return {'name': name, 'kind': kind, 'by': by, 'asked': asked or None, 'times': each.times, 'frames': each.frames, 'since': times(each.since),
+                'answered': frame, 'answer': answer}
 
     def others(self):
         return self.room.others
+
+
+def key_of(request):
+    return request.name, request.kind, request.asker, request.asked
+
+
+def answered_text(frame, row):
+    """What answered, in words."""
+    words = {'later': 'a later one, in frame %s', 'cut': 'frame %s, cut', 'malformed': 'frame %s, malformed'}.get(row['answer'])
+    return words % frame if words else row['answer']

@@ -52,16 +52,16 @@ class Screen:
             write_all(data.encode(errors='surrogateescape'))
 
     def table(self, title, rows, head, texts):
-        """Rows of the same keys, under their names; `texts` makes the text of a value where it isn't the usual one."""
+        """Rows of the same keys, under their names; `texts` makes the text of a value, with its row, where it isn't the usual one."""
         self.line(title, 'head')
-        cells = [[key.replace('_', ' ') for key in head], *([texts.get(key, cell)(row[key]) for key in head] for row in rows)]
+        cells = [[key.replace('_', ' ') for key in head], *([texts.get(key, cell)(row[key], row) for key in head] for row in rows)]
         widths = [max(map(len, column)) for column in zip(*cells)]
         for number, row in enumerate(cells):
             text = '  '.join(each.ljust(width) for each, width in zip(row, widths))
             self.line('  ' + text.rstrip(), 'head' if number == 0 else None)
 
 
-def cell(value):
+def cell(value, _row=None):
     """A value as a table has it."""
     if isinstance(value, bool):
         return 'yes' if value else 'no'

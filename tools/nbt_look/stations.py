@@ -1,7 +1,5 @@
 """The stations: who sends packets, and what they are called."""
-from .claims import CLAIMS
-from .kinds import is_response
-from .parts import entries, subject
+from .messages import CLAIMS, Act
 from .rooms import Room
 
 # How many names of a station are kept.
@@ -30,28 +28,26 @@ class Stations:
         self.room = Room()
         self.claims = claims
 
-    def take(self, item, shown):
+    def take(self, item, shown, message):
+        """Takes a packet: who sends it, and the names that it uses. Names of sessions come by `named`, once they are accepted."""
         sender = self.room.get(item.source, Station)
         if sender:
             sender.packets += 1
             sender.mac = item.frame.source_mac or sender.mac
-        if 'op' in shown:
-            self.service(shown, sender)
-        elif 'source' in shown:
+        if message and message.act in CLAIMS:
+            for name, address, *_ in message.places():
+                self.named(address, name)
+        elif message and message.act is Act.ANSWERS:
+            self.answers(message, sender)
+        elif 'source' in shown and 'key' in shown:
             self.named(shown['key'].partition(':')[0], shown['source'])
-        elif 'calling' in shown:
-            self.named(item.source, shown['calling'])
-            self.named(item.target, shown['called'])
 
-    def service(self, shown, sender):
-        if is_response(shown):
-            for record in shown['answers']:
-                if sender and record.get('names'):
-                    sender.status = [each['name'] for each in record['names'][:MOST_NAMES]]
-                    sender.unit = record.get('unit')
-        elif shown['op'] in CLAIMS:
-            for each in entries(shown):
-                self.named(each['address'], subject(shown))
+    @staticmethod
+    def answers(message, sender):
+        for record in message.shown['answers']:
+            if sender and record.get('names'):
+                sender.status = [each['name'] for each in record['names'][:MOST_NAMES]]
+                sender.unit = record.get('unit')
 
     def named(self, address, name):
         station = self.room.get(address, Station)
@@ -59,7 +55,7 @@ class Stations:
             station.name(name)
 
     def rows(self, _times):
-        return [dict(zip(self.head, (address, each.mac, each.packets, *self.names(address, each), each.status, each.unit)))
+        return [dict(zip(self.head, (address or None, each.mac, each.packets, *self.names(address, each), each.status, each.unit)))
                 for address, each in sorted(self.room.entries.items())]
 
     def names(self, address, station):

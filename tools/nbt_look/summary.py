@@ -1,10 +1,12 @@
-"""The summary of a capture: what is known of names, stations, queries, sessions and datagrams, and what is malformed."""
+"""The summary of a capture: what is known of names, stations, queries, sessions and datagrams, and what is malformed. docs/SUMMARY.md says what
+makes a row of each table."""
 import json
 import re
 
 from .claims import Claims
 from .counts import counted
 from .datagrams import Datagrams
+from .messages import message_of
 from .names import Names
 from .queries import Queries
 from .sessions import Sessions
@@ -34,28 +36,50 @@ class Faults:
 
 
 class Summary:
-    """All parts of a summary, and those that take every packet for them."""
+    """All parts of a summary, each with its rows."""
 
     status = 0
 
-    def __init__(self, screen, times, as_json, program):
-        self.screen, self.times, self.as_json = screen, times, as_json
-        claims, datagrams, faults = Claims(), Datagrams(program), Faults()
-        alike = [Stations(claims), Queries(), Sessions(), datagrams]
-        self.takers = [claims, *alike, faults]
-        self.parts = [Names(claims), claims.conflicts, *alike, datagrams.failed, faults]
+    def __init__(self, screen, times, options, program):
+        self.screen, self.times, self.as_json = screen, times, options.json
+        self.claims, self.datagrams, self.faults = Claims(), Datagrams(program), Faults()
+        self.stations, self.queries = Stations(self.claims), Queries(self.claims.owners)
+        self.sessions = Sessions(options.session_ports, self.stations.named)
+        self.parts = [Names(self.claims), self.claims.conflicts, self.stations, self.queries, self.sessions, self.datagrams,
+                      self.datagrams.failed, self.faults]
 
     def packet(self, item, shown, _text):
-        for each in self.takers:
-            each.take(item, shown)
+        self.faults.take(item, shown)
+        self.take(item, shown)
 
     def cut(self, item, shown):
-        """What stands of it is no packet that was sent."""
+        """What stands of it counts, and is marked where it says less than a whole one."""
+        self.take(item, shown)
+
+    def take(self, item, shown):
+        message = message_of(item, shown)
+        self.claims.see(item.frame.at or 0)
+        self.stations.take(item, shown, message)
+        if message:
+            self.claims.take(message)
+            self.queries.take(message)
+        elif item.service == 137:
+            self.queries.cannot_read(item.source, item.target, item.frame.at or 0)
+        self.sessions.take(item, shown)
+        self.datagrams.take(item, shown)
+
+    def opened(self, item):
+        self.sessions.opened(item)
 
     def left_out(self, item):
-        """Its reason is counted elsewhere."""
+        """Its reason is counted elsewhere; it may have been an answer."""
+        frame = item.frame
+        if '137' in (frame.source_port, frame.target_port):
+            self.queries.cannot_read(frame.source, frame.target, frame.at or 0)
 
     def finish(self, tally, left_out):
+        self.claims.finish()
+        self.datagrams.finish()
         if self.as_json:
             self.screen.lines.append(self.object(tally, left_out))
             return
@@ -67,8 +91,8 @@ class Summary:
                 self.screen.line('  and %s of more than are kept' % counted(part.others(), 'packet'))
             if rows or part.others():
                 self.screen.line('')
-        if left_out:
-            rows = [{'reason': reason, 'frames': count} for reason, count in left_out.most_common()]
+        rows = [{'reason': reason, 'frames': count} for reason, count in left_out.most_common() if count]
+        if rows:
             self.screen.table('left out', rows, ('reason', 'frames'), {})
             self.screen.line('')
 
@@ -76,5 +100,5 @@ class Summary:
         """One object of JSON, with the rows of each part."""
         parts = {part.title.replace(' ', '_'): part.rows(self.times.utc) for part in self.parts}
         others = {part.title.replace(' ', '_'): part.others() for part in self.parts if part.others()}
-        return json.dumps({**parts, 'left_out': dict(left_out), 'not_kept': others, 'packets': tally.packets, 'frames': tally.frames,
-                           'frames_without_a_packet': tally.without})
+        return json.dumps({**parts, 'left_out': {reason: count for reason, count in left_out.items() if count}, 'not_kept': others,
+                           'packets': tally.packets, 'frames': tally.frames, 'frames_without_a_packet': tally.without})

@@ -21,6 +21,9 @@ def batches_of(path, pipe):
                 if len(items) == PART:
                     yield items
                     items = []
+        except lines.BadTime as refused:
+            yield items
+            raise lines.Refused('%s: %s' % (title, refused)) from refused
         except lines.Refused as refused:
             yield items
             raise lines.Refused('%s: %s is none of a capture' % (title, refused)) from refused

@@ -83,6 +83,9 @@ class Whole:
             text = ''.join(chr(byte) if 0x20 <= byte < 0x7f else '.' for byte in row)
             self.screen.line(('%05x  %-64s  %s' % (at, digits, text)).rstrip())
 
+    def opened(self, item):
+        """Nothing is said of it."""
+
     def finish(self, tally, _left_out):
         if not self.status:
             return

@@ -1,6 +1,7 @@
 """The lines of a capture, and what a comment says of the frame of the payload after it."""
 import calendar
 import collections
+import datetime
 import ipaddress
 import re
 
@@ -23,6 +24,10 @@ class Refused(Stopped):
         super().__init__(1, text)
 
 
+class BadTime(Refused):
+    """A comment that names a time which no calendar has."""
+
+
 class Frame:
     """What a comment says of a frame, in the words of pcap2cap."""
 
@@ -37,6 +42,14 @@ class Frame:
             return None
         *parts, rest = map(int, match.groups())
         return calendar.timegm((*parts, 0, 0, 0)) * 10**6 + rest
+
+    def is_timed(self):
+        """Whether a calendar has its time, where it looks like one."""
+        match = TIME.fullmatch(self.time)
+        try:
+            return not match or bool(datetime.datetime(*map(int, match.groups())))
+        except ValueError:
+            return False
 
     def ends(self):
         """The addresses and ports; None where they are none, or of different kinds."""
@@ -72,6 +85,8 @@ def payloads_of(lines):
         frame = None
         if line.startswith(b'# frame '):
             frame, cut = frame_of(line), CUT.fullmatch(line)
+            if frame and not frame.is_timed():
+                raise BadTime('line %d: no calendar has the time %s' % (number, frame.time))
             size = int(cut[1]) if cut else size
 
 

@@ -201,6 +201,30 @@ test('responses', () => {
     for (const odd of [{ name: undefined }, { data: '60' }]) assert.throws(() => nbt.response({ ...claimed, ...odd }), TypeError);
 });
 
+test('names of servers', () => {
+    // RDATA stands at 56, behind a name at 12 that a pointer may lead to.
+    const response = (data) => Uint8Array.of(...hex('000385800000000100000000'), ...nbt.spell('FRED<20>'), ...hex('0002000100000007'), 0, data.length, ...data);
+    const name = [...nbt.spell('FRED<20>')], label = [63, ...new Uint8Array(63).fill(97)], longest = [...label, ...label, ...label, 61, ...new Uint8Array(61).fill(98), 0];
+    for (const [data, wanted] of [
+        [[...bytes('\x02ns\0')], [...bytes('\x02ns\0')]], [[...bytes('\x03a.b'), 0xc0, 0x0c], [...bytes('\x03a.b'), ...name]],
+        [[0xc0, 0x0c], name], [[0], [0]], [longest, longest],
+    ]) {
+        const payload = response(data);
+        assert.deepEqual(nbt.readDomain(payload, 56, data.length), Uint8Array.from(wanted));
+        assert.deepEqual(refused(() => nbt.readDomain(payload, 56, data.length + 1)), ['NAME_RDATA', 56]);
+    }
+    assert.equal(nbt.text(nbt.readDomain(response([0xc0, 0x0c]), 56, 2)), 'FRED<20>');
+    for (const [data, ...wanted] of [
+        [[...bytes('\x02ns')], 'NAME_TRUNCATED', 59], [[0xc1, 0xff], 'NAME_BAD_POINTER', 56], [[0x80], 'NAME_RESERVED_LABEL', 56],
+        [[...label, ...label, ...label, ...label], 'NAME_LONG', 56 + 192], [[2, 110, 115, 0, 0], 'NAME_RDATA', 56],
+    ]) {
+        assert.deepEqual(refused(() => nbt.readDomain(response(data), 56, data.length)), wanted);
+    }
+    assert.deepEqual(refused(() => nbt.readDomain(new Uint8Array(), Number.MAX_SAFE_INTEGER, 0)), ['NAME_TRUNCATED', Number.MAX_SAFE_INTEGER]);
+    for (const place of [-1, 0.5, 2 ** 53, '56', 56n, undefined]) assert.throws(() => nbt.readDomain(response([0]), place, 1), RangeError);
+    assert.throws(() => nbt.readDomain('c00c', 0, 2), TypeError);
+});
+
 test('a station', () => {
     const station = new nbt.Station(['FRED<20>'], '10.0.0.9'), pieces = nbt.writeDatagram(sent).reverse();
     const key = { address: '10.0.0.5', port: 138, identifier: 1 };

@@ -27,6 +27,8 @@ try {
 const front: DatagramFront = nbt.readDatagramFront(pieces[0], 1);
 const answer: Response = { identifier: front.identifier, word: 0x8580, name: front.source ?? '*<00>', type: 0x20, data: new ArrayBuffer(6) };
 nbt.show(137, nbt.response({ ...answer, timeToLive: front.port }));
+const server: Uint8Array = nbt.readDomain(new ArrayBuffer(60), 56, 4);
+nbt.text(server);
 
 // @ts-expect-error A front has no data.
 front.data;

@@ -7,15 +7,13 @@ import ipaddress
 import struct
 from dataclasses import dataclass
 from functools import lru_cache
-from typing import Any, Iterator, Optional, Tuple, Union
+from typing import Any, List, Optional, Tuple, Union
 
 from . import names
 from .library import ADDRESS, ALONE, DONE, LENGTH, call
 from .statuses import NbtError, Status
 
 NB, NBSTAT, NS = 0x0020, 0x0021, 0x0002
-# Two bits of a length byte say that a pointer begins there, of which fourteen bits are where it leads.
-POINTER = 0xc0
 
 
 class NodeType(enum.IntEnum):
@@ -103,35 +101,56 @@ class DomainName:
 Rdata = Union[Tuple[NbEntry, ...], NodeStatus, DomainName, bytes]
 
 
-# The addresses of a name, and the names of a node, of which a byte that counts them stands before the first.
-ENTRY, NODE, NODES_AT = struct.Struct('>HL'), struct.Struct('>16sH'), 1
-# What a call fills in for a part, at most, and a number that no part has.
-ROOM, NO_NUMBER = ctypes.c_char * 32, ctypes.c_size_t(-1).value
+# How many bytes an address of a name has with its flags, and one of the names of a node.
+ENTRY_LENGTH, NODE_LENGTH = 6, 18
+# struct nbt_service_address and struct nbt_service_node, and room for one; room for the longest spelling.
+FOUND_ADDRESS, FOUND_NODE = struct.Struct('@IH'), struct.Struct('@H16s')
+PART_ROOM, SPELLING_ROOM = ctypes.c_char * 32, ctypes.c_char * 255
 
 PART = ctypes.c_uint16, ADDRESS, LENGTH, LENGTH, ADDRESS, ADDRESS
 ADDRESSES, NODES = (call(name, *PART, library=ALONE) for name in ('nbt_service_address', 'nbt_service_node'))
 UNIT = call('nbt_service_unit', ctypes.c_uint16, ADDRESS, LENGTH, ADDRESS, ADDRESS, library=ALONE)
+DOMAIN = call('nbt_service_domain', ADDRESS, LENGTH, LENGTH, LENGTH, ADDRESS, LENGTH, ADDRESS, ADDRESS, library=ALONE)
 
 
 def read_rdata(kind: int, payload: int, payload_length: int, place: int, length: int) -> Rdata:
     """What the RDATA of a record says that the library found at a place of the payload at this address."""
     address = payload + place
-    if kind == NS:
-        return DomainName(tuple(labels_at(payload, payload_length, place)))
-    data = ctypes.string_at(address, length)
-    if kind == NB and count_of(ADDRESSES, kind, address, length) is not None:
-        return tuple([NbEntry(flags, ipaddress.IPv4Address(number)) for flags, number in ENTRY.iter_unpack(data)])
-    if kind == NBSTAT and (count := count_of(NODES, kind, address, length)) is not None:
-        nodes = NODE.iter_unpack(data[NODES_AT:NODES_AT + count * NODE.size])
-        return NodeStatus(tuple([NodeName(node_text(name), flags) for name, flags in nodes]), read_unit(address, length))
-    return data
+    found: Optional[Rdata] = None
+    if kind == NB:
+        found = read_entries(address, length)
+    elif kind == NBSTAT:
+        found = read_status(address, length)
+    elif kind == NS:
+        found = read_domain(payload, payload_length, place, length)
+    return ctypes.string_at(address, length) if found is None else found
 
 
-def count_of(part_of: Any, kind: int, address: int, length: int) -> Optional[int]:
-    """How many parts RDATA has; None where it hasn't the form of its type."""
-    part, at = ROOM(), ctypes.c_size_t()
-    status = part_of(kind, address, length, NO_NUMBER, ctypes.addressof(part), ctypes.addressof(at))
-    return at.value if status == Status.NO_PART else None
+def read_entries(address: int, length: int) -> Optional[Tuple[NbEntry, ...]]:
+    """The addresses of a name; None where RDATA has another form."""
+    found = parts(ADDRESSES, FOUND_ADDRESS, NB, address, length, length // ENTRY_LENGTH)
+    return None if found is None else tuple([NbEntry(flags, ipaddress.IPv4Address(number)) for number, flags in found])
+
+
+def read_status(address: int, length: int) -> Optional[NodeStatus]:
+    """The names of a node, and its unit; None where RDATA has another form."""
+    found = parts(NODES, FOUND_NODE, NBSTAT, address, length, length // NODE_LENGTH)
+    if found is None:
+        return None
+    return NodeStatus(tuple([NodeName(node_text(name), flags) for flags, name in found]), read_unit(address, length))
+
+
+def parts(part_of: Any, layout: struct.Struct, kind: int, address: int, length: int, most: int) -> Optional[List[Tuple[Any, ...]]]:
+    """What a call fills in for each part of RDATA, which has so many at most; None where it has another form."""
+    found: List[Tuple[Any, ...]] = []
+    room, at = PART_ROOM(), ctypes.c_size_t()
+    into, fault = ctypes.addressof(room), ctypes.addressof(at)
+    for number in range(most or 1):
+        status = part_of(kind, address, length, number, into, fault)
+        if status != DONE:
+            return found if status == Status.NO_PART else None
+        found.append(layout.unpack_from(room))
+    return found
 
 
 @lru_cache(4_096)
@@ -147,19 +166,9 @@ def read_unit(address: int, length: int) -> Optional[bytes]:
     return unit.raw if status == DONE else None
 
 
-def labels_at(payload: int, length: int, at: int) -> Iterator[bytes]:
-    """The labels of a name that the library found in the payload at this address, of this length. Whatever another thread
-    makes of the payload meanwhile, nothing outside of it is read, and there is an end."""
-    def byte(place: int) -> int:
-        return ctypes.string_at(payload + place, 1)[0] if place < length else 0
-
-    start = at
-    while first := byte(at):
-        if first < POINTER:
-            yield ctypes.string_at(payload + at + 1, min(first, length - at - 1))
-            at += 1 + first
-        else:
-            at = (first - POINTER) << 8 | byte(at + 1)
-            if at >= start:
-                return
-            start = at
+def read_domain(payload: int, payload_length: int, place: int, length: int) -> Optional[DomainName]:
+    """The name of a server; None where none stands there, as where another thread changed the payload meanwhile."""
+    room, used, at = SPELLING_ROOM(), ctypes.c_size_t(), ctypes.c_size_t()
+    status = DOMAIN(payload, payload_length, place, length, ctypes.addressof(room), ctypes.sizeof(room), ctypes.addressof(used),
+                    ctypes.addressof(at))
+    return DomainName(tuple(names.labels(room.raw[:used.value]))) if status == DONE else None

@@ -7,13 +7,14 @@ NbtError: BAD_TEXT and LONG_TEXT of a name, LONG_DATA where RDATA has more than 
 from __future__ import annotations
 
 import ctypes
+import struct
 from typing import Iterable, Optional, Tuple, Union
 
 from . import names
 from .buffers import Buffer, given
 from .library import BYTES, writer
 from .numbers import address_number, encoded, number
-from .rdata import ENTRY, NB, NBSTAT, NODE, NS, DomainName, NbEntry, NodeStatus, Rdata
+from .rdata import NB, NBSTAT, NS, DomainName, NbEntry, NodeStatus, Rdata
 from .service_packets import Operation, ResultCode
 
 RESPONSE = writer('nbt_service_response', ctypes.c_uint16, ctypes.c_uint16, *BYTES, ctypes.c_uint16, ctypes.c_uint32, *BYTES)
@@ -21,6 +22,8 @@ RESPONSE = writer('nbt_service_response', ctypes.c_uint16, ctypes.c_uint16, *BYT
 NULL = 0x000a
 # R; NM_FLAGS, of which AA is that the node has the name or keeps account of it, and RD that the request wanted such a node.
 R, NM_FLAGS, AA, RD = 0x8000, 0x07f0, 0x0400, 0x0100
+# An address of a name, and one of the names of a node.
+ENTRY, NODE = struct.Struct('>HL'), struct.Struct('>16sH')
 # STATISTICS: UNIT_ID, and what follows it.
 UNIT_LENGTH, REST_OF_STATISTICS = 6, bytes(40)
 

@@ -20,6 +20,9 @@ REGISTRATION = (b'\0\2\x29\x10\0\1\0\0\0\0\0\1' + FRED + b'\0\x20\0\1' + b'\xc0\
 REGISTERED = ServicePacket(2, False, Operation.REGISTRATION, 0x0110, ResultCode.OK, (1, 0, 0, 1), (Question('FRED<20>', 0x20, 1),), (), (),
                            (Record('FRED<20>', 0x20, 1, 300_000, (NbEntry(0, ADDRESS),)),), 68)
 
+# RDATA with a name whose spelling has 255 bytes, its labels, and its text.
+LONGEST = (b'\x3f' + b'a' * 63) * 3 + b'\x3d' + b'b' * 61 + b'\0', (b'a' * 63,) * 3 + (b'b' * 61,), '.'.join(['a' * 63] * 3 + ['b' * 61])
+
 MATCH = '''
 match packet:
     case ServicePacket(op=Operation.REGISTRATION, questions=[Question(name)], additional=[Record(rdata=[NbEntry(address=address)])]):
@@ -98,7 +101,7 @@ class Data(unittest.TestCase):
 
     def test_name_server(self):
         for data, name, text in ((b'\2ns\0', (b'ns',), 'ns'), (b'\1x\xc0\x0c', (b'x', FRED[1:-1]), 'x.' + FRED[1:-1].decode()),
-                                 (b'\xc0\x0c', (FRED[1:-1],), 'FRED<20>'), (b'\0', (), '.')):
+                                 (b'\xc0\x0c', (FRED[1:-1],), 'FRED<20>'), (b'\0', (), '.'), LONGEST):
             found = rdata(b'\0\2', data)
             self.assertEqual((found, str(found)), (DomainName(name), text))
 
@@ -144,9 +147,10 @@ class Refused(unittest.TestCase):
             self.assertEqual((found, place, front.records), (status, at, ()))
 
     def test_changed_meanwhile(self):
-        """Another thread changes a buffer after a name was found in it, which then leads to itself, past the end, or over it."""
+        """Another thread changes a buffer after a name was found in it, which then leads to itself, past the end, or over it: no name
+        is read there any more, and RDATA is its bytes."""
         item, start = service_packets.ITEM, 12 + len(FRED) + 10
-        for changed, labels in ((bytes([0xc0, start, 0, 0]), ()), (b'\xff\xff\0\0', ()), (b'\x3fab\0', (b'ab\0',)), (b'\1a\xff\xff', (b'a',))):
+        for changed in bytes([0xc0, start, 0, 0]), b'\xff\xff\0\0', b'\x3fab\0', b'\1a\xff\xff', b'\1a\0\0':
             buffer = bytearray(response(b'\0\2', b'\2ns\0'))
 
             def found(*words):
@@ -156,7 +160,7 @@ class Refused(unittest.TestCase):
 
             with mock.patch.object(service_packets, 'ITEM', found):
                 packet = ServicePacket.read(buffer)
-            self.assertEqual(packet.answers[0].rdata, DomainName(labels))
+            self.assertEqual(packet.answers[0].rdata, changed)
 
     def test_outside(self):
         for call in ServicePacket.read, ServicePacket.read_front:

@@ -121,6 +121,17 @@ extern "C" {
         at: *mut usize,
     ) -> u32;
 
+    pub fn nbt_service_domain(
+        payload: *const u8,
+        payload_length: usize,
+        data: usize,
+        data_length: usize,
+        into: *mut u8,
+        into_length: usize,
+        used: *mut usize,
+        at: *mut usize,
+    ) -> u32;
+
     pub fn nbt_datagram_read(
         payload: *const u8,
         payload_length: usize,

@@ -5,7 +5,7 @@ use std::fmt::{self, Write};
 use std::hash::{Hash, Hasher};
 use std::str::FromStr;
 
-use crate::calls::{nbt_name_spell, DONE};
+use crate::calls::{nbt_name_spell, nbt_service_domain, DONE};
 use crate::names::{text, Spelling};
 use crate::{Error, Result, Status};
 
@@ -13,8 +13,6 @@ use crate::{Error, Result, Status};
 const LONGEST: usize = 255;
 /// The first label of a NetBIOS name, its length among its bytes.
 const FIRST_LABEL: usize = 33;
-/// From here on a length byte is the first half of a pointer.
-const POINTER: u8 = 0xc0;
 
 /// A name as packets spell it, which lies in place, in 256 bytes, and takes no memory: of the name service, where it may be
 /// a domain name that is no NetBIOS name, or one that a [`Spelling`] or a text gave. Its text is as `nbt show` prints it.
@@ -48,22 +46,23 @@ impl Name {
         Name { bytes, length }
     }
 
-    /// The name that stands at a place of a payload, where the library found one: so its pointers go back, and its
-    /// spelling has at most 255 bytes.
-    pub(crate) fn at(payload: &[u8], place: usize) -> Name {
-        let (mut bytes, mut length, mut at) = ([0; LONGEST], 0, place);
-        loop {
-            match payload[at] {
-                0 => return Name::of_bytes(bytes, length as u8 + 1),
-                size if size < POINTER => {
-                    let label = &payload[at..=at + usize::from(size)];
-                    bytes[length..length + label.len()].copy_from_slice(label);
-                    length += label.len();
-                    at += label.len();
-                }
-                high => at = usize::from(high - POINTER) << 8 | usize::from(payload[at + 1]),
-            }
-        }
+    /// The name that so many bytes of a payload are, from a place on; `None` where they are none. Its pointers are followed.
+    pub(crate) fn at(payload: &[u8], place: usize, length: usize) -> Option<Name> {
+        let (mut bytes, mut used, mut at) = ([0; LONGEST], 0, 0);
+        // SAFETY: the payload is a slice, and what is written lies apart from it.
+        let status = unsafe {
+            nbt_service_domain(
+                payload.as_ptr(),
+                payload.len(),
+                place,
+                length,
+                bytes.as_mut_ptr(),
+                LONGEST,
+                &mut used,
+                &mut at,
+            )
+        };
+        (status == DONE).then_some(Name::of_bytes(bytes, used as u8))
     }
 
     /// Its spelling: labels, each after its length, then a zero byte.

@@ -9,7 +9,7 @@ use Rattle.nb_service.specs.Building.{packet_of}
 use Rattle.nb_service.specs.Record.{ResourceData, ResourceRecord, record_of}
 use Rattle.nb_service.specs.Packet.{ServicePacket}
 use Rattle.nb_service.specs.Encoding as service
-use Rattle.nb_session.specs.declared.packet.Packet as session
+use Rattle.nb_session.specs.Packet as session
 use Rattle.nb_session.specs.Packet.{IsPacket}
 use Rattle.nb_building.specs.Built.{IsServiceBuilt, IsSessionBuilt, NamesDatagrams, NamesService, NamesSession, NumberText, WordText, response}
 use Rattle.nb_building.specs.TooMuchData.{GiveTooMuch}

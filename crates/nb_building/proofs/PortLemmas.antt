@@ -3,7 +3,7 @@ use Rattle.std.proofs.Common.{◌≡◌, ◌⊎◌, inl, inr, ap, Bool, ℕ, Lis
 use Rattle.std.specs.Prelude.{codes, ◌==◌, if◌then◌else◌}
 use Rattle.std.specs.Result.{IfErr}
 use Rattle.nb_service.specs.Packet.{ServicePacket}
-use Rattle.nb_session.specs.declared.packet.Packet as session
+use Rattle.nb_session.specs.Packet as session
 use Rattle.nb_datagram.specs.declared.kind.Kind.{Kind}
 use Rattle.nb_datagram.specs.declared.kind.Kind.TheVariants.{Unique, Group, Broadcast}
 use Rattle.nb_datagram.specs.declared.packet.QueryKind.{QueryKind}

@@ -7,7 +7,7 @@ use Rattle.nb_names.specs.Hexadecimal.{DataText, HexText, no_byte, one_more, emp
 use Rattle.nb_names.specs.HexadecimalFacts.{length-HexText}
 use Rattle.nb_names.specs.Name.{NetbiosName}
 use Rattle.nb_names.specs.NameText.{IsText, byte_of}
-use Rattle.nb_session.specs.declared.packet.Packet as session
+use Rattle.nb_session.specs.Packet as session
 use Rattle.nb_session.specs.Packet.{IsPacket}
 use Rattle.nb_building.specs.declared.build_fault.BuildFault.{BuildFault}
 use Rattle.nb_building.specs.declared.build_fault.BuildFault.TheVariants.{Memory}

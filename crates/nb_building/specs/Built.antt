@@ -16,7 +16,7 @@ use Rattle.nb_service.specs.Packet.{ServicePacket}
 use Rattle.nb_service.specs.Record.{ResourceData}
 use Rattle.nb_service.specs.Requests.{query_packet, status_packet, registration_packet, refresh_packet, release_packet}
 use Rattle.nb_service.specs.Views.{entry_bytes}
-use Rattle.nb_session.specs.declared.packet.Packet as session
+use Rattle.nb_session.specs.Packet as session
 use Rattle.nb_session.specs.declared.packet.Packet.TheVariants.{Message, Request, Positive, Negative, Retarget, Keepalive}
 use Rattle.nb_session.specs.Packet.{IsPacket}
 use Rattle.nb_datagram.specs.declared.key.Key.{Key}

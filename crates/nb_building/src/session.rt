@@ -45,7 +45,6 @@ fn request(alloc: Global, words: &[&str]) -> Result<Bytes, BuildFault>
     };
     let called = name_from_text(called)?;
     let calling = name_from_text(calling)?;
-    let (called, calling) = (called.lent(), calling.lent());
     encoded(alloc, &Packet::Request { called, calling })
 }
 

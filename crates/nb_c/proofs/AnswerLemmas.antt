@@ -4,7 +4,7 @@ use Rattle.std.specs.Prelude.{IfOk}
 use Rattle.nb_names.specs.declared.bytes.NoMemory.{NoMemory}
 use Rattle.nb_c.specs.declared.refusal.Refusal.{Refusal}
 use Rattle.nb_c.specs.declared.refusal.Refusal.TheVariants.{Memory, Fault, FaultAt}
-use Rattle.nb_c.specs.Outputs.{Alone, Answers, Does, HasOne, Lent, MayLack, OrMemory, Ends, Filled, FilledAlone, Fills, FillsOrLacks, all_late, of_memory}
+use Rattle.nb_c.specs.Outputs.{Alone, Answers, Does, DoesAtOnce, HasOne, Lent, MayLack, OrMemory, Ends, Filled, FilledAlone, Fills, FillsOrLacks, all_late, of_memory}
 
 module _ (late : ℕ → Bool) (Says : Result (List ℕ) Refusal → Type 0) (one : HasOne Says) (old new : Lent) (status : ℕ) where
   told : (answer : Result (List ℕ) Refusal) → Says answer → Answers answer old new status
@@ -50,6 +50,14 @@ or_said late Says expected one said (Ok bytes) h = subst Says (sym h) said
 or_said late Says expected one said (Err Memory) h = λ other also. h other (one other expected also said)
 or_said late Says expected one said (Err (Fault status)) h = subst Says (sym h) said
 or_said late Says expected one said (Err (FaultAt status place)) h = subst Says (sym h) said
+
+-- what alone is said and answered
+pub does_at_once : (Says : Result (List ℕ) Refusal → Type 0) (answer : Result (List ℕ) Refusal) (old new : Lent) (status : ℕ)
+    → Alone (List ℕ) Says answer → Answers answer old new status → DoesAtOnce Says old new status
+does_at_once Says answer old new status j h = record {
+  some = (answer, j.said, h);
+  only = λ other said. subst (λ (told : Result (List ℕ) Refusal). Answers told old new status) (sym (j.only other said)) h;
+}
 
 -- what alone is said and filled in
 pub fills : (A : Type 0) (Says : Result A Refusal → Type 0) (answer : Result A Refusal) (old new : A) (at at' status : ℕ)

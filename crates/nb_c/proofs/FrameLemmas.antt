@@ -8,9 +8,8 @@ use Rattle.nb_session.specs.declared.header.Header.{Header}
 use Rattle.nb_session.specs.declared.kind.Kind.{Kind}
 use Rattle.nb_session.specs.declared.kind.Kind.TheVariants.{Message, Request, Positive, Negative, Retarget, Keepalive}
 use Rattle.nb_session.specs.declared.limits.TheConstants.{MAX_MESSAGE}
-use Rattle.nb_session.specs.declared.parsing.Parsed.{Parsed}
 use Rattle.nb_session.specs.Header.{HasHeader, type_of, packet_length}
-use Rattle.nb_session.specs.Parsing.{HeaderFails, unknown_type as unknown_header, reserved_flags, bad_length, RequestFails, called_fails, calling_fails, bytes_trail, Parses, header_lacks, header_fails, body_lacks, body_fails, whole}
+use Rattle.nb_session.specs.Parsing.{Parsed, HeaderFails, unknown_type as unknown_header, reserved_flags, bad_length, RequestFails, called_fails, calling_fails, bytes_trail, Parses, header_lacks, header_fails, body_lacks, body_fails, whole}
 use Rattle.nb_c.specs.declared.refusal.Refusal.{Refusal}
 use Rattle.nb_c.specs.declared.refusal.Refusal.TheVariants.{Memory, Fault, FaultAt}
 use Rattle.nb_c.specs.Framing.{Stands, Writes, unknown_type, too_long, judged, frame, follow_the_type, unless_faulty}

@@ -1,6 +1,7 @@
 pub mod AbsorbLemmas
 pub mod AnswerLemmas
 pub mod DifferLemmas
+pub mod DomainLemmas
 pub mod FrameLemmas
 pub mod FrontLemmas
 pub mod HandleValues

@@ -88,6 +88,11 @@ pub record Does (late : ℕ → Bool) (Says : Result (List ℕ) Refusal → Type
   pub only : (answer : Result (List ℕ) Refusal) → Says answer
       → (MayLack late answer × Answers (Err Memory) old new status) ⊎ Answers answer old new status
 
+-- DoesAtOnce Says old new status: a call does what is said, and whatever is said is what it does; it takes no memory
+pub record DoesAtOnce (Says : Result (List ℕ) Refusal → Type 0) (old new : Lent) (status : ℕ) : Type 0 where
+  pub some : (answer : Result (List ℕ) Refusal) × Says answer × Answers answer old new status
+  pub only : (answer : Result (List ℕ) Refusal) → Says answer → Answers answer old new status
+
 -- Filled A answer old new at at' status: a call with this answer leaves what it fills in and the place so, and has this
 -- status
 abbrev pub Filled : (A : Type 0) → Result A Refusal → A → A → ℕ → ℕ → ℕ → Type 0

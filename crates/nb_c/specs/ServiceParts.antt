@@ -1,11 +1,16 @@
--- What the calls that read the parts of RDATA of port 137 answer (RFC 1002 sections 4.2.13 and 4.2.18).
-use Rattle.std.specs.Prelude.{◌≡◌, ◌⊎◌, ℕ, nat_le, List, length, take, Option, Some, None, Result, Ok, Err, if◌then◌else◌}
+-- What the calls that read the parts of RDATA of port 137 answer (RFC 1002 sections 4.2.1.3, 4.2.13 and 4.2.18).
+use Rattle.std.specs.Prelude.{◌≡◌, ◌⊎◌, ℕ, ◌+◌, nat_le, List, length, take, Option, Some, None, Result, Ok, Err, if◌then◌else◌}
 use Rattle.std.specs.Int.{w32, from_be_bytes}
 use Rattle.std.specs.List.{slice_get}
+use Rattle.nb_names.specs.declared.pointers.Pointers.TheVariants.{Followed}
+use Rattle.nb_names.specs.DomainName.{spelling}
+use Rattle.nb_names.specs.Labels.{NameAt}
 use Rattle.nb_service.specs.declared.address_entry.AddressEntry.{AddressEntry}
+use Rattle.nb_service.specs.declared.fault.ServiceFault.{ServiceFault}
 use Rattle.nb_service.specs.declared.limits.TheConstants.{UNIT_ID_LENGTH}
 use Rattle.nb_service.specs.declared.node_name.NodeName.{NodeName}
 use Rattle.nb_service.specs.Record.{of_bytes}
+use Rattle.nb_service.specs.ServiceFaults.{DomainFails}
 use Rattle.nb_service.specs.Views.{AreEntries, IsStatus, entries_of_data, status_of_data}
 use Rattle.nb_c.specs.declared.refusal.Refusal.{Refusal}
 use Rattle.nb_c.specs.declared.refusal.Refusal.TheVariants.{Fault, FaultAt}
@@ -13,6 +18,7 @@ use Rattle.nb_c.specs.declared.service_parts.NbtServiceAddress.{NbtServiceAddres
 use Rattle.nb_c.specs.declared.service_parts.NbtServiceNode.{NbtServiceNode}
 use Rattle.nb_c.specs.declared.service_parts.NbtServiceUnit.{NbtServiceUnit}
 use Rattle.nb_c.specs.declared.statuses.TheConstants as statuses
+use Rattle.nb_c.specs.Statuses.{service_refusal}
 
 -- Chosen P here other answer: the one is answered where P holds, and the other where it doesn't
 abbrev pub Chosen : {A : Type 0} → Type 0 → Result A Refusal → Result A Refusal → Result A Refusal → Type 0
@@ -61,3 +67,16 @@ abbrev pub ReadsUnit : ℕ → List ℕ → Result NbtServiceUnit Refusal → Ty
 ReadsUnit kind bytes =
     Chosen (HasStatusParts kind bytes) (unit_answer (status_of_data (of_bytes bytes)).statistics (length bytes))
     (Err (Fault statuses.OTHER_RDATA))
+
+-- what is answered where labels are read so: their spelling, or why none are
+abbrev pub spelled_answer : Result (List (List ℕ)) Refusal → Result (List ℕ) Refusal
+spelled_answer (Ok labels) = Ok (spelling labels)
+spelled_answer (Err refusal) = Err refusal
+
+-- ReadsDomain payload at size answer: the `size` bytes at this offset of the payload are a domain name, whose spelling is answered,
+-- or they are none, and this is the first fault
+abbrev pub ReadsDomain : List ℕ → ℕ → ℕ → Result (List ℕ) Refusal → Type 0
+ReadsDomain payload at size (Ok bytes) =
+    (labels : List (List ℕ)) × NameAt payload Followed at labels (at + size) × (bytes ≡ spelling labels)
+ReadsDomain payload at size (Err refusal) =
+    (fault : ServiceFault) × DomainFails payload at size fault × (refusal ≡ service_refusal fault)

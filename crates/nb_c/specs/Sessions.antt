@@ -4,13 +4,11 @@ use Rattle.std.specs.Int.{w32, from_be_bytes}
 use Rattle.nb_names.specs.DomainName.{spelling}
 use Rattle.nb_names.specs.Name.{NetbiosName, labels_of_name}
 use Rattle.nb_session.specs.declared.limits.TheConstants.{HEADER_LENGTH}
-use Rattle.nb_session.specs.declared.packet.Packet.{Packet}
 use Rattle.nb_session.specs.declared.packet.Packet.TheVariants.{Message, Request, Positive, Negative, Retarget, Keepalive}
-use Rattle.nb_session.specs.declared.parsing.Parsed.{Parsed}
 use Rattle.nb_session.specs.declared.parsing.Parsed.TheVariants.{Whole, More, Refused}
 use Rattle.nb_session.specs.Header.{type_of}
-use Rattle.nb_session.specs.Packet.{kind_of}
-use Rattle.nb_session.specs.Parsing.{Parses}
+use Rattle.nb_session.specs.Packet.{Packet, kind_of}
+use Rattle.nb_session.specs.Parsing.{Parsed, Parses}
 use Rattle.nb_c.specs.declared.refusal.Refusal.{Refusal}
 use Rattle.nb_c.specs.declared.refusal.Refusal.TheVariants.{Fault, FaultAt}
 use Rattle.nb_c.specs.declared.session_parts.NbtSessionNames.{NbtSessionNames}

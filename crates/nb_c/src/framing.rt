@@ -10,7 +10,7 @@ use crate::statuses::{BAD_LENGTH, MORE, UNKNOWN_TYPE};
 use nb_names::{Bytes, NoMemory};
 use nb_session::laws::one_answer;
 use nb_session::limits::{HEADER_LENGTH, MAX_MESSAGE};
-use nb_session::{Kind, Parsed, parse};
+use nb_session::{Kind, Parsed, parse_lent};
 use std::alloc::Global;
 
 /// Writes the packet with this type and this body.
@@ -70,7 +70,7 @@ fn frame(alloc: Global, kind: Kind, body: &[u8]) -> Result<Bytes, NoMemory>
 fn judge(bytes: Bytes) -> Result<Bytes, Refusal>
     ensures { Alone (List ℕ) (Stands bytes) result }
 {
-    match parse(bytes.as_slice()) {
+    match parse_lent(bytes.as_slice()) {
         Parsed::Whole(_, _) => {}
         Parsed::More(needed) => return Err(Refusal::FaultAt(MORE, needed)),
         Parsed::Refused(fault) => return Err(session_refusal(fault)),

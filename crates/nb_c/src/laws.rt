@@ -1,5 +1,6 @@
 //! Laws of the definitions that the contracts cite. Each is proved; a call does nothing.
-ghost use Rattle.std.specs.Prelude.{◌≡◌, ◌↔◌, ◌<◌, ◌≤◌, ◌+◌, IsTrue, length, [], ◌∷◌, ℕ, List, All, Contains, Result, Err, Some};
+ghost use Rattle.std.specs.Prelude.{◌≡◌, ◌↔◌, ◌<◌, ◌≤◌, ◌+◌, ◌++◌, IsTrue, length, [], ◌∷◌, ℕ, List, All, Contains, Result, Err, None, Some};
+ghost use Rattle.std.specs.Int.{w16, to_be_bytes};
 ghost use Rattle.std.specs.List.{join_with_byte};
 ghost use Rattle.nb_names.specs.declared.fault.NameFault.{NameFault};
 ghost use Rattle.nb_names.specs.declared.fault.NameFault.TheVariants as names;
@@ -9,10 +10,12 @@ ghost use Rattle.nb_names.specs.Labels.{StandsAt};
 ghost use Rattle.nb_names.specs.Name.{NetbiosName};
 ghost use Rattle.nb_service.specs.Requests.{query_packet, status_packet, registration_packet, refresh_packet, release_packet};
 ghost use Rattle.nb_service.specs.declared.fault.ServiceFault.TheVariants as services;
+ghost use Rattle.nb_service.specs.declared.section.Section.TheVariants.{Answer, Authority, Additional};
 ghost use Rattle.nb_session.specs.declared.fault.SessionFault.TheVariants as sessions;
 ghost use Rattle.nb_datagram.specs.declared.fault.DatagramFault.TheVariants as datagrams;
 ghost use Rattle.nb_datagram.specs.declared.fault.DatagramFault.TheVariants.{SourceName, DestinationName};
 ghost use Rattle.nb_datagram.specs.declared.key.Key.{Key};
+ghost use Rattle.nb_datagram.specs.declared.kind.Kind.TheVariants.{Unique};
 ghost use Rattle.nb_datagram.specs.declared.packet.Packet.TheVariants.{Direct, Error, Query};
 ghost use Rattle.nb_datagram.specs.declared.packet.ErrorPacket.{ErrorPacket};
 ghost use Rattle.nb_datagram.specs.declared.front.FragmentFront.{FragmentFront};
@@ -23,6 +26,7 @@ ghost use Rattle.nb_datagram.specs.Packet.{QueryPacket, IsPacket, name_bytes};
 ghost use Rattle.nb_datagram.specs.Datagram.{DatagramParts};
 ghost use Rattle.nb_datagram.specs.Header.{IsKey};
 ghost use Rattle.nb_datagram.specs.Pieces.{piece};
+ghost use Rattle.nb_c.specs.Absorbing.{heard_bytes};
 ghost use Rattle.nb_c.specs.Cutting.{are_long, packet_of};
 ghost use Rattle.nb_c.specs.declared.differing.NbtDifference.{NbtDifference};
 ghost use Rattle.nb_c.specs.Differing.{Compares};
@@ -31,6 +35,7 @@ ghost use Rattle.nb_c.specs.Fronts.{front_places};
 ghost use Rattle.nb_c.specs.Tables.{Merges, OfOne, first_refusal, second_refusal};
 ghost use Rattle.nb_c.specs.Outputs.{refused_status};
 ghost use Rattle.nb_c.specs.Requests.{named_answer, request_answer, requested};
+ghost use Rattle.nb_c.specs.Services.{section_number};
 ghost use Rattle.nb_c.specs.Stations.{AreNames, place_in, table_refusal, texts_in};
 ghost use Rattle.nb_c.specs.Statuses.{text_refusal, source_text_refusal, destination_text_refusal, name_refusal, datagram_refusal, service_refusal, session_refusal};
 ghost use Rattle.nb_c.specs.declared.refusal.Refusal.{Refusal};
@@ -46,7 +51,8 @@ ghost use Rattle.nb_c.specs.declared.statuses.TheConstants.{DONE, NO_ROOM, NO_ME
 use nb_names::text_laws::{one_name, one_text_fault};
 use nb_table::laws::{an_input_is_read_as_one_table, saved_bytes_have_one_reading};
 
-/// The number of each status, of what became of a payload, and of the room for it.
+/// The number of each status, of what became of a payload, of the room for it, and of each section
+/// of an item.
 pub fn numbers()
     ensures outcomes { (DONE ≡ 0) × (NO_ROOM ≡ 1) × (NO_MEMORY ≡ 2) }
     ensures texts { (BAD_TEXT ≡ 10) × (LONG_TEXT ≡ 11) × (SOURCE_BAD_TEXT ≡ 12)
@@ -79,6 +85,25 @@ pub fn numbers()
     ensures payloads { (KEPT ≡ 0) × (SPOILT ≡ 1) × (DELIVERED ≡ 2) × (UNHEARD ≡ 3)
         × (OTHER ≡ 4) × (REFUSED ≡ 5) }
     ensures room { TAKE_ROOM ≡ 66045 }
+    ensures sections { (section_number None ≡ 0) × (section_number (Some Answer) ≡ 1)
+        × (section_number (Some Authority) ≡ 2) × (section_number (Some Additional) ≡ 3) }
+{}
+
+/// What is written of a datagram that is handed over, in this order: the address, the port and the
+/// identifier of its key, MSG_TYPE, the spellings of its source and of its destination, how many
+/// bytes its data has, and these.
+pub fn a_datagram_in_bytes()
+    ensures { (a b c d port id : ℕ) (source destination : NetbiosName) (bytes : List ℕ) →
+        heard_bytes (record {
+          key = record { ip = a ∷ b ∷ c ∷ d ∷ []; port = port; id = id };
+          kind = Unique;
+          source = source;
+          destination = destination;
+          bytes = bytes;
+        })
+        ≡ a ∷ b ∷ c ∷ d ∷ (to_be_bytes w16 port ++ (to_be_bytes w16 id ++ (16
+        ∷ (name_bytes source ++ (name_bytes destination
+        ++ (to_be_bytes w16 (length bytes) ++ bytes)))))) }
 {}
 
 /// Each fault has a status of its own, and its place if it has one. Some share theirs: the unknown

@@ -1,15 +1,17 @@
-//! Parts of RDATA of the name service, by their numbers.
-ghost use Rattle.std.specs.Prelude.{◌≡◌};
+//! Parts of RDATA of the name service: those that have numbers, and a domain name.
+ghost use Rattle.std.specs.Prelude.{◌≡◌, ℕ, List};
 ghost use Rattle.nb_c.specs.declared.service_parts.NbtServiceAddress.{NbtServiceAddress};
 ghost use Rattle.nb_c.specs.declared.service_parts.NbtServiceNode.{NbtServiceNode};
 ghost use Rattle.nb_c.specs.declared.service_parts.NbtServiceUnit.{NbtServiceUnit};
-ghost use Rattle.nb_c.specs.Outputs.{Alone, Fills};
-ghost use Rattle.nb_c.specs.ServiceParts.{ReadsAddress, ReadsNode, ReadsUnit, address_numbers, node_numbers, part_answer, unit_answer};
+ghost use Rattle.nb_c.specs.Outputs.{Alone, Answers, DoesAtOnce, Fills};
+ghost use Rattle.nb_c.specs.ServiceParts.{ReadsAddress, ReadsDomain, ReadsNode, ReadsUnit, address_numbers, node_numbers, part_answer, spelled_answer, unit_answer};
 
-use crate::output::fill;
-use crate::refusal::Refusal;
-use crate::statuses::{NO_PART, OTHER_RDATA, TRUNCATED};
+use crate::output::{fill, put, refuse};
+use crate::refusal::{Refusal, name_refusal};
+use crate::statuses::{NAME_RDATA, NO_PART, OTHER_RDATA, TRUNCATED};
+use nb_names::laws::{one_fault, one_reading};
 use nb_names::limits::NAME_LENGTH;
+use nb_names::{DomainName, Pointers, read_domain};
 use nb_service::limits::UNIT_ID_LENGTH;
 use nb_service::{AddressEntries, NodeStatus};
 
@@ -157,5 +159,60 @@ fn unit_of(status: &NodeStatus<'_>, size: usize) -> Result<NbtServiceUnit, Refus
     match status.unit_id() {
         Some(bytes) => Ok(NbtServiceUnit { bytes }),
         None => Err(Refusal::FaultAt(TRUNCATED, size)),
+    }
+}
+
+/// Writes the spelling of the domain name that is RDATA of type NS: so many bytes of a payload,
+/// from a place on. Pointers in it are followed. No memory is taken.
+///
+/// RFC 1002 sections 4.1 and 4.2.1.3; that the name ends where RDATA does is our choice.
+#[unsafe(no_mangle)]
+pub extern "C" fn nbt_service_domain(
+    payload: &[u8],
+    place: usize,
+    length: usize,
+    into: &mut [u8],
+    used: &mut usize,
+    at: &mut usize,
+) -> u32
+    ensures { DoesAtOnce (ReadsDomain payload.now place length)
+        (record { buffer = into.old; used = used.old; place = at.old })
+        (record { buffer = into.new; used = used.new; place = at.new }) result }
+{
+    write_spelling(domain_at(payload, place, length), into, used, at)
+}
+
+/// The domain name that so many bytes of a payload are, from a place on.
+fn domain_at(payload: &[u8], place: usize, length: usize) -> Result<DomainName, Refusal>
+    ensures { Alone (List ℕ) (ReadsDomain payload.now place length) (spelled_answer result) }
+{
+    // For the clause: at a place stands one name, or it has one fault. The calls do nothing.
+    one_reading();
+    one_fault();
+    match read_domain(payload, place, Pointers::Followed) {
+        Ok((domain, next)) => {
+            if next.checked_sub(place) != Some(length) {
+                return Err(Refusal::FaultAt(NAME_RDATA, place));
+            }
+            Ok(domain)
+        }
+        Err(fault) => Err(name_refusal(fault)),
+    }
+}
+
+/// Writes the spelling of a name that was read, or where the fault stands.
+fn write_spelling(
+    read: Result<DomainName, Refusal>,
+    into: &mut [u8],
+    used: &mut usize,
+    at: &mut usize,
+) -> u32
+    ensures { Answers (spelled_answer read)
+        (record { buffer = into.old; used = used.old; place = at.old })
+        (record { buffer = into.new; used = used.new; place = at.new }) result }
+{
+    match read {
+        Ok(domain) => put(domain.spelling(), into, used),
+        Err(refusal) => refuse(refusal, at),
     }
 }

@@ -11,7 +11,7 @@ use crate::spellings::spelled_in_place;
 use crate::statuses::{MORE, OTHER_TYPE};
 use nb_names::LentName;
 use nb_names::limits::MAX_SPELLING;
-use nb_session::{Packet, Parsed, parse};
+use nb_session::{LentPacket, Packet, Parsed, parse_lent};
 
 /// The names of a session request.
 #[repr(C)]
@@ -57,7 +57,7 @@ pub extern "C" fn nbt_session_names(
 fn names_in(bytes: &[u8]) -> Result<NbtSessionNames, Refusal>
     ensures { Alone NbtSessionNames (ReadsNames bytes.now) result }
 {
-    match parse(bytes) {
+    match parse_lent(bytes) {
         Parsed::Whole(packet, _) => names_answer(&packet),
         Parsed::More(needed) => Err(Refusal::FaultAt(MORE, needed)),
         Parsed::Refused(fault) => Err(session_refusal(fault)),
@@ -65,7 +65,7 @@ fn names_in(bytes: &[u8]) -> Result<NbtSessionNames, Refusal>
 }
 
 /// The names of a packet, if it is a request.
-fn names_answer(packet: &Packet<'_>) -> Result<NbtSessionNames, Refusal>
+fn names_answer(packet: &LentPacket<'_>) -> Result<NbtSessionNames, Refusal>
     ensures { result ≡ names_answer packet.now }
 {
     match packet {
@@ -107,7 +107,7 @@ pub extern "C" fn nbt_session_retarget(
 fn retarget_in(bytes: &[u8]) -> Result<NbtSessionRetarget, Refusal>
     ensures { Alone NbtSessionRetarget (ReadsRetarget bytes.now) result }
 {
-    match parse(bytes) {
+    match parse_lent(bytes) {
         Parsed::Whole(packet, _) => retarget_answer(&packet),
         Parsed::More(needed) => Err(Refusal::FaultAt(MORE, needed)),
         Parsed::Refused(fault) => Err(session_refusal(fault)),
@@ -115,7 +115,7 @@ fn retarget_in(bytes: &[u8]) -> Result<NbtSessionRetarget, Refusal>
 }
 
 /// Where a packet leads, if it is a retarget.
-fn retarget_answer(packet: &Packet<'_>) -> Result<NbtSessionRetarget, Refusal>
+fn retarget_answer(packet: &LentPacket<'_>) -> Result<NbtSessionRetarget, Refusal>
     ensures { result ≡ retarget_answer packet.now }
 {
     match packet {

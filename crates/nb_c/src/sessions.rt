@@ -8,7 +8,7 @@ use crate::output::fill;
 use crate::refusal::{Refusal, session_refusal};
 use crate::statuses::MORE;
 use nb_session::limits::HEADER_LENGTH;
-use nb_session::{Packet, Parsed, parse};
+use nb_session::{LentPacket, Parsed, parse_lent};
 
 /// A packet of the session service: its type, and where its body stands.
 #[repr(C)]
@@ -38,7 +38,7 @@ pub extern "C" fn nbt_session_read(bytes: &[u8], packet: &mut NbtSession, at: &m
 fn read(bytes: &[u8]) -> Result<NbtSession, Refusal>
     ensures { Alone NbtSession (Reads bytes.now) result }
 {
-    match parse(bytes) {
+    match parse_lent(bytes) {
         Parsed::Whole(packet, used) => Ok(session_of(&packet, used)),
         Parsed::More(needed) => Err(Refusal::FaultAt(MORE, needed)),
         Parsed::Refused(fault) => Err(session_refusal(fault)),
@@ -46,7 +46,7 @@ fn read(bytes: &[u8]) -> Result<NbtSession, Refusal>
 }
 
 /// The type and the body of a packet that has so many bytes.
-fn session_of(packet: &Packet<'_>, used: usize) -> NbtSession
+fn session_of(packet: &LentPacket<'_>, used: usize) -> NbtSession
     ensures { result ≡ session_of packet.now used }
 {
     NbtSession {

@@ -6,7 +6,7 @@
 
 use crate::{
     caller, comparing, definitions, events, hearing, inserting, joining, line_reading, reading,
-    replays,
+    replays, taking,
 };
 use nb_examples_words::fault::ExampleFault;
 use nb_examples_words::line::{Line, cut};
@@ -30,6 +30,10 @@ fn answer_of_tables(line: &mut Line<'_>, call: &str) {
         "datagram" => reading::datagram(line),
         "save" => reading::saved(line),
         "load" => reading::loaded(line),
+        "outline" => reading::outlined(line),
+        "drop" => reading::dropped(line),
+        "keys" => reading::keys(line),
+        "write_saved" => reading::saved_to_device(line),
         _ => answer_of_two(line, call),
     }
 }
@@ -39,7 +43,11 @@ fn answer_of_two(line: &mut Line<'_>, call: &str) {
     match call {
         "fits" => joining::fits(line),
         "merge" => joining::merged(line),
+        "join" => joining::joined(line),
         "join_all" => joining::joined_all(line),
+        "take_in" => joining::taken_in(line),
+        "take_in_all" => joining::taken_in_all(line),
+        "same_at" => reading::same_at(line),
         "cover" => comparing::compared::<Cover>(line),
         "entry" => comparing::compared::<Entry>(line),
         "plain" => definitions::plain(line),
@@ -53,13 +61,16 @@ fn answer_of_stations(line: &mut Line<'_>, call: &str) {
     match call {
         "names" => hearing::held(line),
         "hears" => hearing::heard(line),
+        "take" => taking::taken(line),
+        "both" => taking::taken_by_both(line),
         "run" => events::run_by_one(line),
         "two" => events::run_by_two(line),
         "line" => line_reading::read(line),
-        "next" => line_reading::each_line(line),
+        "next" => line_reading::each_line(line, false),
+        "next_within" => line_reading::each_line(line, true),
         "datagram" => replays::parts(line),
-        "replay" => replays::replayed(line, false),
-        "within" => replays::replayed(line, true),
+        "comment" => replays::comment(line),
+        "replay" | "within" | "commented" | "over" => replays::replayed(line, call),
         _ => line.note(ExampleFault::NoSuchCall),
     }
 }

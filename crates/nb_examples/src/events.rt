@@ -1,7 +1,7 @@
 //! Runs of events.
 
 use crate::stations::{member_of, names_of, settings_of};
-use nb_datagram::{Datagrams, ErrorPackets, Packet, encode};
+use nb_datagram::{Datagrams, ErrorPacket, ErrorPackets, Packet, encode};
 use nb_examples_packets::fragments::{say_datagram, say_key};
 use nb_examples_words::line::Line;
 use nb_member::{Event, Member, Pair, RunReport, RunStop, run, two_members};
@@ -138,7 +138,7 @@ fn say_stop(line: &mut Line<'_>, stop: Option<RunStop>) {
 }
 
 /// Says datagrams that are handed over.
-fn say_all_delivered(line: &mut Line<'_>, datagrams: &Datagrams) {
+pub fn say_all_delivered(line: &mut Line<'_>, datagrams: &Datagrams) {
     for datagram in datagrams.as_slice() {
         line.say(", delivered ");
         say_datagram(line, datagram);
@@ -148,10 +148,15 @@ fn say_all_delivered(line: &mut Line<'_>, datagrams: &Datagrams) {
 /// Says error packets that are answered.
 fn say_errors(line: &mut Line<'_>, errors: &ErrorPackets) {
     for error in errors.as_slice() {
-        line.say(", error ");
-        match encode(line.alloc(), &Packet::Error(*error)) {
-            Ok(bytes) => line.say_bytes(bytes.as_slice()),
-            Err(_) => line.no_memory(),
-        }
+        say_error(line, ", error ", *error);
+    }
+}
+
+/// Says an error packet after a text.
+pub fn say_error(line: &mut Line<'_>, lead: &str, error: ErrorPacket) {
+    line.say(lead);
+    match encode(line.alloc(), &Packet::Error(error)) {
+        Ok(bytes) => line.say_bytes(bytes.as_slice()),
+        Err(_) => line.no_memory(),
     }
 }

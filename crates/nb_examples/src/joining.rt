@@ -5,7 +5,7 @@ use nb_datagram::Datagrams;
 use nb_examples_packets::fragments::say_datagram;
 use nb_examples_words::asked;
 use nb_examples_words::line::Line;
-use nb_table::{Table, TableFault, join_all};
+use nb_table::{Join, Table, TableFault, join_all, take_in_all};
 
 /// `fits TABLE | TABLE`: whether both tables have the same contents, and whether the first takes in
 /// the second, as `Debug` prints it.
@@ -62,6 +62,79 @@ fn say_datagrams(line: &mut Line<'_>, datagrams: &Datagrams) {
         }
         say_datagram(line, datagram);
     }
+}
+
+/// `join TABLE | TABLE`: whether the second is joined into the first, or why it isn't; and then
+/// what the first is saved as.
+pub fn joined(line: &mut Line<'_>) {
+    let (mut table, other) = two_tables(line);
+    join(line, &mut table, &other);
+    line.say("; ");
+    say_saved(line, &table);
+}
+
+/// Joins a table into another, and says what was answered.
+fn join(line: &mut Line<'_>, table: &mut Table, other: &Table) {
+    asked!(
+        line,
+        Err(TableFault::NoMemory),
+        table.join(other),
+        reads(line, table),
+        say_one_joined
+    );
+}
+
+/// Says what the join of one table answered.
+fn say_one_joined(line: &mut Line<'_>, answer: Result<(), TableFault>) {
+    match answer {
+        Ok(()) => line.say("joined"),
+        Err(fault) => say_fault(line, fault),
+    }
+}
+
+/// `take_in TABLE | TABLE`: whether the first takes the second in, or why it doesn't; and then what
+/// the first is saved as. Where memory runs out, it takes in an equal one.
+pub fn taken_in(line: &mut Line<'_>) {
+    let (first, second) = line.halves(" | ");
+    let mut table = table_of(line, first);
+    let other = table_of(line, second);
+    let before = reads(line, &table);
+    line.begin();
+    let answer = table.take_in(other);
+    line.end();
+    match answer {
+        Err(TableFault::NoMemory) => {
+            let after = reads(line, &table);
+            line.again(after == before);
+            let other = table_of(line, second);
+            say_one_joined(line, table.take_in(other));
+        }
+        answer => say_one_joined(line, answer),
+    }
+    line.say("; ");
+    say_saved(line, &table);
+}
+
+/// `take_in_all TABLE | TABLE ..`: as `join_all`, of tables that are taken in.
+pub fn taken_in_all(line: &mut Line<'_>) {
+    let (first, others) = line.halves(" | ");
+    let mut table = table_of(line, first);
+    let tables = tables_of(line, others);
+    line.begin();
+    let answer = take_in_all(&mut table, tables);
+    line.end();
+    match answer {
+        Err((place, TableFault::NoMemory)) => {
+            let tables = tables_of(line, others);
+            let front = tables.as_slice().get(..place).unwrap_or(&[]);
+            let is_same = has_front(line, first, front, &table);
+            line.again(is_same);
+            say_joined(line, take_in_all(&mut table, tables));
+        }
+        answer => say_joined(line, answer),
+    }
+    line.say("; ");
+    say_saved(line, &table);
 }
 
 /// `join_all TABLE | TABLE ..`: whether the others are joined into the first, else the place of the

@@ -2,7 +2,9 @@
 
 use nb_examples_words::devices::Source;
 use nb_examples_words::line::Line;
-use nb_member::{Line as CaptureLine, LineFault, LineReadFault, LineRoom, capture_line, next_line};
+use nb_member::{
+    Line as CaptureLine, LineFault, LineReadFault, LineRoom, capture_line, next_from, next_line,
+};
 use nb_names::Counted;
 
 /// `line BYTES`: the port, the moment and the payload that a line of a capture says, or what the
@@ -38,38 +40,71 @@ fn say_said(line: &mut Line<'_>, read: &CaptureLine) {
 }
 
 /// `next CALLS DEVICE BYTES`: how many bytes a new room has, what each of so many calls for the
-/// next line answers, over a device, and how many bytes the room has after it.
-pub fn each_line(line: &mut Line<'_>) {
+/// next line answers, over a device, and how many bytes the room has after it. `next_within MOST
+/// CALLS DEVICE BYTES`: the same of a room whose input may have MOST bytes, by the call that has
+/// the room first.
+pub fn each_line(line: &mut Line<'_>, is_within: bool) {
+    let most = match is_within {
+        true => Some(line.number()),
+        false => None,
+    };
     let calls: u64 = line.number();
     let conduct = line.conduct();
     let capture = line.bytes();
-    line.begin();
-    let mut room = LineRoom::new(line.alloc());
-    let held = room.held();
-    line.end();
-    line.say_with("held ", held);
+    let mut room = room_for(line, most);
     let mut source = Source::new(capture.as_slice(), conduct);
     let mut reader = Counted::new(&mut source);
     for _ in 0..calls {
         line.say(", ");
-        say_next(line, &mut reader, &mut room);
+        say_next(line, &mut reader, &mut room, is_within);
     }
+}
+
+/// A room for the lines of an input that may have so many bytes, if that is said, made between
+/// marks; how many bytes it has is said.
+fn room_for(line: &mut Line<'_>, most: Option<u64>) -> LineRoom {
+    line.begin();
+    let room = match most {
+        Some(most) => LineRoom::within(line.alloc(), most),
+        None => LineRoom::new(line.alloc()),
+    };
+    let held = room.held();
+    line.end();
+    line.say_with("held ", held);
+    room
 }
 
 /// Says what one call answers, and what the room then has. Where memory runs out, the next call
 /// goes on.
-fn say_next(line: &mut Line<'_>, reader: &mut Counted<&mut Source<'_>>, room: &mut LineRoom) {
+fn say_next(
+    line: &mut Line<'_>,
+    reader: &mut Counted<&mut Source<'_>>,
+    room: &mut LineRoom,
+    is_within: bool,
+) {
     line.begin();
-    let answer = next_line(reader, room);
+    let answer = next_of(reader, room, is_within);
     line.end();
     match answer {
         Err(LineReadFault::NoMemory) => {
             line.say("memory, ");
-            say_read(line, next_line(reader, room));
+            say_read(line, next_of(reader, room, is_within));
         }
         answer => say_read(line, answer),
     }
     line.say_with(" held ", room.held());
+}
+
+/// The next line, by one of both calls.
+fn next_of<'a>(
+    reader: &mut Counted<&mut Source<'_>>,
+    room: &'a mut LineRoom,
+    is_within: bool,
+) -> Result<Option<&'a [u8]>, LineReadFault> {
+    match is_within {
+        true => next_from(room, reader),
+        false => next_line(reader, room),
+    }
 }
 
 /// Says a line that was read, or why none was.

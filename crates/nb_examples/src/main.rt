@@ -16,6 +16,7 @@ mod reading;
 mod replays;
 mod stations;
 mod steps;
+mod taking;
 
 use crate::examples::Examples;
 use nb_examples_words::fault::ExampleFault;

@@ -3,36 +3,79 @@
 use crate::stations::member_of;
 use nb_datagram::Datagram;
 use nb_examples_packets::datagrams::datagram_of;
-use nb_examples_words::devices::Sink;
+use nb_examples_words::devices::{Conduct, Sink, Source, WILLING};
 use nb_examples_words::line::Line;
-use nb_member::{Member, ReplayFault, push_parts, replay, replay_within};
+use nb_member::{
+    CaptureOptions, Comments, Member, ReplayFault, push_comment, push_parts, replay, replay_with,
+    replay_within,
+};
 use nb_names::{Counted, NoMemory};
 use std::alloc::Global;
 
 /// For how many bytes a writer has room, so that writing a report wants no memory.
 const REPORT_ROOM: usize = 150_000;
 
+/// Comments are in the report.
+const WITH_COMMENTS: CaptureOptions = CaptureOptions {
+    most: 16_777_216,
+    comments: Comments::Printed,
+};
+
+/// How a capture is replayed.
+#[derive(Clone, Copy)]
+struct Way {
+    /// How many bytes the input may have, if that is said.
+    most: Option<u64>,
+    /// Whether its comments are in the report.
+    is_commented: bool,
+    reading: Conduct,
+    writing: Conduct,
+    /// Whether what was written is said as bytes.
+    is_bytes: bool,
+}
+
 /// `replay STATION CAPTURE`: how many lines a new member replays, or the fault, and the report,
 /// whose lines end with `;` here. `within STATION MOST CAPTURE`: the same of an input that may have
-/// MOST bytes.
+/// MOST bytes. `commented STATION CAPTURE`: the same with the capture's comments in the report.
+/// `over STATION READER WRITER CAPTURE`: the same over two devices, each three words, `MOST
+/// INTERRUPTS FAILING`; what was written is said as bytes.
 ///
 /// Where memory runs out, another new member replays the capture, and what was written before has
 /// to be a front of its report.
-pub fn replayed(line: &mut Line<'_>, is_within: bool) {
+pub fn replayed(line: &mut Line<'_>, call: &str) {
     let station = line.word();
-    let most = match is_within {
-        true => Some(line.number()),
-        false => None,
-    };
+    let way = way_of(line, call);
     let capture = line.bytes();
-    if let Some(mut sink) = report_sink(line) {
-        replay_into(line, station, most, capture.as_slice(), &mut sink);
+    if let Some(mut sink) = report_sink(line, way) {
+        replay_into(line, station, way, capture.as_slice(), &mut sink);
     }
 }
 
+/// How a call replays.
+fn way_of(line: &mut Line<'_>, call: &str) -> Way {
+    let mut way = Way {
+        most: None,
+        is_commented: false,
+        reading: WILLING,
+        writing: WILLING,
+        is_bytes: false,
+    };
+    match call {
+        "within" => way.most = Some(line.number()),
+        "commented" => way.is_commented = true,
+        "over" => {
+            way.reading = line.conduct();
+            way.writing = line.conduct();
+            way.is_bytes = true;
+        }
+        _ => {}
+    }
+    way
+}
+
 /// A writer that has room for a report.
-fn report_sink(line: &mut Line<'_>) -> Option<Sink> {
-    let sink = Sink::with_room(line.alloc(), REPORT_ROOM).ok();
+fn report_sink(line: &mut Line<'_>, way: Way) -> Option<Sink> {
+    let sink = Sink::with_room(line.alloc(), REPORT_ROOM, way.writing).ok();
     if sink.is_none() {
         line.no_memory();
     }
@@ -43,31 +86,34 @@ fn report_sink(line: &mut Line<'_>) -> Option<Sink> {
 fn replay_into<'a>(
     line: &mut Line<'a>,
     station: &'a str,
-    most: Option<u64>,
+    way: Way,
     capture: &[u8],
     sink: &mut Sink,
 ) {
     let mut member = member_of(line, station);
     line.begin();
-    let answer = replay_by(line.alloc(), most, capture, sink, &mut member);
+    let answer = replay_by(line.alloc(), way, capture, sink, &mut member);
     line.end();
     match answer {
-        Err(ReplayFault::NoMemory) => replay_again(line, station, most, capture, sink.taken()),
-        answer => say_replayed(line, answer, sink.taken()),
+        Err(ReplayFault::NoMemory) => replay_again(line, station, way, capture, sink.taken()),
+        answer => say_replayed(line, way, answer, sink.taken()),
     }
 }
 
-/// What a replay answers, by one of both calls.
+/// What a replay answers, by one of the calls.
 fn replay_by(
     alloc: Global,
-    most: Option<u64>,
+    way: Way,
     capture: &[u8],
     sink: &mut Sink,
     member: &mut Member,
 ) -> Result<u64, ReplayFault> {
-    let reader = &mut Counted::new(capture);
+    let reader = &mut Counted::new(Source::new(capture, way.reading));
     let writer = &mut Counted::new(sink);
-    match most {
+    if way.is_commented {
+        return replay_with(alloc, reader, writer, member, WITH_COMMENTS);
+    }
+    match way.most {
         Some(most) => replay_within(alloc, reader, writer, member, most),
         None => replay(alloc, reader, writer, member),
     }
@@ -78,20 +124,20 @@ fn replay_by(
 fn replay_again<'a>(
     line: &mut Line<'a>,
     station: &'a str,
-    most: Option<u64>,
+    way: Way,
     capture: &[u8],
     before: &[u8],
 ) {
     let mut member = member_of(line, station);
-    if let Some(mut sink) = report_sink(line) {
-        let answer = replay_by(line.alloc(), most, capture, &mut sink, &mut member);
+    if let Some(mut sink) = report_sink(line, way) {
+        let answer = replay_by(line.alloc(), way, capture, &mut sink, &mut member);
         line.again(sink.taken().starts_with(before));
-        say_replayed(line, answer, sink.taken());
+        say_replayed(line, way, answer, sink.taken());
     }
 }
 
 /// Says what a replay answered, and what was written.
-fn say_replayed(line: &mut Line<'_>, answer: Result<u64, ReplayFault>, written: &[u8]) {
+fn say_replayed(line: &mut Line<'_>, way: Way, answer: Result<u64, ReplayFault>, written: &[u8]) {
     match answer {
         Ok(count) => {
             line.say_with("", count);
@@ -102,9 +148,13 @@ fn say_replayed(line: &mut Line<'_>, answer: Result<u64, ReplayFault>, written: 
             line.say(":");
         }
     }
-    if !written.is_empty() {
-        line.say(" ");
-        line.say_lines(written);
+    if written.is_empty() && !way.is_bytes {
+        return;
+    }
+    line.say(" ");
+    match way.is_bytes {
+        true => line.say_bytes(written),
+        false => line.say_lines(written),
     }
 }
 
@@ -123,4 +173,22 @@ fn parts_text(alloc: Global, datagram: &Datagram) -> Result<String, NoMemory> {
     let mut text = String::from_str(alloc, "parts")?;
     push_parts(datagram, &mut text)?;
     Ok(text)
+}
+
+/// `comment printed LINE`, `comment left LINE`: what is printed of a comment or an empty line, as
+/// bytes, where comments are printed and where they are left out.
+pub fn comment(line: &mut Line<'_>) {
+    let comments = match line.is_word("printed", "left") {
+        true => Comments::Printed,
+        false => Comments::LeftOut,
+    };
+    let comment = line.bytes();
+    let mut text = String::new(line.alloc());
+    line.begin();
+    let answer = push_comment(comments, comment.as_slice(), &mut text);
+    line.end();
+    match answer {
+        Ok(()) => line.say_bytes(text.as_bytes()),
+        Err(NoMemory) => line.lacks(),
+    }
 }

@@ -87,16 +87,21 @@ pub fn say_saved(line: &mut Line<'_>, table: &Table) {
     }
 }
 
-/// All that a table answers, as text: the bytes that it is saved as, and of each key what is known,
-/// `KEY STATE RUNS`.
+/// All that a table answers, as text: the bytes that it is saved as, how many keys it has, and what
+/// is known of each.
 pub fn reads(line: &mut Line<'_>, table: &Table) -> String {
     let before = line.aside();
     say_saved(line, table);
     line.say_with(" ", table.len());
+    say_keys(line, table);
+    line.back_to(before)
+}
+
+/// Says what a table knows of each of its keys: ` KEY STATE RUNS`.
+pub fn say_keys(line: &mut Line<'_>, table: &Table) {
     for key in table.keys() {
         say_key(line, " ", key);
         line.say_debug(" ", &table.state(&key));
         line.say_debug(" ", &table.run_count(&key));
     }
-    line.back_to(before)
 }

@@ -1,7 +1,7 @@
 //! Data as texts have them.
 
 use nb_examples_words::line::Line;
-use nb_names::{DigitsFault, data_in};
+use nb_names::{DigitsFault, bytes_of_digits, data_in, data_of_text};
 use std::alloc::AllocError;
 
 /// `data_in ROOM BYTES ..`: the bytes that texts stand for, or why they stand for none. They are
@@ -15,6 +15,23 @@ pub fn read(line: &mut Line<'_>) {
         }
         let text = line.bytes_of(word);
         room = read_text(line, room, text.as_slice());
+    }
+}
+
+/// `digits BYTES`, `data BYTES`: the bytes for which the digits of a text stand, of which `data`
+/// may be `empty`, or why they stand for none.
+pub fn of_text(line: &mut Line<'_>, is_data: bool) {
+    let text = line.bytes();
+    line.begin();
+    let answer = match is_data {
+        true => data_of_text(line.alloc(), text.as_slice()),
+        false => bytes_of_digits(line.alloc(), text.as_slice()),
+    };
+    line.end();
+    match answer {
+        Ok(bytes) => line.say_bytes(bytes.as_slice()),
+        Err(DigitsFault::NoMemory) => line.lacks(),
+        Err(fault) => line.say_with("", fault),
     }
 }
 

@@ -1,7 +1,10 @@
 //! Packets of port 138, as they are said, and datagrams as words say them.
 
 use crate::fragments::{next_key, next_kind, say_fragment, say_key};
-use nb_datagram::{Datagram, Front, Packet, QueryKind, QueryPacket, decode, read_front};
+use nb_datagram::{
+    Datagram, DatagramFault, Front, Packet, QueryKind, QueryPacket, TooLong, decode, decode_lent,
+    read_front,
+};
 use nb_examples_words::line::Line;
 use nb_names::{Bytes, LentName};
 
@@ -10,10 +13,15 @@ use nb_names::{Bytes, LentName};
 /// A packet is `KIND FLAGS KEY OFFSET SOURCE DESTINATION BYTES`, where the kind is `unique`,
 /// `group` or `broadcast`; `error FLAGS KEY CODE`; or `find FLAGS KEY DESTINATION`, `found ..` or
 /// `missing ..`.
-pub fn decoded(line: &mut Line<'_>) {
+///
+/// `decode_lent BYTES`: the same of a packet whose names are lent, too, and that is then made.
+pub fn decoded(line: &mut Line<'_>, is_lent: bool) {
     let bytes = line.bytes();
     line.begin();
-    let answer = decode(bytes.as_slice());
+    let answer = match is_lent {
+        true => decode_made(bytes.as_slice()),
+        false => decode(bytes.as_slice()),
+    };
     line.end();
     match answer {
         Ok((packet, used)) => {
@@ -21,6 +29,14 @@ pub fn decoded(line: &mut Line<'_>) {
             line.say_with(", used ", used);
         }
         Err(fault) => line.say_with("", fault),
+    }
+}
+
+/// The packet at the front, made of the one whose names are lent.
+fn decode_made(bytes: &[u8]) -> Result<(Packet<'_>, usize), DatagramFault> {
+    match decode_lent(bytes) {
+        Ok((packet, used)) => Ok((packet.to_packet(), used)),
+        Err(fault) => Err(fault),
     }
 }
 
@@ -84,14 +100,22 @@ fn say_standing_name(line: &mut Line<'_>, name: &Option<LentName<'_>>) {
 
 /// The datagram that the next words say: `KIND KEY SOURCE DESTINATION BYTES`.
 pub fn datagram_of(line: &mut Line<'_>) -> Option<Datagram> {
+    let datagram = next_datagram(line);
+    if datagram.is_err() {
+        line.bad_words();
+    }
+    datagram.ok()
+}
+
+/// The datagram that the next words say, made between marks, or why there is none.
+pub fn next_datagram(line: &mut Line<'_>) -> Result<Datagram, TooLong> {
     let kind = next_kind(line);
     let key = next_key(line);
     let source = line.name();
     let destination = line.name();
     let data = Bytes::from_vec(line.bytes());
+    line.begin();
     let datagram = Datagram::new(key, kind, source, destination, data);
-    if datagram.is_err() {
-        line.bad_words();
-    }
-    datagram.ok()
+    line.end();
+    datagram
 }

@@ -4,7 +4,7 @@ use nb_examples_words::line::Line;
 use nb_names::{DomainName, LabelFault, Name, Scope, domain_text};
 
 /// The domain name of all labels that are left.
-fn domain_of(line: &mut Line<'_>) -> DomainName {
+pub fn domain_of(line: &mut Line<'_>) -> DomainName {
     let mut domain = DomainName::root();
     for word in line.rest().split_whitespace() {
         let label = line.bytes_of(word);

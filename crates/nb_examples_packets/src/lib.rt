@@ -2,17 +2,22 @@
 #![tactic(auto)]
 
 pub mod counting_sink;
+mod cutting;
 mod data;
 pub mod datagrams;
+mod devices;
 pub mod fragments;
 mod labels;
 mod names;
 mod service;
 mod service_items;
+mod service_making;
 mod service_texts;
+mod service_views;
 mod sessions;
 mod shown;
 mod streams;
+mod values;
 
 use nb_examples_words::fault::ExampleFault;
 use nb_examples_words::line::Line;
@@ -38,7 +43,7 @@ fn answer_of_names(line: &mut Line<'_>, call: &str) {
         "from_bytes" => names::of_bytes(line),
         "name_text" => names::written(line),
         "order" => names::ordered(line),
-        "read_input" => names::input(line),
+        "reader" => names::by_reader(line),
         _ => answer_of_labels(line, call),
     }
 }
@@ -52,6 +57,26 @@ fn answer_of_labels(line: &mut Line<'_>, call: &str) {
         "from_domain" => labels::from_domain(line),
         "domain_text" => labels::written(line),
         "data_in" => data::read(line),
+        _ => answer_of_values(line, call),
+    }
+}
+
+/// Says what a call of nb_names answers that takes values or a device, or adds to a text.
+fn answer_of_values(line: &mut Line<'_>, call: &str) {
+    match call {
+        "copy" => values::copied_name(line),
+        "lent" => values::lent(line),
+        "split_line" => values::split(line),
+        "copy_bytes" => values::copied_bytes(line),
+        "spelling" => values::spelled(line),
+        "bytes" => values::bytes(line),
+        "items" => values::items(line),
+        "read_input" => devices::input(line),
+        "read_some" => devices::read(line),
+        "write" => devices::written(line),
+        "added" => values::added(line),
+        "digits" => data::of_text(line, false),
+        "data" => data::of_text(line, true),
         _ => line.note(ExampleFault::NoSuchCall),
     }
 }
@@ -64,6 +89,24 @@ fn answer_of_service(line: &mut Line<'_>, call: &str) {
         "push" => service::pushed(line),
         "word" => service::word(line),
         "status" => service::status(line),
+        "entries" => service_views::entries(line),
+        "outline" => service_views::outlined(line),
+        "question_at" => service_views::question_at(line),
+        "record_at" => service_views::record_at(line),
+        _ => answer_of_makers(line, call),
+    }
+}
+
+/// Says what a call of nb_service answers that makes something.
+fn answer_of_makers(line: &mut Line<'_>, call: &str) {
+    match call {
+        "record" => service_making::record(line),
+        "ns" => service_making::name_server(line),
+        "response" => service_making::responded(line),
+        "lists" => service_making::lists(line),
+        "query" | "node_status_request" | "registration" | "refresh" | "release" => {
+            service_making::requested(line, call)
+        }
         _ => line.note(ExampleFault::NoSuchCall),
     }
 }
@@ -73,9 +116,17 @@ fn answer_of_session(line: &mut Line<'_>, call: &str) {
     match call {
         "header" => sessions::header(line),
         "parse" => sessions::parsed(line),
+        "same" => sessions::same(line),
+        "debug" => sessions::debug(line),
         "read" => sessions::read(line),
         "stream" => streams::streamed(line, true),
+        "kept" => streams::kept(line),
         "pieces" => streams::streamed(line, false),
+        "bytewise" => streams::streamed_bytewise(line),
+        "again" => sessions::encoded_again(line),
+        "fronts" => sessions::fronts(line),
+        "kind" => sessions::kind(line),
+        "new" => sessions::made_new(line),
         _ => line.note(ExampleFault::NoSuchCall),
     }
 }
@@ -83,9 +134,18 @@ fn answer_of_session(line: &mut Line<'_>, call: &str) {
 /// Says what a call of nb_datagram answers.
 fn answer_of_datagram(line: &mut Line<'_>, call: &str) {
     match call {
-        "decode" => datagrams::decoded(line),
+        "decode" => datagrams::decoded(line, false),
+        "decode_lent" => datagrams::decoded(line, true),
         "front" => datagrams::front(line),
         "parts" => fragments::parts(line),
+        "again" => cutting::encoded_again(line),
+        "datagram" => cutting::made(line),
+        "cut" => cutting::cut_up(line),
+        "pieces" => cutting::packets(line),
+        "datagrams" => cutting::listed_datagrams(line),
+        "errors" => cutting::listed_errors(line),
+        "key" => cutting::key_text(line),
+        "kind" => cutting::kind_text(line),
         _ => line.note(ExampleFault::NoSuchCall),
     }
 }
@@ -93,6 +153,7 @@ fn answer_of_datagram(line: &mut Line<'_>, call: &str) {
 /// Says what a call of nb_text answers.
 fn answer_of_text(line: &mut Line<'_>, call: &str) {
     match call {
+        "packet" => shown::text(line),
         "object" => shown::object(line),
         "count" => shown::count(line),
         _ => line.note(ExampleFault::NoSuchCall),

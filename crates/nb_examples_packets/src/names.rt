@@ -1,9 +1,11 @@
-//! Names: as packets have them, and as text; and an input.
+//! Names: as packets have them, and as text.
 
 use crate::labels::scope_of;
 use nb_examples_words::line::Line;
-use nb_names::input::{Input, read_input};
-use nb_names::{Counted, Name, Pointers, name_from_text, name_text, read_domain, read_name};
+use nb_names::{
+    DomainName, Name, NameFault, NameReader, Pointers, name_from_text, name_text, read_domain,
+    read_name,
+};
 
 /// The next word, as what is done at pointers: `followed` or `refused`.
 fn pointers(line: &mut Line<'_>) -> Pointers {
@@ -24,6 +26,11 @@ pub fn domain_read(line: &mut Line<'_>) {
     line.begin();
     let read = read_domain(packet.as_slice(), at, pointers);
     line.end();
+    say_read(line, read);
+}
+
+/// Says a domain name that was read, and the offset after it.
+fn say_read(line: &mut Line<'_>, read: Result<(DomainName, usize), NameFault>) {
     match read {
         Ok((name, next)) => {
             line.say_bytes(name.spelling());
@@ -31,6 +38,37 @@ pub fn domain_read(line: &mut Line<'_>) {
         }
         Err(fault) => line.say_with("", fault),
     }
+}
+
+/// `reader POINTERS AT ROOM BYTES`: as `read_domain`, by a reader with room for the ends of so many
+/// offsets; and what it says of the name where that is judged alone.
+pub fn by_reader(line: &mut Line<'_>) {
+    let pointers = pointers(line);
+    let at = line.number();
+    let mut room = ends_room(line);
+    let packet = line.bytes();
+    let reader = NameReader::of(packet.as_slice(), room.as_mut_slice());
+    line.begin();
+    let read = reader.read_domain(at, pointers);
+    let skipped = reader.skip_domain(at, pointers);
+    line.end();
+    say_read(line, read);
+    match skipped {
+        Ok(skipped) => line.say_debug("; ", &skipped),
+        Err(fault) => line.say_with("; ", fault),
+    }
+}
+
+/// A room of as many ends as the next word says.
+fn ends_room(line: &mut Line<'_>) -> Vec<u16> {
+    let count: u32 = line.number();
+    let mut room = Vec::new(line.alloc());
+    for _ in 0..count {
+        if room.push(0).is_err() {
+            line.no_memory();
+        }
+    }
+    room
 }
 
 /// `read_name POINTERS AT BYTES`: the NetBIOS name at an offset, and the offset after the name.
@@ -140,21 +178,4 @@ fn say_order<T: Ord>(line: &mut Line<'_>, first: &T, second: &T) {
     line.say_debug("", &order);
     line.say_with(", below ", is_below);
     line.say_with(", equal ", is_equal);
-}
-
-/// `read_input BYTES`: what is read of an input, whether that is all of it, and how many bytes are
-/// looked at.
-pub fn input(line: &mut Line<'_>) {
-    let bytes = line.bytes();
-    match read_input(line.alloc(), &mut Counted::new(bytes.as_slice())) {
-        Ok(input) => say_input(line, &input),
-        Err(_) => line.no_memory(),
-    }
-}
-
-/// Says what was read of an input.
-fn say_input(line: &mut Line<'_>, input: &Input) {
-    line.say_bytes(input.bytes.as_slice());
-    line.say_with(" ", input.is_whole);
-    line.say_with(" ", input.front().len());
 }

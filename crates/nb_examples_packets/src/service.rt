@@ -27,7 +27,7 @@ pub fn decoded(line: &mut Line<'_>) {
 }
 
 /// The packet at the front; an empty one where there is none.
-fn front<'a>(line: &mut Line<'_>, bytes: &'a [u8]) -> Packet<'a> {
+pub fn front<'a>(line: &mut Line<'_>, bytes: &'a [u8]) -> Packet<'a> {
     match decode(line.alloc(), bytes) {
         Ok((packet, _)) => return packet,
         Err(ServiceFault::NoMemory) => line.no_memory(),
@@ -142,7 +142,7 @@ fn is_pushed(line: &mut Line<'_>, answer: Result<(), PushFault>) -> bool {
 }
 
 /// The same question.
-fn copy_of_question(question: &Question) -> Question {
+pub fn copy_of_question(question: &Question) -> Question {
     Question {
         name: question.name.copied(),
         kind: question.kind,
@@ -183,7 +183,7 @@ fn push_record<'a>(
 }
 
 /// The same record; the name of a record of bytes that can't be so is the root, which shows.
-fn copy_of_record<'a>(record: &Record<'a>) -> Record<'a> {
+pub fn copy_of_record<'a>(record: &Record<'a>) -> Record<'a> {
     let name = record.name().copied();
     let kind = record.kind();
     let class = record.class();

@@ -1,9 +1,13 @@
 //! Packets of port 139: parsed, and read from a device.
 
+use crate::streams::lacks;
 use nb_examples_words::devices::{Source, WILLING};
 use nb_examples_words::line::Line;
 use nb_names::Counted;
-use nb_session::{Packet, Parsed, ReadFault, Room, front_header, parse, read_packet};
+use nb_session::{
+    Kind, MessageData, Packet, Parsed, ReadFault, Room, Stream, encode, front_header, parse,
+    parse_lent, read_packet,
+};
 
 /// Says a packet.
 pub fn say_packet(line: &mut Line<'_>, packet: &Packet<'_>) {
@@ -13,8 +17,8 @@ pub fn say_packet(line: &mut Line<'_>, packet: &Packet<'_>) {
             line.say_bytes(data.bytes());
         }
         Packet::Request { called, calling } => {
-            line.say_name("request ", &called.to_name());
-            line.say_name(" ", &calling.to_name());
+            line.say_name("request ", called);
+            line.say_name(" ", calling);
         }
         Packet::Positive => line.say("positive"),
         Packet::Negative(code) => line.say_hex_8("negative ", *code),
@@ -26,12 +30,21 @@ pub fn say_packet(line: &mut Line<'_>, packet: &Packet<'_>) {
     }
 }
 
-/// `parse BYTES`: the packet at the front, and how many bytes it takes up.
+/// `parse BYTES`: the packet at the front, and how many bytes it takes up; and whether the same
+/// stands there with its names lent, where it doesn't.
 pub fn parsed(line: &mut Line<'_>) {
     let bytes = line.bytes();
     line.begin();
     let answer = parse(bytes.as_slice());
     line.end();
+    if parse_lent(bytes.as_slice()).to_parsed() != answer {
+        line.say("not as lent: ");
+    }
+    say_parsed(line, answer);
+}
+
+/// Says what stands at the front of bytes.
+fn say_parsed(line: &mut Line<'_>, answer: Parsed<'_>) {
     match answer {
         Parsed::Whole(packet, used) => {
             say_packet(line, &packet);
@@ -40,6 +53,97 @@ pub fn parsed(line: &mut Line<'_>) {
         Parsed::More(needed) => line.say_with("more ", needed),
         Parsed::Refused(fault) => line.say_with("", fault),
     }
+}
+
+/// `same BYTES BYTES`: whether the same stands at the front of both, with names in place and lent.
+pub fn same(line: &mut Line<'_>) {
+    let first = line.bytes();
+    let second = line.bytes();
+    line.say_with("", parse(first.as_slice()) == parse(second.as_slice()));
+    line.say_with(
+        " ",
+        parse_lent(first.as_slice()) == parse_lent(second.as_slice()),
+    );
+}
+
+/// `debug BYTES`: what stands at the front, with names lent, as `Debug` prints it.
+pub fn debug(line: &mut Line<'_>) {
+    let bytes = line.bytes();
+    line.say_debug("", &parse_lent(bytes.as_slice()));
+}
+
+/// `fronts BYTES`: how many bytes each front of a packet lacks that is shorter than it: `K at N`
+/// says that N bytes lack K, and those after them one less with each byte.
+pub fn fronts(line: &mut Line<'_>) {
+    let bytes = line.bytes();
+    let mut before = 0;
+    for count in 0..bytes.len() {
+        let front = bytes.as_slice().get(..count).unwrap_or(&[]);
+        let lacking = lacking(front);
+        if lacking.saturating_add(1) != before {
+            line.say_with("", lacking);
+            line.say_with(" at ", count);
+            line.say("; ");
+        }
+        before = lacking;
+    }
+}
+
+/// How many bytes a front of a packet lacks; 0 where it is none.
+fn lacking(front: &[u8]) -> usize {
+    match parse(front) {
+        Parsed::More(needed) => needed,
+        _ => 0,
+    }
+}
+
+/// `again BYTES`: the bytes of the packet at the front, encoded.
+pub fn encoded_again(line: &mut Line<'_>) {
+    let bytes = line.bytes();
+    match parse(bytes.as_slice()) {
+        Parsed::Whole(packet, _) => say_encoded(line, &packet),
+        _ => line.bad_words(),
+    }
+}
+
+/// Says a packet's bytes, made between marks.
+fn say_encoded(line: &mut Line<'_>, packet: &Packet<'_>) {
+    line.begin();
+    let bytes = encode(line.alloc(), packet);
+    line.end();
+    line.say_called_bytes(bytes.ok());
+}
+
+/// `kind TYPE LENGTH`: the kind with this type, its type again, and whether its body may have so
+/// many bytes; or `none`.
+pub fn kind(line: &mut Line<'_>) {
+    let packet_type = line.hex_8();
+    let length = line.number();
+    match Kind::of_type(packet_type) {
+        Some(kind) => {
+            line.say_debug("", &kind);
+            line.say_hex_8(" ", kind.packet_type());
+            line.say_with(" ", kind.may_have(length));
+        }
+        None => line.say("none"),
+    }
+}
+
+/// `new BYTES`: how many bytes a message of these has, or why there is none, how many a new stream
+/// needs, and how many a new room holds.
+pub fn made_new(line: &mut Line<'_>) {
+    let bytes = line.bytes();
+    line.begin();
+    let message = MessageData::new(bytes.as_slice());
+    let needed = lacks(&mut Stream::new(line.alloc()));
+    let room = Room::new(line.alloc());
+    line.end();
+    match message {
+        Ok(message) => line.say_with("", message.bytes().len()),
+        Err(fault) => line.say_with("", fault),
+    }
+    line.say_debug(", needs ", &needed);
+    line.say_with(", holds ", room.as_slice().len());
 }
 
 /// `header BYTES`: the header at the front, TYPE, FLAGS and LENGTH, and the length of the body;

@@ -1,9 +1,9 @@
-//! Payloads of any port, as JSON objects and told to a sink.
+//! Payloads of any port, as texts, as JSON objects, and told to a sink.
 
 use crate::counting_sink::CountingSink;
 use nb_examples_words::line::Line;
 use nb_telling::JsonRoom;
-use nb_text::{packet_object, tell_packet};
+use nb_text::{packet_object, push_packet, tell_packet};
 
 /// `object PORT BYTES`: the JSON object of a payload that came to the port.
 pub fn object(line: &mut Line<'_>) {
@@ -15,6 +15,20 @@ pub fn object(line: &mut Line<'_>) {
     line.end();
     match answer {
         Ok(room) => line.say_lines(room.as_slice()),
+        Err(_) => line.lacks(),
+    }
+}
+
+/// `packet PORT BYTES`: the text of a payload that came to the port, whose lines end with `;` here.
+pub fn text(line: &mut Line<'_>) {
+    let port = line.number();
+    let payload = line.bytes();
+    let mut text = String::new(line.alloc());
+    line.begin();
+    let answer = push_packet(port, payload.as_slice(), &mut text);
+    line.end();
+    match answer {
+        Ok(()) => line.say_lines(text.as_bytes()),
         Err(_) => line.lacks(),
     }
 }

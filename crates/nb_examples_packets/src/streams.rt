@@ -3,6 +3,7 @@
 use crate::sessions::say_packet;
 use nb_examples_words::asked;
 use nb_examples_words::line::Line;
+use nb_session::limits::HEADER_LENGTH;
 use nb_session::{FeedFault, Next, SessionFault, Stream};
 
 /// `stream PIECE ..`: what a stream answers after each piece that it is fed, up to what it needs or
@@ -24,6 +25,64 @@ pub fn streamed(line: &mut Line<'_>, has_all: bool) {
     if !has_all {
         say_end(line, &mut stream);
     }
+}
+
+/// `kept TIMES PIECE ..`: feeds these pieces so often, and takes each packet off as it comes: how
+/// many bytes the stream has in memory at most, and what it needs in the end.
+pub fn kept(line: &mut Line<'_>) {
+    let times: u32 = line.number();
+    let pieces = line.rest();
+    let mut stream = Stream::new(line.alloc());
+    let mut most = 0;
+    for _ in 0..times {
+        most = most_kept(line, &mut stream, pieces).max(most);
+    }
+    line.say_with("kept ", most);
+    line.say(", ");
+    say_end(line, &mut stream);
+}
+
+/// How many bytes a stream has in memory at most that is fed these pieces.
+fn most_kept(line: &mut Line<'_>, stream: &mut Stream, pieces: &str) -> usize {
+    let mut most = 0;
+    for word in pieces.split_whitespace() {
+        let piece = line.bytes_of(word);
+        say_fed(line, stream.feed(piece.as_slice()));
+        most = stream.kept().max(most);
+        drain(stream, piece.len());
+    }
+    most
+}
+
+/// Takes the packets off a stream that it has after a piece of so many bytes.
+fn drain(stream: &mut Stream, count: usize) {
+    for _ in 0..=count {
+        if !matches!(stream.next(), Next::Packet(_)) {
+            return;
+        }
+    }
+}
+
+/// `bytewise BYTES`: what a new stream answers that is fed the bytes one by one: its packets, and
+/// what it needs, where that isn't one byte less than before.
+pub fn streamed_bytewise(line: &mut Line<'_>) {
+    let bytes = line.bytes();
+    let mut stream = Stream::new(line.alloc());
+    let mut needed = HEADER_LENGTH;
+    for byte in bytes.as_slice() {
+        feed(line, &mut stream, &[*byte]);
+        say_packets(line, &mut stream, 1, true);
+        needed = say_needed(line, &mut stream, needed);
+    }
+}
+
+/// Says what a stream needs, where that isn't one byte less than before; what it needs.
+fn say_needed(line: &mut Line<'_>, stream: &mut Stream, before: usize) -> usize {
+    let needed = lacks(stream).unwrap_or(usize::MAX);
+    if needed.saturating_add(1) != before {
+        say_end(line, stream);
+    }
+    needed
 }
 
 /// Says the packets that a stream has after a piece of so many bytes.
@@ -56,7 +115,7 @@ fn say_fed(line: &mut Line<'_>, answer: Result<(), FeedFault>) {
 }
 
 /// How many bytes a stream lacks that has no whole packet, or how it failed.
-fn lacks(stream: &mut Stream) -> Result<usize, SessionFault> {
+pub fn lacks(stream: &mut Stream) -> Result<usize, SessionFault> {
     match stream.next() {
         Next::Packet(_) => Ok(0),
         Next::More(needed) => Ok(needed),

@@ -1,11 +1,11 @@
-//! Devices: a reader that does as an example says, slow, interrupted, failing; and a writer that
-//! keeps what it took.
+//! Devices that do as an example says, slow, interrupted, failing: a reader of some bytes, and a
+//! writer that keeps what it took.
 
 use std::alloc::{AllocError, Global};
 use std::io;
 use std::io::{ErrorKind, Read, Write};
 
-/// What a reader does besides giving bytes. Calls that are interrupted don't count.
+/// What a device does besides giving or taking bytes. Calls that are interrupted don't count.
 #[derive(Clone, Copy)]
 pub struct Conduct {
     /// The most bytes of a call.
@@ -18,7 +18,7 @@ pub struct Conduct {
     pub failing: u64,
 }
 
-/// A reader that does all that it is asked for.
+/// A device that does all that it is asked for.
 pub const WILLING: Conduct = Conduct {
     most: usize::MAX,
     interrupts: 0,
@@ -26,29 +26,22 @@ pub const WILLING: Conduct = Conduct {
     failing: 0,
 };
 
-/// A reader of some bytes.
+/// The calls of a device.
 #[derive(Drop)]
-pub struct Source<'a> {
-    bytes: &'a [u8],
+struct Turns {
     conduct: Conduct,
     waiting: u32,
     calls: u64,
 }
 
-impl<'a> Source<'a> {
-    /// A reader of these bytes.
-    pub fn new(bytes: &'a [u8], conduct: Conduct) -> Source<'a> {
-        Source {
-            bytes,
+impl Turns {
+    /// No call so far.
+    fn new(conduct: Conduct) -> Turns {
+        Turns {
             conduct,
             waiting: conduct.interrupts,
             calls: 0,
         }
-    }
-
-    /// The bytes that haven't been read.
-    pub fn left(&self) -> &'a [u8] {
-        self.bytes
     }
 
     /// Counts a call, which is interrupted or fails where it has to.
@@ -68,10 +61,33 @@ impl<'a> Source<'a> {
     }
 }
 
+/// A reader of some bytes.
+#[derive(Drop)]
+pub struct Source<'a> {
+    bytes: &'a [u8],
+    turns: Turns,
+}
+
+impl<'a> Source<'a> {
+    /// A reader of these bytes.
+    pub fn new(bytes: &'a [u8], conduct: Conduct) -> Source<'a> {
+        Source {
+            bytes,
+            turns: Turns::new(conduct),
+        }
+    }
+
+    /// The bytes that haven't been read.
+    pub fn left(&self) -> &'a [u8] {
+        self.bytes
+    }
+}
+
 impl Read for Source<'_> {
     fn read(&mut self, buf: &mut [u8]) -> io::Result<usize> {
-        self.turn()?;
-        let count = self.conduct.most.min(self.bytes.len()).min(buf.len());
+        self.turns.turn()?;
+        let most = self.turns.conduct.most;
+        let count = most.min(self.bytes.len()).min(buf.len());
         buf[..count].copy_from_slice(&self.bytes[..count]);
         self.bytes = &self.bytes[count..];
         Ok(count)
@@ -82,14 +98,16 @@ impl Read for Source<'_> {
 #[derive(Drop)]
 pub struct Sink {
     taken: Vec<u8>,
+    turns: Turns,
 }
 
 impl Sink {
     /// A writer that has taken nothing, and for which so many bytes want no memory.
-    pub fn with_room(alloc: Global, count: usize) -> Result<Sink, AllocError> {
+    pub fn with_room(alloc: Global, count: usize, conduct: Conduct) -> Result<Sink, AllocError> {
         let mut taken = Vec::new(alloc);
         taken.reserve(count)?;
-        Ok(Sink { taken })
+        let turns = Turns::new(conduct);
+        Ok(Sink { taken, turns })
     }
 
     /// What it took.
@@ -100,8 +118,10 @@ impl Sink {
 
 impl Write for Sink {
     fn write(&mut self, buf: &[u8]) -> io::Result<usize> {
-        match self.taken.extend_from_slice(buf) {
-            Ok(()) => Ok(buf.len()),
+        self.turns.turn()?;
+        let count = self.turns.conduct.most.min(buf.len());
+        match self.taken.extend_from_slice(&buf[..count]) {
+            Ok(()) => Ok(count),
             Err(_) => Err(io::Error::from(ErrorKind::OutOfMemory)),
         }
     }

@@ -240,6 +240,16 @@ impl<'a> Line<'a> {
         (keys, per_source)
     }
 
+    /// The next word, which is one of two: whether it is the first.
+    pub fn is_word(&mut self, yes: &str, no: &str) -> bool {
+        let word = self.word();
+        let is_yes = word == yes;
+        if !is_yes && word != no {
+            self.bad_words();
+        }
+        is_yes
+    }
+
     /// The next three words, as what a device does: `MOST INTERRUPTS FAILING`, where `INTERRUPTS`
     /// is `600/4` for 600 interrupts before the first, the fifth and each fourth call after it, and
     /// `1023` for 1,023 before each.

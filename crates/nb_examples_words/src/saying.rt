@@ -2,7 +2,7 @@
 
 use crate::byte_text::say_bytes;
 use crate::line::Line;
-use nb_names::{Name, name_text};
+use nb_names::{Bytes, Name, name_text};
 use std::fmt::{Debug, Display};
 
 impl Line<'_> {
@@ -65,6 +65,14 @@ impl Line<'_> {
         match text {
             Some(text) => self.say(text.as_str()),
             None => self.no_memory(),
+        }
+    }
+
+    /// Says bytes that a call made between marks; none were made where memory ran out.
+    pub fn say_called_bytes(&mut self, bytes: Option<Bytes>) {
+        match bytes {
+            Some(bytes) => self.say_bytes(bytes.as_slice()),
+            None => self.lacks(),
         }
     }
 

@@ -1,7 +1,9 @@
 //! NetBIOS names whose scopes are lent.
 #![tactic(auto, using(crate::specs::GrowthFacts::front_stays))]
 
-ghost use Rattle.std.specs.Prelude.{◌≡◌, ◌≤◌, ◌++◌, ℕ, length, string_bytes, IfOk, IfErr, IsOkAnd, OnOk};
+ghost use Rattle.std.specs.Prelude.{◌≡◌, ◌↔◌, ◌≤◌, ◌++◌, ℕ, length, string_bytes, IfOk, IfErr, IsOkAnd, IsTrue, OnOk};
+ghost use Rattle.std.proofs.Common.{rules};
+ghost use Rattle.std.specs.Cmp.Rules.{comparing};
 ghost use Rattle.nb_names.specs.Growth.{OnlyAdds};
 ghost use Rattle.nb_names.specs.Code.Spelled.{labels_of, IsSpelled};
 ghost use Rattle.nb_names.specs.DomainName.{spelling};
@@ -26,10 +28,10 @@ use crate::text_writing::push_parts;
 use std::marker::Model;
 
 /// A NetBIOS name whose scope is lent, as its spelling. It takes a few words, where a [`Name`] has
-/// room for any scope in place.
+/// room for any scope in place. Names are equal as those of [`Name`] are.
 ///
 /// RFC 1001 section 14.1.
-#[derive(Drop)]
+#[derive(Debug, Drop)]
 pub struct LentName<'a> {
     bytes: [u8; NAME_LENGTH],
     /// The spelling of the scope, its zero byte included.
@@ -144,6 +146,23 @@ impl<'a> NameForm for LentName<'a> {
     fn scope_spelling(&self) -> &[u8] {
         self.scope
     }
+}
+
+impl PartialEq for LentName<'_> {
+    ghost eq = { name_eq };
+
+    ghost laws = { Prim.search (comparing, rules) };
+
+    fn eq(&self, other: &Self) -> bool
+        ensures value { result ≡ name_eq self.now other.now }
+        ensures same { IsTrue result ↔ (self.now ≡ other.now) }
+    {
+        self.is_same(other)
+    }
+}
+
+impl Eq for LentName<'_> {
+    ghost laws = { Prim.search (comparing, rules) };
 }
 
 impl Name {

@@ -1,14 +1,12 @@
 -- Bytes are cut into packets in one way, and a stream cuts what is fed to it so.
 use Rattle.std.proofs.Common.{◌≡◌, ℕ, List, [], ◌∷◌, ◌++◌, length, drop, refl, ap, sym, subst, ◌∙◌, append_assoc, append-nil, Ok, Err}
 use Rattle.std.proofs.lemmas.List.{drop_at}
-use Rattle.nb_session.specs.declared.packet.Packet.{Packet}
-use Rattle.nb_session.specs.declared.parsing.Parsed.{Parsed}
 use Rattle.nb_session.specs.declared.parsing.Parsed.TheVariants.{Whole, More as more_parsed, Refused}
 use Rattle.nb_session.specs.declared.stream.FeedFault.TheVariants.{Failed as failed_feed, NoMemory}
 use Rattle.nb_session.specs.declared.stream.Next.TheVariants.{Packet as taken_packet, More, Failed}
 use Rattle.nb_session.specs.Cutting.{ArePackets, no_packet, one_more, BeginsWithNone, IsCut, History, begun, fed_on, asked}
-use Rattle.nb_session.specs.Packet.{IsPacket}
-use Rattle.nb_session.specs.Parsing.{Parses}
+use Rattle.nb_session.specs.Packet.{Packet, IsPacket}
+use Rattle.nb_session.specs.Parsing.{Parsed, Parses}
 use Rattle.nb_session.specs.StreamValue.{StreamValue}
 use Rattle.nb_session.proofs.ParsingLemmas.{packet_parses}
 

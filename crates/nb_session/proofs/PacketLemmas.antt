@@ -9,10 +9,9 @@ use Rattle.nb_names.specs.Name.{NetbiosName, IsName, labels_of_name}
 use Rattle.nb_session.specs.declared.header.Header.{Header}
 use Rattle.nb_session.specs.declared.kind.Kind.{Kind}
 use Rattle.nb_session.specs.declared.kind.Kind.TheVariants.{Request as request}
-use Rattle.nb_session.specs.declared.packet.Packet.{Packet}
 use Rattle.nb_session.specs.declared.packet.Packet.TheVariants.{Message, Request, Positive, Negative, Retarget, Keepalive}
 use Rattle.nb_session.specs.Header.{type_of, MayHave, header_bytes, HasHeader, body_length, packet_length, IsGood}
-use Rattle.nb_session.specs.Packet.{kind_of, body_of, IsFormed, IsPacket}
+use Rattle.nb_session.specs.Packet.{Packet, kind_of, body_of, IsFormed, IsPacket}
 use Rattle.nb_session.proofs.BytesLemmas.{stands_joined, stands_whole, spelled_there}
 use Rattle.nb_session.proofs.HeaderLemmas.{good_header_bytes}
 

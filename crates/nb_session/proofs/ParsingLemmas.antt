@@ -10,13 +10,11 @@ use Rattle.nb_session.specs.declared.fault.SessionFault.TheVariants.{Name, Trail
 use Rattle.nb_session.specs.declared.header.Header.{Header}
 use Rattle.nb_session.specs.declared.kind.Kind.{Kind}
 use Rattle.nb_session.specs.declared.kind.Kind.TheVariants.{Request as request}
-use Rattle.nb_session.specs.declared.packet.Packet.{Packet}
 use Rattle.nb_session.specs.declared.packet.Packet.TheVariants.{Message, Request, Positive, Negative, Retarget, Keepalive}
-use Rattle.nb_session.specs.declared.parsing.Parsed.{Parsed}
 use Rattle.nb_session.specs.declared.parsing.Parsed.TheVariants.{Whole, More, Refused}
 use Rattle.nb_session.specs.Header.{MayHave, HasHeader, body_length, packet_length, IsGood}
-use Rattle.nb_session.specs.Packet.{kind_of, IsPacket}
-use Rattle.nb_session.specs.Parsing.{Lacks, HeaderFails, unknown_type, reserved_flags, bad_length, RequestFails, called_fails, calling_fails, bytes_trail, Parses, header_lacks, header_fails, body_lacks, body_fails, whole}
+use Rattle.nb_session.specs.Packet.{Packet, kind_of, IsPacket}
+use Rattle.nb_session.specs.Parsing.{Parsed, Lacks, HeaderFails, unknown_type, reserved_flags, bad_length, RequestFails, called_fails, calling_fails, bytes_trail, Parses, header_lacks, header_fails, body_lacks, body_fails, whole}
 use Rattle.nb_session.proofs.HeaderLemmas.{header_within, one_header, one_kind, header_in_front, header_in_all}
 use Rattle.nb_session.proofs.PacketLemmas.{packet_headed}
 use Rattle.nb_session.proofs.ValueLemmas.{NameLaws, request_read, one_value}

@@ -18,14 +18,12 @@ use Rattle.nb_session.specs.declared.fault.SessionFault.TheVariants.{UnknownType
 use Rattle.nb_session.specs.declared.header.Header.{Header}
 use Rattle.nb_session.specs.declared.kind.Kind.{Kind}
 use Rattle.nb_session.specs.declared.kind.Kind.TheVariants.{Message as message, Request as request, Positive as positive, Negative as negative, Retarget as retarget, Keepalive as keepalive}
-use Rattle.nb_session.specs.declared.packet.Packet.{Packet}
 use Rattle.nb_session.specs.declared.packet.Packet.TheVariants.{Message, Request, Positive, Negative, Retarget, Keepalive}
-use Rattle.nb_session.specs.declared.parsing.Parsed.{Parsed}
 use Rattle.nb_session.specs.declared.parsing.Parsed.TheVariants.{Whole, More, Refused}
 use Rattle.nb_session.specs.Cutting.{no_packet, one_more, BeginsWithNone, IsCut}
 use Rattle.nb_session.specs.Header.{type_of, MayHave, HasHeader, body_length, packet_length, IsGood}
-use Rattle.nb_session.specs.Packet.{IsPacket}
-use Rattle.nb_session.specs.Parsing.{HeaderFails, unknown_type, reserved_flags, bad_length, RequestFails, called_fails, calling_fails, bytes_trail, Parses, header_lacks, header_fails, body_lacks, body_fails, whole}
+use Rattle.nb_session.specs.Packet.{Packet, IsPacket}
+use Rattle.nb_session.specs.Parsing.{Parsed, HeaderFails, unknown_type, reserved_flags, bad_length, RequestFails, called_fails, calling_fails, bytes_trail, Parses, header_lacks, header_fails, body_lacks, body_fails, whole}
 use Rattle.nb_session.proofs.BytesLemmas.{spelled_there, stands_joined}
 use Rattle.nb_session.proofs.CuttingLemmas.{OneAnswer, lacking_none, failing_none}
 use Rattle.nb_session.proofs.HeaderLemmas.{header_in_front}

@@ -13,10 +13,9 @@ use Rattle.nb_names.specs.NameFaults.{NetbiosFaultAt}
 use Rattle.nb_session.specs.declared.header.Header.{Header}
 use Rattle.nb_session.specs.declared.kind.Kind.{Kind}
 use Rattle.nb_session.specs.declared.kind.Kind.TheVariants.{Message as message, Request as request, Positive as positive, Negative as negative, Retarget as retarget, Keepalive as keepalive}
-use Rattle.nb_session.specs.declared.packet.Packet.{Packet}
 use Rattle.nb_session.specs.declared.packet.Packet.TheVariants.{Message, Request, Positive, Negative, Retarget, Keepalive}
 use Rattle.nb_session.specs.Header.{header_bytes}
-use Rattle.nb_session.specs.Packet.{kind_of, body_of, IsPacket}
+use Rattle.nb_session.specs.Packet.{Packet, kind_of, body_of, IsPacket}
 use Rattle.nb_session.proofs.HeaderLemmas.{one_header, one_kind}
 use Rattle.nb_session.proofs.PacketLemmas.{letters_length, name_length, packet_headed}
 

@@ -1,12 +1,11 @@
 -- Rows of packets, and the one way in which bytes are cut into them; and what was fed to a stream and
 -- handed out by it, in any row of calls.
 use Rattle.std.specs.Prelude.{◌≡◌, ℕ, List, [], ◌∷◌, ◌++◌, Result, Ok, Err}
-use Rattle.nb_session.specs.declared.packet.Packet.{Packet}
 use Rattle.nb_session.specs.declared.parsing.Parsed.TheVariants.{Whole}
 use Rattle.nb_session.specs.declared.stream.FeedFault.{FeedFault}
 use Rattle.nb_session.specs.declared.stream.Next.{Next}
 use Rattle.nb_session.specs.declared.stream.Next.TheVariants.{Packet as taken_packet, More, Failed}
-use Rattle.nb_session.specs.Packet.{IsPacket}
+use Rattle.nb_session.specs.Packet.{Packet, IsPacket}
 use Rattle.nb_session.specs.Parsing.{Parses}
 use Rattle.nb_session.specs.Stream.{Feeds, Takes}
 use Rattle.nb_session.specs.StreamValue.{StreamValue, running}

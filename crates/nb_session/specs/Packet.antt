@@ -4,16 +4,20 @@
 use Rattle.std.specs.Prelude.{◌≡◌, ℕ, ◌<◌, ◌≤◌, ◌^◌, List, [], ◌∷◌, ◌++◌, length, ⊤}
 use Rattle.std.specs.Int.{w16, to_be_bytes}
 use Rattle.nb_names.specs.DomainName.{spelling}
-use Rattle.nb_names.specs.Name.{IsName, labels_of_name}
+use Rattle.nb_names.specs.Name.{NetbiosName, IsName, labels_of_name}
 use Rattle.nb_session.specs.declared.kind.Kind.{Kind}
 use Rattle.nb_session.specs.declared.kind.Kind.TheVariants.{Message as message, Request as request, Positive as positive, Negative as negative, Retarget as retarget, Keepalive as keepalive}
 use Rattle.nb_session.specs.declared.limits.TheConstants.{MAX_MESSAGE}
-use Rattle.nb_session.specs.declared.packet.Packet.{Packet}
+use Rattle.nb_session.specs.declared.packet.Packet.{Packet as PacketOf}
 use Rattle.nb_session.specs.declared.packet.Packet.TheVariants.{Message, Request, Positive, Negative, Retarget, Keepalive}
 use Rattle.nb_session.specs.Header.{header_bytes}
 
+-- a packet, whatever the form of its names
+abbrev pub Packet : Type 0
+Packet = PacketOf NetbiosName
+
 -- what a packet is for
-abbrev pub kind_of : Packet → Kind
+abbrev pub kind_of : {N : Type 0} → PacketOf N → Kind
 kind_of (Message contents) = message
 kind_of (Request called calling) = request
 kind_of Positive = positive

@@ -5,12 +5,11 @@ use Rattle.nb_names.specs.Counted.{Counts}
 use Rattle.nb_session.specs.declared.header.Header.{Header}
 use Rattle.nb_session.specs.declared.kind.Kind.{Kind}
 use Rattle.nb_session.specs.declared.limits.TheConstants.{HEADER_LENGTH, MAX_PACKET, MAX_INTERRUPTS}
-use Rattle.nb_session.specs.declared.packet.Packet.{Packet}
 use Rattle.nb_session.specs.declared.packet_reading.ReadFault.{ReadFault}
 use Rattle.nb_session.specs.declared.packet_reading.ReadFault.TheVariants.{Refused, EndInside, Device, TooManyInterrupts, NoMemory}
 use Rattle.nb_session.specs.declared.parsing.Parsed.TheVariants.{Refused as refused}
 use Rattle.nb_session.specs.Header.{HasHeader, IsGood}
-use Rattle.nb_session.specs.Packet.{IsPacket}
+use Rattle.nb_session.specs.Packet.{Packet, IsPacket}
 use Rattle.nb_session.specs.Parsing.{Parses, Lacks}
 
 -- these bytes are a header that packets have, and nothing more

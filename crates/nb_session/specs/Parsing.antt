@@ -15,11 +15,14 @@ use Rattle.nb_session.specs.declared.header.Header.{Header}
 use Rattle.nb_session.specs.declared.kind.Kind.{Kind}
 use Rattle.nb_session.specs.declared.kind.Kind.TheVariants.{Request}
 use Rattle.nb_session.specs.declared.limits.TheConstants.{HEADER_LENGTH}
-use Rattle.nb_session.specs.declared.packet.Packet.{Packet}
-use Rattle.nb_session.specs.declared.parsing.Parsed.{Parsed}
+use Rattle.nb_session.specs.declared.parsing.Parsed.{Parsed as ParsedOf}
 use Rattle.nb_session.specs.declared.parsing.Parsed.TheVariants.{Whole, More, Refused}
 use Rattle.nb_session.specs.Header.{HasHeader, IsGood, MayHave, type_of, body_length, packet_length}
-use Rattle.nb_session.specs.Packet.{IsPacket}
+use Rattle.nb_session.specs.Packet.{Packet, IsPacket}
+
+-- what stands at the front of bytes, whatever the form of a packet's names
+abbrev pub Parsed : Type 0
+Parsed = ParsedOf NetbiosName
 
 -- HeaderFails header fault: no packet has this header, and this is its first fault
 pub data HeaderFails (header : Header) : SessionFault → Type 0 where

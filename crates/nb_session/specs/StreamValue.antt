@@ -7,6 +7,12 @@ pub record StreamValue : Type 0 where
   pub held : List ℕ
   pub failed : Option SessionFault
 
+-- a stream in memory: what it is, and of how many bytes it has memory now: those that it holds, and those handed out
+-- that it hasn't dropped yet
+pub record KeptStream : Type 0 where
+  pub value : StreamValue
+  pub kept : ℕ
+
 -- a stream that holds these bytes, and hasn't failed
 abbrev pub running : List ℕ → StreamValue
 running held = record { held = held; failed = None }

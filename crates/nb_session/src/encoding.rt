@@ -7,7 +7,7 @@ ghost use Rattle.nb_session.specs.Packet.{IsPacket};
 use crate::kind::Kind;
 use crate::limits::HEADER_LENGTH;
 use crate::packet::Packet;
-use nb_names::{Bytes, LentName, NoMemory};
+use nb_names::{Bytes, Name, NoMemory};
 use std::alloc::Global;
 
 /// What one bit of FLAGS adds to the length of the body.
@@ -37,7 +37,7 @@ fn framed(alloc: Global, kind: Kind, first: &[u8], second: &[u8]) -> Result<Byte
 }
 
 /// The bytes of a request.
-fn request(alloc: Global, called: &LentName<'_>, calling: &LentName<'_>) -> Result<Bytes, NoMemory>
+fn request(alloc: Global, called: &Name, calling: &Name) -> Result<Bytes, NoMemory>
     ensures { IfOk result (IsPacket (Packet.Request called.now calling.now)) }
 {
     let first = called.to_domain();

@@ -5,13 +5,11 @@ ghost use Rattle.nb_session.specs.declared.fault.SessionFault.{SessionFault};
 ghost use Rattle.nb_session.specs.declared.header.Header.{Header};
 ghost use Rattle.nb_session.specs.declared.kind.Kind.TheVariants.{Message, Request, Positive, Negative, Retarget, Keepalive};
 ghost use Rattle.nb_session.specs.declared.limits.TheConstants.{HEADER_LENGTH, MAX_MESSAGE, MAX_PACKET, MIN_REQUEST, MAX_REQUEST, MAX_INTERRUPTS};
-ghost use Rattle.nb_session.specs.declared.packet.Packet.{Packet};
-ghost use Rattle.nb_session.specs.declared.parsing.Parsed.{Parsed};
 ghost use Rattle.nb_session.specs.declared.parsing.Parsed.TheVariants.{Whole, More, Refused};
 ghost use Rattle.nb_session.specs.Cutting.{ArePackets, IsCut, History};
 ghost use Rattle.nb_session.specs.Header.{HasHeader, type_of};
-ghost use Rattle.nb_session.specs.Packet.{IsPacket};
-ghost use Rattle.nb_session.specs.Parsing.{Parses};
+ghost use Rattle.nb_session.specs.Packet.{Packet, IsPacket};
+ghost use Rattle.nb_session.specs.Parsing.{Parsed, Parses};
 ghost use Rattle.nb_session.specs.StreamValue.{StreamValue};
 
 use nb_names::laws::{

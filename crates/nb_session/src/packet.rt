@@ -5,7 +5,7 @@ ghost use Rattle.nb_session.specs.Packet.{kind_of};
 
 use crate::kind::Kind;
 use crate::limits::MAX_MESSAGE;
-use nb_names::LentName;
+use nb_names::{LentName, Name, NameForm};
 use std::error::Error;
 use std::fmt;
 use std::marker::Model;
@@ -99,17 +99,18 @@ impl Eq for MessageData<'_> {
     ghost laws = { Prim.search (comparing, rules) };
 }
 
-/// A session packet (RFC 1002 section 4.3). Its names and its message are lent.
-#[derive(Drop)]
-pub enum Packet<'a> {
+/// A session packet (RFC 1002 section 4.3). Its names stand in the form `N`, and its message is
+/// lent.
+#[derive(Debug, Drop, PartialEq, Eq)]
+pub enum Packet<'a, N: NameForm = Name> {
     /// Data of the session (section 4.3.6).
     Message(MessageData<'a>),
     /// A session is asked for (section 4.3.2).
     Request {
         /// Who is called.
-        called: LentName<'a>,
+        called: N,
         /// Who calls.
-        calling: LentName<'a>,
+        calling: N,
     },
     /// The session is established (section 4.3.3).
     Positive,
@@ -128,7 +129,33 @@ pub enum Packet<'a> {
     Keepalive,
 }
 
-impl Packet<'_> {
+/// A packet whose names are lent too. It takes a few words, where one whose names stand in place
+/// has room for both scopes.
+pub type LentPacket<'a> = Packet<'a, LentName<'a>>;
+
+impl<'a> LentPacket<'a> {
+    /// The packet, with its names in place. No memory is taken.
+    pub fn to_packet(&self) -> Packet<'a>
+        ensures { result ≡ self.now }
+    {
+        match self {
+            Packet::Message(message) => Packet::Message(MessageData::of(message.bytes())),
+            Packet::Request { called, calling } => Packet::Request {
+                called: called.to_name(),
+                calling: calling.to_name(),
+            },
+            Packet::Positive => Packet::Positive,
+            Packet::Negative(code) => Packet::Negative(*code),
+            Packet::Retarget { address, port } => Packet::Retarget {
+                address: *address,
+                port: *port,
+            },
+            Packet::Keepalive => Packet::Keepalive,
+        }
+    }
+}
+
+impl<N: NameForm> Packet<'_, N> {
     /// What the packet is for.
     pub fn kind(&self) -> Kind
         ensures { result ≡ kind_of self.now }

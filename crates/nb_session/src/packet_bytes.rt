@@ -4,8 +4,8 @@ ghost use Rattle.nb_session.specs.Packet.{IsPacket, IsWhole};
 ghost use Rattle.nb_session.specs.Parsing.{AreOnePacket};
 
 use crate::laws::one_answer;
-use crate::packet::Packet;
-use crate::parsing::{Parsed, parse};
+use crate::packet::{LentPacket, Packet};
+use crate::parsing::{Parsed, parse_lent};
 
 /// The bytes of one whole packet, lent.
 #[derive(Clone, Copy, Debug)]
@@ -33,13 +33,20 @@ impl<'a> PacketBytes<'a> {
         self.bytes
     }
 
-    /// The packet. No memory is taken: a message and names are lent from the bytes.
-    pub fn packet(&self) -> Packet<'a>
+    /// The packet, whose names are lent from the bytes, too. No memory is taken.
+    pub fn lent_packet(&self) -> LentPacket<'a>
         ensures { IsPacket result self.now.bytes.now }
     {
-        match parse(self.bytes) {
+        match parse_lent(self.bytes) {
             Parsed::Whole(packet, _) => packet,
             _ => unreachable!(),
         }
+    }
+
+    /// The packet. No memory is taken: a message is lent from the bytes.
+    pub fn packet(&self) -> Packet<'a>
+        ensures { IsPacket result self.now.bytes.now }
+    {
+        self.lent_packet().to_packet()
     }
 }

@@ -13,7 +13,7 @@ use crate::filling::{Fill, read_full};
 use crate::header::{Header, read_header};
 use crate::kind::Kind;
 use crate::limits::HEADER_LENGTH;
-use crate::packet::Packet;
+use crate::packet::{LentPacket, Packet};
 use crate::parsing::read_packet_of;
 use crate::room::Room;
 use nb_names::Counted;
@@ -43,7 +43,11 @@ pub enum ReadFault {
 }
 
 /// The packet that these bytes are, up to the last of which they were read.
-fn read_whole<'a>(kind: Kind, header: Header, bytes: &'a [u8]) -> Result<Packet<'a>, SessionFault>
+fn read_whole<'a>(
+    kind: Kind,
+    header: Header,
+    bytes: &'a [u8],
+) -> Result<LentPacket<'a>, SessionFault>
     requires header { HasHeader bytes.now header }
     requires good { IsGood header kind }
     requires whole { length bytes.now ≡ packet_length header }
@@ -54,20 +58,18 @@ fn read_whole<'a>(kind: Kind, header: Header, bytes: &'a [u8]) -> Result<Packet<
     read_packet_of(kind, header, bytes)
 }
 
-/// Reads one packet, and no byte after it, or answers `None` at the end before its first byte.
-///
-/// The header is read and judged, then room is made for the whole packet, then its body is read.
-/// A read that is interrupted is made again. A message and names are lent from the room.
+/// Reads one packet, and no byte after it, as [`read_packet`] does. The names of a request are lent
+/// from the room, too.
 ///
 /// # Errors
 ///
-/// The first that is met. The room may be used again.
+/// Those of [`read_packet`].
 ///
 /// RFC 1002 section 4.3.
-pub fn read_packet<'a, R: Read>(
+pub fn read_lent_packet<'a, R: Read>(
     reader: &mut Counted<R>,
     room: &'a mut Room,
-) -> Result<Option<Packet<'a>>, ReadFault>
+) -> Result<Option<LentPacket<'a>>, ReadFault>
     // The bytes that this call took from the reader, and what they are.
     ensures reads { (bytes : List ℕ) ×
         Consumes (R.remaining reader.old.inner) (R.remaining reader.new.inner) bytes ×
@@ -103,5 +105,34 @@ pub fn read_packet<'a, R: Read>(
     match read_whole(kind, judged, room.as_slice()) {
         Ok(packet) => Ok(Some(packet)),
         Err(fault) => Err(ReadFault::Refused(fault)),
+    }
+}
+
+/// Reads one packet, and no byte after it, or answers `None` at the end before its first byte.
+///
+/// The header is read and judged, then room is made for the whole packet, then its body is read.
+/// A read that is interrupted is made again. A message is lent from the room.
+///
+/// # Errors
+///
+/// The first that is met. The room may be used again.
+///
+/// RFC 1002 section 4.3.
+pub fn read_packet<'a, R: Read>(
+    reader: &mut Counted<R>,
+    room: &'a mut Room,
+) -> Result<Option<Packet<'a>>, ReadFault>
+    // The bytes that this call took from the reader, and what they are.
+    ensures reads { (bytes : List ℕ) ×
+        Consumes (R.remaining reader.old.inner) (R.remaining reader.new.inner) bytes ×
+        Reads bytes (R.remaining reader.new.inner) result }
+
+    // How many calls of the reader it made, and how many of them were answered in which way.
+    ensures tells { Tells (between reader.old.counts reader.new.counts) result }
+{
+    match read_lent_packet(reader, room) {
+        Ok(Some(packet)) => Ok(Some(packet.to_packet())),
+        Ok(None) => Ok(None),
+        Err(fault) => Err(fault),
     }
 }

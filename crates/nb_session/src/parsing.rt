@@ -1,8 +1,8 @@
 //! Packets, parsed from the front of bytes.
 ghost use Rattle.std.specs.Prelude.{◌≡◌, ◌+◌, ◌≤◌, length, IfOk, IfErr};
+ghost use Rattle.nb_names.specs.Name.{NetbiosName};
 ghost use Rattle.nb_session.specs.declared.kind.Kind.TheVariants.{Request};
 ghost use Rattle.nb_session.specs.declared.limits.TheConstants.{HEADER_LENGTH};
-ghost use Rattle.nb_session.specs.declared.parsing.Parsed.{Parsed};
 ghost use Rattle.nb_session.specs.Header.{HasHeader, IsGood, packet_length};
 ghost use Rattle.nb_session.specs.Packet.{IsPacket};
 ghost use Rattle.nb_session.specs.Parsing.{RequestFails, Parses};
@@ -12,15 +12,15 @@ use crate::header::{Header, read_header};
 use crate::kind::Kind;
 use crate::laws::one_answer;
 use crate::limits::HEADER_LENGTH;
-use crate::packet::{MessageData, Packet};
+use crate::packet::{LentPacket, MessageData, Packet};
 use nb_names::numbers::number_16;
-use nb_names::read_lent_name;
+use nb_names::{LentName, Name, NameForm, read_lent_name};
 
-/// What stands at the front of bytes.
-#[derive(Drop)]
-pub enum Parsed<'a> {
+/// What stands at the front of bytes. The names of a packet stand in the form `N`.
+#[derive(Debug, Drop, PartialEq, Eq)]
+pub enum Parsed<'a, N: NameForm = Name> {
     /// A packet, and how many of the bytes it takes up.
-    Whole(Packet<'a>, usize),
+    Whole(Packet<'a, N>, usize),
     /// The front of a packet: this many bytes more, one at least, are needed to judge the header,
     /// or to have the whole packet where its header is there.
     More(usize),
@@ -28,8 +28,24 @@ pub enum Parsed<'a> {
     Refused(SessionFault),
 }
 
+/// What stands at the front of bytes, the names of a packet being lent too.
+pub type LentParsed<'a> = Parsed<'a, LentName<'a>>;
+
+impl<'a> LentParsed<'a> {
+    /// The same, with the names of a packet in place. No memory is taken.
+    pub fn to_parsed(&self) -> Parsed<'a>
+        ensures { result ≡ self.now }
+    {
+        match self {
+            Parsed::Whole(packet, used) => Parsed::Whole(packet.to_packet(), *used),
+            Parsed::More(needed) => Parsed::More(*needed),
+            Parsed::Refused(fault) => Parsed::Refused(*fault),
+        }
+    }
+}
+
 /// The request that a packet of that kind is.
-fn read_request<'a>(header: Header, packet: &'a [u8]) -> Result<Packet<'a>, SessionFault>
+fn read_request<'a>(header: Header, packet: &'a [u8]) -> Result<LentPacket<'a>, SessionFault>
     requires header { HasHeader packet.now header }
     requires good { IsGood header Request }
     requires whole { length packet.now ≡ packet_length header }
@@ -49,7 +65,7 @@ pub(crate) fn read_packet_of<'a>(
     kind: Kind,
     header: Header,
     packet: &'a [u8],
-) -> Result<Packet<'a>, SessionFault>
+) -> Result<LentPacket<'a>, SessionFault>
     requires header { HasHeader packet.now header }
     requires good { IsGood header kind }
     requires whole { length packet.now ≡ packet_length header }
@@ -70,7 +86,7 @@ pub(crate) fn read_packet_of<'a>(
 }
 
 /// What stands at the front of bytes.
-fn parse_front<'a>(bytes: &'a [u8]) -> Parsed<'a>
+fn parse_front<'a>(bytes: &'a [u8]) -> LentParsed<'a>
     ensures { Parses bytes.now result }
 {
     if bytes.len() < HEADER_LENGTH {
@@ -91,19 +107,31 @@ fn parse_front<'a>(bytes: &'a [u8]) -> Parsed<'a>
     }
 }
 
+/// What stands at the front of bytes, as [`parse`] answers it. The names of a request are lent from
+/// the bytes, too. No memory is taken.
+///
+/// RFC 1002 section 4.3.
+pub fn parse_lent<'a>(bytes: &'a [u8]) -> LentParsed<'a>
+    // It stands there, and nothing else does.
+    ensures stands { Parses bytes.now result }
+    ensures only { (parsed : Parsed NetbiosName) → Parses bytes.now parsed → result ≡ parsed }
+{
+    // The law on which the clause `only` stands; the call does nothing.
+    one_answer();
+    parse_front(bytes)
+}
+
 /// What stands at the front of bytes: a packet, the front of one, or neither.
 ///
 /// A fault of the header is answered as soon as its four bytes are there, one of the body once it
 /// is there whole. Names are read from the packet alone, with pointers refused. Bytes after a
-/// whole packet are left unread. No memory is taken: a message and names are lent from the bytes.
+/// whole packet are left unread. No memory is taken: a message is lent from the bytes.
 ///
 /// RFC 1002 section 4.3.
 pub fn parse<'a>(bytes: &'a [u8]) -> Parsed<'a>
     // It stands there, and nothing else does.
     ensures stands { Parses bytes.now result }
-    ensures only { (parsed : Parsed) → Parses bytes.now parsed → result ≡ parsed }
+    ensures only { (parsed : Parsed NetbiosName) → Parses bytes.now parsed → result ≡ parsed }
 {
-    // The law on which the clause `only` stands; the call does nothing.
-    one_answer();
-    parse_front(bytes)
+    parse_lent(bytes).to_parsed()
 }

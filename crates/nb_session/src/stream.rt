@@ -1,5 +1,5 @@
 //! Packets, taken from a stream that comes in pieces.
-ghost use Rattle.std.specs.Prelude.{◌≡◌, ◌≤◌, [], drop, length};
+ghost use Rattle.std.specs.Prelude.{◌≡◌, ◌≤◌, ◌+◌, ◌*◌, [], drop, length, IfErr, IfOk};
 ghost use Rattle.std.specs.Borrow.{sem};
 ghost use Rattle.std.specs.Io.BufRead.{Rests};
 ghost use Rattle.nb_session.specs.contracts.stream.Stream.{the_row};
@@ -8,7 +8,7 @@ ghost use Rattle.nb_session.specs.StreamValue.{running};
 
 use crate::fault::SessionFault;
 use crate::packet_bytes::PacketBytes;
-use crate::parsing::{Parsed, parse};
+use crate::parsing::{Parsed, parse_lent};
 use std::alloc::{AllocError, Global};
 use std::marker::Model;
 use thiserror::Error;
@@ -34,11 +34,14 @@ pub struct Stream {
 
 impl Model for Stream {
     ghost use Rattle.std.specs.Prelude.{drop, ◌≤◌, length};
-    ghost use Rattle.nb_session.specs.StreamValue.{StreamValue};
+    ghost use Rattle.nb_session.specs.StreamValue.{KeptStream};
 
-    ghost Value = { StreamValue };
+    ghost Value = { KeptStream };
 
-    ghost view = { λ s. record { held = drop s.start s.bytes.items; failed = s.failed } };
+    ghost view = { λ s. record {
+      value = record { held = drop s.start s.bytes.items; failed = s.failed };
+      kept = length s.bytes.items;
+    } };
 
     ghost invariant = { λ s. s.start ≤ length s.bytes.items };
 }
@@ -80,7 +83,8 @@ pub enum Next<'a> {
 impl Stream {
     /// A stream of which nothing has come. No memory is taken.
     pub fn new(alloc: Global) -> Self
-        ensures { result ≡ running [] }
+        ensures value { result.value ≡ running [] }
+        ensures kept { result.kept ≡ 0 }
     {
         Stream {
             bytes: Vec::new(alloc),
@@ -89,9 +93,21 @@ impl Stream {
         }
     }
 
+    /// How many bytes it has in memory: those held, and those handed out that weren't dropped yet.
+    ///
+    /// They are at most twice those that were held when a piece was fed last, and that piece.
+    pub fn kept(&self) -> usize
+        ensures value { result ≡ self.now.kept }
+        ensures holds { length self.now.value.held ≤ result }
+    {
+        self.bytes.len()
+    }
+
     /// Moves the bytes held to the front, where as many at least were handed out.
     fn drop_handed_out(&mut self)
-        ensures { self.new ≡ self.old }
+        ensures value { self.new.value ≡ self.old.value }
+        ensures few { self.new.kept ≤ 2 * length self.old.value.held }
+        ensures kept { self.new.kept ≤ self.old.kept }
     {
         let held = self.bytes.len() - self.start;
         if held <= self.start {
@@ -107,7 +123,12 @@ impl Stream {
     ///
     /// The first that applies, in [`FeedFault`]'s order. The stream is then as it was.
     pub fn feed(&mut self, piece: &[u8]) -> Result<(), FeedFault>
-        ensures { Feeds self.old piece.now self.new result }
+        ensures fed { Feeds self.old.value piece.now self.new.value result }
+
+        // What is in memory then: of what was handed out before, no more than was held.
+        ensures kept { IfOk result (λ _.
+            self.new.kept ≤ 2 * length self.old.value.held + length piece.now) }
+        ensures refused { IfErr result (λ _. self.new.kept ≤ self.old.kept) }
     {
         if let Some(fault) = self.failed {
             return Err(FeedFault::Failed(fault));
@@ -121,7 +142,8 @@ impl Stream {
     ///
     /// No memory is taken: a message is lent from the stream.
     pub fn next(&mut self) -> Next<'_>
-        ensures* after { sem 𝓛 (Rests the_row self.entry (λ left. Takes self.old result left)) }
+        ensures* after { sem 𝓛 (Rests the_row self.entry (λ left.
+            Takes self.old.value result left.value × (left.kept ≡ self.old.kept))) }
     {
         next_of(self.bytes.as_slice(), &mut self.start, &mut self.failed)
     }
@@ -137,7 +159,7 @@ fn next_of<'a>(bytes: &'a [u8], start: &mut usize, failed: &mut Option<SessionFa
     if let Some(fault) = *failed {
         return Next::Failed(fault);
     }
-    match parse(&bytes[*start..]) {
+    match parse_lent(&bytes[*start..]) {
         Parsed::Whole(_, used) => {
             let from = *start;
             *start += used;

@@ -41,7 +41,7 @@ pub use join_laws::{
 };
 pub use loading::{
     a_saved_table_is_read, a_table_saved_in_the_first_form_is_read, an_input_is_read_as_one_table,
-    saved_bytes_have_one_reading, what_is_read_is_saved,
+    merging_saved_tables_joins_them, saved_bytes_have_one_reading, what_is_read_is_saved,
 };
 pub use nb_entries::laws::{
     a_map_has_one_row_of_ranges, a_map_has_one_row_of_runs, an_awaited_promise_is_past_the_bytes,

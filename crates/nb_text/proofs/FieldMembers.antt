@@ -14,9 +14,9 @@ use Rattle.nb_service.specs.Record.{ResourceData, of_bytes, of_domain, ResourceR
 use Rattle.nb_service.specs.Views.{StatusParts, entries_in, status_in}
 use Rattle.nb_datagram.specs.Packet.{Packet}
 use Rattle.nb_datagram.specs.declared.packet.Packet.TheVariants.{Direct, Error, Query}
-use Rattle.nb_session.specs.declared.packet.Packet.{Packet as SessionPacket}
+use Rattle.nb_session.specs.Packet.{Packet as SessionPacket}
 use Rattle.nb_session.specs.declared.packet.Packet.TheVariants.{Message, Request, Positive, Negative, Retarget, Keepalive}
-use Rattle.nb_session.specs.declared.parsing.Parsed.{Parsed}
+use Rattle.nb_session.specs.Parsing.{Parsed}
 use Rattle.nb_session.specs.declared.parsing.Parsed.TheVariants.{Whole, More, Refused}
 use Rattle.nb_telling.specs.Fields.{Field, FieldKey, Text, Number, Digits, Set, LineEnds}
 use Rattle.nb_telling.specs.Members.{AreMembers, AreParts, IsMember, nothing, member, list, both, no_part, part, parts}

@@ -19,9 +19,9 @@ use Rattle.nb_service.specs.Views.{StatusParts, no_status, entries_of_data, entr
 use Rattle.nb_datagram.specs.Packet.{Packet}
 use Rattle.nb_datagram.specs.declared.packet.Packet.TheVariants.{Direct, Error, Query}
 use Rattle.nb_datagram.specs.Texts.{key_text, kind_text}
-use Rattle.nb_session.specs.declared.packet.Packet.{Packet as SessionPacket}
+use Rattle.nb_session.specs.Packet.{Packet as SessionPacket}
 use Rattle.nb_session.specs.declared.packet.Packet.TheVariants.{Message, Request, Positive, Negative, Retarget, Keepalive}
-use Rattle.nb_session.specs.declared.parsing.Parsed.{Parsed}
+use Rattle.nb_session.specs.Parsing.{Parsed}
 use Rattle.nb_session.specs.declared.parsing.Parsed.TheVariants.{Whole, More, Refused}
 use Rattle.nb_session.specs.FaultTexts.{session_fault_place, session_fault_text}
 use Rattle.nb_telling.specs.Fields.{Field, Digits, Ends, PartEnds, LineEnds}

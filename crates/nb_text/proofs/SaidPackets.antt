@@ -8,7 +8,7 @@ use Rattle.nb_names.specs.NameText.{digits_of, labels_written, written}
 use Rattle.nb_names.specs.DomainName.{IsDomain, AreByteLabels}
 use Rattle.std.proofs.lemmas.List.{append-nil, length-append}
 use Rattle.std.proofs.Math.Seq.{take-append_seam}
-use Rattle.nb_session.specs.declared.packet.Packet.{Packet as SessionPacket}
+use Rattle.nb_session.specs.Packet.{Packet as SessionPacket}
 use Rattle.nb_session.specs.declared.packet.Packet.TheVariants as sessions
 use Rattle.nb_session.specs.declared.parsing.Parsed.TheVariants.{Whole, More}
 use Rattle.nb_datagram.specs.declared.key.Key.{Key}

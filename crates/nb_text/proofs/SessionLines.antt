@@ -7,14 +7,12 @@ use Rattle.nb_names.specs.DomainName.{spelling, AreBytes}
 use Rattle.nb_names.specs.Hexadecimal.{data_text}
 use Rattle.nb_names.specs.Name.{labels_of_name}
 use Rattle.nb_names.specs.NameText.{digits_of, written}
-use Rattle.nb_session.specs.declared.packet.Packet.{Packet}
 use Rattle.nb_session.specs.declared.packet.Packet.TheVariants.{Message, Request, Positive, Negative, Retarget, Keepalive}
-use Rattle.nb_session.specs.declared.parsing.Parsed.{Parsed}
 use Rattle.nb_session.specs.declared.parsing.Parsed.TheVariants.{Whole, More}
 use Rattle.nb_session.specs.FaultTexts.{session_fault_text}
 use Rattle.nb_session.specs.Header.{header_bytes}
-use Rattle.nb_session.specs.Packet.{IsFormed, body_of, kind_of}
-use Rattle.nb_session.specs.Parsing.{Parses, header_lacks, header_fails, body_lacks, body_fails, whole}
+use Rattle.nb_session.specs.Packet.{Packet, IsFormed, body_of, kind_of}
+use Rattle.nb_session.specs.Parsing.{Parsed, Parses, header_lacks, header_fails, body_lacks, body_fails, whole}
 use Rattle.nb_text.specs.Fields.{AreLines}
 use Rattle.nb_text.specs.SessionText.{session_text}
 use Rattle.nb_text.proofs.FieldLemmas.{literal, digits_seen, data_word, name_word, address_word}

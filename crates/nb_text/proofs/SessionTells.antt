@@ -3,11 +3,10 @@ use Rattle.std.proofs.Common.{◌≡◌, ℕ, ◌<◌, ◌≤◌, ◌^◌, List,
 use Rattle.std.specs.Int.{w16, to_be_bytes}
 use Rattle.nb_names.specs.DomainName.{spelling, AreBytes}
 use Rattle.nb_names.specs.Name.{NetbiosName, IsName, labels_of_name}
-use Rattle.nb_session.specs.declared.packet.Packet.{Packet}
 use Rattle.nb_session.specs.declared.packet.Packet.TheVariants.{Message, Request, Positive, Negative, Retarget, Keepalive}
 use Rattle.nb_session.specs.declared.parsing.Parsed.TheVariants.{Whole}
 use Rattle.nb_session.specs.Header.{header_bytes}
-use Rattle.nb_session.specs.Packet.{IsFormed, IsPacket, body_of, kind_of}
+use Rattle.nb_session.specs.Packet.{Packet, IsFormed, IsPacket, body_of, kind_of}
 use Rattle.nb_session.specs.Parsing.{Parses, whole}
 use Rattle.nb_text.specs.Lines.{used_text}
 use Rattle.nb_text.specs.SessionText.{parts_text, session_text}
@@ -16,7 +15,7 @@ use Rattle.nb_text.proofs.FieldTells.{number_tells, code_tells, data_tells, addr
 use Rattle.nb_text.proofs.TellLemmas.{Tells, space, field_then, after_tells, same_tells, differ_tells, tells_then}
 
 message_tells : (xs ys : List ℕ) → length xs ≤ 131071 → length ys ≤ 131071 → AreBytes xs → AreBytes ys
-    → Tells (parts_text (Message xs)) (parts_text (Message ys)) (Message xs ≡ Message ys)
+    → Tells (parts_text (Message xs)) (parts_text (Message ys)) (◌≡◌ {A = Packet} (Message xs) (Message ys))
 message_tells xs ys p q a b =
     tells_then
     (field_then (codes "message length=") (number_tells (length xs) (length ys) (omega (arith, p)) (omega (arith, q)))
@@ -36,7 +35,7 @@ request_tells called calling other another p q a b =
 
 retarget_tells : (ip other : List ℕ) (port another : ℕ) → (length ip ≡ 4) × (port < 2 ^ 16) → (length other ≡ 4) × (another < 2 ^ 16)
     → AreBytes (body_of (Retarget ip port)) → AreBytes (body_of (Retarget other another))
-    → Tells (parts_text (Retarget ip port)) (parts_text (Retarget other another)) (Retarget ip port ≡ Retarget other another)
+    → Tells (parts_text (Retarget ip port)) (parts_text (Retarget other another)) (◌≡◌ {A = Packet} (Retarget ip port) (Retarget other another))
 retarget_tells ip other port another p q a b =
     let here = (bytes-split ip (to_be_bytes w16 port) a).0 in
     let there = (bytes-split other (to_be_bytes w16 another) b).0 in

@@ -11,8 +11,7 @@ use Rattle.nb_datagram.specs.Packet.{Packet}
 use Rattle.nb_datagram.specs.FaultTexts.{datagram_fault_place, datagram_fault_text}
 use Rattle.nb_datagram.specs.Packet as datagrams
 use Rattle.nb_datagram.specs.DatagramFaults as datagram_faults
-use Rattle.nb_session.specs.declared.parsing.Parsed.{Parsed}
-use Rattle.nb_session.specs.Parsing.{Parses}
+use Rattle.nb_session.specs.Parsing.{Parsed, Parses}
 use Rattle.nb_telling.specs.Fields.{Field, Text, LineEnds, place_fields}
 use Rattle.json.specs.Token.{Token, begin_object, end_object}
 use Rattle.json.specs.Print.{print}

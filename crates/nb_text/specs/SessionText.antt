@@ -4,9 +4,9 @@ use Rattle.std.specs.Fmt.{decimal}
 use Rattle.nb_names.specs.Addresses.{address_text}
 use Rattle.nb_names.specs.Hexadecimal.{data_text}
 use Rattle.nb_names.specs.NameText.{digits_of, written}
-use Rattle.nb_session.specs.declared.packet.Packet.{Packet}
+use Rattle.nb_session.specs.Packet.{Packet}
 use Rattle.nb_session.specs.declared.packet.Packet.TheVariants.{Message, Request, Positive, Negative, Retarget, Keepalive}
-use Rattle.nb_session.specs.declared.parsing.Parsed.{Parsed}
+use Rattle.nb_session.specs.Parsing.{Parsed}
 use Rattle.nb_session.specs.declared.parsing.Parsed.TheVariants.{Whole, More, Refused}
 use Rattle.nb_session.specs.FaultTexts.{session_fault_text}
 use Rattle.nb_text.specs.Lines.{line_end, used_text, refused_text}

@@ -9,8 +9,7 @@ use Rattle.nb_datagram.specs.Packet.{Packet}
 use Rattle.nb_datagram.specs.FaultTexts.{datagram_fault_place, datagram_fault_text}
 use Rattle.nb_datagram.specs.Packet as datagrams
 use Rattle.nb_datagram.specs.DatagramFaults as datagram_faults
-use Rattle.nb_session.specs.declared.parsing.Parsed.{Parsed}
-use Rattle.nb_session.specs.Parsing.{Parses}
+use Rattle.nb_session.specs.Parsing.{Parsed, Parses}
 use Rattle.nb_telling.specs.Fields.{Field}
 use Rattle.nb_telling.specs.Tokens.{object_of}
 use Rattle.nb_text.specs.LineFields.{refused_fields}

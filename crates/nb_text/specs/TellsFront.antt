@@ -13,11 +13,10 @@ use Rattle.nb_datagram.specs.DatagramFaults as datagram_faults
 use Rattle.nb_datagram.specs.Fronts.{HasFront, LacksHeader}
 use Rattle.nb_datagram.specs.Packet as datagrams
 use Rattle.nb_session.specs.declared.header.Header.{Header}
-use Rattle.nb_session.specs.declared.packet.Packet.{Packet as SessionPacket}
-use Rattle.nb_session.specs.declared.parsing.Parsed.{Parsed}
+use Rattle.nb_session.specs.Packet.{Packet as SessionPacket}
 use Rattle.nb_session.specs.declared.parsing.Parsed.TheVariants.{Whole}
 use Rattle.nb_session.specs.Header.{HasHeader}
-use Rattle.nb_session.specs.Parsing.{Parses, taken_by}
+use Rattle.nb_session.specs.Parsing.{Parsed, Parses, taken_by}
 use Rattle.nb_telling.specs.Fields.{Field}
 use Rattle.nb_telling.specs.Texts.{text_of}
 use Rattle.nb_text.specs.FrontFields.{names_front_fields, datagram_front_fields, session_front_fields}

@@ -9,10 +9,9 @@ ghost use Rattle.nb_service.specs.declared.flags.TheConstants.NmFlags.{AA, TC, R
 ghost use Rattle.nb_service.specs.declared.flags.TheConstants.NodeFlags.{G, DRG, CNF, ACT, PRM};
 ghost use Rattle.nb_service.specs.Flags.{nm_bits, node_bits, ont_of, opcode_of, rcode_of};
 ghost use Rattle.nb_service.specs.Packet.{ServicePacket, IsPacket as IsServicePacket};
-ghost use Rattle.nb_session.specs.declared.packet.Packet.{Packet as SessionPacket};
-ghost use Rattle.nb_session.specs.declared.parsing.Parsed.{Parsed};
+ghost use Rattle.nb_session.specs.Packet.{Packet as SessionPacket};
 ghost use Rattle.nb_session.specs.declared.parsing.Parsed.TheVariants.{Whole};
-ghost use Rattle.nb_session.specs.Parsing.{Parses};
+ghost use Rattle.nb_session.specs.Parsing.{Parsed, Parses};
 ghost use Rattle.nb_datagram.specs.declared.key.Key.{Key};
 ghost use Rattle.nb_datagram.specs.declared.packet.QueryKind.TheVariants.{Request, Positive, Negative};
 ghost use Rattle.nb_datagram.specs.Header.{IsKey};
@@ -44,12 +43,14 @@ ghost use Rattle.nb_text.specs.Words.{flag, name_flags, operation_word, packet_f
 mod endings;
 mod first_names;
 mod fronts;
+mod listed;
 mod phrases;
 mod responses;
 
 pub use endings::{codes_in_words, redirects_in_words, refusals_in_words, relays_in_words};
 pub use first_names::names_in_words;
 pub use fronts::{fronts_are_members, fronts_of_packets, one_front};
+pub use listed::numbers;
 use nb_datagram::laws as datagrams;
 use nb_service::laws as names;
 use nb_session::laws as sessions;

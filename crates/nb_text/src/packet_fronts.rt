@@ -5,8 +5,7 @@ ghost use Rattle.std.specs.Prelude.{◌≡◌, ◌≢◌, ◌∷◌, [], ℕ, Li
 ghost use Rattle.nb_datagram.specs.declared.fault.DatagramFault.{DatagramFault};
 ghost use Rattle.nb_datagram.specs.DatagramFaults.{PacketFails};
 ghost use Rattle.nb_datagram.specs.Texts.{key_text};
-ghost use Rattle.nb_session.specs.declared.parsing.Parsed.{Parsed as ParsedValue};
-ghost use Rattle.nb_session.specs.Parsing.{Parses, taken_by};
+ghost use Rattle.nb_session.specs.Parsing.{Parsed as ParsedValue, Parses, taken_by};
 ghost use Rattle.nb_telling.specs.Fields.{Digits, Field, Text};
 ghost use Rattle.nb_telling.specs.Telling.{Grows, key_of};
 ghost use Rattle.nb_text.specs.FrontFields.{datagram_front_fields, fragment_front_fields, session_front_fields, standing_name, type_field};
@@ -18,7 +17,7 @@ use crate::keys::{DESTINATION, FLAGS, KEY, LENGTH, OFFSET, PACKET_TYPE, SOURCE};
 use crate::words::{tell_byte, tell_kind, tell_number};
 use nb_datagram::{FragmentFront, Front, decode_lent, read_front};
 use nb_names::{LentName, NoMemory};
-use nb_session::{Header, Parsed, front_header, parse};
+use nb_session::{Header, Parsed, front_header, parse_lent};
 use nb_telling::{FieldKey, Sink};
 
 /// Tells what still stands at the front of a payload of port 138; nothing of one that begins with a
@@ -121,7 +120,7 @@ pub fn tell_session_front<S: Sink>(payload: &[u8], sink: &mut S) -> Result<(), N
         × (S.seen sink.new ≡ fold S.after (S.seen sink.old) more)) }
     ensures front { Grows S.is_front (S.seen sink.old) (S.seen sink.new) }
 {
-    match parse(payload) {
+    match parse_lent(payload) {
         Parsed::Whole(..) => Ok(()),
         Parsed::More(_) => tell_session_header(payload, sink),
         Parsed::Refused(_) => tell_session_header(payload, sink),

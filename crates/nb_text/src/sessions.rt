@@ -10,7 +10,7 @@ use crate::faults::tell_refusal;
 use crate::keys::{ADDRESS, CALLED, CALLING, CODE, DATA, LENGTH, MORE, TO_PORT};
 use crate::words::{tell_byte, tell_kind, tell_number, tell_used};
 use nb_names::{LentName, NoMemory};
-use nb_session::{Packet, Parsed, parse};
+use nb_session::{LentPacket, LentParsed, Packet, Parsed, parse_lent};
 use nb_telling::Sink;
 
 /// Tells a payload of port 139.
@@ -19,11 +19,11 @@ pub fn tell_session<S: Sink>(payload: &[u8], sink: &mut S) -> Result<(), NoMemor
         IsTold S.after payload.now port (S.seen sink.old) (S.seen sink.new)) }
     ensures front { Grows S.is_front (S.seen sink.old) (S.seen sink.new) }
 {
-    tell_parsed(&parse(payload), sink)
+    tell_parsed(&parse_lent(payload), sink)
 }
 
 /// Tells what stands at the front of a payload.
-fn tell_parsed<S: Sink>(parsed: &Parsed<'_>, sink: &mut S) -> Result<(), NoMemory>
+fn tell_parsed<S: Sink>(parsed: &LentParsed<'_>, sink: &mut S) -> Result<(), NoMemory>
     ensures told { OnOk result
         (S.seen sink.new ≡ fold S.after (S.seen sink.old) (session_fields parsed.now)) }
     ensures front { Grows S.is_front (S.seen sink.old) (S.seen sink.new) }
@@ -36,7 +36,7 @@ fn tell_parsed<S: Sink>(parsed: &Parsed<'_>, sink: &mut S) -> Result<(), NoMemor
 }
 
 /// Tells a packet that takes up so many bytes.
-fn tell_whole<S: Sink>(packet: &Packet<'_>, used: usize, sink: &mut S) -> Result<(), NoMemory>
+fn tell_whole<S: Sink>(packet: &LentPacket<'_>, used: usize, sink: &mut S) -> Result<(), NoMemory>
     ensures told { OnOk result (S.seen sink.new
         ≡ fold S.after (S.seen sink.old) (parts_fields packet.now ++ used_fields used)) }
     ensures front { Grows S.is_front (S.seen sink.old) (S.seen sink.new) }
@@ -56,7 +56,7 @@ fn tell_more<S: Sink>(needed: usize, sink: &mut S) -> Result<(), NoMemory>
 }
 
 /// Tells what the packet is, and its parts.
-fn tell_parts<S: Sink>(packet: &Packet<'_>, sink: &mut S) -> Result<(), NoMemory>
+fn tell_parts<S: Sink>(packet: &LentPacket<'_>, sink: &mut S) -> Result<(), NoMemory>
     ensures told { OnOk result
         (S.seen sink.new ≡ fold S.after (S.seen sink.old) (parts_fields packet.now)) }
     ensures front { Grows S.is_front (S.seen sink.old) (S.seen sink.new) }

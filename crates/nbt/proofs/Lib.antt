@@ -1,5 +1,6 @@
 mod CommandShapes
 pub mod AloneWords
+pub mod MisusedWords
 pub mod CommandRows
 pub mod SavingTurns
 pub mod ReplayingTurns
@@ -10,3 +11,10 @@ pub mod ShowingTurns
 pub mod DifferenceLemmas
 pub mod PrintedLemmas
 pub mod ObjectLemmas
+pub mod FlagRows
+pub mod FlagWalks
+pub mod FlagValues
+pub mod FlagTests
+pub mod OptionLaws
+pub mod ProgramOptions
+pub mod RunningLemmas

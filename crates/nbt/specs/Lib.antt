@@ -19,3 +19,5 @@ pub mod Showing
 pub mod Objects
 pub mod Commands
 pub mod Refusals
+pub mod Running
+pub mod Options

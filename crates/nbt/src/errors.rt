@@ -28,7 +28,10 @@ pub struct Errors<'a, E> {
 
 impl<'a, E> Errors<'a, E> {
     /// This device, read by these.
-    pub fn new(device: E, audience: Audience<'a>) -> Errors<'a, E> {
+    pub fn new(device: E, audience: Audience<'a>) -> Errors<'a, E>
+        ensures device { result.output.inner ≡ device }
+        ensures audience { result.audience ≡ audience.entry }
+    {
         Errors {
             output: Output::new(device),
             audience,
@@ -36,7 +39,9 @@ impl<'a, E> Errors<'a, E> {
     }
 
     /// The device itself.
-    pub fn into_inner(self) -> E {
+    pub fn into_inner(self) -> E
+        ensures { result ≡ self.entry.output.inner }
+    {
         let Errors {
             output,
             audience: _,

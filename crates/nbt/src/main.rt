@@ -15,6 +15,7 @@ mod fronts;
 mod help;
 mod hints;
 mod joining_input;
+pub mod laws;
 mod mistakes;
 mod objects;
 mod output;
@@ -25,6 +26,7 @@ mod program;
 mod refusals;
 mod settings;
 mod status;
+mod streams;
 mod subcommand;
 mod tables;
 mod telling;
@@ -35,7 +37,7 @@ use crate::flushing::{FlushingInput, SharedOutput};
 use crate::front::{Front, FrontInput};
 use crate::output::Output;
 use crate::program::{report, run};
-use nb_names::Counted;
+use crate::streams::{Call, run_for};
 use std::alloc::Global;
 use std::cell::{Cell, RefCell};
 use std::env;
@@ -79,12 +81,15 @@ fn run_buffered(rt: &HostRuntime, front: &Cell<Front>) -> Result<u8, Fault> {
 /// Runs the program with these words, as [`run_buffered`] has it.
 fn run_words(rt: &HostRuntime, words: &[String], front: &Cell<Front>) -> Result<u8, Fault> {
     let stdout = buffered(rt.alloc(), rt.stdout())?;
-    let stderr = buffered(rt.alloc(), rt.stderr())?;
+    let mut errors = buffered(rt.alloc(), rt.stderr())?;
     let printed = RefCell::new(stdout);
-    let mut errors = Errors::new(stderr, audience_of(rt, front));
+    let call = Call {
+        alloc: rt.alloc(),
+        words,
+        audience: audience_of(rt, front),
+    };
     let input = FrontInput::new(rt.stdin(), front);
-    let answer = run_flushing(rt, words, input, &printed, &mut errors);
-    let mut errors = errors.into_inner();
+    let answer = run_flushing(call, input, &printed, &mut errors);
     let mut output = printed.into_inner();
     let shown = flushed(answer, &mut output);
     // What a failed flush left is let go: it isn't written once more.
@@ -111,19 +116,21 @@ fn flushed<W: Write>(answer: Result<u8, Fault>, output: &mut W) -> Result<u8, Fa
 ///
 /// [`Fault::Write`] where such a flush failed.
 fn run_flushing<R: Read + Drop, W: Write, E: Write>(
-    rt: &HostRuntime,
-    words: &[String],
+    call: Call<'_>,
     input: R,
     printed: &RefCell<W>,
-    errors: &mut Errors<'_, E>,
+    errors: &mut E,
 ) -> Result<u8, Fault> {
-    let mut input = Counted::new(FlushingInput::new(input, printed));
-    let mut output = Output::new(SharedOutput::new(printed));
-    let status = run(rt.alloc(), words, &mut input, &mut output, errors);
-    if input.into_inner().flush_failed() {
+    let mut input = FlushingInput::new(input, printed);
+    let mut output = SharedOutput::new(printed);
+    let code = match call.audience {
+        Audience::Programs => run(call.alloc, call.words, &mut input, &mut output, errors),
+        Audience::Person(_) => run_for(call, &mut input, &mut output, errors),
+    };
+    if input.flush_failed() {
         return Err(Fault::Write);
     }
-    Ok(status.code())
+    Ok(code)
 }
 
 /// A device with a buffer of fixed size before it.

@@ -1,12 +1,13 @@
 //! The program over any input and output.
-ghost use Rattle.std.specs.Prelude.{◌≡◌, ◌≢◌, map, string_bytes, true, IfOk, IfErr};
+ghost use Rattle.std.specs.Prelude.{◌≡◌, ◌≢◌, ◌≤◌, ◌⊎◌, map, string_bytes, true, IfOk, IfErr};
 ghost use Rattle.std.specs.Io.KnownBytes.{Keeps};
 ghost use Rattle.nb_names.specs.Devices.{ShowsWriteFault};
 ghost use Rattle.clap.specs.Words.{kind_of, subcommand_name_of, takes};
 ghost use Rattle.nbt.specs.FaultTexts.{status_after};
 ghost use Rattle.nbt.specs.CommandLine.{AreAlone, DoesRead, nbt_app};
-ghost use Rattle.nbt.specs.ClapAnswer.{Reports, answer_to};
+ghost use Rattle.nbt.specs.ClapAnswer.{AreMisused, Reports, answer_to};
 ghost use Rattle.nbt.specs.Commands.{Ran, RanBy, streams, with_status};
+ghost use Rattle.nbt.specs.Running.{IsMisuse, RanOver};
 ghost use Rattle.nbt.specs.Refusals.{AsksRefusal, IsPrintFault};
 
 use crate::advice::{asked, helped_command, print_advice, refusal_lines};
@@ -26,28 +27,63 @@ use crate::hints::{print_hint, print_mistake};
 use crate::output::Output;
 use crate::refusals::refusals;
 use crate::status::Status;
+use crate::streams::{Call, run_for};
 use crate::subcommand::Subcommand;
 use clap::{ArgMatches, Error};
 use nb_names::Counted;
 use std::alloc::Global;
 use std::io::{Read, Write};
 
-/// Runs the program, and answers its exit status.
+/// Runs the program, and answers its exit status, 0 to 3.
 ///
 /// The first of the words is the program's name. What is asked for goes to `output`, a fault to
-/// `errors` as one line after `nbt: `; a fault in writing that line changes nothing. The status is
-/// that all was done, that input was refused or two tables differ, that the command line was bad
-/// (with `clap`'s text on `errors`), or that a device failed or memory ran out. `clap`'s help, with
-/// what the command may refuse, the line of a refusal after the word `help`, and the version go to
-/// `output`, and all is done then.
+/// `errors` as one line after `nbt: `; a fault in writing that line changes nothing. The status
+/// is 0 where all was done, 1 where input was refused or two tables differ, 2 for a bad command
+/// line (with `clap`'s text on `errors`), and 3 where a device failed or memory ran out. `clap`'s
+/// help, with what the command may refuse, the line of a refusal after the word `help`, and the
+/// version go to `output`, and all is done then.
 pub fn run<R: Read, W: Write, E: Write>(
+    alloc: Global,
+    words: &[String],
+    input: &mut R,
+    output: &mut W,
+    errors: &mut E,
+) -> u8
+    // Words that are a command with its own options and arguments, as clap takes them.
+    ensures ran { takes nbt_app (map string_bytes words.now) ≡ true →
+        ¬ AsksRefusal (map string_bytes words.now) →
+        RanOver (map string_bytes words.now) (R.remaining input.old) (R.remaining input.new)
+        (W.contents output.old) (W.contents output.new) result }
+    ensures alone { AreAlone (map string_bytes words.now) → result ≢ 2 }
+    ensures usage { result ≡ 2 → Keeps (W.contents output.old) (W.contents output.new) }
+    // Words that clap refuses, and that ask for no help and no version.
+    ensures misused { AreMisused (map string_bytes words.now) →
+        IsMisuse result (R.remaining input.old) (R.remaining input.new)
+        (W.contents output.old) (W.contents output.new) }
+    ensures within { result ≤ 3 }
+    ensures quiet { result ≡ 0 → errors.new ≡ errors.old }
+{
+    run_for(
+        Call {
+            alloc,
+            words,
+            audience: Audience::Programs,
+        },
+        input,
+        output,
+        errors,
+    )
+}
+
+/// As [`run`], over streams whose calls are counted, and for those who read standard error: a
+/// person gets advice there, in a second line.
+pub fn run_counted<R: Read, W: Write, E: Write>(
     alloc: Global,
     words: &[String],
     input: &mut Counted<R>,
     output: &mut Output<W>,
     errors: &mut Errors<'_, E>,
 ) -> Status
-    // Words that are a command with its own options and arguments, as clap takes them.
     ensures ran { takes nbt_app (map string_bytes words.now) ≡ true →
         ¬ AsksRefusal (map string_bytes words.now) →
         RanBy (map string_bytes words.now) (streams R.remaining W.contents
@@ -55,6 +91,9 @@ pub fn run<R: Read, W: Write, E: Write>(
     ensures alone { AreAlone (map string_bytes words.now) → result ≢ Status.BadUsage }
     ensures usage { result ≡ Status.BadUsage →
         Keeps (W.contents output.old.inner) (W.contents output.new.inner) }
+    ensures misused { AreMisused (map string_bytes words.now) →
+        ((result ≡ Status.BadUsage) ⊎ (result ≡ Status.Failed)) × (input.new ≡ input.old)
+        × Keeps (W.contents output.old.inner) (W.contents output.new.inner) }
     // Where all was done, standard error is as it was, but for a person.
     ensures quiet { result ≡ Status.Done → errors.old.audience ≡ Audience.Programs →
         errors.new ≡ errors.old }

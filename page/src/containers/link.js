@@ -4,6 +4,12 @@ import { DIGITS } from './digits.js';
 const IPV4 = 0x0800;
 const IPV6 = 0x86dd;
 const TAGS = new Set([0x8100, 0x88a8, 0x9100]);
+const PPPOE = 0x8864;
+const MPLS = new Set([0x8847, 0x8848]);
+/** Less than this is no type but a length, and LLC follows; Linux writes 4 in its place. */
+const LEAST_TYPE = 0x0600;
+/** How LLC goes on where IP follows: its own service point, or that of SNAP (RFC 1042). */
+const [IP_POINT, SNAP_POINT, SNAP_HEADER] = [0x0606, 0xaaaa, 8];
 const MOST_TAGS = 4;
 /** Link types of tcpdump.org. */
 const [NULL_LOOPBACK, ETHERNET, RAW_BSD, RAW_OPENBSD, RAW, LOOPBACK, COOKED, IPV4_ALONE, IPV6_ALONE, COOKED_2] =
@@ -13,10 +19,11 @@ const FAMILY_4 = 2;
 const FAMILIES_6 = new Set([24, 28, 30, 10]);
 
 /**
- * Where IP begins, and the hardware address of who sent the frame; or why that isn't known.
+ * Where IP begins, and the hardware address of who sent the frame; or why that isn't known: a packet may stand behind what isn't read here.
  *
  * @typedef {{at: number, mac: string | null, vlan: number | null}} Packet
- * @typedef {'unknown link type' | 'no IP' | 'cut'} WhyNoPacket
+ * @typedef {'PPPoE' | 'MPLS' | 'LLC' | 'more than 4 VLAN tags'} Wrapping
+ * @typedef {'unknown link type' | 'no IP' | 'cut' | Wrapping} WhyNoPacket
  */
 
 /**
@@ -61,11 +68,37 @@ function afterType(bytes, place, mac) {
         if (place + 2 > bytes.length) return 'cut';
         const type = word(bytes, place);
         if (type === IPV4 || type === IPV6) return { at: place + 2, mac, vlan };
-        if (!TAGS.has(type)) return 'no IP';
+        if (!TAGS.has(type)) return withoutPacket(type, bytes, place + 2);
         if (place + 4 > bytes.length) return 'cut';
         vlan ??= word(bytes, place + 2) & 0xfff;
     }
-    return 'no IP';
+    return 'more than 4 VLAN tags';
+}
+
+/**
+ * What a frame has that is neither IP nor tagged.
+ *
+ * @param {number} type
+ * @param {Uint8Array} bytes
+ * @param {number} at where what follows the type begins
+ * @returns {WhyNoPacket}
+ */
+function withoutPacket(type, bytes, at) {
+    if (type === PPPOE) return 'PPPoE';
+    if (MPLS.has(type)) return 'MPLS';
+    return type < LEAST_TYPE && isPacketAfterPoint(bytes, at) ? 'LLC' : 'no IP';
+}
+
+/**
+ * Whether LLC says that IP follows.
+ *
+ * @param {Uint8Array} bytes
+ * @param {number} at
+ */
+function isPacketAfterPoint(bytes, at) {
+    if (at + SNAP_HEADER > bytes.length) return false;
+    const inner = word(bytes, at + 6);
+    return word(bytes, at) === IP_POINT || (word(bytes, at) === SNAP_POINT && (inner === IPV4 || inner === IPV6 || TAGS.has(inner)));
 }
 
 /**
@@ -79,7 +112,7 @@ function cooked2(bytes) {
     const type = word(bytes, 0);
     const mac = bytes[11] === 6 ? macOf(bytes, 12) : null;
     if (type === IPV4 || type === IPV6) return { at: 20, mac, vlan: null };
-    return TAGS.has(type) ? afterType(bytes, 22, mac) : 'no IP';
+    return TAGS.has(type) ? afterType(bytes, 22, mac) : withoutPacket(type, bytes, 20);
 }
 
 /**

@@ -7,12 +7,15 @@ import { isPcapng, pcapngFrames } from './pcapng.js';
 import { BAD_LENGTH, CUT, FRAGMENTS, Report } from './report.js';
 import { Streams } from './streams.js';
 import { TCP, TCP_HEADER, UDP, UDP_HEADER, datagramIn, portsIn, segmentIn } from './transport.js';
+import { linkName, wrappingOf } from './unread.js';
 
 const NAME = 137;
 const DATAGRAM = 138;
 const SESSION = 139;
 /** Of how many streams the number is known. */
 const MOST_STREAMS = 262_144;
+/** Why a frame has no packet that nbt-look would find either. */
+const NOTHING = ['no IP', 'cut'];
 
 /**
  * A payload: what one packet of these ports has, and the frame that completes it.
@@ -25,7 +28,15 @@ const MOST_STREAMS = 262_144;
  * @property {number | null} vlan
  * @property {Uint8Array} bytes a part of what is held of the file
  *
- * @typedef {Payload | import('./report.js').LeftOut | import('./report.js').Comment} Seen
+ * That a connection of port 139 is opened, by an end: with a SYN, or else by the SYN that an answer acknowledges.
+ *
+ * @typedef {{kind: 'opened', caller: string, callee: string, sequence: number, isFirst: boolean}} Opened
+ *
+ * What the file has of a datagram that the snap length cut.
+ *
+ * @typedef {{kind: 'cut', bytes: Uint8Array}} CutDatagram
+ *
+ * @typedef {Payload | Opened | CutDatagram | import('./unread.js').Unread | import('./report.js').LeftOut | import('./report.js').Comment} Seen
  *
  * @typedef {{mac: string | null, vlan: number | null}} Below
  */
@@ -50,6 +61,7 @@ export class PayloadReader {
         this.streams = new Streams(this.report);
         this.frames = 0;
         this.ours = 0;
+        this.link = 0;
         /**
          * Frames that are of none of these ports, by why.
          * @type {Map<string, number>}
@@ -65,10 +77,11 @@ export class PayloadReader {
     read(frame) {
         this.frames += 1;
         this.now = frame.time ?? this.now;
+        this.link = frame.link;
         const mark = { frame: frame.number, time: this.now, source: '', destination: '', captured: frame.bytes.length, size: frame.size, counted: false };
         this.report.begin(mark);
         const below = packetIn(frame.link, frame.bytes);
-        if (typeof below === 'string') return this.other(below);
+        if (typeof below === 'string') return this.withoutPacket(below);
         const internet = internetIn(frame.bytes, below.at);
         if (!internet) return this.other('cut');
         [mark.source, mark.destination] = [internet.source, internet.destination];
@@ -92,7 +105,10 @@ export class PayloadReader {
      * @param {string | null} why why it can't be taken
      */
     packet(internet, below, why) {
-        if (internet.protocol !== UDP && internet.protocol !== TCP) return this.other('another protocol');
+        if (internet.protocol !== UDP && internet.protocol !== TCP) {
+            this.unread(wrappingOf(internet));
+            return this.other('another protocol');
+        }
         const ports = portsIn(internet.payload);
         if (!ports) {
             if (internet.protocol === UDP || internet.size > TCP_HEADER) this.report.leaveOut(this.report.cut, 'the file ends before its ports');
@@ -102,7 +118,10 @@ export class PayloadReader {
         this.report.mark.destination = `${internet.destination}:${ports.destination}`;
         const segment = internet.protocol === TCP ? segmentIn(internet) : null;
         const stream = segment?.payload ? this.streamOf(segment) : 0;
-        if (!isOurs(internet)) return this.other('another port');
+        if (!isOurs(internet)) {
+            this.unread(wrappingOf(internet));
+            return this.other('another port');
+        }
         this.ours += 1;
         if (why) return this.report.leaveOut(FRAGMENTS, why);
         if (segment) return this.segment(internet, below, segment, stream);
@@ -119,6 +138,7 @@ export class PayloadReader {
         if (!payload) return this.report.leaveOut(this.report.cut, 'the file ends inside its UDP header');
         if (size < 0 || payload.length < size) {
             const reason = payload.length < size && this.report.cut === CUT ? CUT : BAD_LENGTH;
+            if (reason === CUT && port === DATAGRAM) this.give({ kind: 'cut', bytes: payload });
             const there = `its UDP length is ${size + UDP_HEADER}, and the file has ${payload.length} bytes of its payload`;
             return this.report.leaveOut(reason, there);
         }
@@ -137,8 +157,16 @@ export class PayloadReader {
             return;
         }
         const { source, destination } = this.report.mark;
+        if (segment.syn) this.opened(segment);
         const title = `stream ${stream} from ${internet.source.replace(/^\[|\]$/g, '')} port ${segment.source}`;
         for (const bytes of this.streams.take({ stream, from: source, to: destination, title, segment })) this.payload(SESSION, below, bytes);
+    }
+
+    /** @param {import('./transport.js').Segment} segment one with a SYN */
+    opened({ ack, sequence }) {
+        const { source, destination } = this.report.mark;
+        const [caller, callee] = ack ? [destination, source] : [source, destination];
+        this.give({ kind: 'opened', caller, callee, sequence, isFirst: !ack });
     }
 
     /**
@@ -169,6 +197,21 @@ export class PayloadReader {
      */
     payload(port, below, bytes) {
         this.give({ kind: 'payload', port, mark: this.report.mark, mac: below.mac, vlan: below.vlan, bytes });
+    }
+
+    /** @param {import('./link.js').WhyNoPacket} why */
+    withoutPacket(why) {
+        if (!NOTHING.includes(why)) this.unread(why === 'unknown link type' ? 'link type' : why);
+        this.other(why);
+    }
+
+    /**
+     * Says that the latest frame has packets which aren't read here.
+     *
+     * @param {string} why an empty text where it has none
+     */
+    unread(why) {
+        if (why) this.give({ kind: 'unread', frame: this.report.mark.frame, link: linkName(this.link), why });
     }
 
     /**

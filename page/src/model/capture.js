@@ -1,6 +1,6 @@
 /** The lines of the capture that a file gives, as nbt-pcap2cap prints them, or as they stand in it. */
 import { bytesOf, digitsOf } from '../containers/digits.js';
-import { linesOf } from '../containers/lines.js';
+import { LineFault, linesOf } from '../containers/lines.js';
 import { LEFT_OUT } from './packets.js';
 import { momentOf, utc } from '../model/times.js';
 
@@ -25,8 +25,9 @@ export function* written(file) {
             if (line.kind !== 'payload') yield line;
             else yield { kind: 'payload', port: line.port, moment: line.moment, bytes: bytesOf(line.digits), row: null };
         }
-    } catch {
+    } catch (error) {
         // The line at which the capture ends was named when it was read.
+        if (!(error instanceof LineFault)) throw error;
     }
 }
 

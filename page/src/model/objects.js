@@ -40,13 +40,14 @@
  * @property {number} [length]
  * @property {string} [flags]
  * @property {number} [offset]
+ * @property {string} [address]
+ * @property {number} [to_port]
  *
  * @typedef {Partial<Service> & Others} Told
  */
 
 /** The bit G of NB_FLAGS and NAME_FLAGS: a group's name. RFC 1002 sections 4.2.1.3 and 4.2.18. */
 const GROUP = 0x8000;
-const CLAIMS = new Set(['registration', 'refresh', 15]);
 const NBSTAT = '0021';
 /** The bit M of FLAGS: more of the datagram follows. RFC 1002 section 4.4.1. */
 const MORE = 1;
@@ -64,16 +65,6 @@ export function serviceOf(told) {
 /** @param {Service} service */
 export function isResponse(service) {
     return service.word[0] >= '8';
-}
-
-/** @param {Service} service */
-export function isClaim(service) {
-    return CLAIMS.has(service.op) && !isResponse(service);
-}
-
-/** @param {Service} service */
-export function asksStatus(service) {
-    return service.questions[0]?.type === NBSTAT;
 }
 
 /** @param {{flags: string}} entry */

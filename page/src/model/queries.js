@@ -1,101 +1,83 @@
-/** Queries, and requests for a node's status, that nobody answers. */
+/** Queries, and requests for a node's status, that nobody answers: RFC 1002 sections 4.2.12 to 4.2.18. */
 import { compare } from './names.js';
-import { asksStatus, isResponse, subject } from './objects.js';
 import { Room } from './room.js';
+import { MOST_FRAMES, Waiting } from './waiting.js';
 
-/** How many queries wait for an answer; the one that came first is then taken for one without. */
-const MOST_WAITING = 4_096;
-/** How many frames of the queries of one name are kept. */
-const MOST_FRAMES = 16;
+/** @typedef {import('./waiting.js').Request<boolean>} Request */
 
 /**
  * @typedef {object} Query
  * @property {string} name
- * @property {'query' | 'status'} kind
+ * @property {string} kind
  * @property {string} by
+ * @property {string} asked
  * @property {number} times
  * @property {number[]} frames those of the first of them
- * @property {bigint | null} since
+ * @property {bigint} since
  */
 
-/** The queries that wait, by sender, name and identifier; and those without an answer, by name and sender. */
+/** The requests that wait, and those without an answer, by name, asker and station asked. */
 export class Queries {
-    constructor() {
-        /** @type {Map<string, Query>} */
-        this.waiting = new Map();
+    /** @param {import('./owners.js').Owners} owners */
+    constructor(owners) {
+        /** @type {Waiting<boolean>} whose subject is whether they are answered */
+        this.waiting = new Waiting(owners, (each) => count(this.room, each));
         /** @type {Room<Query>} */
         this.room = new Room();
-        /** @type {Room<{frame: number}>} by name, kind and sender: where the latest answer is */
+        /** @type {Room<{frame: number}>} where the latest answer is */
         this.answered = new Room();
     }
 
-    /**
-     * @param {import('./objects.js').Service} service
-     * @param {import('./seen.js').Ends} ends
-     */
-    take(service, ends) {
-        if (service.op !== 'query' && service.op !== 'wack') return;
-        const name = subject(service);
-        if (isResponse(service)) {
-            if (service.op === 'query') this.answer(`${ends.destination} ${service.id} ${name}`, ends.frame);
-            return;
-        }
-        const by = ends.source;
-        const key = `${by} ${service.id} ${name}`;
-        /** @type {Query} */
-        const made = { name, kind: asksStatus(service) ? 'status' : 'query', by, times: 0, frames: [], since: ends.time };
-        const query = this.waiting.get(key) ?? made;
-        query.times += 1;
-        if (query.frames.length < MOST_FRAMES) query.frames.push(ends.frame);
-        this.waiting.set(key, query);
-        for (const [each, oldest] of this.waiting) {
-            if (this.waiting.size <= MOST_WAITING) break;
-            this.waiting.delete(each);
-            this.unanswered(oldest);
+    /** @param {import('./messages.js').Message} message */
+    take(message) {
+        if (message.act === 'asks') this.waiting.put(message, 'query');
+        else if (message.act === 'asks status') this.waiting.put(message, 'status');
+        else if (message.act === 'waits') this.waiting.wait(message);
+        else if (message.act === 'answers' || message.act === 'finds none') {
+            for (const each of this.waiting.of(message)) this.answer(each, message.frame);
         }
     }
 
     /**
-     * Keeps where an answer is, for queries before it that have none.
-     *
-     * @param {string} key
+     * @param {Request} request
      * @param {number} frame
      */
-    answer(key, frame) {
-        const query = this.waiting.get(key);
-        this.waiting.delete(key);
-        const answered = query && this.answered.get(keyOf(query), () => ({ frame }));
-        if (answered) answered.frame = frame;
+    answer(request, frame) {
+        if (request.subject) return;
+        request.subject = true;
+        const found = this.answered.get(keyOf(request), () => ({ frame }));
+        if (found) found.frame = Math.max(found.frame, frame);
     }
 
-    /** @param {Query} query */
-    unanswered(query) {
-        const found = this.room.get(keyOf(query), () => ({ ...query, times: 0, frames: [] }));
-        if (!found) return;
-        found.times += query.times;
-        found.frames.push(...query.frames.slice(0, MOST_FRAMES - found.frames.length));
-    }
-
-    /**
-     * The frame of the latest answer to the same sender about the same name, if it comes after the first of these.
-     *
-     * @param {Query} query
-     */
-    later(query) {
-        const frame = this.answered.entries.get(keyOf(query))?.frame ?? 0;
-        return frame > query.frames[0] ? frame : null;
-    }
-
-    /** What has no answer until now. */
+    /** What has no answer until now, with the frame of the answer to a later one. */
     rows() {
-        const all = new Queries();
-        for (const query of [...this.room.entries.values(), ...this.waiting.values()]) all.unanswered(query);
-        return Array.from(all.room.entries.values(), (query) => ({ ...query, answered: this.later(query) })).sort((one, other) =>
-            compare(one.name, other.name) || compare(one.kind, other.kind) || compare(one.by, other.by));
+        /** @type {Room<Query>} */
+        const all = new Room();
+        for (const [key, each] of this.room.entries) all.entries.set(key, { ...each, frames: [...each.frames] });
+        for (const waiting of this.waiting.requests.values()) waiting.forEach((each) => count(all, each));
+        return Array.from(all.entries, ([key, query]) => {
+            const frame = this.answered.entries.get(key)?.frame ?? 0;
+            return { ...query, answered: frame > query.frames[0] ? frame : null };
+        }).sort((one, other) => compare(one.name, other.name) || compare(one.kind, other.kind) || compare(one.by, other.by) || compare(one.asked, other.asked));
     }
 }
 
-/** @param {Query} query */
-function keyOf({ name, kind, by }) {
-    return `${name} ${kind} ${by}`;
+/**
+ * Counts a request that waits no longer, unless it was answered.
+ *
+ * @param {Room<Query>} room
+ * @param {Request} request
+ */
+function count(room, request) {
+    const { name, kind, asker, asked, since, times, frames } = request;
+    if (request.subject) return;
+    const found = room.get(keyOf(request), () => ({ name, kind, by: asker, asked, times: 0, frames: [], since }));
+    if (!found) return;
+    found.times += times;
+    found.frames.push(...frames.slice(0, MOST_FRAMES - found.frames.length));
+}
+
+/** @param {Request} request */
+function keyOf({ name, kind, asker, asked }) {
+    return `${name} ${kind} ${asker} ${asked}`;
 }

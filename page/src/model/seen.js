@@ -1,10 +1,13 @@
 /** What is made of the packets of a capture, one after another. */
-import { Names } from './names.js';
+import { Claims } from './claims.js';
+import { messageOf } from './messages.js';
+import { nameRows } from './names.js';
 import { serviceOf } from './objects.js';
 import { Queries } from './queries.js';
 import { Room } from './room.js';
 import { Sessions } from './sessions.js';
 import { Stations } from './stations.js';
+import { UnreadFrames } from './unread.js';
 
 /** The packets that carry a datagram, or a piece of one. */
 const PIECES = new Set(['unique', 'group', 'broadcast']);
@@ -33,14 +36,15 @@ export class Seen {
     constructor() {
         this.packets = 0;
         this.refusedPackets = 0;
-        this.names = new Names();
-        this.queries = new Queries();
+        this.claims = new Claims();
+        this.queries = new Queries(this.claims.owners);
         this.stations = new Stations();
-        this.sessions = new Sessions();
+        this.sessions = new Sessions((address, name) => this.stations.named(address, name));
         /** @type {Room<Refusal>} */
         this.refused = new Room();
         /** @type {Room<Loss>} */
         this.leftOut = new Room();
+        this.unread = new UnreadFrames();
         /**
          * The frame in which the first piece of a datagram came, by its key.
          * @type {Room<number>}
@@ -58,12 +62,14 @@ export class Seen {
         this.packets += 1;
         if (told.refused !== undefined) this.refuse(told.refused, told.at ?? null, ends.frame);
         else if (told.key !== undefined && PIECES.has(told.kind ?? '')) this.firsts.get(told.key, () => ends.frame);
-        this.stations.take(told, ends);
-        this.sessions.take(told, brief, ends);
         const service = serviceOf(told);
-        if (!service) return false;
-        this.queries.take(service, ends);
-        return this.names.take(service, ends);
+        const message = service && messageOf(service, ends);
+        this.claims.see(ends.time ?? 0n);
+        this.stations.take(told, message, ends);
+        this.sessions.take(told, brief, ends);
+        if (!message) return false;
+        this.queries.take(message);
+        return this.claims.take(message);
     }
 
     /**
@@ -87,18 +93,19 @@ export class Seen {
     /** The tables, by their titles. */
     tables() {
         return {
-            conflicts: this.names.disputes.rows(), names: this.names.rows(), stations: this.stations.rows((name, address) => this.names.isRefused(name, address)), queries: this.queries.rows(),
-            sessions: this.sessions.rows(),
+            names: nameRows(this.claims), conflicts: this.claims.conflicts.rows(),
+            stations: this.stations.rows((name, address) => this.claims.isRefused(name, address)), queries: this.queries.rows(), sessions: this.sessions.rows(),
             refused: Array.from(this.refused.entries.values()), 'left out': Array.from(this.leftOut.entries.values()),
+            unread: this.unread.rows(),
         };
     }
 
     /** Of each table how many packets were more than are kept. */
     notKept() {
-        const { names, stations, queries, sessions } = this;
+        const { claims, stations, queries, sessions } = this;
         return {
-            conflicts: names.disputes.others, names: names.others, stations: stations.room.others, queries: queries.room.others,
-            sessions: sessions.room.others,
+            conflicts: claims.conflicts.others, names: claims.tenures.others, stations: stations.room.others, queries: queries.room.others,
+            sessions: sessions.room.others, unread: this.unread.room.others,
         };
     }
 }

@@ -1,9 +1,11 @@
-/** Sessions: who called whom, and what came of it. */
+/** Sessions: who called whom, and what came of it. RFC 1002 sections 4.3 and 5.3. */
 import { compare } from './names.js';
 import { Room } from './room.js';
 
 /** How many streams are known; the one that was silent longest is let go. */
 const MOST_STREAMS = 16_384;
+const PORT = '139';
+const RESPONSES = ['positive', 'negative', 'retarget'];
 
 /**
  * The sessions of one caller with one station, by their names.
@@ -19,15 +21,45 @@ const MOST_STREAMS = 16_384;
  * @property {number} sent
  * @property {number} received
  *
- * @typedef {{calling: string, called: string, from: string, to: string}} Stream
+ * An end of a connection.
+ *
+ * @typedef {{address: string, port: string}} Side
+ *
+ * A session: who opened its connection, with the sequence number of the SYN, and whom that one called as whom.
+ *
+ * @typedef {object} Session
+ * @property {Side} caller
+ * @property {Side} callee
+ * @property {number | null} sequence
+ * @property {string} calling
+ * @property {string} called
+ * @property {boolean} isBegun a packet of it has come
+ * @property {boolean} isAccepted
+ *
+ * That a connection is opened, by a side: with a SYN, or else by the SYN that an answer acknowledges.
+ *
+ * @typedef {{caller: Side, callee: Side, sequence: number, isFirst: boolean}} Opened
  */
 
 export class Sessions {
-    constructor() {
+    /** @param {(address: string, name: string) => void} named is told which station has which name, once a session is accepted */
+    constructor(named) {
+        this.named = named;
         /** @type {Room<Calls>} */
         this.room = new Room();
-        /** @type {Map<string, Stream>} by the ends of both sides, the caller first */
-        this.streams = new Map();
+        /** @type {Map<string, Session>} by the ends of both sides */
+        this.sessions = new Map();
+    }
+
+    /**
+     * A connection is opened: with a SYN of its own after packets of another session this is a new one.
+     *
+     * @param {Opened} opened
+     */
+    opened({ caller, callee, sequence, isFirst }) {
+        const key = keyOf(caller, callee);
+        const known = this.sessions.get(key);
+        if (!known || (isFirst && known.isBegun && known.sequence !== sequence)) this.keep(key, begun(caller, callee, sequence));
     }
 
     /**
@@ -36,30 +68,72 @@ export class Sessions {
      * @param {import('./seen.js').Ends} ends
      */
     take(told, brief, ends) {
-        if (ends.port !== 139 || told.kind === undefined) return;
-        const here = `${ends.source} ${ends.sourcePort}`;
-        const there = `${ends.destination} ${ends.destinationPort}`;
-        const along = { from: ends.source, to: ends.destination };
-        if (told.kind === 'request') this.open(`${here} ${there}`, { ...along, calling: told.calling ?? '', called: told.called ?? '' });
-        const isAnswer = this.streams.has(`${there} ${here}`)
-            || (!this.streams.has(`${here} ${there}`) && ['positive', 'negative', 'retarget'].includes(told.kind));
-        const key = isAnswer ? `${there} ${here}` : `${here} ${there}`;
-        const unknown = isAnswer ? { from: ends.destination, to: ends.source, calling: '', called: '' } : { ...along, calling: '', called: '' };
-        const stream = this.streams.get(key) ?? unknown;
-        this.open(key, stream);
-        const calls = this.room.get(Object.values(stream).join(' '), () =>
-            ({ ...stream, calls: 0, accepted: 0, refused: new Map(), sent: 0, received: 0 }));
-        if (calls) count(calls, told, isAnswer, brief);
+        if (ends.port !== 139 || told.kind === undefined || told.refused !== undefined) return;
+        const here = { address: ends.source, port: ends.sourcePort };
+        const session = this.session(told, here, { address: ends.destination, port: ends.destinationPort });
+        session.isBegun = true;
+        if (told.kind === 'request') Object.assign(session, { calling: told.calling ?? '', called: told.called ?? '', isAccepted: false });
+        const { calling, called } = session;
+        const [from, to] = [session.caller.address, session.callee.address];
+        const calls = this.room.get(`${calling} ${called} ${from} ${to}`, () =>
+            ({ calling, called, from, to, calls: 0, accepted: 0, refused: new Map(), sent: 0, received: 0 }));
+        if (calls) this.count(calls, session, told, isSame(here, session.callee) && !isSame(here, session.caller), brief);
+    }
+
+    /**
+     * The session of a packet.
+     *
+     * @param {import('./objects.js').Told} told
+     * @param {Side} here
+     * @param {Side} there
+     */
+    session(told, here, there) {
+        const key = keyOf(here, there);
+        let session = this.sessions.get(key);
+        const isCall = told.kind === 'request';
+        if (!session || (isCall && !isSame(here, session.caller) && session.sequence === null)) session = begun(...sidesOf(here, there, String(told.kind)), null);
+        return this.keep(key, session);
     }
 
     /**
      * @param {string} key
-     * @param {Stream} stream
+     * @param {Session} session
      */
-    open(key, stream) {
-        this.streams.delete(key);
-        this.streams.set(key, stream);
-        if (this.streams.size > MOST_STREAMS) this.streams.delete(this.streams.keys().next().value ?? '');
+    keep(key, session) {
+        this.sessions.delete(key);
+        this.sessions.set(key, session);
+        if (this.sessions.size > MOST_STREAMS) this.sessions.delete(this.sessions.keys().next().value ?? '');
+        return session;
+    }
+
+    /**
+     * @param {Calls} calls
+     * @param {Session} session
+     * @param {import('./objects.js').Told} told
+     * @param {boolean} isBack
+     * @param {string} brief
+     */
+    count(calls, session, told, isBack, brief) {
+        const { kind } = told;
+        if (kind === 'request') calls.calls += 1;
+        else if (kind === 'positive' || (kind === 'message' && session.called && !session.isAccepted)) this.accept(calls, session);
+        else if (kind === 'negative') add(calls.refused, brief.replace(/^refuses: /, ''));
+        else if (kind === 'retarget') add(calls.refused, `retargeted to ${told.address}, port ${told.to_port}`);
+        if (kind === 'message') calls[isBack ? 'received' : 'sent'] += told.length ?? 0;
+    }
+
+    /**
+     * A session is accepted, by a positive response or by data where that isn't in the capture.
+     *
+     * @param {Calls} calls
+     * @param {Session} session
+     */
+    accept(calls, session) {
+        calls.accepted += Number(!session.isAccepted);
+        session.isAccepted = true;
+        if (!session.called) return;
+        this.named(session.caller.address, session.calling);
+        this.named(session.callee.address, session.called);
     }
 
     rows() {
@@ -71,18 +145,49 @@ export class Sessions {
 }
 
 /**
- * @param {Calls} calls
- * @param {import('./objects.js').Told} told
- * @param {boolean} isAnswer
- * @param {string} brief
+ * @param {Side} caller
+ * @param {Side} callee
+ * @param {number | null} sequence
+ * @returns {Session}
  */
-function count(calls, told, isAnswer, brief) {
-    const length = told.length ?? 0;
-    if (told.kind === 'request') calls.calls += 1;
-    else if (told.kind === 'positive') calls.accepted += 1;
-    else if (told.kind === 'negative') {
-        const words = brief.replace(/^refuses: /, '');
-        calls.refused.set(words, (calls.refused.get(words) ?? 0) + 1);
-    } else if (told.kind === 'message' && isAnswer) calls.received += length;
-    else if (told.kind === 'message') calls.sent += length;
+function begun(caller, callee, sequence) {
+    return { caller, callee, sequence, calling: '', called: '', isBegun: false, isAccepted: false };
+}
+
+/**
+ * Who called, and who was called, where the connection's begin isn't in the capture: who asks for a session, else whose port isn't the
+ * service's, else who isn't answering.
+ *
+ * @param {Side} here
+ * @param {Side} there
+ * @param {string} kind
+ * @returns {[Side, Side]}
+ */
+function sidesOf(here, there, kind) {
+    const isAnswer = (here.port === PORT) === (there.port === PORT) ? RESPONSES.includes(kind) : here.port === PORT;
+    return isAnswer && kind !== 'request' ? [there, here] : [here, there];
+}
+
+/**
+ * @param {Side} one
+ * @param {Side} other
+ */
+function isSame(one, other) {
+    return one.address === other.address && one.port === other.port;
+}
+
+/**
+ * @param {Side} one
+ * @param {Side} other
+ */
+function keyOf(one, other) {
+    return [one, other].map(({ address, port }) => `${address} ${port}`).sort().join(' ');
+}
+
+/**
+ * @param {Map<string, number>} counts
+ * @param {string} words
+ */
+function add(counts, words) {
+    counts.set(words, (counts.get(words) ?? 0) + 1);
 }

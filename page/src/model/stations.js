@@ -1,6 +1,6 @@
 /** The stations: who sends packets, and what they are called. */
 import { compare } from './names.js';
-import { entriesOf, isClaim, isResponse, serviceOf, subject } from './objects.js';
+import { isClaim } from './messages.js';
 import { Room } from './room.js';
 
 /** How many names of a station are kept. */
@@ -24,35 +24,24 @@ export class Stations {
     }
 
     /**
+     * Takes a packet: who sends it, and the names that it uses. Names of sessions come by `named`, once they are accepted.
+     *
      * @param {import('./objects.js').Told} told
+     * @param {import('./messages.js').Message | null} message
      * @param {import('./seen.js').Ends} ends
      */
-    take(told, ends) {
+    take(told, message, ends) {
         const sender = this.station(ends.source);
         if (sender) {
             sender.packets += 1;
             sender.mac = ends.mac ?? sender.mac;
         }
-        const service = serviceOf(told);
-        if (service) return this.service(service, sender);
-        if (told.source !== undefined && told.key !== undefined) this.named(told.key.split(':')[0], told.source);
-        if (told.calling !== undefined) this.named(ends.source, told.calling);
-        if (told.called !== undefined) this.named(ends.destination, told.called);
-    }
-
-    /**
-     * @param {import('./objects.js').Service} service
-     * @param {Station | null} sender
-     */
-    service(service, sender) {
-        if (isClaim(service)) {
-            for (const entry of entriesOf(service)) this.named(entry.address, subject(service));
-        }
-        if (!isResponse(service) || !sender) return;
-        for (const record of service.answers) {
-            if (!record.names?.length) continue;
-            sender.status = record.names.slice(0, MOST_NAMES).map((each) => each.name);
-            sender.unit = record.unit ?? null;
+        if (message && isClaim(message)) {
+            for (const { name, address } of message.places) this.named(address, name);
+        } else if (message?.act === 'answers' && sender) {
+            status(message, sender);
+        } else if (told.source !== undefined && told.key !== undefined) {
+            this.named(told.key.split(':')[0], told.source);
         }
     }
 
@@ -81,5 +70,19 @@ export class Stations {
             const refused = names.filter((each) => isRefused(each, station.address));
             return { ...station, names: names.filter((each) => !refused.includes(each)), refused };
         }).sort((one, other) => compare(one.address, other.address));
+    }
+}
+
+/**
+ * Takes the names of a node status.
+ *
+ * @param {import('./messages.js').Message} message
+ * @param {Station} sender
+ */
+function status({ answers }, sender) {
+    for (const record of answers) {
+        if (!record.names?.length) continue;
+        sender.status = record.names.slice(0, MOST_NAMES).map((each) => each.name);
+        sender.unit = record.unit ?? null;
     }
 }

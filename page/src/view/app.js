@@ -2,7 +2,7 @@
 import { hashOf, placeOf } from './address.js';
 import { Advice } from './advice.js';
 import { Desk } from './desk.js';
-import { byId, counted, say } from './dom.js';
+import { byId, counted, number, say } from './dom.js';
 import { Header } from './header.js';
 import { NamesView } from './names.js';
 import { ExportView } from './export.js';
@@ -23,6 +23,7 @@ const PATIENCE = 2_000;
  * @property {string} name
  * @property {number} size
  * @property {'frames' | 'lines' | 'table'} kind
+ * @property {boolean} isPacked whether gzip packed it
  * @property {Rows} rows
  * @property {bigint | null} first
  * @property {import('./desk.js').Counts} counts
@@ -39,7 +40,7 @@ export class App {
      * @param {string[]} advice
      */
     constructor(code, module, advice) {
-        this.desk = new Desk(code, module, (news) => this.hear(news));
+        this.desk = new Desk(code, module, (news) => this.hear(news), (words) => this.complain(words));
         /** @type {(Tap | null)[]} */
         this.taps = [null, null];
         /** The files that are being read. @type {Map<number, Tap>} */
@@ -56,7 +57,6 @@ export class App {
         addEventListener('hashchange', () => this.go());
         byId('stop', HTMLButtonElement).addEventListener('click', () => this.stop());
         byId('to-packets', HTMLAnchorElement).addEventListener('click', () => this.place.view === 'packets' && this.focus());
-        this.desk.loaded?.catch((error) => this.complain(error.message));
     }
 
     /** The file that is looked at. */
@@ -76,8 +76,10 @@ export class App {
      * @param {object} asked
      */
     async ask(what, asked = {}) {
+        const { tap } = this.place;
         try {
-            return await this.desk.ask(what, { tap: this.place.tap, ...asked });
+            await this.desk.loaded;
+            return await this.desk.ask(what, { tap, ...asked });
         } catch (error) {
             this.complain(error instanceof Error ? error.message : String(error));
             return null;
@@ -93,9 +95,9 @@ export class App {
      * @param {number | null} closes
      */
     async open(file, name, number, closes) {
-        const counts = { frames: 0, packets: 0, refused: 0, leftOut: 0, names: 0, conflicts: 0 };
+        const counts = { frames: 0, packets: 0, refused: 0, leftOut: 0, names: 0, conflicts: 0, unread: { frames: 0, whys: [] } };
         /** @type {Tap} */
-        const tap = { name, size: file.size, kind: 'frames', rows: new Rows(), first: null, counts, isRead: false, fault: null, incomplete: 0, closes };
+        const tap = { name, size: file.size, kind: 'frames', isPacked: false, rows: new Rows(), first: null, counts, isRead: false, fault: null, incomplete: 0, closes };
         const earlier = { tap: this.taps[number], place: this.place };
         this.taps[number] = tap;
         this.opened += 1;
@@ -104,11 +106,12 @@ export class App {
         const frame = this.place.tap === number ? this.place : { frame: 0, packet: 1 };
         this.keep({ tap: number, frame: frame.frame, packet: frame.packet });
         byId('message', HTMLElement).hidden = true;
+        const asked = this.desk.loaded?.then(() => this.desk.ask('open', { tap: number, opened, file, name }));
+        // What the view asks about the file comes after that.
         this.show();
         try {
-            await this.desk.loaded;
-            const end = await this.desk.ask('open', { tap: number, opened, file, name });
-            Object.assign(tap, { fault: end.fault, kind: end.kind, counts: end.counts, first: end.first });
+            const end = await asked;
+            Object.assign(tap, { fault: end.fault, kind: end.kind, isPacked: end.isPacked, counts: end.counts, first: end.first });
         } catch (error) {
             tap.fault = error instanceof Error ? error.message : String(error);
         }
@@ -144,7 +147,7 @@ export class App {
         const tap = this.taps[number];
         if (!tap) return;
         this.taps[number] = null;
-        this.desk.ask('close', { tap: number }).catch(() => {});
+        this.desk.ask('close', { tap: number }).catch((error) => this.complain(error.message));
         const other = this.taps[1 - number] ? 1 - number : 0;
         const isShown = this.place.tap === number;
         if (isShown) this.keep({ tap: other, frame: 0, packet: 1, filter: '' });
@@ -302,8 +305,9 @@ export class App {
     }
 
     /** @param {Tap} tap */
-    tellOf({ name, kind, counts: { packets, refused, leftOut } }) {
-        this.tell(kind === 'table' ? `${name} is a saved table` : `${name}: ${counted(packets, 'packet')}, ${refused} malformed, ${leftOut} left out`);
+    tellOf({ name, kind, counts: { packets, refused, leftOut, unread } }) {
+        const notRead = unread.frames ? `, ${number(unread.frames)} not read here` : '';
+        this.tell(kind === 'table' ? `${name} is a saved table` : `${name}: ${counted(packets, 'packet')}, ${refused} malformed, ${leftOut} left out${notRead}`);
     }
 
     /** @param {string} words what is heard, where the page is read aloud */

@@ -7,7 +7,7 @@ const MOST_SHOWN = 48;
 /**
  * The places of a datagram as a bar: what is known, gaps, and an open end.
  *
- * @param {import('./keys.js').Key} key
+ * @param {import('../model/keys.js').Key} key
  * @param {number} wide how many bytes all of the bar stands for
  */
 export function bar(key, wide = key.wide) {

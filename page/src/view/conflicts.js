@@ -8,10 +8,11 @@
  * @param {Conflict} conflict
  */
 export function outcome({ name, claimants, refused, by }) {
-    const [holder] = claimants;
+    const holder = claimants.join(' and ');
+    if (!refused && by) return `${name}: ${by} says that it is in conflict; who holds it isn't in the capture.`;
     if (!refused) return `${name}: ${claimants.slice(0, -1).join(', ')} and ${claimants.at(-1)} claim it, and nobody was refused it.`;
     if (!holder) return `${name}: ${by} refused it to ${refused}; who holds it isn't in the capture.`;
-    return `${name}: ${holder} holds it; ${refused} was refused it${by === holder ? '' : ` by ${by}`}.`;
+    return `${name}: ${holder} ${claimants.length > 1 ? 'hold' : 'holds'} it; ${refused} was refused it${claimants.includes(by) && claimants.length === 1 ? '' : ` by ${by}`}.`;
 }
 
 /**

@@ -11,7 +11,14 @@
  * @property {import('../model/packets.js').Rows} rows
  * @property {Counts} counts
  *
- * @typedef {{frames: number, packets: number, refused: number, leftOut: number, names: number, conflicts: number}} Counts
+ * @typedef {object} Counts
+ * @property {number} frames
+ * @property {number} packets
+ * @property {number} refused
+ * @property {number} leftOut
+ * @property {number} names
+ * @property {number} conflicts
+ * @property {import('../model/unread.js').UnreadCounts} unread
  */
 
 export class Desk {
@@ -19,11 +26,13 @@ export class Desk {
      * @param {string} code the worker's
      * @param {Uint8Array} module the library's
      * @param {(news: News) => void} tell
+     * @param {(words: string) => void} complain is called where the library can't be loaded
      */
-    constructor(code, module, tell) {
+    constructor(code, module, tell, complain) {
         this.place = URL.createObjectURL(new Blob([code], { type: 'text/javascript' }));
         this.module = module;
         this.tell = tell;
+        this.complain = complain;
         /** @type {Map<number, {done: (answer: any) => void, failed: (fault: Error) => void}>} */
         this.waiting = new Map();
         this.asked = 0;
@@ -38,7 +47,7 @@ export class Desk {
             this.fail(event.message || 'the worker ended');
         };
         this.loaded = this.ask('load', { module: this.module });
-        this.loaded.catch(() => {});
+        this.loaded.catch((error) => this.complain(error.message));
     }
 
     /** @param {any} data */

@@ -1,12 +1,13 @@
 /** The view of what is given out, as files: each is byte for byte what the program prints. */
 import { byId, element, number } from './dom.js';
+import { quoted } from './shell.js';
 
-/** Of each form the end of a file's name, its title, the words of its button, what it is, and the command that prints the same. */
+/** Of each form the end of a file's name, its title, the words of its button, what it is, and the commands that print the same: of frames, of text. */
 const FORMS = /** @type {const} */ ([
-    ['json', 'jsonl', 'JSON lines', 'Save JSON lines', 'an object for each packet', (/** @type {string} */ file) => `nbt-pcap2cap ${file} | nbt show --json`, 'nbt show --json <'],
-    ['capture', 'capture.txt', 'Capture', 'Save the capture', 'the packets as text, with their frames', (/** @type {string} */ file) => `nbt-pcap2cap ${file}`, 'cat '],
+    ['json', 'jsonl', 'JSON lines', 'Save JSON lines', 'an object for each packet', (/** @type {string} */ file) => `nbt-pcap2cap ${file} | nbt show --json`, 'nbt show --json'],
+    ['capture', 'capture.txt', 'Capture', 'Save the capture', 'the packets as text, with their frames', (/** @type {string} */ file) => `nbt-pcap2cap ${file}`, ''],
     ['table', 'table.txt', 'Saved table', 'Save the table', 'what a station knows of all datagrams',
-        (/** @type {string} */ file) => `nbt-pcap2cap --no-ticks ${file} | nbt save --keys 65535`, 'nbt save --keys 65535 <'],
+        (/** @type {string} */ file) => `nbt-pcap2cap --no-ticks ${file} | nbt save --keys 65535`, 'nbt save --keys 65535'],
 ]);
 
 export class ExportView {
@@ -26,7 +27,7 @@ export class ExportView {
                 const button = element('button', { type: 'button', id: `save-${form}` }, save);
                 const size = element('span', { class: 'quiet', role: 'status' });
                 button.addEventListener('click', () => this.save(form, end, size, button));
-                const words = tap.kind === 'frames' ? command(tap.name) : `${ofText}${tap.name}`;
+                const words = tap.kind === 'frames' ? command(quoted(tap.name)) : textCommand(ofText, tap);
                 return element('section', { class: 'card', 'aria-label': title }, element('h2', {}, title), element('p', {}, what),
                     ...(tap.kind === 'table' ? [] : [element('p', {}, 'The same as ', element('code', {}, words))]), button, ' ', size);
             }));
@@ -45,8 +46,20 @@ export class ExportView {
         button.disabled = false;
         if (!answer || !tap) return;
         const place = URL.createObjectURL(answer.blob);
-        element('a', { href: place, download: `${tap.name.replace(/\.\w+$/, '')}.${end}` }).click();
+        element('a', { href: place, download: `${tap.name.replace(/\.gz$/i, '').replace(/\.\w+$/, '')}.${end}` }).click();
         setTimeout(() => URL.revokeObjectURL(place), 60_000);
         size.textContent = `${number(answer.blob.size)} bytes`;
     }
+}
+
+/**
+ * The command that prints the same of a file that is text.
+ *
+ * @param {string} command an empty text where that is the file itself
+ * @param {import('./app.js').Tap} tap
+ */
+function textCommand(command, { name, isPacked }) {
+    const file = quoted(name);
+    if (isPacked) return `gzip -dc ${file}${command ? ` | ${command}` : ''}`;
+    return command ? `${command} <${file}` : `cat ${file}`;
 }

@@ -1,7 +1,8 @@
 /** A table of any number of rows, of which those are in the page that are in sight. */
 import { element } from './dom.js';
 
-const HEIGHT = 24;
+/** How high a row is, by the size of the page's letters, as style.css has it. */
+const HEIGHT = 1.5;
 /** No engine lets an element be as high as millions of rows: past this the place of the bar stands for a part of them. */
 const MOST_HIGH = 8_000_000;
 
@@ -28,6 +29,7 @@ export class Grid {
         this.headings = headings;
         this.selected = -1;
         this.isDrawing = false;
+        this.height = heightOfRow();
         /** @type {HTMLElement[]} */
         this.pool = [];
         this.head = element('div', { role: 'row', class: 'row head', 'aria-rowindex': 1 },
@@ -57,11 +59,11 @@ export class Grid {
 
     /** How many rows are in sight. */
     get fitting() {
-        return Math.max(1, Math.floor(this.scroller.clientHeight / HEIGHT));
+        return Math.max(1, Math.floor(this.scroller.clientHeight / this.height));
     }
 
     get high() {
-        return Math.min(this.source.count() * HEIGHT, MOST_HIGH);
+        return Math.min(this.source.count() * this.height, MOST_HIGH);
     }
 
     /** The first row in sight, and how much of it is above. */
@@ -69,7 +71,7 @@ export class Grid {
         const count = this.source.count();
         const most = Math.max(0, count - this.fitting);
         const way = Math.max(1, this.high - this.scroller.clientHeight);
-        const at = count * HEIGHT > MOST_HIGH ? (this.scroller.scrollTop / way) * most : this.scroller.scrollTop / HEIGHT;
+        const at = count * this.height > MOST_HIGH ? (this.scroller.scrollTop / way) * most : this.scroller.scrollTop / this.height;
         return Math.min(Math.max(0, at), most);
     }
 
@@ -84,13 +86,14 @@ export class Grid {
     }
 
     drawNow() {
+        this.height = heightOfRow();
         const count = this.source.count();
         this.root.setAttribute('aria-rowcount', String(count + 1));
         this.size.style.height = `${this.high}px`;
         const first = Math.floor(this.first);
         const shown = Math.min(this.fitting + 2, count - first);
         while (this.pool.length < shown) this.pool.push(this.made());
-        this.sight.style.transform = `translateY(${this.scroller.scrollTop - (this.first - first) * HEIGHT}px)`;
+        this.sight.style.transform = `translateY(${this.scroller.scrollTop - (this.first - first) * this.height}px)`;
         for (const [at, row] of this.pool.entries()) this.fill(row, at < shown ? first + at : -1);
         const active = this.selected >= first && this.selected < first + shown ? `row${this.selected}` : '';
         if (active) this.root.setAttribute('aria-activedescendant', active);
@@ -165,10 +168,15 @@ export class Grid {
             const most = Math.max(1, count - this.fitting);
             const wanted = Math.min(most, Math.max(0, at < first ? at : at - this.fitting + 1));
             const way = this.high - this.scroller.clientHeight;
-            this.scroller.scrollTop = count * HEIGHT > MOST_HIGH ? (wanted / most) * way : wanted * HEIGHT;
+            this.scroller.scrollTop = count * this.height > MOST_HIGH ? (wanted / most) * way : wanted * this.height;
         }
         this.draw();
     }
+}
+
+/** In pixels. */
+function heightOfRow() {
+    return HEIGHT * parseFloat(getComputedStyle(document.documentElement).fontSize);
 }
 
 /** A name as the library writes it: FRED<20>, FRED<20>.NETBIOS.COM. */

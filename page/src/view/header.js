@@ -40,7 +40,8 @@ export class Header {
         const counts = byId('counts', HTMLElement);
         const { tap } = this.app;
         const parts = tap && tap.kind !== 'table' ? [[tap.counts.packets, tap.counts.packets === 1 ? 'packet' : 'packets'],
-            [tap.counts.names, tap.counts.names === 1 ? 'name' : 'names'], [tap.counts.refused, 'malformed'], [tap.counts.leftOut, 'left out']] : [];
+            [tap.counts.names, tap.counts.names === 1 ? 'name' : 'names'], [tap.counts.refused, 'malformed'], [tap.counts.leftOut, 'left out'],
+            ...(tap.counts.unread.frames ? [[tap.counts.unread.frames, 'not read here']] : [])] : [];
         const text = parts.map(([count, word]) => `${number(Number(count))} ${word}`).join(' · ');
         if (counts.textContent === text) return;
         counts.replaceChildren(...parts.flatMap(([count, word], at) => [at ? ' · ' : '',

@@ -1,43 +1,7 @@
-/** The keys of a table, as the library lists them: `KEY whole ..`, `KEY partial ..`, `KEY spoilt`. docs/FORMATS.md, "`nbt list`". */
+/** What is known of a key, in words. */
 import { counted } from './dom.js';
 
-/**
- * @typedef {object} Key
- * @property {string} line
- * @property {string} key
- * @property {string} state whole, partial or spoilt
- * @property {string} kind
- * @property {string} source
- * @property {string} destination
- * @property {[number, number][]} places
- * @property {number} held how many bytes are there
- * @property {number | null} end how many bytes the datagram has, if that is known
- * @property {number} wide up to where anything is known or promised
- * @property {string} data digits of a whole one
- */
-
-/**
- * @param {string} line
- * @returns {Key}
- */
-export function keyOf(line) {
-    const [key, state, kind = '', source = '', destination = '', ...rest] = line.split(' ');
-    /** @type {Key} */
-    const found = { line, key, state, kind, source, destination, places: [], held: 0, end: null, wide: 0, data: '' };
-    if (state === 'whole') {
-        found.data = rest[0] === 'empty' ? '' : rest[0];
-        found.end = found.wide = found.held = found.data.length / 2;
-        if (found.end) found.places = [[0, found.end]];
-    } else if (state === 'partial') {
-        const [numbers, , places, , more] = rest;
-        const [held, end] = numbers.split('/');
-        found.held = Number(held);
-        found.end = end === '?' ? null : Number(end);
-        found.places = places === '-' ? [] : places.split(',').map((each) => /** @type {[number, number]} */ (each.split('-').map(Number)));
-        found.wide = Math.max(found.end ?? 0, Number(more ?? 0), found.places.at(-1)?.[1] ?? 0);
-    }
-    return found;
-}
+/** @typedef {import('../model/keys.js').Key} Key */
 
 /**
  * What is known of a key, in words.

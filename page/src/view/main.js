@@ -3,6 +3,7 @@ import { App } from './app.js';
 import { VIEWS } from './address.js';
 import { byId } from './dom.js';
 import { openAll, takeFiles } from './files.js';
+import { SingleKeys } from './singles.js';
 
 /**
  * The bytes of a block of the page in base64.
@@ -23,6 +24,7 @@ function textIn(id) {
 
 const app = new App(textIn('worker'), bytesIn('module'), JSON.parse(textIn('advice')));
 const help = byId('help', HTMLDialogElement);
+const singles = new SingleKeys();
 
 /** @param {string} id of a block with a capture */
 function openWithin(id) {
@@ -41,6 +43,7 @@ byId('dismiss', HTMLButtonElement).addEventListener('click', () => {
 addEventListener('keydown', (event) => {
     const target = /** @type {HTMLElement} */ (event.target);
     if (event.ctrlKey || event.altKey || event.metaKey || document.querySelector('dialog[open]') || target.closest('input, textarea, select')) return;
+    if (event.key.length === 1 && !singles.areOn) return;
     const isPackets = app.place.view === 'packets' && app.tap !== null;
     if (event.key === '/' && app.tap) {
         event.preventDefault();

@@ -3,18 +3,9 @@ import { since } from '../model/times.js';
 import { hashOf } from './address.js';
 import { outcome, summary } from './conflicts.js';
 import { byId, counted, element, table } from './dom.js';
+import { TABLES, shownAs } from './tables.js';
 
-/** The conflicts, then the tables in the order and with the titles of nbt-look; and the columns of each. */
-const TABLES = /** @type {const} */ ([
-    ['conflicts', 'conflicts', ['name', 'holder', 'refused', 'by', 'frame']],
-    ['names', 'names', ['name', 'kind', 'address', 'group', 'how', 'since', 'until', 'lifetime', 'conflicts', 'refusals']],
-    ['stations', 'stations', ['address', 'mac', 'packets', 'names', 'refused', 'status', 'unit']],
-    ['queries', 'queries without an answer', ['name', 'kind', 'by', 'times', 'frames', 'since', 'answered']],
-    ['sessions', 'sessions', ['calling', 'called', 'from', 'to', 'calls', 'accepted', 'refused', 'sent', 'received']],
-    ['refused', 'malformed', ['reason', 'packets', 'frame', 'byte']],
-    ['left out', 'left out', ['reason', 'frames']],
-]);
-const FILTERS = ['name', 'calling', 'called', 'address', 'from', 'to', 'by'];
+const FILTERS = ['name', 'calling', 'called', 'address', 'from', 'to', 'by', 'asked'];
 /** Of how many conflicts a sentence says how they ended. */
 const MOST_SENTENCES = 5;
 
@@ -25,6 +16,7 @@ export class NamesView {
     constructor(app) {
         this.app = app;
         this.root = byId('view-names', HTMLElement);
+        this.asked = 0;
     }
 
     async show() {
@@ -33,13 +25,29 @@ export class NamesView {
             this.root.replaceChildren(element('p', { class: 'quiet' }, 'A saved table has datagrams alone: see Reassembly.'));
             return;
         }
+        this.asked += 1;
+        const { asked } = this;
+        this.root.setAttribute('aria-busy', 'true');
         const answer = await app.ask('tables');
-        if (!answer) return;
-        const { tables, notKept } = answer;
+        if (answer && asked === this.asked) this.draw(answer);
+        // What becomes of datagrams takes longer.
+        const more = answer && asked === this.asked ? await app.ask('datagrams') : null;
+        if (asked !== this.asked) return;
+        this.root.removeAttribute('aria-busy');
+        if (more) this.draw({ tables: { ...answer.tables, ...more.tables }, notKept: { ...answer.notKept, ...more.notKept } });
+    }
+
+    /**
+     * Draws the tables that there are.
+     *
+     * @param {{tables: Record<string, any[]>, notKept: Record<string, number>}} answer
+     */
+    draw({ tables, notKept }) {
+        const { app } = this;
         const lost = new Set(tables.conflicts.map((/** @type {Conflict} */ { name, refused }) => `${name} ${refused}`));
         this.root.replaceChildren(element('p', { class: 'lead' }, summary(tables.conflicts)), ...this.outcomes(tables.conflicts),
             ...TABLES.flatMap(([key, title, columns]) => {
-                const rows = tables[key];
+                const rows = tables[key] ?? [];
                 const more = notKept[key] ? [element('p', { class: 'quiet' }, `and ${counted(notKept[key], 'packet')} of more than are kept`)] : [];
                 if (!rows.length) return more;
                 const head = columns.map((each) => ({ frame: app.unit, byte: 'payload byte' })[String(each)] ?? each);
@@ -77,15 +85,11 @@ export class NamesView {
      */
     cell(row, column) {
         const value = row[column];
-        if (column === 'since' || column === 'until') return this.time(/** @type {bigint | null} */ (value));
-        if (column === 'lifetime') return value === null ? '-' : `${value} s${value ? '' : ', no end'}`;
+        const text = shownAs(row, column, (time) => this.time(time));
         if (column === 'frames' && Array.isArray(value)) return this.frames(value);
-        if (column === 'answered') return value === null ? 'never' : this.link(`a later one, in ${this.app.unit} ${value}`, { frame: value, filter: '' });
-        if (column === 'frame') return this.link(String(value), { frame: Number(value), filter: '' });
-        if (column === 'reason') return this.link(String(value), { filter: row.frames === undefined ? 'malformed' : 'left-out' });
-        if (column === 'holder') return row.claimants.join(' or ') || 'not in the capture';
-        if (column === 'refused' && row.claimants) return String(value || 'nobody');
-        const text = textOf(value);
+        if (column === 'answered' && value !== null) return this.link(text.replace('frame', this.app.unit), { frame: value, filter: '' });
+        if (column === 'frame') return this.link(text, { frame: Number(value), filter: '' });
+        if (column === 'reason') return this.link(text, { filter: row.frames === undefined ? 'malformed' : 'left-out' });
         return FILTERS.includes(column) && text !== '-' ? this.link(text, { filter: text }) : text;
     }
 
@@ -121,17 +125,4 @@ function standing(key, row, lost) {
     if (key !== 'names') return '';
     if (row.how === 'refused' || lost.has(`${row.name} ${row.address}`)) return 'bad';
     return row.conflicts || row.refusals ? 'contested' : '';
-}
-
-/**
- * A value as nbt-look's tables have it.
- *
- * @param {unknown} value
- * @returns {string}
- */
-function textOf(value) {
-    if (typeof value === 'boolean') return value ? 'yes' : 'no';
-    if (value instanceof Set) return textOf([...value]);
-    if (Array.isArray(value)) return value.map(textOf).join(', ') || '-';
-    return value === null || value === undefined || value === '' ? '-' : String(value);
 }

@@ -110,6 +110,15 @@ export class PacketsView {
         const shown = rows?.shown.length ?? 0;
         say(byId('shown', HTMLElement), shown === all ? counted(all, 'row') : `${number(shown)} of ${counted(all, 'row')}`);
         this.advise(all > 0 && shown === 0 ? this.words.value : null);
+        this.tellUnread();
+    }
+
+    /** Says of which frames nothing is shown, since this page doesn't read them. */
+    tellUnread() {
+        const unread = this.app.tap?.counts.unread;
+        const line = byId('unread', HTMLElement);
+        line.hidden = !unread?.frames;
+        if (unread?.frames) say(line, `${counted(unread.frames, 'frame')} of what this page doesn't read: ${unread.whys.join(', ')}. nbt-look reads them.`);
     }
 
     /**

@@ -1,8 +1,9 @@
 /** The reassembly's view: each key as a bar, and what a station with chosen names is handed, and when. */
+import { keyOf } from '../model/keys.js';
 import { hashOf } from './address.js';
 import { bar, folded, preview } from './bars.js';
 import { byId, counted, element, number, table } from './dom.js';
-import { keyOf, known } from './keys.js';
+import { known } from './keys.js';
 
 const MOST_NAMES = 254;
 
@@ -27,7 +28,7 @@ export class ReassemblyView {
         const keys = answer.lines.map(keyOf);
         this.keys.replaceChildren(...tableOf(keys, ({ key }) => this.link(key, answer.firsts.get(key))));
         this.handed.replaceChildren();
-        const names = Array.from(new Set(keys.flatMap((/** @type {import('./keys.js').Key} */ key) => key.destination || [])));
+        const names = Array.from(new Set(keys.flatMap((/** @type {import('../model/keys.js').Key} */ key) => key.destination || [])));
         byId('station-names', HTMLDataListElement).replaceChildren(...names.slice(0, MOST_NAMES).map((value) => element('option', { value })));
         this.names.value = names.slice(0, MOST_NAMES).join(', ');
         byId('station-form', HTMLFormElement).hidden = tap?.kind === 'table';
@@ -49,6 +50,7 @@ export class ReassemblyView {
         const names = this.names.value.split(',').map((each) => each.trim()).filter((each) => each !== '');
         const { rows } = this.app.tap ?? {};
         const answer = await this.app.ask('handed', { names });
+        if (!answer) this.handed.replaceChildren();
         if (!answer || !rows) return;
         const { handed, more } = answer;
         const cells = handed.map((/** @type {import('../worker/tables.js').Handed} */ each) => [
@@ -62,8 +64,8 @@ export class ReassemblyView {
 }
 
 /**
- * @param {import('./keys.js').Key[]} keys
- * @param {(key: import('./keys.js').Key) => Node | string} named what stands for a key
+ * @param {import('../model/keys.js').Key[]} keys
+ * @param {(key: import('../model/keys.js').Key) => Node | string} named what stands for a key
  */
 function tableOf(keys, named) {
     if (!keys.length) return [element('p', { class: 'quiet' }, 'There are no datagrams of which a station holds anything.')];

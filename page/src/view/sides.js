@@ -1,8 +1,8 @@
 /** What two taps know, key by key: what only the join has whole, what one tap alone has, and what both have, but not the same. */
+import { keyOf } from '../model/keys.js';
 import { counted, number } from './dom.js';
-import { keyOf } from './keys.js';
 
-/** @typedef {import('./keys.js').Key} Key */
+/** @typedef {import('../model/keys.js').Key} Key */
 
 /**
  * A key as each tap knows it, and as the join does.

@@ -87,7 +87,7 @@ export class TapsView {
 /**
  * What a side knows of a key: a bar, and the words that it stands for.
  *
- * @param {import('./keys.js').Key | null} key
+ * @param {import('../model/keys.js').Key | null} key
  * @param {number} wide
  */
 function side(key, wide) {

@@ -1,6 +1,7 @@
 /** What is given out of a file: each is byte for byte what the program prints. */
 import { digitsOf } from '../containers/digits.js';
 import { commentOf, textOf } from '../model/capture.js';
+import { slicesOf } from './file.js';
 import { pause } from './pause.js';
 import { tableOf } from './tables.js';
 
@@ -15,8 +16,18 @@ const PART = 1 << 20;
 export async function exportOf(tap, form) {
     if (form === 'table') return new Blob([`${digitsOf(await tableOf(tap))}\n`], { type: 'text/plain' });
     if (tap.kind === 'table') throw new Error('a saved table has no packets: only itself can be saved');
-    if (form === 'capture' && tap.kind === 'lines') return tap.file;
+    if (form === 'capture' && tap.kind === 'lines') return unchanged(tap);
     return joined(form === 'json' ? objects(tap) : lines(tap));
+}
+
+/**
+ * The file of a tap, if it can still be read.
+ *
+ * @param {import('./tap.js').Tap} tap
+ */
+function unchanged({ file, name }) {
+    slicesOf(file, name).bytes(0, 1);
+    return file;
 }
 
 /** @param {import('./tap.js').Tap} tap */

@@ -1,8 +1,39 @@
 /** A file of the browser, read in slices. */
 import { Slices } from '../containers/slices.js';
 
-/** @param {Blob} file */
-export function slicesOf(file) {
+/** A file can't be read any more: what it had when it was opened isn't there. */
+export class FileGone extends Error {
+    /** @param {string} name */
+    constructor(name) {
+        super(`${name ? `${name}: ` : ''}it changed on disk, or is gone, since it was opened: open it again`);
+        this.name = 'FileGone';
+    }
+}
+
+/**
+ * @param {Blob} file
+ * @param {string} [name] is said with a fault
+ * @returns {Slices} whose bytes throw FileGone where the file can't be read any more
+ */
+export function slicesOf(file, name = '') {
     const reader = new FileReaderSync();
-    return new Slices(file.size, (from, to) => new Uint8Array(reader.readAsArrayBuffer(file.slice(from, to))));
+    return new Slices(file.size, (from, to) => {
+        const bytes = bytesOf(reader, file.slice(from, to), name);
+        if (bytes.length < to - from) throw new FileGone(name);
+        return bytes;
+    });
+}
+
+/**
+ * @param {FileReaderSync} reader
+ * @param {Blob} part
+ * @param {string} name
+ */
+function bytesOf(reader, part, name) {
+    try {
+        return new Uint8Array(reader.readAsArrayBuffer(part));
+    } catch (error) {
+        if (error instanceof DOMException) throw new FileGone(name);
+        throw error;
+    }
 }

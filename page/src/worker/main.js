@@ -1,6 +1,7 @@
 /** The worker: holds the library and the files, and answers what the page asks. */
 import { load } from '../../../bindings/javascript/nbt.mjs';
 import { LEFT_OUT } from '../model/packets.js';
+import { datagramsOf } from './datagrams.js';
 import { exportOf } from './export.js';
 import { Reading } from './reading.js';
 import { compared, handedTo, incompleteOf, listed, tableOf } from './tables.js';
@@ -54,8 +55,8 @@ const answers = {
         const earlier = { tap: taps.get(number), reading: readings.get(number) };
         const replace = () => earlier.reading && Object.assign(earlier.reading, { isStopped: true });
         const reading = new Reading(tap, (done) => {
-            if (!tap.isRead) replace();
-            if (taps.get(number) === tap) postMessage({ opened, done, size: file.size, kind: tap.kind, rows: tap.batch.take(), counts: tap.counts() });
+            if (!tap.isRead && tap.packets.count) replace();
+            if (taps.get(number) === tap) postMessage({ opened, done, size: tap.file.size, kind: tap.kind, rows: tap.batch.take(), counts: tap.counts() });
         });
         taps.set(number, tap);
         readings.set(number, reading);
@@ -66,7 +67,7 @@ const answers = {
             taps.set(number, earlier.tap);
             readings.set(number, earlier.reading);
         }
-        return { fault, kind: tap.kind, counts: tap.counts(), first: tap.first };
+        return { fault, kind: tap.kind, isPacked: tap.isPacked, counts: tap.counts(), first: tap.first };
     },
 
     /** @param {{tap: number}} asked */
@@ -90,6 +91,12 @@ const answers = {
 
     /** @param {{tap: number}} asked */
     tables: ({ tap }) => ({ tables: tapOf(tap).seen.tables(), notKept: tapOf(tap).seen.notKept() }),
+
+    /** @param {{tap: number}} asked */
+    async datagrams({ tap }) {
+        const datagrams = await datagramsOf(tapOf(tap));
+        return { tables: datagrams.tables(), notKept: { datagrams: datagrams.room.others, failed: datagrams.failed.others } };
+    },
 
     /** @param {{tap: number}} asked */
     async listed({ tap }) {

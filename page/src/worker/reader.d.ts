@@ -2,3 +2,10 @@
 declare class FileReaderSync {
     readAsArrayBuffer(blob: Blob): ArrayBuffer;
 }
+
+/** What unpacks, which TypeScript 4.8 doesn't know yet. */
+declare class DecompressionStream {
+    constructor(format: 'gzip');
+    readonly readable: ReadableStream<Uint8Array>;
+    readonly writable: WritableStream<Uint8Array>;
+}

@@ -6,6 +6,7 @@ import { PayloadReader, framesOf } from '../containers/payloads.js';
 import { slicesOf } from './file.js';
 import { kindOf, tablesOf } from './kinds.js';
 import { pause } from './pause.js';
+import { isPacked, unpacked } from './unpack.js';
 
 /** How long the worker reads before it looks whether something is wanted of it, in milliseconds. */
 const WHILE = 24;
@@ -22,23 +23,46 @@ export class Reading {
         this.tap = tap;
         this.tell = tell;
         this.isStopped = false;
+        /**
+         * Why not all of a file is unpacked.
+         * @type {string | null}
+         */
+        this.fault = null;
     }
 
     /** @returns {Promise<string | null>} why not all of it is read */
     async run() {
-        const file = slicesOf(this.tap.file);
         try {
+            let file = slicesOf(this.tap.file);
+            if (isPacked(file)) file = await this.unpack();
+            if (this.isStopped) return 'stopped while it was unpacked';
             const kind = kindOf(file);
             if (kind === 'frames') await this.frames(file);
             else if (kind === 'lines') await this.lines(file);
             else this.tables(file, kind === 'table');
         } catch (error) {
-            return error instanceof Error ? error.message : String(error);
+            return this.fault ?? (error instanceof Error ? error.message : String(error));
         } finally {
             this.tap.isRead = true;
             this.tell(this.tap.file.size);
         }
-        return this.isStopped ? `stopped after frame ${this.tap.frames}` : null;
+        return this.isStopped ? `stopped after frame ${this.tap.frames}` : this.fault;
+    }
+
+    /** Puts what gzip packed in the place of the file. */
+    async unpack() {
+        const { tap } = this;
+        let began = performance.now();
+        const { blob, fault } = await unpacked(tap.file, async (done) => {
+            if (performance.now() - began < WHILE) return !this.isStopped;
+            this.tell(done);
+            await pause();
+            began = performance.now();
+            return !this.isStopped;
+        });
+        Object.assign(tap, { file: blob, isPacked: true });
+        this.fault = fault;
+        return slicesOf(blob);
     }
 
     /** @param {import('../containers/slices.js').Slices} file */

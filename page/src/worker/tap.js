@@ -7,6 +7,10 @@ import { Batch } from './batch.js';
 import { slicesOf } from './file.js';
 import { LEFT_OUT, Packets } from '../model/packets.js';
 
+/** MSG_TYPE of datagrams, in words. */
+const KINDS = new Map([[0x10, 'unique'], [0x11, 'group'], [0x12, 'broadcast']]);
+/** Of how many datagrams that are cut the names are kept. */
+const MOST_CUT = 65_535;
 const SERVICES = ['137', '138', '139'];
 
 /**
@@ -40,13 +44,38 @@ export class Tap {
          */
         this.table = null;
         this.isRead = false;
+        /**
+         * The names of datagrams that the snap length cut behind them.
+         * @type {import('../model/replay.js').Names[]}
+         */
+        this.cut = [];
+        /** Whether gzip packed the file: `file` is what it packed then. */
+        this.isPacked = false;
     }
 
     /** @param {import('../containers/payloads.js').Seen} item */
     take(item) {
         if (item.kind === 'comment') this.packets.comment(item.text);
         else if (item.kind === 'payload') this.payload(item);
+        else if (item.kind === 'opened') this.opened(item);
+        else if (item.kind === 'cut') this.cutDatagram(item.bytes);
+        else if (item.kind === 'unread') this.seen.unread.take(item);
         else this.leftOut(item);
+    }
+
+    /** @param {Uint8Array} bytes what the file has of a datagram that is cut */
+    cutDatagram(bytes) {
+        const front = this.library.readDatagramFront(bytes);
+        const kind = KINDS.get(front.type);
+        if (kind && front.source !== null && front.destination !== null && this.cut.length < MOST_CUT) {
+            this.cut.push({ source: front.source, destination: front.destination, kind });
+        }
+    }
+
+    /** @param {import('../containers/payloads.js').Opened} item */
+    opened({ caller, callee, sequence, isFirst }) {
+        const [from, to] = [caller, callee].map((end) => ({ address: hostOf(end), port: portOf(end) }));
+        this.seen.sessions.opened({ caller: from, callee: to, sequence, isFirst });
     }
 
     /** @param {import('../containers/payloads.js').Payload} item */
@@ -90,14 +119,17 @@ export class Tap {
 
     /** The lines of the capture that the file gives, or that it is. */
     capture() {
-        return this.kind === 'lines' ? written(slicesOf(this.file)) : made(this);
+        return this.kind === 'lines' ? written(slicesOf(this.file, this.name)) : made(this);
     }
 
     /** What is counted. */
     counts() {
         const { seen } = this;
         const left = Array.from(seen.leftOut.entries.values(), (each) => each.frames).reduce((sum, each) => sum + each, 0);
-        const { named, disputes } = seen.names;
-        return { frames: this.frames, packets: seen.packets, refused: seen.refusedPackets, leftOut: left, names: named.size, conflicts: disputes.count };
+        const { ofName, conflicts } = seen.claims;
+        return {
+            frames: this.frames, packets: seen.packets, refused: seen.refusedPackets, leftOut: left, names: ofName.entries.size, conflicts: conflicts.count,
+            unread: seen.unread.counts(),
+        };
     }
 }

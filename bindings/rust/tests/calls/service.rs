@@ -235,6 +235,9 @@ fn the_names_of_a_node_are_read() {
 
 #[test]
 fn a_name_server_is_read() {
+    let label = [&b"\x3f"[..], &[b'a'; 63]].concat().repeat(3);
+    let longest = joined(&[&label, b"\x3d", &[b'b'; 61], b"\0"]);
+    let shown = format!("{0}.{0}.{0}.{1}", "a".repeat(63), "b".repeat(61));
     for (data, wanted) in [
         (&b"\x02ns\0"[..], "ns"),
         (
@@ -243,6 +246,7 @@ fn a_name_server_is_read() {
         ),
         (b"\xc0\x0c", "FRED<20>"),
         (b"\0", "."),
+        (&longest, &shown),
     ] {
         let payload = response(FRED, 2, data);
         match only(&read(&payload).unwrap()).rdata() {

@@ -1,6 +1,7 @@
 -- Counts of the keys of each address, as they are kept: a key more, and a key less.
-use Rattle.std.proofs.Common.{◌≡◌, ◌≤◌, ◌<◌, ◌+◌, ◌-◌, ◌==◌, ◌&&◌, ℕ, cond, Bool, true, false, List, filter, length, Option, Some, None, is_none, is_some, unwrap_or, IfSome, refl, sym, ◌∙◌, ap, subst, arith}
+use Rattle.std.proofs.Common.{◌≡◌, ◌≢◌, ◌≤◌, ◌<◌, ◌+◌, ◌-◌, ◌==◌, ◌&&◌, ℕ, cond, Bool, true, false, List, filter, length, Option, Some, None, is_none, is_some, unwrap_or, IfSome, refl, sym, ◌∙◌, ap, subst, arith}
 use Rattle.std.proofs.lemmas.Bool.{true≢false}
+use Rattle.std.proofs.lemmas.Option.{none-some}
 use Rattle.std.specs.Prelude.{Decides}
 use Rattle.std.specs.Ordering.{eq_by_cmp}
 use Rattle.std.specs.Cmp.{Equal-is, tied_itself, unsigned_Decides}
@@ -11,7 +12,7 @@ use Rattle.nb_datagram.specs.declared.key.Key.{Key}
 use Rattle.nb_entries.specs.Entry.{EntryValue}
 use Rattle.nb_table.specs.Contents.{Contents}
 use Rattle.nb_table.specs.KeyCounts.{of_source, held_keys}
-use Rattle.nb_table.specs.Code.SourceCounts.{ip_cmp, Adds, AreCounted, Counts, CountsKeys, Takes, count_of, if_same}
+use Rattle.nb_table.specs.Code.SourceCounts.{ip_cmp, Adds, AreCounted, Counts, CountsKeys, HasNoZero, Takes, count_of, if_same}
 use Rattle.nb_table.proofs.Limits.GroupLemmas.{few_of_none, held_at_most, held_insert, held_without}
 
 -- ---- addresses
@@ -77,6 +78,26 @@ gone_less m ip q most = count_gone m ip q ∙ step (pointwise ◌==◌ ip q) (sa
     step : (b : Bool) → (b ≡ true → ip ≡ q) → cond b 0 (count_of m q) ≡ count_of m q - cond b 1 0
     step true f = none (count_of m ip) most ∙ ap (λ i. count_of m i - 1) (f refl)
     step false f = omega arith
+
+-- ---- no count is 0
+
+-- no address counts as having no key
+pub zero_none : HasNoZero maps.empty
+zero_none q is = none-some 0 (sym (maps.get-empty ip_cmp q) ∙ is)
+
+pub zero_put : (m : Counts) (ip : List ℕ) (v : ℕ) → v ≢ 0 → HasNoZero m → HasNoZero (maps.insert m ip v)
+zero_put m ip v some zero q is = step (eq_by_cmp ip_cmp q ip) (sym (maps.get-insert nat_list_cmp_total m ip v q) ∙ is)
+  where
+    step : (b : Bool) → cond b (Some v) (maps.get m q) ≡ Some 0 → ⊥
+    step true h = some (ap (λ o. unwrap_or o 0) h)
+    step false h = zero q h
+
+pub zero_gone : (m : Counts) (ip : List ℕ) → HasNoZero m → HasNoZero (maps.remove m ip)
+zero_gone m ip zero q is = step (eq_by_cmp ip_cmp q ip) (sym (maps.get-remove nat_list_cmp_total m ip q) ∙ is)
+  where
+    step : (b : Bool) → cond b None (maps.get m q) ≡ Some 0 → ⊥
+    step true h = none-some 0 h
+    step false h = zero q h
 
 -- ---- a table that one key is put into, or taken out of
 

@@ -1,6 +1,6 @@
 -- How many keys of each address a table holds, as it is kept beside the entries.
 use Rattle.std.specs.Coded.{Coded, coded_ℕ, coded_list}
-use Rattle.std.specs.Prelude.{◌≡◌, ◌==◌, ◌+◌, ◌-◌, ℕ, List, cond, unwrap_or, IfSome, Option, Some, None}
+use Rattle.std.specs.Prelude.{◌≡◌, ◌≢◌, ◌==◌, ◌+◌, ◌-◌, ℕ, List, cond, unwrap_or, IfSome, Option, Some, None}
 use Rattle.std.specs.declared.cmp.Ordering.{Ordering}
 use Rattle.std.specs.Ordering.{nat_cmp}
 use Rattle.std.specs.Cmp.Lexicographic.{pointwise, slice_cmp}
@@ -27,6 +27,10 @@ count_of m ip = unwrap_or (maps.get m ip) 0
 -- if_same a b: 1 where the two addresses are one, and else 0
 abbrev pub if_same : List ℕ → List ℕ → ℕ
 if_same a b = cond (pointwise ◌==◌ a b) 1 0
+
+-- HasNoZero m: no address has a count of 0, so that there are no more counts than keys
+abbrev pub HasNoZero : Counts → Type 0
+HasNoZero m = (ip : List ℕ) → maps.get m ip ≢ Some 0
 
 -- CountsKeys m s: m has the number of keys of each address in s
 abbrev pub CountsKeys : Counts → Contents → Type 0

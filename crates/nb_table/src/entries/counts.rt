@@ -16,13 +16,15 @@ pub(crate) struct SourceCounts {
 
 impl Model for SourceCounts {
     ghost use Rattle.std.specs.FinMap as maps;
-    ghost use Rattle.nb_table.specs.Code.SourceCounts.{Counts, counts_code, ip_cmp};
+    ghost use Rattle.nb_table.specs.Code.SourceCounts.{Counts, HasNoZero, counts_code, ip_cmp};
 
     ghost Value = { Counts };
 
     ghost coded = { counts_code };
 
     ghost view = { λ s. maps.from_entries {R = ip_cmp} s.counts.entries };
+
+    ghost invariant = { λ s. HasNoZero (maps.from_entries {R = ip_cmp} s.counts.entries) };
 }
 
 impl SourceCounts {

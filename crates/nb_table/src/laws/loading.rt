@@ -6,7 +6,8 @@ ghost use Rattle.nb_datagram.specs.declared.limits.TheConstants.{MAX_LENGTH};
 ghost use Rattle.nb_datagram.specs.Key.{key_cmp};
 ghost use Rattle.nb_table.specs.Contents.{Contents};
 ghost use Rattle.nb_entries.specs.Entry.{EntryValue};
-ghost use Rattle.nb_table.specs.Join.{IsTable};
+ghost use Rattle.nb_table.specs.Join.{IsTable, join};
+ghost use Rattle.nb_table.specs.Limits.{TableValue, with_contents};
 ghost use Rattle.nb_table.specs.LoadFaults.{IsReadAs};
 ghost use Rattle.nb_table.specs.Merging.{AllShort};
 ghost use Rattle.nb_table.specs.Saved.{HasNoPromise, IsSaved, saved, saved_first};
@@ -49,4 +50,16 @@ pub fn a_saved_table_is_read()
 pub fn a_table_saved_in_the_first_form_is_read()
     ensures { (t : Contents) → HasNoPromise t → FitsSaved t → IsTable t → AllShort MAX_LENGTH t →
         IsRead (saved_first t) (Ok (maps.entries t, length (saved_first t))) }
+{}
+
+/// Two tables are saved, each in either form, and loaded: what is loaded, merged, has the join of
+/// the contents that were saved. Their entries are well formed and of datagrams of at most 65,535
+/// bytes, and fit the fields of a saved table, as those of each table do.
+pub fn merging_saved_tables_joins_them()
+    ensures { (input other : List ℕ) (t u : Contents) (first second merged : TableValue) →
+        IsSaved input t → FitsSaved t → IsTable t → AllShort MAX_LENGTH t →
+        IsSaved other u → FitsSaved u → IsTable u → AllShort MAX_LENGTH u →
+        IsReadAs input first.contents → IsReadAs other second.contents →
+        merged ≡ with_contents first (join first.contents second.contents) →
+        merged.contents ≡ join t u }
 {}

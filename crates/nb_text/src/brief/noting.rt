@@ -4,7 +4,7 @@
 ghost use Rattle.std.specs.Prelude.{◌≡◌, ◌==◌, ◌∷◌, OnOk, length, if◌then◌else◌};
 ghost use Rattle.std.specs.Fmt.{decimal};
 ghost use Rattle.nb_names.specs.Addresses.{address_text};
-ghost use Rattle.nb_text.specs.Noted.{with_address, with_data, with_digits, with_domain, with_name, with_place, with_text, with_unit, within_names};
+ghost use Rattle.nb_text.specs.Noted.{nothing_noted, with_address, with_data, with_digits, with_domain, with_name, with_place, with_text, with_unit, within_names};
 
 use crate::brief::facts::Facts;
 use crate::brief::kind::{Kind, kind_of};
@@ -26,7 +26,9 @@ pub struct BriefSink {
 
 impl BriefSink {
     /// Nothing is noted. No memory is taken.
-    pub fn new(alloc: Global) -> BriefSink {
+    pub fn new(alloc: Global) -> BriefSink
+        ensures { result.notes ≡ nothing_noted }
+    {
         BriefSink {
             notes: Notes::new(alloc),
             scratch: String::new(alloc),

@@ -7,7 +7,7 @@ ghost use Rattle.nb_names.specs.Name.{NetbiosName, IsName, labels_of_name};
 ghost use Rattle.nb_names.specs.NameText.{labels_written, written};
 ghost use Rattle.nb_service.specs.Building.{packet_of};
 ghost use Rattle.nb_service.specs.Record.{of_bytes, of_domain, record_of};
-ghost use Rattle.nb_session.specs.declared.packet.Packet.{Packet as SessionPacket};
+ghost use Rattle.nb_session.specs.Packet.{Packet as SessionPacket};
 ghost use Rattle.nb_session.specs.declared.packet.Packet.TheVariants as sessions;
 ghost use Rattle.nb_session.specs.declared.parsing.Parsed.TheVariants.{More, Whole};
 ghost use Rattle.nb_datagram.specs.declared.key.Key.{Key};

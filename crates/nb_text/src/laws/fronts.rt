@@ -1,7 +1,7 @@
 //! Laws of what the front of a payload says.
 ghost use Rattle.std.specs.Prelude.{◌≡◌, ◌≢◌, ℕ, List};
 ghost use Rattle.nb_service.specs.Packet.{ServicePacket, IsPacket as IsServicePacket};
-ghost use Rattle.nb_session.specs.declared.packet.Packet.{Packet as SessionPacket};
+ghost use Rattle.nb_session.specs.Packet.{Packet as SessionPacket};
 ghost use Rattle.nb_session.specs.declared.parsing.Parsed.TheVariants.{Whole};
 ghost use Rattle.nb_session.specs.Parsing.{Parses};
 ghost use Rattle.nb_datagram.specs.Packet.{Packet as DatagramPacket, IsPacket as IsDatagramPacket};

@@ -10,7 +10,7 @@ returns-clause-built c =
     session_built _ _ _ _ _ c.encoded.result refl
     (two_words (λ w. w.now) _ c.args.words.now c.in-len2.len_at_least c.in-len2.len_below)
     (request _ _ _ _ c.in_ok-called.ensures.found c.in_ok-calling.ensures.found)
-    (rw (← c.lent-called.ensures, ← c.lent-calling.ensures) c.encoded.ensures.built)
+    c.encoded.ensures.built
 
 pub returns-in_err-called-clause-refused : goal.returns-in_err-called-clause-refused
 returns-in_err-called-clause-refused c =

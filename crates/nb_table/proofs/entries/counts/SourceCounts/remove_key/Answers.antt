@@ -1,9 +1,9 @@
-use Rattle.std.proofs.Common.{◌≡◌, ◌≤◌, ◌-◌, ◌∙◌, sym, ap, unwrap_or, arith}
+use Rattle.std.proofs.Common.{◌≡◌, ◌≤◌, ◌-◌, ◌∙◌, sym, ap, subst, unwrap_or, arith}
 use Rattle.std.specs.Cmp.Lexicographic.{nat_list_cmp_total}
 use Rattle.std.specs.FinMap as maps
-use Rattle.nb_table.specs.Code.SourceCounts.{ip_cmp, count_of}
+use Rattle.nb_table.specs.Code.SourceCounts.{ip_cmp, HasNoZero, count_of}
 use Rattle.nb_table.specs.Shared.TreeLemmas.{get_is, changed_is, remove_is}
-use Rattle.nb_table.proofs.Limits.CountLemmas.{ip_cmp_exact, put_less, gone_less}
+use Rattle.nb_table.proofs.Limits.CountLemmas.{ip_cmp_exact, put_less, gone_less, zero_put, zero_gone}
 use Rattle.nb_table.proofs.entries.counts.SourceCounts.remove_key.Goals as goal
 
 pub returns-in-Some : goal.returns-in-Some
@@ -33,3 +33,17 @@ returns-else-count-gt1 c q =
     let most : count_of s c.args.ip ≤ 1 = omega (arith, is, few) in
     rw (← c.self.view_is) (ap (λ t. count_of t q) (remove_is nat_list_cmp_total ip_cmp_exact m c.remove.new.self c.args.ip c.remove.ensures.updates)
     ∙ gone_less s c.args.ip q most)
+
+pub invariant_of-self : goal.invariant_of-self
+invariant_of-self c =
+    let m = c.self.inside.counts in
+    let less = c.of-count.result - 1 in
+    let more = c.if-count-gt1.true in
+    subst HasNoZero (sym (changed_is nat_list_cmp_total ip_cmp_exact m (c.get_mut.follows.lender less) c.args.ip c.in-Some.kept.now less c.in-Some.ensures.value (c.get_mut.follows.holds less)))
+    (zero_put (maps.from_entries {R = ip_cmp} m.entries) c.args.ip less (λ h. omega (arith, h, more)) c.self.invariant)
+
+pub invariant_of-self-else-count-gt1 : goal.invariant_of-self-else-count-gt1
+invariant_of-self-else-count-gt1 c =
+    let m = c.self.inside.counts in
+    subst HasNoZero (sym (remove_is nat_list_cmp_total ip_cmp_exact m c.remove.new.self c.args.ip c.remove.ensures.updates))
+    (zero_gone (maps.from_entries {R = ip_cmp} m.entries) c.args.ip c.self.invariant)

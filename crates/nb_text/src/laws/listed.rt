@@ -1,0 +1,8 @@
+//! Laws of what is listed in a phrase.
+ghost use Rattle.std.specs.Prelude.{◌≡◌};
+ghost use Rattle.nb_text.specs.Noted.{most_listed};
+
+/// How many of what is listed stand in a phrase.
+pub fn numbers()
+    ensures { most_listed ≡ 4 }
+{}

@@ -1,0 +1,60 @@
+-- Of each option that is given or not, one case holds of the words that name its command.
+use Rattle.std.proofs.Common.{◌≡◌, ◌∙◌, ◌⊎◌, inl, inr, refl, sym, ap, subst, Bool, true, false, true≢false, List, codes, Option, Some, None}
+use Rattle.std.specs.List.{list_all}
+use Rattle.std.specs.Option.{option_map_or}
+use Rattle.std.specs.Str.{bytes_eq}
+use Rattle.clap.specs.Words.{Text, found_of, one_of, one_text, rows_of}
+use Rattle.clap.specs.Simple.{built}
+use Rattle.clap.specs.declared.parser.matches.ArgMatches.{ArgMatches}
+use Rattle.clap.proofs.WalkLemmas.{one_text-rows}
+use Rattle.nb_member.specs.declared.comments.Comments.TheVariants.{LeftOut, Printed}
+use Rattle.nbt.specs.CommandLine.{nbt_app}
+use Rattle.nbt.specs.Options.{Enters, OneOf}
+use Rattle.nbt.specs.Settings.{AreComments}
+use Rattle.nbt.proofs.FlagValues.{IsAsked, SubsFit, is_asked}
+
+abbrev pub IsHeld : Text → ArgMatches → Text → Type 0
+IsHeld id matches text = one_text (found_of matches) id ≡ Some text
+
+true_is_another : Some (codes "true") ≡ Some (codes "false") → ⊥
+true_is_another e = true≢false (ap (λ (o : Option Text). option_map_or (λ (t : Text). bytes_eq t (codes "true")) o false) e)
+
+asked : (id name : Text) (words : List Text) (matches : ArgMatches) → SubsFit id name (built nbt_app).subs → Enters words name matches
+    → IsAsked id (one_text (found_of matches) id)
+asked id name words matches fit is =
+    subst (IsAsked id) (sym (one_text-rows (found_of matches) id)) (is_asked id nbt_app words name (rows_of (found_of matches)) fit is)
+
+not_first : (id : Text) (held : Option Text) → IsAsked id held → OneOf (held ≡ Some (codes "false")) (held ≡ Some (codes "true"))
+not_first id held (inl given) = inr ((λ no. true_is_another (sym given ∙ no)), given)
+not_first id held (inr none) = inl (none, (λ given. true_is_another (sym given ∙ none)))
+
+given_first : (id : Text) (held : Option Text) → IsAsked id held → OneOf (held ≡ Some (codes "true")) (held ≡ Some (codes "false"))
+given_first id held (inl given) = inl (given, (λ no. true_is_another (sym given ∙ no)))
+given_first id held (inr none) = inr ((λ given. true_is_another (sym given ∙ none)), none)
+
+-- the option isn't given, or it is
+pub not_or_given : (id name : Text) → SubsFit id name (built nbt_app).subs → (words : List Text) (matches : ArgMatches) → Enters words name matches
+    → OneOf (IsHeld id matches (codes "false")) (IsHeld id matches (codes "true"))
+not_or_given id name fit words matches is = not_first id _ (asked id name words matches fit is)
+
+pub given_or_not : (id name : Text) → SubsFit id name (built nbt_app).subs → (words : List Text) (matches : ArgMatches) → Enters words name matches
+    → OneOf (IsHeld id matches (codes "true")) (IsHeld id matches (codes "false"))
+given_or_not id name fit words matches is = given_first id _ (asked id name words matches fit is)
+
+-- comments are printed or left out
+pub printed_or_not : (name : Text) → SubsFit (codes "comments") name (built nbt_app).subs → (words : List Text) (matches : ArgMatches) → Enters words name matches
+    → OneOf (AreComments matches Printed) (AreComments matches LeftOut)
+printed_or_not name fit words matches is = go (asked (codes "comments") name words matches fit is)
+  where
+    held : Option Text
+    held = one_text (found_of matches) (codes "comments")
+
+    go : IsAsked (codes "comments") (one_text (found_of matches) (codes "comments")) → OneOf (AreComments matches Printed) (AreComments matches LeftOut)
+    go (inl given) = inl (
+      record { given = λ is. refl; not_given = λ no. absurd (true_is_another (sym given ∙ no)); not_held = λ none. absurd (cc (given, none)) },
+      (λ (left : AreComments matches LeftOut). let clash = left.given given in absurd (cc clash)),
+    )
+    go (inr none) = inr (
+      (λ (printed : AreComments matches Printed). let clash = printed.not_given none in absurd (cc clash)),
+      record { given = λ is. absurd (true_is_another (sym is ∙ none)); not_given = λ no. refl; not_held = λ no. absurd (cc (none, no)) },
+    )

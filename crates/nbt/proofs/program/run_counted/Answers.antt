@@ -1,0 +1,41 @@
+use Rattle.std.proofs.Common.{ap₂, refl, ◌∙◌}
+use Rattle.nb_names.specs.DeviceFacts.{Keeps-same}
+use Rattle.clap.specs.Words.{takes}
+use Rattle.nbt.proofs.AloneWords.{alone_is_taken, no_usage_for_memory}
+use Rattle.nbt.proofs.CommandRows.{lacked_memory, ran_words}
+use Rattle.nbt.proofs.MisusedWords.{asked_is_help, misused_end, taken_is_no_misuse}
+use Rattle.nbt.proofs.program.run_counted.Goals as goal
+
+pub returns-in-Err-try_get_matches_from-clause-alone :
+    goal.returns-in-Err-try_get_matches_from-clause-alone
+returns-in-Err-try_get_matches_from-clause-alone g c (program, word, words_are, alone) =
+    let memory = c.in-Err-try_get_matches_from.ensures.passes
+    (ap₂ takes c.in-Ok.ensures words_are ∙ alone_is_taken program word alone) in
+    no_usage_for_memory _ _ _ _ memory c.report_unmatched.ensures.reports
+
+pub returns-in-Ok-try_get_matches_from-clause-ran :
+    goal.returns-in-Ok-try_get_matches_from-clause-ran
+returns-in-Ok-try_get_matches_from-clause-ran g c taken asks_none =
+    ran_words _ _ c.in-Ok-try_get_matches_from.matches _ c.run_command-outcome.result _ c.in-Ok.ensures c.in-Ok-try_get_matches_from.ensures.matches
+    c.run_command-outcome.ensures.ran c.report_run.ensures.value
+
+pub returns-in-Err-try_get_matches_from-clause-ran :
+    goal.returns-in-Err-try_get_matches_from-clause-ran
+returns-in-Err-try_get_matches_from-clause-ran g c taken asks_none =
+    lacked_memory _ _ _ _ (c.in-Err-try_get_matches_from.ensures.passes (ap₂ takes c.in-Ok.ensures refl ∙ taken)) c.report_unmatched.ensures.reports (Keeps-same _)
+
+pub returns-in-Err-try_get_matches_from-clause-misused :
+    goal.returns-in-Err-try_get_matches_from-clause-misused
+returns-in-Err-try_get_matches_from-clause-misused g c misused =
+    let ended = misused_end _ _ c.in-Err-try_get_matches_from.error _ _ _ c.in-Ok.ensures c.in-Err-try_get_matches_from.ensures.kinds misused
+    c.report_unmatched.ensures.reports in
+    (ended.0, refl, ended.1)
+
+pub returns-in-Ok-try_get_matches_from-clause-misused :
+    goal.returns-in-Ok-try_get_matches_from-clause-misused
+returns-in-Ok-try_get_matches_from-clause-misused g c misused =
+    absurd (taken_is_no_misuse _ _ c.in-Ok.ensures c.in-Ok-try_get_matches_from.ensures.kinds misused)
+
+pub returns-in-Some-clause-misused : goal.returns-in-Some-clause-misused
+returns-in-Some-clause-misused g c misused =
+    absurd (asked_is_help _ c.in-Some.ensures.asks misused)

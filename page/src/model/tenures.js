@@ -1,0 +1,104 @@
+/** A name at an address: what is known of it, from when to when. */
+import { SECOND } from './waiting.js';
+
+/** How long a station that broadcasts a claim waits for objections: BCAST_REQ_RETRY_TIMEOUT, RFC 1002 section 6. */
+export const OBJECTING = 250_000_000n;
+/** @typedef {'' | 'claims' | 'holds' | 'is said to be' | 'refused' | 'released' | 'lost' | 'expired'} Standing */
+
+/** A name at an address, by a station's claim or by another packet's word. Times are in nanoseconds. */
+export class Tenure {
+    /**
+     * @param {string} name
+     * @param {string} address
+     * @param {string} station who says it: the claim's sender, else the address
+     */
+    constructor(name, address, station) {
+        this.name = name;
+        this.address = address;
+        this.station = station || address;
+        /** @type {Standing} */
+        this.how = '';
+        this.group = false;
+        /** @type {bigint | null} */
+        this.since = null;
+        /** @type {bigint | null} */
+        this.until = null;
+        /** @type {number | null} in seconds; 0 where it has no end */
+        this.lifetime = null;
+        /** When the lifetime began. */
+        this.counted = 0n;
+        /** @type {bigint | null} after which moment silence makes it held */
+        this.due = null;
+        this.isSilent = false;
+        this.frame = 0;
+        this.refusals = 0;
+        this.isMultihomed = false;
+    }
+
+    get isClaiming() {
+        return this.how === 'claims' || this.how === 'holds';
+    }
+
+    get isKept() {
+        return this.isClaiming || this.how === 'is said to be';
+    }
+
+    /** When its lifetime is over; null where it has no end. */
+    get over() {
+        return this.lifetime ? this.counted + BigInt(this.lifetime) * SECOND : null;
+    }
+
+    /**
+     * Takes a standing; one that ended before begins anew.
+     *
+     * @param {Standing} how
+     * @param {bigint} at
+     */
+    begin(how, at) {
+        if (!this.isKept) Object.assign(this, { since: at, until: null });
+        this.how = how;
+        this.isSilent = false;
+    }
+
+    /**
+     * Counts the lifetime from now on.
+     *
+     * @param {number | null} ttl
+     * @param {bigint} at
+     */
+    renew(ttl, at) {
+        if (ttl !== null) Object.assign(this, { lifetime: ttl, counted: at });
+    }
+
+    /**
+     * @param {Standing} how
+     * @param {bigint | null} at
+     */
+    end(how, at) {
+        Object.assign(this, { how, until: at, due: null });
+    }
+
+    /**
+     * Whether a station claims or holds the name then.
+     *
+     * @param {bigint} at
+     */
+    stands(at) {
+        return this.isClaiming && (this.over === null || at < this.over);
+    }
+
+    /**
+     * Looks at the clock: answers when silence made it held, if it did, and ends it where its lifetime is over.
+     *
+     * @param {bigint} at
+     */
+    settle(at) {
+        let held = null;
+        if (this.due !== null && this.due < at) {
+            held = this.due;
+            Object.assign(this, { due: null, how: 'holds', isSilent: true });
+        }
+        if (this.isKept && this.over !== null && this.over <= at) this.end('expired', this.over);
+        return held;
+    }
+}

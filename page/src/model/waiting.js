@@ -1,0 +1,119 @@
+/** Requests of the name service that wait for their answers: RFC 1002 sections 4.2.1.1 and 6. */
+
+export const SECOND = 1_000_000_000n;
+/** How long after its latest repeat a request may be answered: twice UCAST_REQ_RETRY_TIMEOUT, our choice. */
+const WAIT = 10n * SECOND;
+/** How many identifiers wait, and how many requests of one; the one that came first is over then. */
+const MOST_WAITING = 4_096;
+const MOST_OF_ONE = 256;
+/** How many frames of the repeats of one are kept. */
+export const MOST_FRAMES = 16;
+
+/**
+ * A request with its repeats: who asks whom what, when, in which frames, and until when an answer counts.
+ *
+ * @template T
+ * @typedef {object} Request
+ * @property {string} kind
+ * @property {string} name
+ * @property {string} asker
+ * @property {string} asked
+ * @property {boolean} isBroadcast
+ * @property {bigint} since
+ * @property {bigint} until
+ * @property {number} times
+ * @property {number[]} frames
+ * @property {T | null} subject what its taker keeps with it
+ */
+
+/**
+ * The requests, by who sent them and their identifier. `over` is handed each that is over.
+ *
+ * @template T
+ */
+export class Waiting {
+    /**
+     * @param {import('./owners.js').Owners} owners
+     * @param {(request: Request<T>) => void} over
+     */
+    constructor(owners, over = () => {}) {
+        this.owners = owners;
+        this.over = over;
+        /** @type {Map<string, Map<string, Request<T>>>} */
+        this.requests = new Map();
+    }
+
+    /**
+     * Takes a request, or one more time of it. An identifier that is used for another question lets the one before go.
+     *
+     * @param {import('./messages.js').Message} message
+     * @param {string} kind
+     * @returns {Request<T>}
+     */
+    put(message, kind) {
+        const { name, source, target, at, frame, isBroadcast } = message;
+        const waiting = this.requests.get(`${source} ${message.id}`) ?? new Map();
+        this.requests.set(`${source} ${message.id}`, waiting);
+        for (const [key, each] of waiting) {
+            if (at <= each.until && each.kind === kind && each.name === name) continue;
+            waiting.delete(key);
+            this.over(each);
+        }
+        /** @type {Request<T>} */
+        const made = { kind, name, asker: source, asked: target, isBroadcast, since: at, until: at, times: 0, frames: [], subject: null };
+        const request = waiting.get(`${name} ${target}`) ?? made;
+        waiting.set(`${name} ${target}`, request);
+        request.times += 1;
+        if (at + WAIT > request.until) request.until = at + WAIT;
+        if (request.frames.length < MOST_FRAMES) request.frames.push(frame);
+        this.letGo(waiting);
+        return request;
+    }
+
+    /**
+     * Keeps the bounds.
+     *
+     * @param {Map<string, Request<T>>} waiting
+     */
+    letGo(waiting) {
+        if (waiting.size > MOST_OF_ONE) drop(waiting, this.over);
+        if (this.requests.size > MOST_WAITING) drop(this.requests, (each) => each.forEach(this.over));
+    }
+
+    /**
+     * The requests that a response answers: its identifier and name, sent to its sender, or broadcast.
+     *
+     * @param {import('./messages.js').Message} message
+     * @returns {Request<T>[]}
+     */
+    of({ target, id, name, at, source }) {
+        return [...this.requests.get(`${target} ${id}`)?.values() ?? []].filter((each) => each.name === name && at <= each.until
+            && (each.isBroadcast || !each.asked || this.owners.areOne(each.asked, source)));
+    }
+
+    /**
+     * A WACK: the answer may take as long as its TTL says.
+     *
+     * @param {import('./messages.js').Message} message
+     */
+    wait(message) {
+        const until = message.at + BigInt(message.ttl ?? 0) * SECOND;
+        for (const each of this.of(message)) {
+            if (until > each.until) each.until = until;
+        }
+    }
+}
+
+/**
+ * Takes the first value out of a map.
+ *
+ * @template V
+ * @param {Map<string, V>} map
+ * @param {(value: V) => void} take
+ */
+function drop(map, take) {
+    for (const [key, value] of map) {
+        map.delete(key);
+        return take(value);
+    }
+}

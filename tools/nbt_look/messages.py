@@ -1,0 +1,137 @@
+"""A packet of the name service as the summary reads it: RFC 1002 section 4.2."""
+import enum
+from dataclasses import dataclass
+
+from .parts import NBSTAT, entries, group_of, is_response, subject, type_of
+
+
+class Act(enum.Enum):
+    """What a packet does with a name, by R, OPCODE, RCODE and type; each has its section of RFC 1002."""
+
+    CLAIMS = 'name registration request 4.2.2, name refresh request 4.2.4, operation 15'
+    OVERWRITES = 'name overwrite request and demand 4.2.3'
+    GRANTS = 'positive name registration response 4.2.5'
+    REFUSES = 'negative name registration response 4.2.6'
+    CHALLENGES = 'end-node challenge registration response 4.2.7'
+    DEMANDS = 'name conflict demand 4.2.8, or a negative response with CFT_ERR'
+    RELEASES = 'name release request and demand 4.2.9'
+    RELEASED = 'positive name release response 4.2.10'
+    KEEPS = 'negative name release response 4.2.11'
+    ASKS = 'name query request 4.2.12'
+    ANSWERS = 'positive name query response 4.2.13, redirect 4.2.15, node status response 4.2.18'
+    FINDS_NONE = 'negative name query response 4.2.14'
+    WAITS = 'WACK response 4.2.16'
+    ASKS_STATUS = 'node status request 4.2.17'
+    OTHER = 'another operation'
+
+
+class Front(enum.Enum):
+    """How much of a packet stands."""
+
+    WHOLE = 'whole'
+    CUT = 'cut'
+    MALFORMED = 'malformed'
+
+
+CLAIMS = (Act.CLAIMS, Act.OVERWRITES)
+MULTIHOMED = 15
+REGISTERING = ('registration', 'refresh', MULTIHOMED)
+
+
+@dataclass(frozen=True)
+class Message:
+    """A packet of port 137 of which the header stands. `name` is None where none stands, and `at` is in nanoseconds."""
+
+    item: object
+    shown: dict
+    act: Act
+    name: str
+    front: Front
+
+    @property
+    def at(self):
+        return self.item.frame.at or 0
+
+    @property
+    def frame(self):
+        return self.item.frame.number
+
+    @property
+    def source(self):
+        return self.item.source
+
+    @property
+    def target(self):
+        return self.item.target
+
+    @property
+    def number(self):
+        """NAME_TRN_ID: the identifier that a response has of its request."""
+        return self.shown['id']
+
+    @property
+    def code(self):
+        return self.shown['rcode']
+
+    @property
+    def is_broadcast(self):
+        """The bit B of NM_FLAGS: the packet was broadcast or multicast."""
+        return 'B' in self.shown['flags']
+
+    @property
+    def is_multihomed(self):
+        return self.shown['op'] == MULTIHOMED
+
+    @property
+    def lifetime(self):
+        """The TTL of its first record, in seconds; None where none stands."""
+        return next((each['ttl'] for each in self.shown['answers'] + self.shown['additional']), None)
+
+    def places(self):
+        """Name, address, whether it is a group, and TTL, of each address in its records; of a claim or release of which no record stands
+        its sender's, and then it isn't known whether it is a group."""
+        found = [(record['name'], each['address'], group_of(each), record['ttl'])
+                 for record in self.shown['answers'] + self.shown['additional'] for each in record.get('entries', ())]
+        if found or self.front is Front.WHOLE or is_response(self.shown) or self.name is None:
+            return found
+        return [(self.name, self.source, None, None)]
+
+    def named(self):
+        """The addresses that its records have."""
+        return [each['address'] for each in entries(self.shown)]
+
+
+def message_of(item, shown):
+    """A packet, by its object of JSON; None where it is of another port, or its header doesn't stand."""
+    if 'op' not in shown:
+        return None
+    front = Front.CUT if 'cut' in shown else Front.MALFORMED if 'refused' in shown else Front.WHOLE
+    return Message(item, shown, act_of(shown), subject(shown), front)
+
+
+def act_of(shown):
+    operation = shown['op']
+    if not is_response(shown):
+        return request_of(operation, shown)
+    is_positive = shown['rcode'] == 'ok'
+    if operation in REGISTERING:
+        return registered_of(operation, shown) if is_positive else refused_of(operation, shown)
+    return {('query', True): Act.ANSWERS, ('query', False): Act.FINDS_NONE, ('release', True): Act.RELEASED, ('release', False): Act.KEEPS,
+            ('wack', True): Act.WAITS, ('wack', False): Act.WAITS}.get((operation, is_positive), Act.OTHER)
+
+
+def request_of(operation, shown):
+    if operation == 'query':
+        return Act.ASKS_STATUS if type_of(shown) == NBSTAT else Act.ASKS
+    if operation == 'registration' and 'RD' not in shown['flags']:
+        return Act.OVERWRITES
+    return Act.CLAIMS if operation in REGISTERING else Act.RELEASES if operation == 'release' else Act.OTHER
+
+
+def registered_of(operation, shown):
+    is_challenge = operation == 'registration' and 'RD' in shown['flags'] and 'RA' not in shown['flags']
+    return Act.CHALLENGES if is_challenge else Act.GRANTS
+
+
+def refused_of(operation, shown):
+    return Act.DEMANDS if operation == 'registration' and shown['rcode'] == 'CFT_ERR' else Act.REFUSES

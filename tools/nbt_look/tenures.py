@@ -1,0 +1,78 @@
+"""A name at an address: what is known of it, from when to when."""
+import enum
+from dataclasses import dataclass
+
+SECOND = 10**9
+# How long a station that broadcasts a claim waits for objections: BCAST_REQ_RETRY_TIMEOUT, RFC 1002 section 6.
+OBJECTING = 250 * 10**6
+
+
+class Standing(enum.Enum):
+    """What became of a name at an address."""
+
+    CLAIMS = 'claims'
+    HOLDS = 'holds'
+    SAID = 'is said to be'
+    REFUSED = 'refused'
+    RELEASED = 'released'
+    LOST = 'lost'
+    EXPIRED = 'expired'
+
+
+CLAIMING = (Standing.CLAIMS, Standing.HOLDS)
+KEPT = (*CLAIMING, Standing.SAID)
+
+
+@dataclass
+class Tenure:
+    """A name at an address, by a station's claim or by another packet's word. Times are in nanoseconds."""
+
+    name: str
+    address: str
+    station: str                     # who says it: the claim's sender, else the address
+    standing: Standing = None
+    group: bool = None               # None where it isn't known
+    since: int = None
+    until: int = None
+    lifetime: int = None             # in seconds; 0 where it has no end
+    counted: int = 0                 # when the lifetime began
+    due: int = None                  # after which moment silence makes it held
+    is_silent: bool = False          # it is held because nobody objected
+    frame: int = 0                   # the latest claim's
+    refusals: int = 0
+    is_multihomed: bool = False
+    front: str = ''                  # 'cut' or 'malformed' where the latest claim is
+
+    def begin(self, standing, at):
+        """Takes a standing; one that ended before begins anew."""
+        if self.standing not in KEPT:
+            self.since, self.until = at, None
+        self.standing, self.is_silent = standing, False
+
+    def renew(self, lifetime, at):
+        """Counts the lifetime from now on."""
+        if lifetime is not None:
+            self.lifetime, self.counted = lifetime, at
+
+    def end(self, standing, at):
+        self.standing, self.until, self.due = standing, at, None
+
+    def over(self):
+        """When its lifetime is over; None where it has no end."""
+        return self.counted + self.lifetime * SECOND if self.lifetime else None
+
+    def stands(self, at):
+        """Whether a station claims or holds the name then."""
+        over = self.over()
+        return self.standing in CLAIMING and (over is None or at < over)
+
+    def settle(self, at):
+        """Looks at the clock: answers when silence made it held, if it did, and ends it where its lifetime is over."""
+        held = None
+        if self.due is not None and self.due < at:
+            held, self.due = self.due, None
+            self.standing, self.is_silent = Standing.HOLDS, True
+        over = self.over()
+        if self.standing in KEPT and over is not None and over <= at:
+            self.end(Standing.EXPIRED, over)
+        return held

@@ -1,0 +1,79 @@
+"""Requests of the name service that wait for their answers: RFC 1002 sections 4.2.1.1 and 6."""
+import collections
+from dataclasses import dataclass, field
+
+SECOND = 10**9
+# How long after its latest repeat a request may be answered: twice UCAST_REQ_RETRY_TIMEOUT, our choice.
+WAIT = 10 * SECOND
+# How many identifiers wait, and how many requests of one; the one that came first is over then. How many frames of one are kept.
+MOST_WAITING, MOST_OF_ONE, MOST_FRAMES = 4_096, 256, 16
+
+
+@dataclass
+class Request:
+    """A request with its repeats: who asks whom what, when, in which frames, until when an answer counts, and what it is about."""
+
+    kind: object
+    name: str
+    asker: str
+    asked: str
+    is_broadcast: bool
+    since: int
+    until: int
+    times: int = 0
+    frames: list = field(default_factory=list)
+    subject: object = None           # what its taker keeps with it
+    answer: object = None
+
+    def repeat(self, message):
+        self.times += 1
+        self.until = max(self.until, message.at + WAIT)
+        if len(self.frames) < MOST_FRAMES:
+            self.frames.append(message.frame)
+
+    def is_over(self, at):
+        return at > self.until
+
+
+class Waiting:
+    """The requests, by who sent them and their identifier. `over` is handed each that is over."""
+
+    def __init__(self, owners, over=lambda request: None):
+        self.owners, self.over = owners, over
+        self.requests = collections.OrderedDict()
+
+    def put(self, message, kind):
+        """Takes a request, or one more time of it. An identifier that is used for another question lets the one before go."""
+        waiting = self.requests.setdefault((message.source, message.number), {})
+        key = message.name, message.target
+        for each in [key for key, each in waiting.items() if each.is_over(message.at) or (each.kind, each.name) != (kind, message.name)]:
+            self.over(waiting.pop(each))
+        if key not in waiting:
+            waiting[key] = Request(kind, message.name, message.source, message.target, message.is_broadcast, message.at, message.at)
+        waiting[key].repeat(message)
+        self.let_go(waiting)
+        return waiting[key]
+
+    def let_go(self, waiting):
+        """Keeps the bounds."""
+        if len(waiting) > MOST_OF_ONE:
+            self.over(waiting.pop(next(iter(waiting))))
+        if len(self.requests) > MOST_WAITING:
+            for each in self.requests.popitem(last=False)[1].values():
+                self.over(each)
+
+    def of(self, message):
+        """The requests that a response answers: its identifier and name, sent to its sender, or broadcast. Where no name stands in it
+        these are all that it may answer."""
+        waiting = self.requests.get((message.target, message.number), {})
+        return [each for each in waiting.values() if message.name in (None, each.name) and not each.is_over(message.at)
+                and self.is_asked(each, message.source)]
+
+    def is_asked(self, request, source):
+        return request.is_broadcast or not request.asked or self.owners.are_one(request.asked, source)
+
+    def finish(self):
+        """What is known at the end alone."""
+        while self.requests:
+            for each in self.requests.popitem(last=False)[1].values():
+                self.over(each)

@@ -73,6 +73,7 @@ pub fn packets(line: &mut Line<'_>) {
     };
     match cut(line.alloc(), &datagram, most) {
         Ok(pieces) => say_packets(line, pieces.into_vec()),
+        Err(CutFault::NoMemory) => line.no_memory(),
         Err(_) => line.bad_words(),
     }
 }

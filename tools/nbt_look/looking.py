@@ -135,7 +135,7 @@ class Look:
     def shown(self, told):
         """The object of an item, with what stands of a front; None stands for what is left out, and for what nobody looks at."""
         fronts = [READ(each)[0] for each in told.fronts]
-        question = dict(fronts[1], is_filled=bool(told.filled)) if len(fronts) > 1 else None
+        question = dict(fronts[1], is_filled=told.filled) if len(fronts) > 1 else None
         if isinstance(told.item, Cut):
             return front_of(told.item, fronts[0], question)
         if isinstance(told.item, Packet) and (fronts or self.reads_objects):

@@ -81,7 +81,7 @@ class Summary:
             self.claims.take(message)
             self.queries.take(message)
         elif item.service == 137:
-            self.queries.cannot_read(item.source, item.target, item.frame.at or 0)
+            self.cannot_read(item.source, item.target, item.frame.at or 0)
         self.sessions.take(item, shown)
         self.datagrams.take(item, shown)
 
@@ -92,7 +92,12 @@ class Summary:
         """Its reason is counted elsewhere; it may have been an answer."""
         frame = item.frame
         if '137' in (frame.source_port, frame.target_port):
-            self.queries.cannot_read(frame.source, frame.target, frame.at or 0)
+            self.cannot_read(frame.source, frame.target, frame.at or 0)
+
+    def cannot_read(self, source, target, at):
+        """Takes a frame of the name service of which not even the header stands."""
+        self.queries.cannot_read(source, target, at)
+        self.claims.cannot_read(target, at)
 
     def finish(self, tally, left_out):
         self.claims.finish()

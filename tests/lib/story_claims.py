@@ -73,6 +73,10 @@ class Tenure:
     lifetime: int = None
     counted: int = 0
     due: int = None              # when silence makes it held
+    asking: object = None        # the claim to which nobody objected until now
+    silent_for: object = None    # and the one that holds by silence
+    asked_at: int = 0            # when it was claimed the last time, and in which frame
+    asked_in: int = 0
     refusals: int = 0
     front: str = ''
     station: str = ''
@@ -154,6 +158,7 @@ class History:
         if due is not None and due < at:
             tenure.due = None
             self.hold(tenure, due, is_silent=True)
+            tenure.silent_for = tenure.asking
         over = tenure.over()
         if tenure.how in KEPT and over is not None and over <= at:
             self.finish(tenure, 'expired', over)
@@ -181,6 +186,7 @@ class History:
 
     def hold(self, tenure, at, frame=0, is_silent=False):
         self.begin(tenure, 'holds', at)
+        tenure.silent_for = None
         if not is_silent:
             tenure.due = None
         self.open_span(tenure, at, frame)
@@ -209,11 +215,13 @@ class History:
             if claim.is_multihomed:
                 self.net.are_one(claim.source, address)
             tenure.asked_at, tenure.asked_in = sent.at, sent.number
+            if tenure.silent_for is claim and sent not in claim.overwrites:
+                tenure.how, tenure.span.held = 'claims', None        # its last repeat was yet to come
             if sent in claim.overwrites:
                 if tenure.how == 'claims':
                     self.hold(tenure, sent.at)
             elif claim.is_broadcast and tenure.how == 'claims':
-                tenure.due = sent.at + OBJECTING
+                tenure.due, tenure.asking = sent.at + OBJECTING, claim
 
     def subject(self, claim, sent):
         """The tenures of a claim that a response answers."""

@@ -60,7 +60,7 @@ class Claims:
             is_new = self.claim(tenure, group, message)
             tenure.renew(lifetime, message.at)
             if message.is_broadcast:
-                self.wait(tenure, message, request.times > 1)
+                self.wait(tenure, message, request)
             if is_new and self.contest(tenure, message.at):
                 is_contested = True
         return is_contested
@@ -79,15 +79,15 @@ class Claims:
         tenure.is_multihomed = message.is_multihomed
         return is_new
 
-    def wait(self, tenure, message, is_repeat):
+    def wait(self, tenure, message, request):
         """A broadcast claim, and each repeat of it, gives others time to object; an overwrite demand gives none."""
-        if is_repeat and tenure.is_silent:
+        if tenure.is_silent and tenure.asking is request:
             tenure.begin(Standing.CLAIMS, message.at)
         if tenure.standing is Standing.CLAIMS and message.act is Act.OVERWRITES:
             tenure.begin(Standing.HOLDS, message.at)
             tenure.due = None
         elif tenure.standing is Standing.CLAIMS:
-            tenure.due = message.at + OBJECTING
+            tenure.due, tenure.asking = message.at + OBJECTING, request
             self.open_to.setdefault(message.source, {})[tenure.address, tenure.name] = tenure
 
     def granted(self, message):

@@ -123,7 +123,8 @@ def act_of(shown):
 
 def request_of(operation, shown):
     if operation == 'query':
-        return {NBSTAT: Act.ASKS_STATUS, None: Act.ASKS_UNKNOWN}.get(type_of(shown), Act.ASKS)
+        is_front = 'cut' in shown or 'refused' in shown
+        return {NBSTAT: Act.ASKS_STATUS, None: Act.ASKS_UNKNOWN if is_front else Act.ASKS}.get(type_of(shown), Act.ASKS)
     if operation == 'registration' and 'RD' not in shown['flags']:
         return Act.OVERWRITES
     return Act.CLAIMS if operation in REGISTERING else Act.RELEASES if operation == 'release' else Act.OTHER

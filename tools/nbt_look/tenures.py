@@ -38,6 +38,7 @@ class Tenure:
     counted: int = 0                 # when the lifetime began
     due: int = None                  # after which moment silence makes it held
     is_silent: bool = False          # it is held because nobody objected
+    asking: object = None            # to which request
     began: int = 0                   # the frame in which it is first claimed or held, since it wasn't
     refusals: int = 0
     is_multihomed: bool = False

@@ -102,7 +102,7 @@ def in_words(members):
 
 
 def about(port, payload):
-    """The name of the first question or record of a front in which none stands whole, and its type, where class and type stand."""
+    """The name of the first question or record of a front in which none stands whole, and its type, where that stands."""
     front = front_of(port, payload)
     if port != 137 or not front or any(front[section] for section in SECTIONS):
         return {}
@@ -111,7 +111,7 @@ def about(port, payload):
     except Refused:
         return {}
     name = {'name': domain_text(labels)}
-    return {'about': name | {'type': payload[end:end + 2].hex()} if len(payload) >= end + 4 else name}
+    return {'about': name | {'type': payload[end:end + 2].hex()} if len(payload) >= end + 2 else name}
 
 
 def phrase_of(front):

@@ -359,6 +359,9 @@ END
 # What makes a row of each table, by docs/SUMMARY.md.
 summaries() { counted "$here/summary.py" "$program"; }
 
+# What is true of random networks, and nothing else.
+networks() { counted "$here/random_networks.py" 30; }
+
 # What is said of words that are no kinds, and of a kind of which there is no packet.
 guesses() {
     local word answer
@@ -667,6 +670,7 @@ part filters filters
 part objects objects
 part summary summary
 part summaries summaries
+part networks networks
 part tables tables
 part words words
 part programs programs

@@ -17,7 +17,7 @@ sys.path.insert(1, f'{os.path.dirname(os.path.abspath(__file__))}/lib')
 import summary
 from story_network import Network
 
-AT_ONCE = 2
+AT_ONCE, PART = 2, 20
 # Cells that are lists: in the order of what is first seen, which nothing says.
 LISTS = ('names', 'refused', 'status', 'holder')
 
@@ -31,10 +31,15 @@ def main():
         for path, network in networks.items():
             with open(path, 'wb') as file:
                 file.write(network.file)
-        shown = summary.shown_by_page(program, list(networks)) if '--page' in sys.argv else by_tool(networks)
+        shown = by_page(program, list(networks)) if '--page' in sys.argv else by_tool(networks)
         failed = sum(not agrees(path, network, tables) for (path, network), tables in zip(networks.items(), shown))
     print(f'{count - failed} passed, {failed} failed')
     return failed > 0
+
+
+def by_page(program, paths):
+    """Some of them at a time, since each time may take so long alone."""
+    return [each for at in range(0, len(paths), PART) for each in summary.shown_by_page(program, paths[at:at + PART])]
 
 
 def by_tool(paths):

@@ -212,8 +212,6 @@ class History:
                 tenure.lifetime, tenure.counted = claim.lifetime, sent.at
             self.open_span(tenure, sent.at, sent.number)
             tenure.span.group, tenure.span.is_multihomed = tenure.group, claim.is_multihomed
-            if claim.is_multihomed:
-                self.net.are_one(claim.source, address)
             tenure.asked_at, tenure.asked_in = sent.at, sent.number
             if tenure.silent_for is claim and sent not in claim.overwrites:
                 tenure.how, tenure.span.held = 'claims', None        # its last repeat was yet to come
@@ -245,17 +243,17 @@ class History:
             if whole:
                 tenure.lifetime, tenure.counted = lifetime, sent.at
 
-    def known(self, address):
+    def known(self, address, number):
         """The tenures of a station, or one more for its address."""
         found = [each for each in self.tenures.values() if each.how in KEPT
-                 and (self.net.is_one(each.address, address) or self.net.is_one(each.station, address))]
+                 and (self.net.is_one(each.address, address, number) or self.net.is_one(each.station, address, number))]
         return found or [self.tenure(address)]
 
     def take_refusal(self, sent, claim, named, code):
         tenures = self.subject(claim, sent)
         if not tenures and code == 'CFT_ERR' and self.is_registration(sent):
             return self.take_demand(sent, sent.target, named if sent.records_stand() else [])
-        tenures = tenures or self.known(sent.target)
+        tenures = tenures or self.known(sent.target, sent.number)
         for each in tenures:
             self.finish(each, 'refused', sent.at, shown=False)
             each.refusals += 1
@@ -271,7 +269,7 @@ class History:
             each.due = None
 
     def take_demand(self, sent, target, named=()):
-        for each in self.known(target):
+        for each in self.known(target, sent.number):
             self.finish(each, 'lost', sent.at)
         self.decide(sent, [target], list(named), True)
 
@@ -286,10 +284,10 @@ class History:
     def take_answer(self, sent, places, lifetime):
         if not sent.records_stand():
             return
-        is_own = any(self.net.is_one(address, sent.source) for address, _ in places)
+        is_own = any(self.net.is_one(address, sent.source, sent.number - 1) for address, _ in places)
         for address, group in places:
             tenure = self.tenure(address)
-            if is_own and self.net.is_one(address, sent.source):
+            if is_own and self.net.is_one(address, sent.source, sent.number):
                 tenure.group = group
                 self.hold(tenure, sent.at, sent.number)
             elif tenure.how not in KEPT:
@@ -320,10 +318,10 @@ class History:
     def holders_at(self, sent, lost, named):
         others = [each for each in self.tenures.values() if each.how in KEPT and each.address not in lost]
         holding = [each for each in others if each.how == 'holds'] or [each for each in others if each.due is not None]
-        own = [each for each in holding if self.net.is_one(each.address, sent.source) or self.net.is_one(each.station, sent.source)]
+        own = [each for each in holding if self.net.is_one(each.address, sent.source, sent.number) or self.net.is_one(each.station, sent.source, sent.number)]
         if own:
             return [each.address for each in holding if each in own or own[0].group and each.group]
-        told = [each for each in named if each not in lost and not any(self.net.is_one(each, one) for one in lost)]
+        told = [each for each in named if each not in lost and not any(self.net.is_one(each, one, sent.number) for one in lost)]
         return told or [each.address for each in holding or [each for each in others if each.how == 'is said to be']]
 
     def pairs(self):

@@ -44,13 +44,14 @@ class NameStory:
 
     def claims_by_broadcast(self, machine, group, rivals):
         """Up to three requests, and perhaps an overwrite demand after them; a holder objects to the first one, or nobody does."""
-        random, source = self.random, machine.address
+        random = self.random
+        source = machine.second if machine.second and machine.has_one_mac and random.random() < 0.4 else machine.address
         lifetime = random.choice((0, 0, 300_000))
         claim = self.claim(source, [(source, group)], lifetime)
         identifier = self.net.identifier(source)
         objector = random.choice(rivals) if rivals and random.random() < 0.75 else None
         for number in range(random.choice((1, 3, 3, 3))):
-            self.send_claim(claim, 'registration', identifier, RD | B, machine.broadcast)
+            self.send_claim(claim, 'registration', identifier, RD | B, self.broadcast_of(source))
             if objector and number == 0:
                 self.time += random.randint(3, 180) * MILLISECOND
                 if self.refuse(claim, objector.address, source, identifier, 'registration', [(objector.address, self.holders[objector])]):
@@ -58,7 +59,7 @@ class NameStory:
                     return
             self.time += random.randint(240, 250) * MILLISECOND if number < 2 and not objector else 0
         if random.random() < 0.3 and not objector:
-            self.send_claim(claim, 'registration', identifier, B, machine.broadcast)
+            self.send_claim(claim, 'registration', identifier, B, self.broadcast_of(source))
             claim.overwrites.append(claim.sent[-1])
         self.holders[machine] = group
         self.time += random.choice((10, 300)) * MILLISECOND
@@ -115,10 +116,15 @@ class NameStory:
         self.history.claims.append(claim)
         return claim
 
+    def broadcast_of(self, address):
+        return '10.1.0.255' if address.startswith('10.1.') else '10.0.0.255'
+
     def send_claim(self, claim, operation, identifier, flags, target):
         data = request(operation, identifier, self.name, flags, claim.places, claim.lifetime)
         sent = self.send(claim.source, target, data, identifier)
         claim.sent.append(sent)
+        if claim.is_multihomed:
+            self.net.told_as_one.append((sent, claim.source, claim.places[0][0]))
         self.history.claimed(sent, claim)
 
     def refuse(self, claim, source, target, identifier, operation, named, code=None):
@@ -191,9 +197,13 @@ class NameStory:
         holder = random.choice(list(self.holders))
         source = holder.address if self.is_broadcast else net.server
         places = [(each.address, group) for each, group in self.holders.items() if each is holder or (group and self.holders[holder])]
+        if holder.second and not self.holders[holder] and random.random() < 0.5:
+            places.append((holder.second, False))
         lifetime = random.choice((0, 300_000))
         sent = self.respond(source, asker.address, response('query', identifier, self.name, AA | RD | RA, 'ok', lifetime, entries(places)), identifier)
         ask.answers.append(sent)
+        if source == holder.address and not self.holders[holder]:
+            net.told_as_one += [(sent, source, address) for address, _ in places]
         self.history.answered(sent, places, lifetime)
 
     def status(self):

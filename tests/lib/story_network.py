@@ -1,4 +1,5 @@
 """A random network, the capture of it, and the tables that are true of it: docs/SUMMARY.md, tests/random_networks.py."""
+import math
 import random
 from dataclasses import dataclass
 
@@ -18,15 +19,13 @@ SNAPS = (None,) * 6 + (96, 110, 128)
 
 @dataclass(eq=False)
 class Machine:
-    """A station: its address, perhaps a second one, and UNIT_ID."""
+    """A station: its address, perhaps a second one, which may have the MAC of the first, and UNIT_ID."""
 
     address: str
     second: str
     unit: str
-
-    @property
-    def broadcast(self):
-        return '10.0.0.255'
+    has_one_mac: bool
+    broadcast: str = '10.0.0.255'
 
 
 class Network:
@@ -38,8 +37,9 @@ class Network:
         self.server = '10.0.0.1'
         numbers = self.random.sample(range(5, 100), self.random.randint(3, 8))
         self.machines = [self.machine(each) for each in numbers]
-        self.owners, self.identifiers, self.ports, self.reopened, self.texts = {}, {}, set(), set(), set()
+        self.identifiers, self.ports, self.reopened, self.texts = {}, set(), set(), set()
         self.asks, self.statuses, self.used = [], [], {}
+        self.told_as_one = []        # packets that say of two addresses that they are one station's
         self.snap = self.random.choice(SNAPS)
         self.own_names = {}
         self.common_names = [self.new_name() for _ in range(2)]
@@ -49,7 +49,10 @@ class Network:
 
     def machine(self, number):
         second = f'10.1.0.{number}' if self.random.random() < 0.25 else None
-        return Machine(f'10.0.0.{number}', second, self.random.choice((NO_UNIT, f'0200000000{number:02x}')))
+        made = Machine(f'10.0.0.{number}', second, self.random.choice((NO_UNIT, f'0200000000{number:02x}')), self.random.random() < 0.5)
+        if second and made.has_one_mac:
+            self.capture.macs[second] = self.capture.mac(made.address)
+        return made
 
     def tell(self):
         """All that happens: of each name a story, and calls, datagrams and questions among them."""
@@ -94,16 +97,14 @@ class Network:
     def uses(self, address, name):
         self.used.setdefault(address, set()).add(name)
 
-    def are_one(self, one, other):
-        self.owners[self.station_of(other)] = self.station_of(one)
-
-    def station_of(self, address):
-        while self.owners.get(address, address) != address:
-            address = self.owners[address]
-        return address
-
-    def is_one(self, one, other):
-        return self.station_of(one) == self.station_of(other)
+    def is_one(self, one, other, number=math.inf):
+        """Whether two addresses are seen to be one station's, by packets up to this one."""
+        groups = [{one}]
+        for at, first, second in self.seen_as_one:
+            if at <= number:
+                joined = [each for each in groups if first in each or second in each]
+                groups = [each for each in groups if each not in joined] + [{first, second}.union(*joined)]
+        return any(one in each and other in each for each in groups)
 
     # ---- Questions that are no part of a name's story.
 
@@ -127,7 +128,7 @@ class Network:
             at += self.random.randint(20, 4_000) * MILLISECOND
         source = asked if ask.is_broadcast else ask.asked
         which = self.random.choice(('answers', 'answers', 'answers', 'lost', 'lost', 'late', 'late', 'waits', 'another id', 'another name', 'another station',
-                                    'another question'))
+                                    'another question', 'redirects', 'again', 'waits without R'))
         getattr(self, 'it_' + which.replace(' ', '_'))(at + 10 * MILLISECOND, ask, source, identifier)
 
     def answer_to(self, ask, source, identifier, name=None):
@@ -179,6 +180,27 @@ class Network:
         ask.over = at
         self.udp(at + 5 * MILLISECOND, source, ask.asker, self.answer_to(ask, source, identifier), identifier, False)
 
+    def it_redirects(self, at, ask, source, identifier):
+        """A name server says who knows the name: of a query that is an answer too."""
+        data = response('query', identifier, ask.name, RD | RA, 'ok', 0, spelled(self.new_name()), 0x02)
+        sent = self.udp(at, source, ask.asker, data, identifier)
+        ask.answers.append(sent)
+
+    def it_again(self, at, ask, source, identifier):
+        """The identifier is used for the same question an hour later, and that is answered."""
+        later = Ask(ask.name, ask.kind, ask.asker, ask.asked, ask.is_broadcast)
+        self.asks.append(later)
+        at += self.random.randint(20, 4_000) * SECOND
+        flags = (B if ask.is_broadcast else 0) | (0 if ask.kind == 'status' else RD)
+        data = question('query', identifier, ask.name, flags, NBSTAT if ask.kind == 'status' else 0x20)
+        later.sent.append(self.udp(at, ask.asker, ask.asked, data, identifier))
+        self.it_answers(at + 20 * MILLISECOND, later, source, identifier)
+
+    def it_waits_without_R(self, at, ask, source, identifier):
+        """Operation 7 without R is nothing, and asks for nothing."""
+        data = bytearray(question('wack', identifier, ask.name, 0))
+        self.udp(at, ask.asker, ask.asked, bytes(data), identifier)
+
     def udp(self, at, source, target, data, identifier, may_be_cut=True):
         return self.capture.udp(at, source, target, 137, data, identifier, self.snap_of(len(data) + 42) if may_be_cut else None)
 
@@ -188,6 +210,7 @@ class Network:
         """The tables of the capture: by title the rows, as texts."""
         kept = [each for each in self.capture.sent if each.number]
         self.first = min(kept, key=lambda each: each.number).at
+        self.seen_as_one = sorted(set(self.ones_in(kept)))
         unread = [each for each in kept if each.port == 137 and each.front() in ('headless', 'nothing')]
         for each in self.names:
             each.settle(max(each.at for each in self.packets()), unread)
@@ -199,6 +222,18 @@ class Network:
             'datagrams': self.datagrams.rows(), 'failed datagrams': list(self.datagrams.failed()), 'stations': self.stations(),
             'malformed': self.malformed(kept), 'left out': self.left_out(kept)}
         return {title: rows for title, rows in found.items() if rows}
+
+    def ones_in(self, kept):
+        """Pairs of addresses, and of addresses and marks, that are one station's, each with the packet that shows it."""
+        for each in kept:
+            if each.port == 137 and each.front() in ('whole', 'cut', 'malformed', 'nameless') and each.payload[3] & B:
+                yield each.number, self.capture.mac(each.source), each.source
+        for sent, machine, _ in self.statuses:
+            if sent.records_stand() and machine.unit != NO_UNIT:
+                yield sent.number, machine.unit, machine.address
+        for sent, one, other in self.told_as_one:
+            if sent.records_stand():
+                yield sent.number, one, other
 
     def time(self, at):
         return f'{(at - self.first) / SECOND:.6f}'
@@ -234,12 +269,12 @@ class Network:
 
     def malformed(self, kept):
         """Packets whose senders sent too little: all for one reason."""
-        short = [each for each in kept if each.is_short]
+        short = sorted((each for each in kept if each.is_short), key=lambda each: each.number)
         return [('truncated', str(len(short)), str(short[0].number), str(len(short[0].payload)))] if short else []
 
     def left_out(self, kept):
-        cut = [each for each in kept if each.is_cut()]
-        return [('cut by the snap length', str(len(cut)))] if cut else []
+        counts = {'cut by the snap length': sum(each.is_cut() for each in kept), 'a session packet whose rest is missing': self.calls.unfinished()}
+        return [(reason, str(count)) for reason, count in counts.items() if count]
 
 
 def listed(names):

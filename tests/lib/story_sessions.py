@@ -25,7 +25,7 @@ class Calls:
 
     def __init__(self, net):
         self.net, self.random = net, net.random
-        self.calls = []
+        self.calls, self.parts = [], []
 
     def tell(self, at):
         """A call, or two with the same ports."""
@@ -99,11 +99,12 @@ class Calls:
             call.events.append(('keepalive', capture.tcp(at, source, target, b'\x85\0\0\0'), 0))
             return at
         packet = struct.pack('>L', size := random.randint(0, 400)) + bytes(size)
-        middle = random.randint(1, len(packet) - 1) if random.random() < 0.3 else 0
-        if middle:
-            capture.tcp(at, source, target, packet[:middle])
-            at += 2 * MILLISECOND
-        call.events.append(('received' if is_back else 'sent', capture.tcp(at, source, target, packet[middle:]), size))
+        middle = random.randint(4, size + 3) if size and random.random() < 0.3 else 0
+        first = capture.tcp(at, source, target, packet[:middle]) if middle else None
+        at += 2 * MILLISECOND
+        call.events.append(('received' if is_back else 'sent', last := capture.tcp(at, source, target, packet[middle:]), size))
+        if first:
+            self.parts.append((first, last))
         return at
 
     def rows(self):
@@ -134,6 +135,10 @@ class Calls:
                 row['accepted'] += 1
                 self.net.uses(call.caller[0], call.calling)
                 self.net.uses(call.callee[0], call.called)
+
+    def unfinished(self):
+        """How many segments begin packets that the file doesn't finish."""
+        return sum(first.number > 0 and not last.number for first, last in self.parts)
 
     def packets(self):
         """The packets that the file has whole, by their last segments."""

@@ -171,7 +171,7 @@ export class PayloadReader {
     }
 
     /**
-     * The number of a stream: that of its ends, and a new one where they begin anew.
+     * The number of a stream: that of its ends, and a new one where they begin anew: with a SYN of another place than the first segment's.
      *
      * @param {import('./transport.js').Segment} segment
      */
@@ -186,6 +186,7 @@ export class PayloadReader {
             this.numbers.set(ends, known);
         }
         if (segment.syn) known.starts.set(source, segment.sequence);
+        else if (!known.starts.has(source)) known.starts.set(source, (segment.sequence - 1) >>> 0);
         return known.number;
     }
 

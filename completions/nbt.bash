@@ -27,7 +27,7 @@ complete -F _nbt nbt
 _nbt_tool() {
     local words=''
     case ${1##*/} in
-    nbt-look) words='-i --live --summary --frame --json --html --name --host --port --kind --time --color --quiet -r --help' ;;
+    nbt-look) words='-i --live --summary --frame --json --html --name --host --port --kind --time --color --quiet --version -r --help' ;;
     nbt-pcap2cap) words='--bare --no-ticks --cut --quiet --port --live -i --help' ;;
     nbt-cap2pcap) words='--help' ;;
     nbt-parallel) words='--force --program --shard-bytes --by-source --no-estimate --tables --quiet --jobs --sshlogin --retries --help --list' ;;

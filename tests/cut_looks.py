@@ -83,7 +83,8 @@ def expected(number, snap, port, payload):
     told = {'port': port, 'moment': number - 1}
     if held >= size:
         said = shown(port, payload)
-        return of_frame | told | said | (front_of(port, payload) | about(port, payload) if 'refused' in said else {})
+        after = front_of(port, payload) | about(port, payload) if 'refused' in said else {'trailing': payload[said['used']:].hex()}
+        return in_words(of_frame | told | said | after)
     if not held:
         return of_frame | {'left_out': REASON}
     said = shown(port, payload[:held])
@@ -91,11 +92,17 @@ def expected(number, snap, port, payload):
         said = {}
     front = said | front_of(port, payload[:held]) | about(port, payload[:held])
     phrase = phrase_of(front)
-    return of_frame | {'cut': True} | told | {'brief': f'cut: {phrase}{held} of {size} bytes'} | front
+    return in_words(of_frame | {'cut': True} | told | {'brief': f'cut: {phrase}{held} of {size} bytes'} | front)
+
+
+def in_words(members):
+    """The object, with the flags of port 137 as a text."""
+    flags = members.get('flags')
+    return members | {'flags': '+'.join(flags)} if isinstance(flags, list) else members
 
 
 def about(port, payload):
-    """The name of the first question or record of a front in which none stands whole, and its type, where class and type stand."""
+    """The name of the first question or record of a front in which none stands whole, and its type, where that stands."""
     front = front_of(port, payload)
     if port != 137 or not front or any(front[section] for section in SECTIONS):
         return {}
@@ -104,7 +111,7 @@ def about(port, payload):
     except Refused:
         return {}
     name = {'name': domain_text(labels)}
-    return {'about': name | {'type': payload[end:end + 2].hex()} if len(payload) >= end + 4 else name}
+    return {'about': name | {'type': payload[end:end + 2].hex()} if len(payload) >= end + 2 else name}
 
 
 def phrase_of(front):

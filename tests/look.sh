@@ -133,8 +133,8 @@ objects() {
     look --json "$office" 2>"$room/errors" >"$room/objects"
     [ $? -eq 0 ] && [ "$(cat "$room/errors")" = "$(tail -n 2 "$room/list")" ]
     count $? "nbt-look --json: $(cat "$room/errors")"
-    # What stands after the frame is what nbt shows of the payload.
-    nbt show --json --brief <"$room/capture" | grep -v '"kind":"tick"' | sed -E 's/^\{"line":[0-9]+,//; s/,?"comment":"[^"]*"//; s/^/{/' >"$room/wanted"
+    # What stands after the frame is what nbt shows of the payload, but for flags as a text, and what follows the packet.
+    nbt show --json --brief <"$room/capture" | grep -v '"kind":"tick"' | sed -E 's/^\{"line":[0-9]+,//; s/,?"comment":"[^"]*"//; s/^/{/; s/"flags":\["(RD","B|B)"\]/"flags":"\1"/; s/RD","B/RD+B/; s/\}$/,"trailing":""}/' >"$room/wanted"
     sed -E 's/^.*"captured":[0-9]+,/{/' "$room/objects" | diff "$room/wanted" - >"$room/difference"
     count $? "the members of nbt show --json --brief: $(head -n 3 "$room/difference")"
     [ "$(sed -n 10p "$room/objects" | cut -d , -f 1-12)" = '{"frame":11,"time":"1970-01-01T00:00:03.000000Z","from":"192.0.2.1","to":"192.0.2.2","ports":[1024,139],"interface":null,"vlan":[],"mac":null,"size":112,"captured":112,"port":139' ]
@@ -145,6 +145,24 @@ def unique(pairs):
     return dict(pairs)
 for line in sys.stdin: json.loads(line, object_pairs_hook=unique)' <"$room/objects" 2>"$room/errors"
     count $? "each member of an object has a name of its own: $(tail -n 1 "$room/errors" | head -c 200)"
+    # A datagram with two bytes after it, and a header with the flags that any packet of port 137 may have, whole and cut.
+    sed -n 's/^138 .*/&beef/p' "$room/capture" | head -n 1 >"$room/more"
+    echo '137 0 000385801000000000000000' >>"$room/more"
+    look --json --quiet "$room/more" 2>&1 | cat - "$room/objects" <(look --json --quiet "$here/../examples/samba.pcap") >"$room/flagged"
+    [ "$(grep -o '"trailing":"[^"]*"' "$room/flagged" | sort -u | tr '\n' ' ')" = '"trailing":"" "trailing":"beef" ' ] &&
+        python3 -c 'import json, sys
+def flags(value):
+    if isinstance(value, dict):
+        assert isinstance(value.get("flags", ""), str), value
+        assert value.get("interface") is None, value
+    for each in value.values() if isinstance(value, dict) else value if isinstance(value, list) else ():
+        flags(each)
+for line in sys.stdin: flags(json.loads(line))' <"$room/flagged" 2>"$room/errors"
+    count $? "flags are texts, and what follows a packet is a member: $(tail -n 1 "$room/errors" | head -c 200)"
+    made nameless
+    [ "$(look --json --quiet "$room/nameless.pcap" | grep -o '"interface":[^,]*' | tr '\n' ' ')" = '"interface":null "interface":"eth0" "interface":null ' ] &&
+        [ "$(look "$room/nameless.pcap" | awk '{ print $3 }' | head -n 3 | tr '\n' ' ')" = '10.0.0.5 10.0.0.5%eth0 10.0.0.5%2 ' ]
+    count $? "interfaces without a name: $(look "$room/nameless.pcap")"
     look --json --quiet --kind query "$office" 2>&1 | diff - <(grep '"op":"query"' "$room/objects")
     count $? 'nbt-look --json --quiet --kind query'
     # As many as tshark finds.
@@ -216,8 +234,133 @@ END
     count $? 'nbt-look --kind conflict: who claims a name too, is refused it, and has to give it up'
 }
 
+# --summary=TABLE,..: these tables alone.
+tables() {
+    prints 'some tables alone, and one without rows' --summary=queries,conflicts,names "$office" <<'END'
+names
+  name      kind         address   group  how       since     until     lifetime  conflicts  refusals
+  FRED<20>  file server  10.0.0.6  no     released  0.000000  9.000000  -         0          0
+
+conflicts: none
+
+queries without an answer
+  name      kind   by         asked      times  frames  since     answered
+  FRED<20>  query  192.0.2.1  192.0.2.2  1      4       1.200000  never
+END
+    # All of them, one by one, are the whole summary.
+    made life
+    for each in names conflicts stations queries sessions datagrams failed malformed left-out; do
+        look --summary=$each "$room/life.pcap" && echo
+    done >"$room/each"
+    look --summary "$room/life.pcap" | head -n -1 | diff - "$room/each" >"$room/difference"
+    count $? "each table alone: $(head -n 3 "$room/difference")"
+    [ "$(look --json --summary=conflicts,left-out --quiet "$room/life.pcap" 2>&1)" = '{"conflicts": [{"name": "FRED<20>", "holder": ["10.0.0.6"], "refused": "10.0.0.8", "by": "10.0.0.6", "frame": 3}, {"name": "FRED<20>", "holder": [], "refused": "10.0.0.6", "by": "10.0.0.8", "frame": 22}], "left_out": {"cut by the snap length": 1}, "not_kept": {}}' ]
+    count $? 'some tables alone, in JSON'
+    ends 'no table' 2 'nbt-look: argument --summary: calls is no table; they are names, conflicts, stations, queries, sessions, datagrams, failed, malformed, left-out; --help says more' --summary=names,calls x
+    on_terminal 100 nbt-look --color never --quiet --summary=stations,failed "$here/../examples/samba.pcap" >"$room/output"
+    diff "$room/output" - <<'END'
+stations
+  address   mac                packets  names                      refused   status                     unit
+  10.0.0.5  02:00:00:00:00:05  69       JOE<20>                    FRED<20>  -                          -
+                                        JOE<03>                    FRED<03>
+                                        JOE<00>                    FRED<00>
+                                        OFFICE<00>
+                                        OFFICE<1e>
+  10.0.0.6  02:00:00:00:00:06  85       FRED<20>                   -         FRED<00>                   000000000000
+                                        FRED<03>                             FRED<03>
+                                        FRED<00>                             FRED<20>
+                                        OFFICE<00>                           \01\02__MSBROWSE__\02<01>
+                                        OFFICE<1e>                           OFFICE<00>
+                                        \01\02__MSBROWSE__\02<01>            OFFICE<1d>
+                                        OFFICE<1d>                           OFFICE<1e>
+
+failed datagrams: none
+END
+    count $? 'a narrow terminal: a name a line'
+    on_terminal 90 nbt-look --color never --quiet --summary=failed "$office" >"$room/output"
+    [ "$(wc -L <"$room/output")" -le 90 ] && [ "$(tr -s ' \n' ' ' <"$room/output")" = 'failed datagrams key state source destination bytes known size missing frames 10.0.0.5:138/0002 incomplete JOE<00> FRED<20> 4 ? all from 15 byte 4 on ' ]
+    count $? "a narrow terminal: words go on below: $(cat "$room/output")"
+}
+
+# What isn't a capture's: the version, options of tshark, several files.
+words() {
+    local each version
+    version=$(sed -n 's/^## \([0-9.]*\),.*/\1/p' "$here/../CHANGELOG.md" | head -n 1)
+    looks --version && [ "$(cat "$room/output")" = "nbt-look $version" ] && [ "$(nbt --version)" = "nbt $version" ]
+    count $? "nbt-look --version: $(cat "$room/output")"
+    for each in '-Y nbns|-Y|--name, --host, --port and --kind choose packets' '-Tfields|-T|--json prints an object of JSON for each packet' \
+        '-V|-V|--frame N prints all of a packet'; do
+        IFS='|' read -r option name words <<<"$each"
+        ends "nbt-look $option" 2 "nbt-look: $name is an option of tshark; here $words; --help says more" "$office" $option
+    done
+    # The frames of two parts of a capture, given in any order, are those of the whole.
+    editcap "$office" "$room/first.pcap" 9-16 && editcap "$office" "$room/rest.pcap" 1-8
+    for each in '' --json '--summary' '--frame 9'; do
+        look $each "$office" >"$room/wanted" 2>&1
+        look $each "$room/rest.pcap" "$room/first.pcap" 2>&1 | diff "$room/wanted" - >"$room/difference"
+        count $? "nbt-look $each of two files: $(head -n 3 "$room/difference")"
+    done
+    cp "$office" "$room/-p" && (cd "$room" && look --kind query -- -p first.pcap >output 2>errors) && [ ! -s "$room/errors" ] && grep -q '^24 frames' "$room/output"
+    count $? "a file whose name begins as an option does: $(cat "$room/errors")"
+    ends 'text as one of several' 2 "nbt-look: $room/capture: it is the text of a capture, which is read alone" "$office" "$room/capture"
+    ends 'standard input as one of several' 2 'nbt-look: several files are read by their names, and standard input has none; --help says more' "$office" -
+    ends 'a page of several' 2 'nbt-look: --html takes one file; mergecap -w ALL FILE.. makes one of several' --html "$room/page.html" "$office" "$office"
+    ends 'one of several that is not there' 3 "nbt-look: $room/none: No such file or directory" "$office" "$room/none"
+    printf 'no\tcapture\n' >"$room/other"
+    look "$office" "$room/other" >"$room/output" 2>"$room/errors"
+    [ $? -eq 2 ] && [ "$(wc -l <"$room/errors")" -eq 1 ] && grep -q "^nbt-look: mergecap: .*isn't a capture file" "$room/errors"
+    count $? "one of several that is no capture: $(cat "$room/errors")"
+}
+
+# A nbt on PATH of another version, another program of that name, and one that never answers, or never ends to.
+programs() {
+    local shared=$room/elsewhere version body said
+    version=$(nbt --version)
+    mkdir "$shared" "$room/path"
+    cp -r "$here/../tools/nbt_look" "$here/../tools/nbt_pcap" "$here/../tools/nbt_shards" "$here/../tools/nbt-look" "$shared"
+    ln -sf "$program" "$room/path/nbt"
+    PATH=$room/path:$PATH ended "$shared/nbt-look" --kind query "$office" >"$room/output" 2>"$room/errors" && [ ! -s "$room/errors" ] && grep -q ' asks for ' "$room/output"
+    count $? "nbt-look with the nbt on PATH: $(cat "$room/errors")"
+    while IFS='|' read -r body said; do
+        rm "$room/path/nbt"
+        printf '#!/bin/sh\n%s\n' "${body/VERSION/$version}" >"$room/path/nbt" && chmod +x "$room/path/nbt"
+        PATH=$room/path:$PATH ended "$shared/nbt-look" "$office" >"$room/output" 2>"$room/errors"
+        [ $? -eq 3 ] && [ ! -s "$room/output" ] && [ "$(cat "$room/errors")" = "nbt-look: $room/path/nbt is not $version, which goes with this tool: $said" ]
+        count $? "a nbt that is $body: $(cat "$room/errors")"
+    done <<'END'
+echo nbt 0.0.9|it says 'nbt 0.0.9'
+cat|it says nothing
+yes|it says 'y'
+sleep 1000|it says nothing
+if [ "$1" = --version ]; then echo VERSION; else sleep 1000; fi|it reads a packet in another way
+if [ "$1" = --version ]; then echo VERSION; else cat; fi|it reads a packet in another way
+END
+}
+
+# Ctrl-C while a tool begins: no traceback, and at most one line.
+early() {
+    local seconds
+    while IFS=' ' read -r -a words; do
+        for seconds in 0 0.02 0.05 0.1 0.2; do
+            (cd "$room" && "$here/lib/interrupted.py" $seconds /dev/null "$room/output" "$here/../tools/${words[0]}" "${words[@]:1}" 2>"$room/errors")
+            [ $? -ne 124 ] && [ "$(wc -l <"$room/errors")" -le 1 ] && ! grep -q Traceback "$room/errors"
+            count $? "${words[*]}, Ctrl-C after $seconds s: $(tail -n 3 "$room/errors")"
+        done
+    done <<'END'
+nbt-look -
+pcap2cap -
+cap2pcap
+nbt-station --port 20139 FRED<20>
+nbt-parallel --quiet capture early.table
+nbt-dask --quiet --workers 1 capture early.table
+END
+}
+
 # What makes a row of each table, by docs/SUMMARY.md.
 summaries() { counted "$here/summary.py" "$program"; }
+
+# What is true of random networks, and nothing else.
+networks() { counted "$here/random_networks.py" 30; }
 
 # What is said of words that are no kinds, and of a kind of which there is no packet.
 guesses() {
@@ -270,6 +413,12 @@ END
     look --frame 16 "$room/disputes.pcap" 2>&1 | grep -A 1 '^nbt help' | diff - <(printf '%s\n' "nbt help 'name: reserved label 12'" \
         '  no name stands there: perhaps other traffic')
     count $? 'what to do about a fault of port 137 is about that port'
+    look --json --quiet --kind query "$office" >"$room/object"
+    looks --json --frame 4 "$office" && [ "$(cat "$room/output")" = "$(sed 's/}$/,/' "$room/object")\"payload\":\"$(sed -n 's/^137 1200 //p' "$room/capture")\",\"wireshark\":[\"frame.number == 4\",\"nbns.id == 0x0003\"]}" ]
+    count $? "nbt-look --frame --json: $(cat "$room/output")"
+    looks --json --frame 15 "$room/life.pcap" && grep -qF ",\"help\":[\"$(nbt help 'destination name: pointer not allowed 48')\"]," "$room/output"
+    count $? "what to do about a fault, in JSON: $(cat "$room/output")"
+    ends 'no object of a frame without a packet' 1 'frame 10 completes no packet of these ports' --json --frame 10 "$office" && [ ! -s "$room/output" ]
     ends 'a frame without a packet' 1 '' --frame 10 "$office"
     [ "$(cat "$room/output")" = 'frame 10 completes no packet of these ports' ]
     count $? "what is said of it: $(cat "$room/output")"
@@ -277,8 +426,16 @@ END
     [ "$(cat "$room/output")" = 'there is no frame 99: the capture has 16 frames' ]
     count $? "what is said of a frame past the last one: $(cat "$room/output")"
     made fragments
-    looks --frame 1 "$room/fragments.pcap" && grep -qx 'left out: fragments of IP whose others are missing' "$room/output"
+    looks --frame 1 "$room/fragments.pcap" && grep -qx 'left out: fragments of IP whose others are missing: all from byte 800 on' "$room/output"
     count $? 'a frame that is left out'
+    made gaps
+    for each in '2 3' '8 9'; do
+        ends "a part of a packet, in frame ${each% *}" 1 '' --frame "${each% *}" "$room/gaps.pcap"
+        diff "$room/output" <(printf 'frame %d completes no packet of these ports\nit has a part of the packet that frame %d completes\n' $each)
+        count $? "which frame completes it: $(cat "$room/output")"
+    done
+    looks --frame 4 "$room/gaps.pcap" && grep -qx 'left out: after a gap in TCP, 1000 bytes' "$room/output"
+    count $? "a gap, in its frame: $(cat "$room/output")"
 }
 
 # --html: what stands at PAGE, or beside it, stays where it isn't a page's place.
@@ -330,7 +487,7 @@ bad() {
     ends 'an empty file' 2 "nbt-look: $room/empty: the file holds no packets: it is empty" "$room/empty"
     ends 'a directory' 3 "nbt-look: $room: it is a directory" "$room"
     ends 'no file' 3 "nbt-look: $room/none: No such file or directory" "$room/none"
-    ends 'no word' 2 'nbt-look: usage: nbt-look FILE, or -, --live or -i INTERFACE in place of FILE; --help says more'
+    ends 'no word' 2 'nbt-look: usage: nbt-look FILE.., or -, --live or -i INTERFACE in place of FILE; --help says more'
     ends 'no address' 2 'nbt-look: argument --host: an address is wanted, as 10.0.0.6; --help says more' --host fred x
     look "$office" 2>"$room/errors" | head -n 1 >"$room/output"
     [ "$(cat "$room/output")" = "$(head -n 1 "$room/list")" ] && [ ! -s "$room/errors" ]
@@ -364,12 +521,27 @@ END
     count $? "packets that are cut: $(tail -n 1 "$room/output")"
     made fragments
     prints 'fragments whose others are missing' "$room/fragments.pcap" <<'END'
-    1  0.000000 10.0.0.5        10.0.0.6        left out: fragments of IP whose others are missing
-    3  0.000002 10.0.0.5        10.0.0.6        left out: fragments of IP without the one that has the ports
+    1  0.000000 10.0.0.5        10.0.0.6        left out: fragments of IP whose others are missing: all from byte 800 on
+    3  0.000002 10.0.0.5        10.0.0.6        left out: fragments of IP without the one that has the ports: 800 bytes from byte 0 on
     4  0.000003 10.0.0.5        10.0.0.6        asks for FRED<20>
 4 frames, 1 packet, 0 malformed, 2 left out: 1 fragments of IP whose others are missing, 1 fragments of IP without the one that has the ports
 1 frame without a packet: 1 fragment of IP
 END
+    made gaps
+    prints 'what is missing, of a stream and of fragments' "$room/gaps.pcap" <<'END'
+    1  0.000000 10.0.0.5:1025   10.0.0.6        calls FRED<20> as JOE<00>
+    3  0.002000 10.0.0.5:1025   10.0.0.6        sends 10 bytes
+    4  0.003000 10.0.0.5:1025   10.0.0.6        left out: after a gap in TCP, 1000 bytes
+    5  0.004000 10.0.0.5:1025   10.0.0.6        left out: after a gap in TCP, 1000 bytes
+    6  0.005000 10.0.0.5        10.0.0.6        left out: fragments of IP whose others are missing: 400 bytes from byte 400 on
+    7  0.006000 10.0.0.5        10.0.0.6        left out: fragments of IP whose others are missing: 400 bytes from byte 400 on
+    9  0.008000 10.0.0.5        10.0.0.6        group datagram from JOE<00> to FRED<20>, 1000 bytes
+9 frames, 3 packets, 0 malformed, 4 left out: 2 after a gap in TCP, 2 fragments of IP whose others are missing
+2 frames without a packet: 1 TCP segment of a packet that another frame completes, 1 fragment of IP
+END
+    [ "$(look --json --quiet "$room/gaps.pcap" | grep -o '"left_out".*' | sort -u)" = '"left_out":"after a gap in TCP","missing":[{"from":86,"bytes":1000}]}
+"left_out":"fragments of IP whose others are missing","missing":[{"from":400,"bytes":400}]}' ]
+    count $? "what is missing, in JSON: $(look --json --quiet "$room/gaps.pcap" | grep -o '"left_out".*')"
     made backwards
     prints 'a clock that runs backwards' "$room/backwards.pcap" <<'END'
     1  0.000000 10.0.0.5        10.0.0.6        asks for FRED<20>
@@ -377,6 +549,13 @@ END
     3  1.000000 10.0.0.5        10.0.0.6        asks for FRED<20>
 3 frames, 3 packets, 0 malformed, 0 left out
 END
+    made qinq
+    for each in '1 VLAN 100,200' '2 VLAN 100,200' '3 VLAN 100'; do
+        looks --frame "${each%% *}" "$room/qinq.pcap" && grep -q ", ${each#* }$" "$room/output"
+        count $? "tags of VLANs: $(sed -n 2p "$room/output")"
+    done
+    [ "$(look --json --quiet "$room/qinq.pcap" | grep -o '"vlan":[^]]*]' | tr '\n' ' ')" = '"vlan":[100,200] "vlan":[100,200] "vlan":[100] ' ]
+    count $? 'tags of VLANs, in JSON'
     made interfaces
     prints 'two interfaces with the same addresses' "$room/interfaces.pcap" <<'END'
     1  0.000000 10.0.0.5        10.0.0.6        asks for FRED<20>
@@ -491,6 +670,11 @@ part filters filters
 part objects objects
 part summary summary
 part summaries summaries
+part networks networks
+part tables tables
+part words words
+part programs programs
+part early early
 part guesses guesses
 part frames frames
 part pages pages

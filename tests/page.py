@@ -32,7 +32,7 @@ ONLY = [each.removeprefix('--part=') for each in sys.argv[1:] if each.startswith
 FOLDER = os.path.realpath(WORDS[0]) if WORDS else f'{TOP}/out'
 PROGRAM = os.path.realpath(WORDS[1]) if WORDS[1:] else f'{TOP}/crates/nbt/out/nbt'
 LACKS = 'chromium, chromium-driver, python3-selenium, esbuild, nodejs, node-typescript and tshark'
-CAPTURES = 20
+CAPTURES, NETWORKS = 20, 60
 EMPTY_CATCH = re.compile(r'catch\s*(?:\(\w*\))?\s*\{\s*\}|catch\(\(\w*\) => \{\s*\}\)')
 
 
@@ -53,7 +53,8 @@ def is_lacking():
 
 
 def modules():
-    """The modules that read files, by node's own runner; their types; random files beside nbt-pcap2cap; and the cases of tests/summary/."""
+    """The modules that read files, by node's own runner; their types; random files beside nbt-pcap2cap; the cases of tests/summary/, and random
+    networks."""
     said = subprocess.run(['node', '--test', '--test-reporter=tap', f'{TOP}/page/tests/'], capture_output=True, text=True).stdout
     for passed, name in re.findall(r'^(ok|not ok) \d+ - (.*)$', said, re.MULTILINE):
         check(passed == 'ok', f'page/tests: {name}')
@@ -62,6 +63,7 @@ def modules():
     check(not (empty := empty_catches()), f'faults that nobody hears of: {empty}')
     counted([f'{TESTS}/page_captures.py', str(CAPTURES)])
     counted([f'{TESTS}/summary.py', '--page', PROGRAM])
+    counted([f'{TESTS}/random_networks.py', '--page', str(NETWORKS), '1', PROGRAM])
 
 
 def empty_catches():

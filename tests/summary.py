@@ -2,9 +2,8 @@
 """The cases of tests/summary/ through tools/nbt-look --summary, or with --page through the modules of the page, in node: each has the tables that
 stand there, and no others.
 
-Usage: tests/summary.py [--page] [--only=WORD] [PROGRAM], with nbt on PATH for nbt-look, or PROGRAM in its place where packets are made. The page
-reads nothing of packets that are cut or malformed, but the names of cut datagrams: cases of these are left out there, and its tables of datagrams,
-which need the library, are tried in a browser by tests/page.py. The last line is 'N passed, M failed'.
+Usage: tests/summary.py [--page] [--only=WORD] [PROGRAM], with nbt on PATH for nbt-look, or PROGRAM in its place where packets are made, and where
+the page asks the library. The last line is 'N passed, M failed'.
 """
 import json
 import os
@@ -20,8 +19,6 @@ import summary_cases
 
 TOOL = f'{HERE}/../tools/nbt-look'
 PAGE = f'{HERE}/../page/tests/summary.mjs'
-# What the page doesn't have in node, or at all.
-UNSHOWN, UNREAD = ('datagrams', 'failed datagrams'), ('cut=', 'front=')
 
 
 def main():
@@ -29,8 +26,6 @@ def main():
     only = next((each.removeprefix('--only=') for each in sys.argv[1:] if each.startswith('--only=')), '')
     program = words[0] if words else shutil.which('nbt')
     chosen = [each for each in summary_cases.cases() if only in f'{each.file}: {each.what}']
-    if '--page' in sys.argv:
-        chosen = list(filter(is_of_page, chosen))
     with tempfile.TemporaryDirectory() as folder:
         paths = [captured(each, program, f'{folder}/{number}.pcap') for number, each in enumerate(chosen)]
         shown = shown_by_page(program, paths) if '--page' in sys.argv else list(map(shown_by_tool, paths))
@@ -40,12 +35,6 @@ def main():
         print(f'failed: {case.file}: {case.what}: {difference}')
     print(f'{len(chosen) - len(failed)} passed, {len(failed)} failed')
     return bool(failed)
-
-
-def is_of_page(case):
-    for title in UNSHOWN:
-        case.tables.pop(title, None)
-    return case.file != 'datagrams.txt' and not any(each in line for line in case.packets for each in UNREAD)
 
 
 def captured(case, program, path):

@@ -162,7 +162,7 @@ test('conflicts: who holds a name, who was refused it and by whom', () => {
     const demanded = new Seen();
     for (const last of [5, 6, 7]) claim(demanded, last, `10.0.0.${last}`);
     answer(demanded, 8, '10.0.0.6', '10.0.0.5', 'CFT_ERR', '10.0.0.6', '0002');
-    assert.deepEqual(said(demanded), [[6, 'FRED<20>: 10.0.0.6 and 10.0.0.7 claim it, and nobody was refused it.'],
+    assert.deepEqual(said(demanded), [[7, 'FRED<20>: 10.0.0.6 and 10.0.0.7 claim it, and nobody was refused it.'],
         [8, 'FRED<20>: 10.0.0.6 holds it; 10.0.0.5 was refused it.']]);
     const policy = new Seen();
     claim(policy, 1, '10.0.0.6');

@@ -41,7 +41,7 @@ def pcapng(names, frames):
     """A file with an interface of each name; of each frame the interface, the time and the bytes."""
     whole = block(0x0a0d0d0a, struct.pack('<LHHq', 0x1a2b3c4d, 1, 0, -1))
     for name in names:
-        whole += block(1, struct.pack('<HHL', ETHERNET, 0, 262_144) + option(2, name) + option(0, b''))
+        whole += block(1, struct.pack('<HHL', ETHERNET, 0, 262_144) + (option(2, name) if name else b'') + option(0, b''))
     for interface, at, data in frames:
         high, low = divmod(START * 10**6 + at, 2**32)
         whole += block(6, struct.pack('<LLLLL', interface, high, low, len(data), len(data)) + data)
@@ -73,6 +73,19 @@ def backwards():
 def interfaces():
     """The same addresses on two interfaces: each has a query of its own."""
     return pcapng([b'eth0', b'eth1'], [(0, 0, query(FRED)), (1, 1000, query(JOE))])
+
+
+def nameless():
+    """Three interfaces, of which the second one has a name."""
+    frames = [(each, each, query(FRED, number=each)) for each in range(3)]
+    return pcapng([b'', b'eth0', b''], frames)
+
+
+def qinq():
+    """A query below a service tag and a customer tag, below two of the first kind, and below one of them."""
+    whole = query(FRED)
+    tags = (b'\x88\xa8\0\x64\x81\0\0\xc8', b'\x88\xa8\0\x64\x88\xa8\0\xc8', b'\x88\xa8\0\x64')
+    return pcap([(number, whole[:12] + each + whole[12:], None) for number, each in enumerate(tags)])
 
 
 def others():
@@ -195,6 +208,20 @@ def life():
     fragment(1530, 2, 8, 0, b'ijkl')
     lan.segment(1600, ((6, 139), (5, 1025)), 1, b'\x83\0\0\x01\x82')
     says(1700, 8, 6, 137, service(8, 0xad87, fred, record=entry(6)))
+    return pcap(lan.frames)
+
+
+def gaps():
+    """A session packet in two segments, one after 1000 missing bytes; fragments of a datagram without the middle one, and of a whole one."""
+    lan = Lan()
+    ends, place = ((5, 1025), (6, 139)), 100
+    for at, gap, data in ((0, 0, REQUEST), (1, 0, SHORT[:6]), (2, 0, SHORT[6:]), (3, 1000, OTHER), (4, 0, KEEPALIVE)):
+        lan.segment(at, ends, place + gap, data)
+        place += gap + len(data)
+    packet = udp(138, 138, DATAGRAM)
+    for at, number, start, end in ((5, 7, 0, 400), (6, 7, 800, None), (7, 8, 0, 400), (8, 8, 400, None)):
+        more = 0x2000 if end else 0
+        lan.sends(at, address(5), address(6), ip(UDP, packet[start:end], fragment=more | start // 8, identifier=number))
     return pcap(lan.frames)
 
 

@@ -22,6 +22,11 @@ screen       lines, tables and colours
 listing      a line for each packet
 objects      an object of JSON for each packet
 whole        all of one frame
+cells        the cells of a table, and where they fold
+tables       the words that choose tables of the summary
+merging      several files as one capture
+version      the version of these tools
+trial        whether a nbt on PATH is the one of this version
 advice       what to do about a fault, by its port
 tally        what the last line counts
 counts       counts in words

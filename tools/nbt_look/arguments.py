@@ -6,13 +6,22 @@ from nbt_pcap import arguments
 from nbt_pcap.process import NAME, Stopped
 
 from . import kindwords
+from .tables import TITLES
 
-USAGE = 'usage: %s FILE, or -, --live or -i INTERFACE in place of FILE; --help says more' % NAME
+USAGE = 'usage: %s FILE.., or -, --live or -i INTERFACE in place of FILE; --help says more' % NAME
+SUMMARY = '--summary='
+# Options of tshark, and what stands for them here.
+OF_TSHARK = {
+    '-Y': '--name, --host, --port and --kind choose packets', '-R': '--name, --host, --port and --kind choose packets',
+    '-f': '--name, --host, --port and --kind choose packets', '-T': '--json prints an object of JSON for each packet',
+    '-e': '--json prints an object of JSON for each packet', '-V': '--frame N prints all of a packet', '-x': '--frame N prints all of a packet',
+    '-w': '--html PAGE writes a page, and nbt-pcap2cap the text of a capture', '-t': '--time start and --time utc say how times are printed'}
 
 
 def options_of(words):
     parser = arguments.Words(prog=NAME, add_help=False, allow_abbrev=False)
     parser.add_argument('-h', '--help', action='store_true')
+    parser.add_argument('--version', action='store_true')
     parser.add_argument('--frame', type=number)
     parser.add_argument('--summary', action='store_true')
     parser.add_argument('--json', action='store_true')
@@ -27,10 +36,28 @@ def options_of(words):
     parser.add_argument('--live', action='store_true')
     parser.add_argument('-i', dest='interface')
     parser.add_argument('-r', dest='read')
-    parser.add_argument('file', nargs='?')
-    options = parser.parse_args(words)
+    parser.add_argument('files', nargs='*')
+    words, files, tables = ours(words)
+    options = parser.parse_intermixed_args(words)
+    options.files, options.tables = options.files + files, tables
+    options.summary = options.summary or bool(tables)
     judge(options)
     return options
+
+
+def ours(words):
+    """The words but --summary=TABLE, the files after --, and the tables. Refuses an option that tshark has, and says what stands for it."""
+    found, tables = [], []
+    for place, each in enumerate(words):
+        if each == '--':
+            return found, words[place + 1:], tables
+        if each[:2] in OF_TSHARK and not each.startswith('--'):
+            raise Stopped(2, '%s is an option of tshark; here %s; --help says more' % (each[:2], OF_TSHARK[each[:2]]))
+        if each.startswith(SUMMARY):
+            tables += tables_in(each.removeprefix(SUMMARY))
+        else:
+            found.append(each)
+    return found, [], tables
 
 
 def judge(options):
@@ -40,18 +67,30 @@ def judge(options):
     options.session_ports = {str(each) for each, service in options.ports if service == 139}
     options.only_ports = [each for each in options.given_ports if isinstance(each, str)]
     options.live = options.live or options.interface is not None
-    if options.help:
+    if options.help or options.version:
         return
-    if options.read is not None and options.file is not None:
-        raise Stopped(2, USAGE)
-    options.file = options.file if options.read is None else options.read
-    if options.live == (options.file is not None):
-        raise Stopped(2, USAGE)
-    if options.frame is not None and (options.summary or options.json or options.live):
-        raise Stopped(2, '--frame stands without --summary, --json and a network; --help says more')
+    judge_files(options)
+    if options.frame is not None and (options.summary or options.live):
+        raise Stopped(2, '--frame stands without --summary and a network; --help says more')
     if options.html is not None and (options.frame is not None or options.summary or options.json or options.live):
         raise Stopped(2, '--html stands without --frame, --summary, --json and a network; --help says more')
     arguments.judge_ports(options.ports)
+
+
+def judge_files(options):
+    """What is read: one file, or several, which are one capture then."""
+    if options.read is not None and options.files:
+        raise Stopped(2, USAGE)
+    options.files = options.files if options.read is None else [options.read]
+    if options.live == bool(options.files):
+        raise Stopped(2, USAGE)
+    options.is_merged = len(options.files) > 1
+    if options.is_merged and '-' in options.files:
+        raise Stopped(2, 'several files are read by their names, and standard input has none; --help says more')
+    if options.is_merged and options.html is not None:
+        raise Stopped(2, '--html takes one file; mergecap -w ALL FILE.. makes one of several')
+    # tshark is given several by a pipe.
+    options.file = None if options.live else '-' if options.is_merged else options.files[0]
 
 
 def number(text):
@@ -74,6 +113,15 @@ def port(text):
     if text.isascii() and text.isdigit() and 1 <= int(text) <= 65_535:
         return str(int(text))
     raise argparse.ArgumentTypeError('a port is wanted, as 137, or a service and a port, as 137=20137')
+
+
+def tables_in(text):
+    """Tables of the summary, with commas between them, by their titles."""
+    wanted = text.split(',')
+    for each in wanted:
+        if each not in TITLES:
+            raise Stopped(2, 'argument --summary: %s is no table; they are %s; --help says more' % (each or 'nothing', ', '.join(TITLES)))
+    return [TITLES[each] for each in wanted]
 
 
 def kinds_in(text):

@@ -5,7 +5,7 @@ from .owners import Owners
 from .parts import GROUP, names_of
 from .rooms import Room
 from .tenures import CLAIMING, KEPT, OBJECTING, Standing, Tenure
-from .waiting import SECOND, Waiting
+from .waiting import Waiting
 
 # What a response says of a name that another station has: RFC 1002 section 4.2.6.
 TAKEN = ('ACT_ERR', 'CFT_ERR')
@@ -21,8 +21,9 @@ class Claims:
         self.tenures = Room()        # by name and address
         self.of_name = Room()        # by name: the first of its tenures
         self.owners = Owners()
-        self.waiting = Waiting(self.owners)
-        self.conflicts = Conflicts()
+        self.claiming, self.releasing = Waiting(self.owners), Waiting(self.owners)
+        self.conflicts = Conflicts(self.owners)
+        self.open_to = {}            # by who claims: the tenures to which somebody may object
         self.latest = 0
         self.acts = {Act.CLAIMS: self.claimed, Act.OVERWRITES: self.claimed, Act.GRANTS: self.granted, Act.REFUSES: self.refused,
                      Act.DEMANDS: self.refused_or_demanded, Act.RELEASES: self.releases, Act.RELEASED: self.released, Act.ANSWERS: self.answered,
@@ -32,6 +33,8 @@ class Claims:
         """Takes a packet; answers whether it is of a conflict."""
         self.see(message.at)
         self.settle(message.name, message.at)
+        if message.is_broadcast and message.item.frame.source_mac:
+            self.owners.join(message.item.frame.source_mac, message.source)
         act = self.acts.get(message.act)
         return bool(act and act(message))
 
@@ -45,9 +48,7 @@ class Claims:
         """A claim holds by an overwrite demand, and without one where nobody objects to a broadcast."""
         if message.name is None:
             return False
-        if message.is_broadcast and message.item.frame.source_mac:
-            self.owners.join(message.item.frame.source_mac, message.source)
-        request = self.waiting.put(message, 'claim')
+        request = self.claiming.put(message, 'claim')
         request.subject, is_contested = [], False
         for name, address, group, lifetime in message.places():
             tenure = self.tenure(name, address, message.source)
@@ -59,7 +60,7 @@ class Claims:
             is_new = self.claim(tenure, group, message)
             tenure.renew(lifetime, message.at)
             if message.is_broadcast:
-                self.wait(tenure, message, request.times > 1)
+                self.wait(tenure, message, request)
             if is_new and self.contest(tenure, message.at):
                 is_contested = True
         return is_contested
@@ -70,31 +71,34 @@ class Claims:
         is_known = tenure.standing in CLAIMING
         is_new = not is_known or group not in (None, tenure.group)
         if not is_known:
-            tenure.begin(Standing.CLAIMS, message.at)
+            tenure.begin(Standing.CLAIMS, message.at, message.frame)
             tenure.group = None
         if message.front is Front.WHOLE or not is_known:
             tenure.front = '' if message.front is Front.WHOLE else message.front.value
         tenure.group = tenure.group if group is None else group
-        tenure.frame, tenure.is_multihomed = message.frame, message.is_multihomed
+        tenure.is_multihomed = message.is_multihomed
         return is_new
 
-    @staticmethod
-    def wait(tenure, message, is_repeat):
+    def wait(self, tenure, message, request):
         """A broadcast claim, and each repeat of it, gives others time to object; an overwrite demand gives none."""
-        if is_repeat and tenure.is_silent:
+        if tenure.is_silent and tenure.asking is request:
             tenure.begin(Standing.CLAIMS, message.at)
         if tenure.standing is Standing.CLAIMS and message.act is Act.OVERWRITES:
             tenure.begin(Standing.HOLDS, message.at)
             tenure.due = None
         elif tenure.standing is Standing.CLAIMS:
-            tenure.due = message.at + OBJECTING
+            tenure.due, tenure.asking = message.at + OBJECTING, request
+            self.open_to.setdefault(message.source, {})[tenure.address, tenure.name] = tenure
 
     def granted(self, message):
         """A positive response; where its claim isn't in the capture, its record has the name and the address."""
+        groups = {address: group for _, address, group, _ in message.places()}
         for tenure in self.asked_for(message) or self.recorded(message):
-            is_new = tenure.standing is not Standing.HOLDS
-            tenure.begin(Standing.HOLDS, message.at)
+            is_new = tenure.standing is not Standing.HOLDS or tenure.group is None
+            tenure.begin(Standing.HOLDS, message.at, message.frame)
             tenure.due = None
+            if tenure.group is None:
+                tenure.group = groups.get(tenure.address)
             tenure.renew(message.lifetime, message.at)
             if is_new:
                 self.contest(tenure, message.at)
@@ -124,13 +128,17 @@ class Claims:
         return True
 
     def waits(self, message):
-        """A WACK: the answer may take as long as its TTL says."""
-        for each in self.waiting.of(message):
-            each.until = max(each.until, message.at + (message.lifetime or 0) * SECOND)
+        """A WACK, of whichever it is."""
+        self.claiming.wait(message)
+        self.releasing.wait(message)
 
     def asked_for(self, message):
         """The tenures of the claims that a response answers."""
-        return [tenure for request in self.waiting.of(message) if request.kind == 'claim' for tenure in request.subject]
+        return [tenure for request in self.claiming.of(message) for tenure in request.subject]
+
+    def cannot_read(self, target, at):
+        """Takes a frame of port 137 of which not even the header stands: it may be an objection to what its target claims."""
+        self.left_open([each for each in self.open_to.pop(target, {}).values() if each.due is not None and at <= each.due])
 
     @staticmethod
     def left_open(tenures):
@@ -144,7 +152,7 @@ class Claims:
     def releases(self, message):
         """A broadcast release of a holder ends what it names; another one waits for its answer."""
         if not message.is_broadcast and message.name is not None:
-            self.waiting.put(message, 'release').subject = message.places()
+            self.releasing.put(message, 'release').subject = message.places()
         for name, address, *_ in message.places() if message.is_broadcast else ():
             found = self.tenures.entries.get((name, address))
             if not message.source or self.owners.are_one(message.source, address) or (found and self.is_of(found, message.source)):
@@ -152,8 +160,7 @@ class Claims:
 
     def released(self, message):
         """A positive release response."""
-        requests = [each for each in self.waiting.of(message) if each.kind == 'release']
-        for name, address, *_ in [each for request in requests for each in request.subject] or message.places():
+        for name, address, *_ in [each for request in self.releasing.of(message) for each in request.subject] or message.places():
             self.release(name, address, message.at)
 
     def release(self, name, address, at):
@@ -182,10 +189,9 @@ class Claims:
 
     def hold(self, tenure, group, message):
         is_new = tenure.standing is not Standing.HOLDS or tenure.group != group
-        tenure.begin(Standing.HOLDS, message.at)
+        tenure.begin(Standing.HOLDS, message.at, message.frame)
         tenure.group, tenure.due = group, None
         if is_new:
-            tenure.frame = message.frame
             self.contest(tenure, message.at)
 
     def status(self, message):
@@ -265,13 +271,14 @@ class Claims:
     # ---- Conflicts.
 
     def contest(self, tenure, at):
-        """Opens a conflict with those that claim or hold the name too; answers whether one of them holds it, or will by silence."""
-        others = [each for each in self.of_name.entries.get(tenure.name, ()) if self.is_against(each, tenure, at)]
-        if not others:
-            return False
-        is_held = any(each.standing is Standing.HOLDS for each in (*others, tenure))
-        self.conflicts.open(tenure.name, [each.address for each in others], tenure.address, is_held, tenure.frame)
-        return is_held or any(each.due is not None for each in (*others, tenure))
+        """Opens a conflict with each that claims or holds the name too; answers whether one of the two holds it, or will by silence."""
+        is_contested = False
+        for each in self.of_name.entries.get(tenure.name, ()):
+            if self.is_against(each, tenure, at):
+                is_held = Standing.HOLDS in (each.standing, tenure.standing)
+                self.conflicts.open(tenure.name, (each.address, tenure.address), is_held, max(each.began, tenure.began))
+                is_contested |= is_held or each.due is not None or tenure.due is not None
+        return is_contested
 
     def is_against(self, other, tenure, at):
         """Whether two tenures of a name are in conflict: of two stations, and not of one group. By operation 15 two claims are of one station."""
@@ -294,7 +301,7 @@ class Claims:
         holding = [each for each in others if each.standing is Standing.HOLDS] or [each for each in others if each.due is not None]
         own = [each for each in holding if self.is_of(each, message.source)]
         if own:
-            return [each.address for each in (holding if own[0].group else own)]
+            return [each.address for each in holding if each in own or (own[0].group and each.group)]
         named = [each for each in message.named() if each not in lost and not any(self.owners.are_one(each, one) for one in lost)]
         said = [each for each in others if each.standing is Standing.SAID]
         return named or [each.address for each in holding or said]

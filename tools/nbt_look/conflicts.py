@@ -1,7 +1,10 @@
 """Conflicts about names: who holds one, who was refused it or has to give it up, and by whom; or who claims it, while nobody is refused."""
-from dataclasses import dataclass, field
+from dataclasses import dataclass
 
 from .rooms import Room
+
+# How many pairs of addresses that claim one name are kept.
+MOST_PAIRS = 4_096
 
 
 @dataclass
@@ -19,19 +22,24 @@ class Conflict:
 
 
 @dataclass
-class Undecided:
-    """A conflict in which nobody is refused: pairs of addresses of which both claim a name. It counts once one of them holds the name."""
+class Pair:
+    """Two addresses of which both claim a name: in which frame the later one began, and whether one of them held it then or later."""
 
-    name: str
+    addresses: tuple
     frame: int
-    pairs: dict = field(default_factory=dict)
     is_held: bool = False
 
-    def claimants(self):
-        return list(dict.fromkeys(each for pair in self.pairs for each in pair))
+
+@dataclass
+class Undecided:
+    """A conflict in which nobody is refused: of which pairs of a name."""
+
+    name: str
+    pairs: list
 
     def row(self):
-        return {'name': self.name, 'holder': self.claimants(), 'refused': None, 'by': None, 'frame': self.frame}
+        claimants = list(dict.fromkeys(address for each in self.pairs for address in each.addresses))
+        return {'name': self.name, 'holder': claimants, 'refused': None, 'by': None, 'frame': min(each.frame for each in self.pairs)}
 
 
 class Conflicts:
@@ -42,21 +50,29 @@ class Conflicts:
     texts = {'holder': lambda claimants, row: (', ' if row['by'] else ' or ').join(claimants) or 'not in the capture',
              'refused': lambda refused, row: refused or 'nobody'}
 
-    def __init__(self):
-        self.undecided = Room()      # by name: those in which nobody is refused until now
+    def __init__(self, owners):
+        self.owners = owners
+        self.undecided = Room()      # by name, and in it by both addresses: pairs of which nobody is refused until now
         self.decided = Room()        # by name and who is refused it
 
-    def open(self, name, others, claimant, is_held, frame):
-        """A station claims a name that others claim, of which one may hold it."""
-        conflict = self.undecided.get(name, lambda: Undecided(name, frame))
-        if conflict:
-            conflict.pairs.update(dict.fromkeys((each, claimant) for each in others))
-            conflict.is_held |= is_held
+    def open(self, name, addresses, is_held, frame):
+        """Two stations claim a name. It is a conflict once one of them holds it."""
+        pairs = self.undecided.get(name, lambda: Room(MOST_PAIRS))
+        pair = None if pairs is None else pairs.get(frozenset(addresses), lambda: Pair(addresses, frame))
+        if pair and not pair.is_held:
+            pair.frame, pair.is_held = frame, is_held
 
     def is_open(self, name, addresses):
         """Whether one of these claims a name that another station holds."""
-        conflict = self.undecided.entries.get(name)
-        return conflict is not None and conflict.is_held and not set(addresses).isdisjoint(conflict.claimants())
+        return any(not set(addresses).isdisjoint(each.addresses) for each in self.held(name))
+
+    def held(self, name):
+        """The pairs of a name that are a conflict: of which one holds it, and that aren't of one station."""
+        return [each for each in self.pairs_of(name).values() if each.is_held and not self.owners.are_one(*each.addresses)]
+
+    def pairs_of(self, name):
+        pairs = self.undecided.entries.get(name)
+        return pairs.entries if pairs else {}
 
     def decide(self, name, refused, holders, by, frame):
         """A station is refused a name, or has to give it up."""
@@ -64,14 +80,12 @@ class Conflicts:
         if conflict:
             conflict.holders = holders or conflict.holders
             conflict.by, conflict.frame = by, frame
-        left = self.undecided.entries.get(name)
-        if left:
-            left.pairs = {pair: None for pair in left.pairs if refused not in pair}
-            if not left.pairs:
-                del self.undecided.entries[name]
+        pairs = self.pairs_of(name)
+        for key in [key for key in pairs if refused in key]:
+            del pairs[key]
 
     def all(self):
-        return [*self.decided.entries.values(), *(each for each in self.undecided.entries.values() if each.is_held)]
+        return [*self.decided.entries.values(), *(Undecided(name, pairs) for name in self.undecided.entries if (pairs := self.held(name)))]
 
     def count(self, name):
         """How many rows a name has."""
@@ -81,4 +95,4 @@ class Conflicts:
         return sorted((each.row() for each in self.all()), key=lambda row: row['frame'])
 
     def others(self):
-        return self.undecided.others + self.decided.others
+        return self.undecided.others + self.decided.others + sum(each.others for each in self.undecided.entries.values())

@@ -4,7 +4,7 @@ import subprocess
 from nbt_pcap.capture import NO_LIMIT
 from nbt_pcap.process import Stopped
 
-from .counts import counted
+from .counts import run_text
 from .reading import READ
 from .replaying import KEYS, Replay, is_piece
 from .rooms import Room
@@ -126,7 +126,3 @@ def missing(listed):
         found.append({'from': due, 'bytes': None if end is None else end - due})
     return found
 
-
-def run_text(run):
-    """A run of bytes, in words: 8 bytes from byte 16 on."""
-    return '%s from byte %d on' % ('all' if run['bytes'] is None else counted(run['bytes'], 'byte'), run['from'])

@@ -3,6 +3,7 @@ from nbt_pcap.frames import Reader
 from nbt_pcap.report import CUT, Report
 from nbt_pcap.rows import is_joined, values_of
 
+from .fragments import FIELDS as FRAGMENT_FIELDS
 from .fragments import Unfinished
 from .items import Cut, Frame, LeftOut, Opened, Packet
 from .others import STATISTIC, Others
@@ -10,8 +11,11 @@ from .screen import safe
 from .without import PACKET, Without
 
 # What a row has besides the fields that packets are made of.
-FIELDS = ('frame.interface_name', 'frame.interface_id', 'vlan.id', 'eth.src', 'eth.dst', 'ip.id', 'ip.proto',
-          'ip.frag_offset', 'ipv6.fraghdr.ident', 'ipv6.fraghdr.nxt', 'ipv6.fraghdr.offset', 'data.data')
+FIELDS = ('frame.interface_name', 'frame.interface_id', 'ieee8021ad.id', 'ieee8021ad.svid', 'ieee8021ad.cvid', 'vlan.id', 'eth.src', 'eth.dst',
+          *FRAGMENT_FIELDS)
+TAGS = slice(2, 6)               # the fields with tags of VLANs, the outer ones first
+# What tshark calls an interface without a name.
+NO_NAME = 'unknown'
 STATISTICS = (STATISTIC,)
 SYN, ACK = 0x02, 0x10
 
@@ -24,11 +28,15 @@ class Noted(Report):
         self.items = items
         self.without = Without()
 
-    def count(self, mark, reason):
+    def count(self, mark, reason, missing=()):
         if not mark.counted:
-            self.items.append(LeftOut(mark, reason))
+            self.items.append(LeftOut(mark, reason, list(missing)))
             self.without.leave_out(mark)
         super().count(mark, reason)
+
+    def completed(self, mark):
+        if mark is not self.mark:
+            mark.completed_by = self.mark.number
 
     def count_cut(self):
         """Counts the latest frame, of which the front is an item."""
@@ -45,7 +53,8 @@ class Frames(Reader):
         super().__init__(options, None, Noted(self.items))
         self.times = times
         self.protocols = ''          # those of the first frame
-        self.named = '', ''          # the latest interface, and its name as it may be printed
+        self.named = None, None      # the latest interface, and what is printed of it
+        self.sought_number, self.sought = options.frame, None    # the frame that is asked for
         self.others = Others()
         self.unfinished = Unfinished(self.report, self.services, self.session_ports)
 
@@ -64,26 +73,32 @@ class Frames(Reader):
         self.protocols = row.protocols
 
     def frame(self, row, shape):
-        self.report.mark = self.mark(row, shape)
+        self.report.mark = mark = self.mark(row, shape)
+        if mark.number == self.sought_number:
+            self.sought = mark
         if shape.is_fragment or is_joined(row):
-            self.unfinished.take(row, self.more[5:], shape.is_fragment)
+            self.unfinished.take(row, self.more[-len(FRAGMENT_FIELDS):], shape.is_fragment)
         ours = self.report.ours
         super().frame(row, shape)
         self.report.without.take(self.report.mark, row, shape.is_fragment, self.report.ours > ours)
 
     def mark(self, row, shape):
         """The frame of a row."""
-        name, number, vlans, source_mac, target_mac = self.more[:5]
+        (name, number), vlans, (source_mac, target_mac) = self.more[:2], ','.join(filter(None, self.more[TAGS])), self.more[6:8]
         ends = (row.source or row.source6, row.tcp_source or row.udp_source, row.target or row.target6, row.tcp_target or row.udp_target)
         if not shape.single:
             ends, source_mac, target_mac = map(last, ends), last(source_mac), last(target_mac)
-        return Frame(int(row.number), self.clock.at if self.clock.first is not None else None, *ends, self.interface(name or number), vlans,
-                     source_mac, target_mac, int(row.size), int(row.captured))
+        label, known = self.interface(name, number)
+        frame = Frame(int(row.number), self.clock.at if self.clock.first is not None else None, *ends, label, vlans, source_mac, target_mac,
+                      int(row.size), int(row.captured))
+        frame.interface_name = known
+        return frame
 
-    def interface(self, name):
-        """The name of an interface, as it may be printed."""
-        if name != self.named[0]:
-            self.named = name, safe(name)
+    def interface(self, name, number):
+        """What the list has of an interface, its name or else its number, as it may be printed, and its name, if it has one."""
+        if (name, number) != self.named[0]:
+            known = safe(name) if name and name != NO_NAME else None
+            self.named = (name, number), (known or number, known)
         return self.named[1]
 
     def segment(self, row, packet):

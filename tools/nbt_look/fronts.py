@@ -11,19 +11,19 @@ DATAGRAMS = {'unique': 'datagram', 'group': 'group datagram', 'broadcast': 'broa
 NEGATIVE = ('refuses ', 'answers: ')
 ENDS_TOO_EARLY = 'truncated'
 # Of port 137 the header, with its first four bytes, and what follows the name of a question or record: RFC 1002 section 4.2.1.
-HEADER, ID_AND_WORD, TYPE_AND_CLASS = 12, 4, 4
+HEADER, ID_AND_WORD, TYPE_AND_CLASS, CLASS = 12, 4, 4, 2
 ONE_QUESTION = bytes((0, 1, 0, 0, 0, 0, 0, 0))
 KEPT = ('line', 'port', 'moment', 'comment', 'refused', 'at')
 
 
 def as_question(data):
     """A front of port 137 as a packet of one question, which has the name and type of its first question or record: those stand alike in
-    both. What is missing of the type and class is filled up."""
+    both. What is missing of the type and class is filled up; answers whether the type is, too."""
     end = HEADER
     while end < len(data) and data[end]:
         end += 1 + data[end]
     missing = max(end + 1 + TYPE_AND_CLASS - len(data), 0) if end < len(data) else 0
-    return data[:ID_AND_WORD] + ONE_QUESTION + data[HEADER:] + bytes(missing), missing
+    return data[:ID_AND_WORD] + ONE_QUESTION + data[HEADER:] + bytes(missing), missing > CLASS
 
 
 def front_of(item, members, question):

@@ -1,4 +1,5 @@
 """A line for each packet, in columns."""
+from .counts import left_out_words
 
 # The least widths of the columns before the phrase, which grow with what stands in them.
 WIDTHS = (5, 9, 15, 15)
@@ -25,7 +26,7 @@ class Listing:
     def left_out(self, item):
         frame = item.frame
         sizes = ', %d of %d bytes' % (frame.captured, frame.size) if frame.captured < frame.size else ''
-        self.row(frame, ends(frame, SERVICES), 'left out: ' + item.reason + sizes, 'left out')
+        self.row(frame, ends(frame, SERVICES), 'left out: ' + left_out_words(item) + sizes, 'left out')
 
     def opened(self, item):
         """Nothing is said of it."""

@@ -2,6 +2,7 @@
 import collections
 import gc
 import os
+import subprocess
 
 from nbt_pcap import arguments as pcap_arguments
 from nbt_pcap import tshark
@@ -10,8 +11,9 @@ from nbt_pcap.process import Stopped, say
 from nbt_pcap.progress import Progress
 from nbt_pcap.report import CUT
 from nbt_shards import ending
-from nbt_shards.programs import local_program
+from nbt_shards.programs import BUILT, INSTALLED, local_program
 
+from . import trial
 from .filters import Filter
 from .frames import FIELDS, STATISTICS, Frames
 from .fronts import front_of, malformed_of
@@ -26,7 +28,7 @@ from .tally import Tally
 from .telling import Telling
 from .texts import batches_of
 from .times import Times
-from .whole import Whole
+from .whole import Whole, WholeObject
 
 
 def at_text(options, pipe):
@@ -48,11 +50,11 @@ def at_text(options, pipe):
     return look.sink.status
 
 
-def at_frames(options, settings, errors, pipe):
+def at_frames(options, settings, errors, pipe, merged):
     """Shows what tshark reads; answers how tshark ended, and the exit status where that was well."""
     look = Look(options)
     frames = Frames(options, look.times)
-    child = tshark.start(options, settings, errors, FIELDS, STATISTICS, pipe is not None)
+    child = tshark.start(options, settings, errors, FIELDS, STATISTICS, subprocess.PIPE if pipe else merged and merged.child.stdout)
     if pipe:
         pipe.go_on_to(os.dup(child.stdin.fileno()))
         child.stdin.close()
@@ -76,10 +78,12 @@ def at_frames(options, settings, errors, pipe):
         raise
     finally:
         progress.erase()
+    if merged and not frames.report.frames:
+        merged.judge()
     if status == 0 and not options.live and not frames.report.frames:
-        raise Stopped(2, pcap_arguments.title_of(options.file) + ': the file holds no packets: it has no frame')
+        raise Stopped(2, ', '.join(map(pcap_arguments.title_of, options.files)) + ': the file holds no packets: it has no frame')
     if frames.report.frames:
-        look.tally.frames, look.tally.without = frames.report.frames, frames.without()
+        look.tally.frames, look.tally.without, look.tally.sought = frames.report.frames, frames.without(), frames.sought
         look.end(frames.notes())
     return status, look.sink.status
 
@@ -91,20 +95,20 @@ class Look:
         gc.disable()                 # nothing here has a cycle, and looking for some costs as much as reading objects
         self.options = options
         self.program = program()
-        self.at_once = options.live or options.file == '-'
+        self.at_once = options.live or (options.file == '-' and not options.is_merged)
         self.times = Times(options.time == 'utc')
         self.screen = Screen(options.color)
         self.filter = Filter(options)
         self.tally = Tally()
         self.is_silent = options.summary or options.frame is not None
-        self.reads_objects = not (options.json and not options.summary and self.filter.is_all)
+        self.reads_objects = not (options.json and not self.is_silent and self.filter.is_all)
         self.sink = self.sink_of(options)
         self.ordering = Ordering(self.show, 0 if self.at_once or self.is_silent else WINDOW)
         self.telling = Telling(self.program, self.told)
 
     def sink_of(self, options):
         if options.frame is not None:
-            return Whole(self.screen, self.times, options.frame, self.program)
+            return (WholeObject if options.json else Whole)(self.screen, self.times, options.frame, self.program)
         if options.summary:
             return Summary(self.screen, self.times, options, self.program)
         return Objects(self.screen, self.times) if options.json else Listing(self.screen, self.times)
@@ -131,7 +135,7 @@ class Look:
     def shown(self, told):
         """The object of an item, with what stands of a front; None stands for what is left out, and for what nobody looks at."""
         fronts = [READ(each)[0] for each in told.fronts]
-        question = dict(fronts[1], is_filled=bool(told.filled)) if len(fronts) > 1 else None
+        question = dict(fronts[1], is_filled=told.filled) if len(fronts) > 1 else None
         if isinstance(told.item, Cut):
             return front_of(told.item, fronts[0], question)
         if isinstance(told.item, Packet) and (fronts or self.reads_objects):
@@ -158,7 +162,7 @@ class Look:
         """The last lines."""
         self.sink.finish(self.tally, self.left_out)
         lines = []
-        if self.options.frame is None:
+        if self.options.frame is None and not self.options.tables:
             lines = [self.tally.text(self.left_out, self.filter.is_all), *self.tally.notes(self.filter.is_all), *notes]
         if not self.tally.shown:
             lines += self.filter.notes()
@@ -172,8 +176,11 @@ class Look:
 
 
 def program():
-    """Where nbt is."""
+    """Where nbt is. One on PATH has to be the one that goes with this tool."""
     try:
-        return local_program(None)
+        found = local_program(None)
     except ending.Stopped as why:
         raise Stopped(3, "nbt isn't there: make build builds it, make install puts it beside this tool") from why
+    if found not in map(os.path.abspath, (BUILT, INSTALLED)):
+        trial.judge(found)
+    return found

@@ -22,6 +22,7 @@ class Act(enum.Enum):
     FINDS_NONE = 'negative name query response 4.2.14'
     WAITS = 'WACK response 4.2.16'
     ASKS_STATUS = 'node status request 4.2.17'
+    ASKS_UNKNOWN = 'name query request 4.2.12 or node status request 4.2.17, of which no type stands'
     OTHER = 'another operation'
 
 
@@ -122,7 +123,8 @@ def act_of(shown):
 
 def request_of(operation, shown):
     if operation == 'query':
-        return Act.ASKS_STATUS if type_of(shown) == NBSTAT else Act.ASKS
+        is_front = 'cut' in shown or 'refused' in shown
+        return {NBSTAT: Act.ASKS_STATUS, None: Act.ASKS_UNKNOWN if is_front else Act.ASKS}.get(type_of(shown), Act.ASKS)
     if operation == 'registration' and 'RD' not in shown['flags']:
         return Act.OVERWRITES
     return Act.CLAIMS if operation in REGISTERING else Act.RELEASES if operation == 'release' else Act.OTHER

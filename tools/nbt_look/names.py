@@ -40,7 +40,7 @@ class Names:
 
     @staticmethod
     def row(tenure, conflicts, times):
-        how = tenure.standing.value + (', ' + tenure.front if tenure.front else '')
+        how = tenure.standing.value + (', ' + tenure.front if tenure.front and tenure.group is None else '')
         since, until = (None if at is None else times(at) for at in (tenure.since, tenure.until))
         lifetime = tenure.lifetime if tenure.standing in KEPT else None
         return dict(zip(HEAD, (tenure.name, kind_of(tenure.name, tenure.group), tenure.address or None, tenure.group, how, since, until,

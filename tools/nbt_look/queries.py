@@ -5,11 +5,11 @@ from dataclasses import dataclass, field
 
 from .messages import Act, Front
 from .rooms import Room
-from .waiting import MOST_FRAMES, SECOND, Waiting
+from .waiting import MOST_FRAMES, Waiting
 
 # Of how many frames that can't be read at all the times are kept, for who sent them to whom.
 MOST_UNREAD = 64
-KINDS = {Act.ASKS: 'query', Act.ASKS_STATUS: 'status'}
+KINDS = {Act.ASKS: 'query', Act.ASKS_STATUS: 'status', Act.ASKS_UNKNOWN: None}
 RESPONSES = (Act.ANSWERS, Act.FINDS_NONE)
 
 
@@ -38,9 +38,10 @@ class Unanswered:
     answered: int = None
 
     def count(self, request, answer, frame):
+        self.since = min(self.since, request.since)
         self.times += request.times
-        self.frames += request.frames[:MOST_FRAMES - len(self.frames)]
-        if RANKS.index(answer) >= RANKS.index(self.answer):
+        self.frames = sorted(self.frames + request.frames)[:MOST_FRAMES]
+        if (RANKS.index(answer), frame or 0) >= (RANKS.index(self.answer), self.answered or 0):
             self.answer, self.answered = answer, frame
 
 
@@ -61,8 +62,7 @@ class Queries:
         if message.act in KINDS and message.name is not None:
             self.waiting.put(message, KINDS[message.act])
         elif message.act is Act.WAITS:
-            for each in self.waiting.of(message):
-                each.until = max(each.until, message.at + (message.lifetime or 0) * SECOND)
+            self.waiting.wait(message)
         elif message.act in RESPONSES:
             answer = Answer.UNKNOWN if message.name is None else OF_FRONT[message.front]
             for each in self.waiting.of(message):
@@ -97,7 +97,7 @@ class Queries:
 
     def rows(self, times):
         self.waiting.finish()
-        return [self.row(key, each, times) for key, each in sorted(self.room.entries.items())]
+        return [self.row(key, each, times) for key, each in sorted(self.room.entries.items(), key=lambda pair: tuple(each or '' for each in pair[0]))]
 
     def row(self, key, each, times):
         """A later answer that stands whole says more than a front of one."""

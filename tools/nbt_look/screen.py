@@ -3,6 +3,8 @@ import os
 
 from nbt_pcap.process import write_all
 
+from .cells import rows_of
+
 try:
     from rich.color import ColorSystem
     from rich.style import Style
@@ -54,17 +56,6 @@ class Screen:
     def table(self, title, rows, head, texts):
         """Rows of the same keys, under their names; `texts` makes the text of a value, with its row, where it isn't the usual one."""
         self.line(title, 'head')
-        cells = [[key.replace('_', ' ') for key in head], *([texts.get(key, cell)(row[key], row) for key in head] for row in rows)]
-        widths = [max(map(len, column)) for column in zip(*cells)]
-        for number, row in enumerate(cells):
-            text = '  '.join(each.ljust(width) for each, width in zip(row, widths))
-            self.line('  ' + text.rstrip(), 'head' if number == 0 else None)
-
-
-def cell(value, _row=None):
-    """A value as a table has it."""
-    if isinstance(value, bool):
-        return 'yes' if value else 'no'
-    if isinstance(value, (list, tuple)):
-        return ', '.join(map(cell, value)) or '-'
-    return '-' if value in (None, '') else str(value)
+        for number, lines in enumerate(rows_of(rows, head, texts, self.width)):
+            for each in lines:
+                self.line(each, 'head' if number == 0 else None)

@@ -11,6 +11,7 @@ from .names import Names
 from .queries import Queries
 from .sessions import Sessions
 from .stations import Stations
+from .tables import LEFT_OUT
 
 PLACE = re.compile(' [0-9]+$')
 
@@ -35,18 +36,34 @@ class Faults:
         return 0
 
 
+class LeftOut:
+    """The frames of which something is left out, by reason."""
+
+    title = LEFT_OUT
+    head = ('reason', 'frames')
+
+    def __init__(self):
+        self.counts = {}
+
+    def rows(self, _times):
+        return [dict(zip(self.head, pair)) for pair in sorted(self.counts.items(), key=lambda pair: -pair[1])]
+
+    def others(self):
+        return 0
+
+
 class Summary:
     """All parts of a summary, each with its rows."""
 
     status = 0
 
     def __init__(self, screen, times, options, program):
-        self.screen, self.times, self.as_json = screen, times, options.json
-        self.claims, self.datagrams, self.faults = Claims(), Datagrams(program), Faults()
+        self.screen, self.times, self.as_json, self.chosen = screen, times, options.json, options.tables
+        self.claims, self.datagrams, self.faults, self.missed = Claims(), Datagrams(program), Faults(), LeftOut()
         self.stations, self.queries = Stations(self.claims), Queries(self.claims.owners)
         self.sessions = Sessions(options.session_ports, self.stations.named)
         self.parts = [Names(self.claims), self.claims.conflicts, self.stations, self.queries, self.sessions, self.datagrams,
-                      self.datagrams.failed, self.faults]
+                      self.datagrams.failed, self.faults, self.missed]
 
     def packet(self, item, shown, _text):
         self.faults.take(item, shown)
@@ -64,7 +81,7 @@ class Summary:
             self.claims.take(message)
             self.queries.take(message)
         elif item.service == 137:
-            self.queries.cannot_read(item.source, item.target, item.frame.at or 0)
+            self.cannot_read(item.source, item.target, item.frame.at or 0)
         self.sessions.take(item, shown)
         self.datagrams.take(item, shown)
 
@@ -75,30 +92,41 @@ class Summary:
         """Its reason is counted elsewhere; it may have been an answer."""
         frame = item.frame
         if '137' in (frame.source_port, frame.target_port):
-            self.queries.cannot_read(frame.source, frame.target, frame.at or 0)
+            self.cannot_read(frame.source, frame.target, frame.at or 0)
+
+    def cannot_read(self, source, target, at):
+        """Takes a frame of the name service of which not even the header stands."""
+        self.queries.cannot_read(source, target, at)
+        self.claims.cannot_read(target, at)
 
     def finish(self, tally, left_out):
         self.claims.finish()
         self.datagrams.finish()
+        self.missed.counts = {reason: count for reason, count in left_out.items() if count}
+        parts = [part for part in self.parts if part.title in self.chosen or not self.chosen]
         if self.as_json:
-            self.screen.lines.append(self.object(tally, left_out))
+            self.screen.lines.append(self.object(parts, tally))
             return
-        for part in self.parts:
-            rows = part.rows(self.times.text)
-            if rows:
-                self.screen.table(part.title, rows, part.head, getattr(part, 'texts', {}))
-            if part.others():
-                self.screen.line('  and %s of more than are kept' % counted(part.others(), 'packet'))
-            if rows or part.others():
-                self.screen.line('')
-        rows = [{'reason': reason, 'frames': count} for reason, count in left_out.most_common() if count]
+        for part in parts:
+            self.show(part)
+        if self.chosen:
+            self.screen.lines.pop()      # the empty line after the last table
+
+    def show(self, part):
+        """A table. One that has no row is there where it is asked for."""
+        rows = part.rows(self.times.text)
         if rows:
-            self.screen.table('left out', rows, ('reason', 'frames'), {})
+            self.screen.table(part.title, rows, part.head, getattr(part, 'texts', {}))
+        elif self.chosen and not part.others():
+            self.screen.line('%s: none' % part.title, 'head')
+        if part.others():
+            self.screen.line('  and %s of more than are kept' % counted(part.others(), 'packet'))
+        if rows or part.others() or self.chosen:
             self.screen.line('')
 
-    def object(self, tally, left_out):
-        """One object of JSON, with the rows of each part."""
-        parts = {part.title.replace(' ', '_'): part.rows(self.times.utc) for part in self.parts}
-        others = {part.title.replace(' ', '_'): part.others() for part in self.parts if part.others()}
-        return json.dumps({**parts, 'left_out': {reason: count for reason, count in left_out.items() if count}, 'not_kept': others,
-                           'packets': tally.packets, 'frames': tally.frames, 'frames_without_a_packet': tally.without})
+    def object(self, parts, tally):
+        """One object of JSON, with the rows of each part, and where all parts are there with the counts."""
+        found = {part.title.replace(' ', '_'): part.counts if part is self.missed else part.rows(self.times.utc) for part in parts}
+        found['not_kept'] = {part.title.replace(' ', '_'): part.others() for part in parts if part.others()}
+        counts = {'packets': tally.packets, 'frames': tally.frames, 'frames_without_a_packet': tally.without}
+        return json.dumps(found if self.chosen else {**found, **counts})

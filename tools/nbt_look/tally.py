@@ -11,6 +11,7 @@ class Tally:
     def __init__(self):
         self.packets = self.malformed = self.shown = 0
         self.frames = None           # of a capture that has frames
+        self.sought = None           # the frame that is asked for, if it has a row
         self.without = {}            # how many frames have neither a packet nor something that is left out, and what they hold
 
     def take(self, text):

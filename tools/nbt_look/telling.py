@@ -25,7 +25,7 @@ class Told:
     __slots__ = ('item', 'text', 'fronts', 'filled', 'missing')
 
     def __init__(self, item):
-        self.item, self.text, self.fronts, self.filled, self.missing = item, None, [], 0, 0
+        self.item, self.text, self.fronts, self.filled, self.missing = item, None, [], False, 0
 
 
 class Child:

@@ -38,15 +38,18 @@ class Tenure:
     counted: int = 0                 # when the lifetime began
     due: int = None                  # after which moment silence makes it held
     is_silent: bool = False          # it is held because nobody objected
-    frame: int = 0                   # the latest claim's
+    asking: object = None            # to which request
+    began: int = 0                   # the frame in which it is first claimed or held, since it wasn't
     refusals: int = 0
     is_multihomed: bool = False
     front: str = ''                  # 'cut' or 'malformed' where the latest claim is
 
-    def begin(self, standing, at):
-        """Takes a standing; one that ended before begins anew."""
+    def begin(self, standing, at, frame=None):
+        """Takes a standing; one that ended before begins anew, and has no lifetime yet."""
         if self.standing not in KEPT:
-            self.since, self.until = at, None
+            self.since, self.until, self.lifetime = at, None, None
+        if self.standing not in CLAIMING and frame is not None:
+            self.began = frame
         self.standing, self.is_silent = standing, False
 
     def renew(self, lifetime, at):

@@ -1,6 +1,9 @@
 """Requests of the name service that wait for their answers: RFC 1002 sections 4.2.1.1 and 6."""
 import collections
+import math
 from dataclasses import dataclass, field
+
+from .messages import Front
 
 SECOND = 10**9
 # How long after its latest repeat a request may be answered: twice UCAST_REQ_RETRY_TIMEOUT, our choice.
@@ -34,6 +37,10 @@ class Request:
     def is_over(self, at):
         return at > self.until
 
+    def is_again(self, message, kind):
+        """Whether a request asks the same again. Of one whose type is cut no kind is known."""
+        return self.name == message.name and (self.kind == kind or None in (self.kind, kind))
+
 
 class Waiting:
     """The requests, by who sent them and their identifier. `over` is handed each that is over."""
@@ -46,10 +53,11 @@ class Waiting:
         """Takes a request, or one more time of it. An identifier that is used for another question lets the one before go."""
         waiting = self.requests.setdefault((message.source, message.number), {})
         key = message.name, message.target
-        for each in [key for key, each in waiting.items() if each.is_over(message.at) or (each.kind, each.name) != (kind, message.name)]:
+        for each in [key for key, each in waiting.items() if each.is_over(message.at) or not each.is_again(message, kind)]:
             self.over(waiting.pop(each))
         if key not in waiting:
             waiting[key] = Request(kind, message.name, message.source, message.target, message.is_broadcast, message.at, message.at)
+        waiting[key].kind = waiting[key].kind or kind
         waiting[key].repeat(message)
         self.let_go(waiting)
         return waiting[key]
@@ -68,6 +76,14 @@ class Waiting:
         waiting = self.requests.get((message.target, message.number), {})
         return [each for each in waiting.values() if message.name in (None, each.name) and not each.is_over(message.at)
                 and self.is_asked(each, message.source)]
+
+    def wait(self, message):
+        """A WACK: the answer may take as long as its TTL says, and without end where no TTL stands any more."""
+        until = message.at + (message.lifetime or 0) * SECOND
+        if message.lifetime is None and message.front is not Front.WHOLE:
+            until = math.inf
+        for each in self.of(message):
+            each.until = max(each.until, until)
 
     def is_asked(self, request, source):
         return request.is_broadcast or not request.asked or self.owners.are_one(request.asked, source)

@@ -2,9 +2,12 @@
 import re
 import subprocess
 
+from nbt_pcap.process import say
+
 from .advice import of_port
-from .counts import counted
+from .counts import counted, left_out_words
 from .listing import ends
+from .objects import ENCODE, Objects
 
 ROW = 16
 # Of these the place is in the spelling of a name, and not in the packet.
@@ -31,13 +34,16 @@ class Whole:
         self.head(item.frame, ends(item, ()))
         self.screen.line(shown['brief'], style)
         self.screen.line('')
-        for line in self.asked(words, '%d %d %s\n' % (item.service, item.moment, item.digits or 'empty')):
+        for line in asked(self.program, words, '%d %d %s\n' % (item.service, item.moment, item.digits or 'empty')):
             self.screen.line(line.removeprefix('1 '))
         self.screen.line('')
         self.screen.line('payload, %s' % counted(len(item.digits) // 2, 'byte'), 'head')
         self.dump(bytes.fromhex(item.digits), marked(shown))
         if 'refused' in shown:
-            self.advise(item.service, shown['refused'])
+            self.screen.line('')
+            self.screen.line("nbt help '%s'" % shown['refused'])
+            for line in advice_of(self.program, item.service, shown['refused']):
+                self.screen.line('  ' + line)
         if item.source:
             self.screen.line('')
             self.screen.line('Wireshark: frame.number == %d' % self.number)
@@ -46,7 +52,7 @@ class Whole:
     def left_out(self, item):
         if item.frame.number == self.number:
             self.head(item.frame, ends(item.frame, ()))
-            self.screen.line('left out: ' + item.reason, 'left out')
+            self.screen.line('left out: ' + left_out_words(item), 'left out')
             self.screen.line('Wireshark: frame.number == %d' % self.number)
 
     def head(self, frame, addresses):
@@ -57,21 +63,8 @@ class Whole:
         words = ['%s > %s' % addresses, '%d of %d bytes captured' % (frame.captured, frame.size)]
         if frame.source_mac:
             words.append('MAC %s > %s' % (frame.source_mac, frame.target_mac))
-        words += ['%s %s' % each for each in (('VLAN', frame.vlans), ('interface', frame.interface)) if each[1]]
+        words += ['%s %s' % each for each in (('VLAN', frame.vlans), ('interface', frame.interface_name)) if each[1]]
         self.screen.line(', '.join(words))
-
-    def advise(self, port, refused):
-        """What to do about a fault, and how nbt is asked for it."""
-        self.screen.line('')
-        self.screen.line("nbt help '%s'" % refused)
-        advice = of_port(port, refused)
-        for line in [advice] if advice else self.asked(['help', refused], ''):
-            self.screen.line('  ' + line)
-
-    def asked(self, words, text):
-        """What nbt prints."""
-        done = subprocess.run([self.program, *words], input=text.encode(), stdout=subprocess.PIPE, check=False)
-        return done.stdout.decode(errors='replace').splitlines()
 
     def dump(self, data, mark):
         """The bytes, sixteen a row; the one with the fault stands in brackets, and so does the place after the last one."""
@@ -87,12 +80,69 @@ class Whole:
         """Nothing is said of it."""
 
     def finish(self, tally, _left_out):
-        if not self.status:
-            return
-        if tally.frames is not None and self.number > tally.frames:
-            self.screen.line('there is no frame %d: the capture has %s' % (self.number, counted(tally.frames, 'frame')))
-        else:
-            self.screen.line('frame %d completes no packet of these ports' % self.number)
+        for each in why_none(self.number, tally) if self.status else ():
+            self.screen.line(each)
+
+
+class WholeObject(Objects):
+    """The objects of the packets of one frame, with their bytes, what to do about a fault, and how Wireshark finds them."""
+
+    def __init__(self, screen, times, number, program):
+        super().__init__(screen, times)
+        self.number, self.program = number, program
+        self.status = 1
+
+    def packet(self, item, shown, text):
+        if item.frame.number == self.number:
+            super().packet(item, shown, text)
+            self.add(item, shown)
+
+    def cut(self, item, shown):
+        if item.frame.number == self.number:
+            super().cut(item, shown)
+            self.add(item, shown)
+
+    def left_out(self, item):
+        if item.frame.number == self.number:
+            self.status = 0
+            super().left_out(item)
+
+    def add(self, item, shown):
+        """Takes more of the latest object."""
+        self.status = 0
+        more = {'payload': item.digits}
+        if 'refused' in shown:
+            more['help'] = advice_of(self.program, item.service, shown['refused'])
+        if item.source:
+            more['wireshark'] = ['frame.number == %d' % self.number, wireshark(item, shown)]
+        self.screen.lines[-1] = self.screen.lines[-1][:-1] + ',' + ENCODE(more)[1:]
+
+    def finish(self, tally, _left_out):
+        """Why there is none stands on standard error, since it is no object."""
+        for each in why_none(self.number, tally) if self.status else ():
+            say(each, name=False)
+
+
+def why_none(number, tally):
+    """Why a frame has no packet, in lines."""
+    if tally.frames is not None and number > tally.frames:
+        return ['there is no frame %d: the capture has %s' % (number, counted(tally.frames, 'frame'))]
+    why = ['frame %d completes no packet of these ports' % number]
+    if tally.sought and tally.sought.completed_by:
+        why.append('it has a part of the packet that frame %d completes' % tally.sought.completed_by)
+    return why
+
+
+def advice_of(program, port, refused):
+    """What to do about a fault, in lines."""
+    advice = of_port(port, refused)
+    return [advice] if advice else asked(program, ['help', refused], '')
+
+
+def asked(program, words, text):
+    """What nbt prints."""
+    done = subprocess.run([program, *words], input=text.encode(), stdout=subprocess.PIPE, check=False)
+    return done.stdout.decode(errors='replace').splitlines()
 
 
 def marked(shown):

@@ -78,7 +78,7 @@ class Direction:
             return differing
         if self.lost:
             self.lost[1] += len(data)
-            self.report.count(self.report.mark, GAP)
+            self.report.count(self.report.mark, GAP, [self.run(self.due, self.due + self.lost[0])])
         elif place == self.due and not self.early:
             self.append(data, self.report.mark)
         else:
@@ -157,7 +157,7 @@ class Direction:
             del self.held[:size]
             self.uncut -= size
             while self.frames and self.frames[0][0] <= self.due - self.uncut:
-                self.frames.popleft()
+                self.report.completed(self.frames.popleft()[1])
             self.cut = has_header(packet)
             yield packet
         if not self.cut:
@@ -168,9 +168,16 @@ class Direction:
         """Counts the frames of the bytes that are in no packet: none comes any more."""
         for _, mark in self.frames:
             self.report.count(mark, NO_REST if self.cut else NO_PACKET)
-        for *_, mark in self.early:
-            self.report.count(mark, GAP)
+        due = self.due
+        for place, piece, mark in self.early:
+            gap = self.run(due, place) if place > due else gap
+            self.report.count(mark, GAP, [gap])
+            due = place + len(piece)
         self.frames.clear()
+
+    def run(self, start, end):
+        """A run of missing bytes, counted from the first one of this side."""
+        return {'from': start - self.first, 'bytes': end - start}
 
     def tell(self):
         """The comment on the bytes that are in no packet."""

@@ -43,10 +43,13 @@ class Report:
         self.mark = Mark()
         self.frames = max(self.frames + 1, int(number))
 
-    def count(self, mark, reason):
-        """Counts a frame of which bytes are in no line."""
+    def count(self, mark, reason, missing=()):
+        """Counts a frame of which bytes are in no line; `missing` are the runs of bytes that the file lacks before or beside them."""
         self.left_out[reason] += not mark.counted
         mark.counted = True
+
+    def completed(self, mark):
+        """The latest frame completes the packet in which the bytes of this one end."""
 
     def note(self, reason, text):
         """Says that some of the latest frame's bytes are in no line."""

@@ -59,10 +59,10 @@ def wanted(udp, tcp):
             % (ports, HEADER_CUT, AGGREGATE, FRAGMENT, AGGREGATE))
 
 
-def start(options, settings, errors, fields=(), statistics=(), piped=False):
+def start(options, settings, errors, fields=(), statistics=(), given=None):
     """Starts it over a folder of settings, so that the user's own, and the user's plugins, aren't read. A row has these fields
-    after the ones that packets are made of, and these statistics come at the end. With `piped` the file comes by a pipe of ours."""
-    given = subprocess.PIPE if piped else None if options.file == '-' else subprocess.DEVNULL
+    after the ones that packets are made of, and these statistics come at the end. `given` is where the file comes from by a pipe of ours."""
+    given = given or (None if options.file == '-' else subprocess.DEVNULL)
     return subprocess.Popen(command_of(options, fields, statistics), stdin=given, stdout=subprocess.PIPE, stderr=errors,
                             preexec_fn=end_with_us, start_new_session=True, env=environment(settings))
 

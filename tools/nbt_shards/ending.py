@@ -1,4 +1,5 @@
 """Why a run is stopped, its exit status, and how far it is, on a terminal."""
+import signal
 import sys
 import time
 
@@ -49,8 +50,10 @@ def say(name, text):
 
 
 def run(name, main):
-    """Runs an engine; a failure is one line on standard error, and leaves OUT as it was."""
+    """Runs an engine; a failure is one line on standard error, and leaves OUT as it was. Ctrl-C, which waited until here, ends without a word
+    once it is over."""
     try:
+        signal.pthread_sigmask(signal.SIG_UNBLOCK, [signal.SIGINT])
         main()
         progress.erase()
     except Stopped as why:
@@ -62,3 +65,5 @@ def run(name, main):
     except KeyboardInterrupt:
         say(name, 'interrupted')
         sys.exit(130)
+    finally:
+        signal.signal(signal.SIGINT, signal.SIG_DFL)

@@ -32,11 +32,11 @@ const NOTHING = ['no IP', 'cut'];
  *
  * @typedef {{kind: 'opened', caller: string, callee: string, sequence: number, isFirst: boolean}} Opened
  *
- * What the file has of a datagram that the snap length cut.
+ * What the file has of a packet of UDP that the snap length cut.
  *
- * @typedef {{kind: 'cut', bytes: Uint8Array}} CutDatagram
+ * @typedef {{kind: 'cut', port: 137 | 138, mark: import('./report.js').Mark, mac: string | null, bytes: Uint8Array}} Cut
  *
- * @typedef {Payload | Opened | CutDatagram | import('./unread.js').Unread | import('./report.js').LeftOut | import('./report.js').Comment} Seen
+ * @typedef {Payload | Opened | Cut | import('./unread.js').Unread | import('./report.js').LeftOut | import('./report.js').Comment} Seen
  *
  * @typedef {{mac: string | null, vlan: number | null}} Below
  */
@@ -138,7 +138,8 @@ export class PayloadReader {
         if (!payload) return this.report.leaveOut(this.report.cut, 'the file ends inside its UDP header');
         if (size < 0 || payload.length < size) {
             const reason = payload.length < size && this.report.cut === CUT ? CUT : BAD_LENGTH;
-            if (reason === CUT && port === DATAGRAM) this.give({ kind: 'cut', bytes: payload });
+            const isFront = reason === CUT && payload.length > 0;
+            if (isFront) this.give({ kind: 'cut', port: /** @type {137 | 138} */ (port), mark: this.report.mark, mac: below.mac, bytes: payload });
             const there = `its UDP length is ${size + UDP_HEADER}, and the file has ${payload.length} bytes of its payload`;
             return this.report.leaveOut(reason, there);
         }
@@ -170,7 +171,7 @@ export class PayloadReader {
     }
 
     /**
-     * The number of a stream: that of its ends, and a new one where they begin anew.
+     * The number of a stream: that of its ends, and a new one where they begin anew: with a SYN of another place than the first segment's.
      *
      * @param {import('./transport.js').Segment} segment
      */
@@ -185,6 +186,7 @@ export class PayloadReader {
             this.numbers.set(ends, known);
         }
         if (segment.syn) known.starts.set(source, segment.sequence);
+        else if (!known.starts.has(source)) known.starts.set(source, (segment.sequence - 1) >>> 0);
         return known.number;
     }
 

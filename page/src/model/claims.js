@@ -26,7 +26,9 @@ export class Claims {
         this.claiming = new Waiting(this.owners);
         /** @type {Waiting<import('./messages.js').Place[]>} */
         this.releasing = new Waiting(this.owners);
-        this.conflicts = new Conflicts();
+        this.conflicts = new Conflicts(this.owners);
+        /** @type {Map<string, Set<Tenure>>} by who claims: the tenures to which somebody may object */
+        this.openTo = new Map();
         this.latest = 0n;
     }
 
@@ -44,7 +46,9 @@ export class Claims {
      * @returns {boolean} whether it is of a conflict
      */
     take(message) {
-        this.settle(message.name, message.at);
+        const { isBroadcast, mac, source } = message;
+        if (message.name !== null) this.settle(message.name, message.at);
+        if (isBroadcast && mac) this.owners.join(mac, source);
         switch (message.act) {
             case 'claims':
             case 'overwrites':
@@ -54,7 +58,7 @@ export class Claims {
             case 'refuses':
                 return this.refused(message);
             case 'demands':
-                return this.askedFor(message).length ? this.refused(message) : this.demanded(message);
+                return message.name === null || this.askedFor(message).length ? this.refused(message) : this.demanded(message, message.name);
             case 'releases':
                 return this.releases(message);
             case 'released':
@@ -64,7 +68,7 @@ export class Claims {
             case 'finds none':
                 return this.findsNone(message);
             default:
-                if (message.act === 'waits') this.claiming.wait(message);
+                if (message.act === 'waits') [this.claiming, this.releasing].forEach((each) => each.wait(message));
                 return false;
         }
     }
@@ -75,8 +79,8 @@ export class Claims {
      * @param {Message} message
      */
     claimed(message) {
-        const { source, mac, isBroadcast, isMultihomed } = message;
-        if (isBroadcast && mac) this.owners.join(mac, source);
+        if (message.name === null) return false;
+        const { source, isBroadcast, isMultihomed } = message;
         const request = this.claiming.put(message, 'claim');
         request.subject = [];
         let isContested = false;
@@ -85,14 +89,43 @@ export class Claims {
             if (!tenure) continue;
             request.subject.push(tenure);
             if (isMultihomed && source) this.owners.join(source, place.address);
-            const isNew = !tenure.isClaiming || place.group !== tenure.group;
-            if (!tenure.isClaiming) tenure.begin('claims', message.at);
-            Object.assign(tenure, { group: place.group, frame: message.frame, isMultihomed });
+            const isNew = claim(tenure, place.group, message);
             tenure.renew(place.ttl, message.at);
-            if (isBroadcast) wait(tenure, message, request.times > 1);
+            if (isBroadcast) this.wait(tenure, message, request);
             if (isNew && this.contest(tenure, message.at)) isContested = true;
         }
         return isContested;
+    }
+
+    /**
+     * A broadcast claim, and each repeat of it, gives others time to object; an overwrite demand gives none.
+     *
+     * @param {Tenure} tenure
+     * @param {Message} message
+     * @param {import('./waiting.js').Request<Tenure[]>} request
+     */
+    wait(tenure, { at, act, source }, request) {
+        if (tenure.isSilent && tenure.asking === request) tenure.begin('claims', at);
+        if (tenure.how !== 'claims') return;
+        if (act === 'overwrites') {
+            tenure.begin('holds', at);
+            tenure.due = null;
+            return;
+        }
+        Object.assign(tenure, { due: at + OBJECTING, asking: request });
+        const open = this.openTo.get(source) ?? new Set();
+        this.openTo.set(source, open.add(tenure));
+    }
+
+    /**
+     * Takes a frame of port 137 of which not even the header stands: it may be an objection to what its target claims.
+     *
+     * @param {string} target
+     * @param {bigint} at
+     */
+    cannotRead(target, at) {
+        leaveOpen([...this.openTo.get(target) ?? []].filter(({ due }) => due !== null && at <= due));
+        this.openTo.delete(target);
     }
 
     /**
@@ -102,10 +135,12 @@ export class Claims {
      */
     granted(message) {
         const asked = this.askedFor(message);
+        const groups = new Map(message.places.map(({ address, group }) => [address, group]));
         for (const tenure of asked.length ? asked : this.recorded(message)) {
-            const isNew = tenure.how !== 'holds';
-            tenure.begin('holds', message.at);
+            const isNew = tenure.how !== 'holds' || tenure.group === null;
+            tenure.begin('holds', message.at, message.frame);
             tenure.due = null;
+            tenure.group ??= groups.get(tenure.address) ?? null;
             tenure.renew(message.ttl, message.at);
             if (isNew) this.contest(tenure, message.at);
         }
@@ -119,14 +154,16 @@ export class Claims {
      */
     refused(message) {
         const asked = this.askedFor(message);
-        const tenures = asked.length ? asked : this.known(message.name, message.target);
+        const { name } = message;
+        if (name === null) return leaveOpen(asked);
+        const tenures = asked.length ? asked : this.known(name, message.target);
         const addresses = tenures.map(({ address }) => address);
         for (const each of tenures) {
             each.end('refused', null);
             each.refusals += 1;
         }
         const isTaken = TAKEN.includes(message.code);
-        if (isTaken || this.conflicts.isOpen(message.name, addresses)) this.decide(message, addresses);
+        if (isTaken || this.conflicts.isOpen(name, addresses)) this.decide(message, name, addresses);
         return isTaken;
     }
 
@@ -134,10 +171,11 @@ export class Claims {
      * A conflict demand: its target loses the name.
      *
      * @param {Message} message
+     * @param {string} name
      */
-    demanded(message) {
-        for (const each of this.known(message.name, message.target)) each.end('lost', message.at);
-        this.decide(message, [message.target]);
+    demanded(message, name) {
+        for (const each of this.known(name, message.target)) each.end('lost', message.at);
+        this.decide(message, name, [message.target]);
         return true;
     }
 
@@ -157,7 +195,7 @@ export class Claims {
      */
     releases(message) {
         const { source, isBroadcast } = message;
-        if (!isBroadcast) this.releasing.put(message, 'release').subject = message.places;
+        if (!isBroadcast && message.name !== null) this.releasing.put(message, 'release').subject = message.places;
         for (const { name, address } of isBroadcast ? message.places : []) {
             const found = this.tenures.entries.get(`${name} ${address}`);
             if (!source || this.owners.areOne(source, address) || (found && this.isOf(found, source))) this.release(name, address, message.at);
@@ -196,9 +234,9 @@ export class Claims {
         for (const { name, address, group, ttl } of message.places) {
             const tenure = this.tenure(name, address, address);
             if (!tenure) continue;
-            if (isOwn && !group) this.owners.join(source, address);
+            if (isOwn && group === false) this.owners.join(source, address);
             if (isOwn && this.owners.areOne(address, source)) {
-                this.hold(tenure, group, message);
+                this.hold(tenure, group === true, message);
             } else if (!tenure.isKept) {
                 tenure.begin('is said to be', at);
                 tenure.group = group;
@@ -215,11 +253,9 @@ export class Claims {
      */
     hold(tenure, group, message) {
         const isNew = tenure.how !== 'holds' || tenure.group !== group;
-        tenure.begin('holds', message.at);
+        tenure.begin('holds', message.at, message.frame);
         Object.assign(tenure, { group, due: null });
-        if (!isNew) return;
-        tenure.frame = message.frame;
-        this.contest(tenure, message.at);
+        if (isNew) this.contest(tenure, message.at);
     }
 
     /**
@@ -254,7 +290,7 @@ export class Claims {
      * @param {Message} message
      */
     findsNone({ name, code, source, frame }) {
-        if (code !== 'CFT_ERR') return false;
+        if (code !== 'CFT_ERR' || name === null) return false;
         this.conflicts.decide(name, '', [], source, frame);
         return true;
     }
@@ -339,18 +375,20 @@ export class Claims {
     }
 
     /**
-     * Opens a conflict with those that claim or hold the name too; answers whether one of them holds it, or will by silence.
+     * Opens a conflict with each that claims or holds the name too; answers whether one of the two holds it, or will by silence.
      *
      * @param {Tenure} tenure
      * @param {bigint} at
      */
     contest(tenure, at) {
-        const others = this.of(tenure.name).filter((each) => this.isAgainst(each, tenure, at));
-        if (!others.length) return false;
-        const all = [...others, tenure];
-        const isHeld = all.some(({ how }) => how === 'holds');
-        this.conflicts.open(tenure.name, others.map(({ address }) => address), tenure.address, isHeld, tenure.frame);
-        return isHeld || all.some(({ due }) => due !== null);
+        let isContested = false;
+        for (const each of this.of(tenure.name)) {
+            if (!this.isAgainst(each, tenure, at)) continue;
+            const isHeld = each.how === 'holds' || tenure.how === 'holds';
+            this.conflicts.open(tenure.name, [each.address, tenure.address], isHeld, Math.max(each.began, tenure.began));
+            isContested ||= isHeld || each.due !== null || tenure.due !== null;
+        }
+        return isContested;
     }
 
     /**
@@ -361,7 +399,8 @@ export class Claims {
      * @param {bigint} at
      */
     isAgainst(other, tenure, at) {
-        if (other === tenure || !other.stands(at) || (other.isMultihomed && tenure.isMultihomed) || (other.group && tenure.group)) return false;
+        if (other === tenure || !other.stands(at) || (other.isMultihomed && tenure.isMultihomed)) return false;
+        if (other.group === null || tenure.group === null || (other.group && tenure.group)) return false;
         return !this.owners.areOne(other.station, tenure.station) && !this.owners.areOne(other.address, tenure.address);
     }
 
@@ -369,11 +408,12 @@ export class Claims {
      * Somebody is refused a name, or has to give it up.
      *
      * @param {Message} message
+     * @param {string} name
      * @param {string[]} addresses
      */
-    decide(message, addresses) {
-        const holders = this.holders(message.name, addresses, message);
-        for (const each of addresses) this.conflicts.decide(message.name, each, holders, message.source, message.frame);
+    decide(message, name, addresses) {
+        const holders = this.holders(name, addresses, message);
+        for (const each of addresses) this.conflicts.decide(name, each, holders, message.source, message.frame);
     }
 
     /**
@@ -390,7 +430,7 @@ export class Claims {
         const holding = held.length ? held : others.filter(({ due }) => due !== null);
         const own = holding.filter((each) => this.isOf(each, source));
         const addresses = (/** @type {Tenure[]} */ tenures) => tenures.map(({ address }) => address);
-        if (own.length) return addresses(own[0].group ? holding : own);
+        if (own.length) return addresses(holding.filter((each) => own.includes(each) || (own[0].group && each.group)));
         const told = named.filter((each) => !lost.some((one) => this.owners.areOne(each, one)));
         if (told.length) return told;
         return addresses(holding.length ? holding : others.filter(({ how }) => how === 'is said to be'));
@@ -408,15 +448,31 @@ export class Claims {
 }
 
 /**
- * A broadcast claim, and each repeat of it, gives others time to object; an overwrite demand gives none.
+ * Takes a claim; answers whether it is more than one that stood already. What is cut changes nothing that is known.
  *
  * @param {Tenure} tenure
+ * @param {boolean | null} group
  * @param {Message} message
- * @param {boolean} isRepeat
  */
-function wait(tenure, { act, at }, isRepeat) {
-    if (isRepeat && tenure.isSilent) tenure.begin('claims', at);
-    if (tenure.how !== 'claims') return;
-    if (act === 'overwrites') tenure.begin('holds', at);
-    tenure.due = act === 'overwrites' ? null : at + OBJECTING;
+function claim(tenure, group, { front, at, frame, isMultihomed }) {
+    const isKnown = tenure.isClaiming;
+    const isNew = !isKnown || (group !== null && group !== tenure.group);
+    if (!isKnown) {
+        tenure.begin('claims', at, frame);
+        tenure.group = null;
+    }
+    if (front === 'whole' || !isKnown) tenure.front = front === 'whole' ? '' : front;
+    tenure.group = group ?? tenure.group;
+    tenure.isMultihomed = isMultihomed;
+    return isNew;
+}
+
+/**
+ * An answer of which no name stands may be an objection: silence decides nothing then.
+ *
+ * @param {Tenure[]} tenures
+ */
+function leaveOpen(tenures) {
+    for (const each of tenures) each.due = null;
+    return false;
 }

@@ -7,33 +7,36 @@ import { Room } from './room.js';
  *
  * @typedef {{name: string, claimants: string[], refused: string, by: string, frame: number}} Conflict
  *
- * A conflict in which nobody is refused: pairs of addresses of which both claim a name. It counts once one of them holds the name.
+ * Two addresses of which both claim a name: in which frame the later one began, and whether one of them held it then or later.
  *
- * @typedef {{name: string, frame: number, pairs: Map<string, string[]>, isHeld: boolean}} Undecided
+ * @typedef {{addresses: [string, string], frame: number, isHeld: boolean}} Pair
  */
 
+/** How many pairs of addresses that claim one name are kept. */
+const MOST_PAIRS = 4_096;
+
 export class Conflicts {
-    constructor() {
-        /** @type {Room<Undecided>} by name: those in which nobody is refused until now */
+    /** @param {import('./owners.js').Owners} owners */
+    constructor(owners) {
+        this.owners = owners;
+        /** @type {Room<Room<Pair>>} by name, and in it by both addresses: pairs of which nobody is refused until now */
         this.undecided = new Room();
         /** @type {Room<Conflict>} by name and who is refused it */
         this.decided = new Room();
     }
 
     /**
-     * A station claims a name that others claim, of which one may hold it.
+     * Two stations claim a name. It is a conflict once one of them holds it.
      *
      * @param {string} name
-     * @param {string[]} others
-     * @param {string} claimant
+     * @param {[string, string]} addresses
      * @param {boolean} isHeld
      * @param {number} frame
      */
-    open(name, others, claimant, isHeld, frame) {
-        const conflict = this.undecided.get(name, () => ({ name, frame, pairs: new Map(), isHeld: false }));
-        if (!conflict) return;
-        for (const each of others) conflict.pairs.set(`${each} ${claimant}`, [each, claimant]);
-        conflict.isHeld ||= isHeld;
+    open(name, addresses, isHeld, frame) {
+        const pairs = this.undecided.get(name, () => new Room(MOST_PAIRS));
+        const pair = pairs?.get([...addresses].sort().join(' '), () => ({ addresses, frame, isHeld }));
+        if (pair && !pair.isHeld) Object.assign(pair, { frame, isHeld });
     }
 
     /**
@@ -43,8 +46,17 @@ export class Conflicts {
      * @param {string[]} addresses
      */
     isOpen(name, addresses) {
-        const conflict = this.undecided.entries.get(name);
-        return conflict !== undefined && conflict.isHeld && claimantsOf(conflict).some((each) => addresses.includes(each));
+        return this.held(name).some((pair) => pair.addresses.some((each) => addresses.includes(each)));
+    }
+
+    /**
+     * The pairs of a name that are a conflict: of which one holds it, and that aren't of one station.
+     *
+     * @param {string} name
+     */
+    held(name) {
+        const pairs = [...this.undecided.entries.get(name)?.entries.values() ?? []];
+        return pairs.filter(({ isHeld, addresses }) => isHeld && !this.owners.areOne(...addresses));
     }
 
     /**
@@ -59,31 +71,30 @@ export class Conflicts {
     decide(name, refused, holders, by, frame) {
         const conflict = this.decided.get(`${name} ${refused}`, () => ({ name, claimants: holders, refused, by, frame }));
         if (conflict) Object.assign(conflict, { claimants: holders.length ? holders : conflict.claimants, by, frame });
-        const left = this.undecided.entries.get(name);
-        if (!left) return;
-        for (const [key, pair] of left.pairs) {
-            if (pair.includes(refused)) left.pairs.delete(key);
+        const pairs = this.undecided.entries.get(name)?.entries;
+        for (const [key, { addresses }] of pairs ?? []) {
+            if (addresses.includes(refused)) pairs?.delete(key);
         }
-        if (!left.pairs.size) this.undecided.entries.delete(name);
     }
 
     get count() {
-        return this.decided.entries.size + [...this.undecided.entries.values()].filter(({ isHeld }) => isHeld).length;
+        return this.decided.entries.size + this.disputed().length;
+    }
+
+    /** Conflicts in which nobody is refused. */
+    disputed() {
+        return [...this.undecided.entries.keys()].map((name) => ({ name, pairs: this.held(name) })).filter(({ pairs }) => pairs.length);
     }
 
     /** @returns {Conflict[]} by their frames */
     rows() {
-        const undecided = [...this.undecided.entries.values()].filter(({ isHeld }) => isHeld)
-            .map((each) => ({ name: each.name, claimants: claimantsOf(each), refused: '', by: '', frame: each.frame }));
-        return [...this.decided.entries.values(), ...undecided].sort((one, other) => one.frame - other.frame);
+        const disputed = this.disputed().map(({ name, pairs }) => ({
+            name, claimants: [...new Set(pairs.flatMap(({ addresses }) => addresses))], refused: '', by: '', frame: Math.min(...pairs.map(({ frame }) => frame)),
+        }));
+        return [...this.decided.entries.values(), ...disputed].sort((one, other) => one.frame - other.frame);
     }
 
     get others() {
-        return this.undecided.others + this.decided.others;
+        return [...this.undecided.entries.values()].reduce((sum, { others }) => sum + others, this.undecided.others + this.decided.others);
     }
-}
-
-/** @param {Undecided} conflict */
-function claimantsOf({ pairs }) {
-    return [...new Set([...pairs.values()].flat())];
 }

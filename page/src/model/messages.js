@@ -1,19 +1,23 @@
 /** A packet of the name service as the tables read it: RFC 1002 section 4.2. */
-import { entriesOf, isGroup, isResponse, recordsOf, subject } from './objects.js';
+import { entriesOf, firstOf, frontOf, isGroup, isResponse, subject } from './objects.js';
 
 /**
  * What a packet does with a name, by R, OPCODE, RCODE and type: claims 4.2.2 and 4.2.4, overwrites 4.2.3, grants 4.2.5, refuses 4.2.6,
  * challenges 4.2.7, demands 4.2.8 or a refusal with CFT_ERR, releases 4.2.9, released 4.2.10, keeps 4.2.11, asks 4.2.12 and 4.2.17, answers
  * 4.2.13, 4.2.15 and 4.2.18, finds none 4.2.14, waits 4.2.16.
  *
+ * Of a request that is cut before its type it isn't known whether it asks for a name or for a node's status.
+ *
  * @typedef {'claims' | 'overwrites' | 'grants' | 'refuses' | 'challenges' | 'demands' | 'releases' | 'released' | 'keeps' | 'asks' | 'asks status'
+ *     | 'asks something'
  *     | 'answers' | 'finds none' | 'waits' | 'other'} Act
  *
- * @typedef {{name: string, address: string, group: boolean, ttl: number}} Place
+ * @typedef {{name: string, address: string, group: boolean | null, ttl: number | null}} Place where a front doesn't say it, there is no group and no TTL
  *
  * @typedef {object} Message
  * @property {Act} act
- * @property {string} name that the packet is about
+ * @property {import('./objects.js').Front} front
+ * @property {string | null} name that the packet is about; null where none stands in a front
  * @property {string} id the identifier that a response has of its request
  * @property {string} code
  * @property {bigint} at nanoseconds since 1970
@@ -24,7 +28,8 @@ import { entriesOf, isGroup, isResponse, recordsOf, subject } from './objects.js
  * @property {boolean} isBroadcast
  * @property {boolean} isMultihomed
  * @property {number | null} ttl of its first record, in seconds
- * @property {Place[]} places name and address of each entry in its answers and additional records
+ * @property {Place[]} places name and address of each entry in its answers and additional records; of a claim or release of which no record
+ *     stands its sender's
  * @property {string[]} named the addresses that its records have
  * @property {import('./objects.js').ResourceRecord[]} answers
  */
@@ -41,11 +46,15 @@ const [RD, RA, B] = [0x0100, 0x0080, 0x0010];
  */
 export function messageOf(service, { time, frame, source, destination, mac }) {
     const records = [...service.answers, ...service.additional];
+    const [name, front] = [subject(service), frontOf(service)];
+    /** @type {Place[]} */
+    const told = records.flatMap((record) => (record.entries ?? []).map((entry) =>
+        ({ name: record.name, address: entry.address, group: isGroup(entry), ttl: record.ttl })));
+    const isSenders = !told.length && front !== 'whole' && !isResponse(service) && name !== null;
     return {
-        act: actOf(service), name: subject(service), id: service.id, code: String(service.rcode), at: time ?? 0n, frame, source, target: destination, mac,
+        act: actOf(service), front, name, id: service.id, code: String(service.rcode), at: time ?? 0n, frame, source, target: destination, mac,
         isBroadcast: has(service, B), isMultihomed: service.op === MULTIHOMED, ttl: records[0]?.ttl ?? null,
-        places: records.flatMap((record) => (record.entries ?? []).map((entry) =>
-            ({ name: record.name, address: entry.address, group: isGroup(entry), ttl: record.ttl }))),
+        places: isSenders ? [{ name, address: source, group: null, ttl: null }] : told,
         named: entriesOf(service).map(({ address }) => address), answers: service.answers,
     };
 }
@@ -88,7 +97,7 @@ function actOf(service) {
 function requestOf(service) {
     switch (service.op) {
         case 'query':
-            return (service.questions[0] ?? recordsOf(service)[0])?.type === NBSTAT ? 'asks status' : 'asks';
+            return asked(firstOf(service)?.type, frontOf(service));
         case 'registration':
             return has(service, RD) ? 'claims' : 'overwrites';
         case 'refresh':
@@ -97,6 +106,16 @@ function requestOf(service) {
         default:
             return service.op === 'release' ? 'releases' : 'other';
     }
+}
+
+/**
+ * @param {string | undefined} type
+ * @param {import('./objects.js').Front} front
+ * @returns {Act}
+ */
+function asked(type, front) {
+    if (type === NBSTAT) return 'asks status';
+    return type === undefined && front !== 'whole' ? 'asks something' : 'asks';
 }
 
 /** @param {Message} message */

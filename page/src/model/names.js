@@ -12,7 +12,7 @@ const KINDS = new Map(Object.entries({
  * The kind of a name in words, by its last byte.
  *
  * @param {string} name
- * @param {boolean} group
+ * @param {boolean | null} group null where it isn't known
  */
 export function kindOf(name, group) {
     const [unique, shared] = KINDS.get(name.slice(name.indexOf('<') + 1).slice(0, 2)) ?? ['', ''];
@@ -30,8 +30,8 @@ export function nameRows(claims) {
     const conflicts = new Map();
     for (const { name } of claims.conflicts.rows()) conflicts.set(name, (conflicts.get(name) ?? 0) + 1);
     return [...claims.tenures.entries.values()].filter(({ how }) => how)
-        .map(({ name, address, group, how, since, until, isKept, lifetime, refusals }) => ({
-            name, address, group, how, since, until, lifetime: isKept ? lifetime : null, kind: kindOf(name, group), conflicts: conflicts.get(name) ?? 0, refusals,
+        .map(({ name, address, group, how, front, since, until, isKept, lifetime, refusals }) => ({
+            name, address, group, how, front, since, until, lifetime: isKept ? lifetime : null, kind: kindOf(name, group), conflicts: conflicts.get(name) ?? 0, refusals,
         }))
         .sort((one, other) => compare(one.name, other.name) || compare(one.address, other.address));
 }

@@ -13,9 +13,14 @@
  * @property {NodeName[]} [names]
  * @property {string} [unit]
  *
- * A packet of port 137.
+ * @typedef {'whole' | 'cut' | 'malformed'} Front how much of a packet stands
+ *
+ * A packet of port 137, or what stands of one.
  *
  * @typedef {object} Service
+ * @property {boolean} [cut]
+ * @property {string} [refused]
+ * @property {{name: string, type?: string}} [about]
  * @property {string} id
  * @property {string} word
  * @property {string | number} op
@@ -42,6 +47,8 @@
  * @property {number} [offset]
  * @property {string} [address]
  * @property {number} [to_port]
+ * @property {boolean} [cut] the snap length cut it, and this is what stands
+ * @property {{name: string, type?: string}} [about] the first name of a front in which no question or record stands whole
  *
  * @typedef {Partial<Service> & Others} Told
  */
@@ -82,12 +89,33 @@ export function recordsOf(service) {
 }
 
 /**
- * The name that a packet is about: that of its first question, else of its first record.
+ * The first question, or else the first record; of a front perhaps its name and type alone, or none.
+ *
+ * @param {Service} service
+ * @returns {{name: string, type?: string} | undefined}
+ */
+export function firstOf(service) {
+    return service.questions[0] ?? recordsOf(service)[0] ?? service.about;
+}
+
+/**
+ * The name that a packet is about; null where none stands in a front.
  *
  * @param {Service} service
  */
 export function subject(service) {
-    return service.questions[0]?.name ?? recordsOf(service)[0]?.name ?? 'no name';
+    return firstOf(service)?.name ?? (frontOf(service) === 'whole' ? 'no name' : null);
+}
+
+/**
+ * How much of a packet stands.
+ *
+ * @param {Told} told
+ * @returns {Front}
+ */
+export function frontOf({ cut, refused }) {
+    if (cut) return 'cut';
+    return refused === undefined ? 'whole' : 'malformed';
 }
 
 /**

@@ -13,6 +13,7 @@ import { UnreadFrames } from './unread.js';
 const PIECES = new Set(['unique', 'group', 'broadcast']);
 /** As many keys as a station of the page has. */
 const MOST_KEYS = 65_535;
+const SERVICE = 137;
 
 /**
  * Where a packet stands in the file, and who sent it to whom.
@@ -27,6 +28,7 @@ const MOST_KEYS = 65_535;
  * @property {string} destinationPort
  * @property {string | null} mac
  *
+ * @typedef {import('./objects.js').Told} Told
  * @typedef {{reason: string, packets: number, frame: number, byte: number | null}} Refusal
  * @typedef {{reason: string, frames: number}} Loss
  */
@@ -53,7 +55,7 @@ export class Seen {
     }
 
     /**
-     * @param {import('./objects.js').Told} told
+     * @param {Told} told with what stands of it, where it is refused
      * @param {string} brief
      * @param {Ends} ends
      * @returns {boolean} whether it is of a conflict about a name
@@ -67,9 +69,40 @@ export class Seen {
         this.claims.see(ends.time ?? 0n);
         this.stations.take(told, message, ends);
         this.sessions.take(told, brief, ends);
-        if (!message) return false;
+        if (message) return this.message(message);
+        if (ends.port === SERVICE) this.cannotRead(ends);
+        return false;
+    }
+
+    /**
+     * Takes what stands of a packet that the snap length cut.
+     *
+     * @param {Told} told
+     * @param {Ends} ends
+     */
+    cut(told, ends) {
+        const service = serviceOf(told);
+        const message = service && messageOf(service, ends);
+        this.claims.see(ends.time ?? 0n);
+        this.stations.take(told, message, ends);
+        if (message) this.message(message);
+        else if (ends.port === SERVICE) this.cannotRead(ends);
+    }
+
+    /** @param {import('./messages.js').Message} message */
+    message(message) {
         this.queries.take(message);
         return this.claims.take(message);
+    }
+
+    /**
+     * Takes a frame of the name service of which not even the header stands.
+     *
+     * @param {{source: string, destination: string, time: bigint | null}} ends
+     */
+    cannotRead({ source, destination, time }) {
+        this.queries.cannotRead(source, destination, time ?? 0n);
+        this.claims.cannotRead(destination, time ?? 0n);
     }
 
     /**

@@ -18,7 +18,10 @@ export class Tenure {
         this.station = station || address;
         /** @type {Standing} */
         this.how = '';
-        this.group = false;
+        /** @type {boolean | null} null where it isn't known */
+        this.group = null;
+        /** @type {'' | 'cut' | 'malformed'} how much stands of a claim of which not all does */
+        this.front = '';
         /** @type {bigint | null} */
         this.since = null;
         /** @type {bigint | null} */
@@ -30,7 +33,10 @@ export class Tenure {
         /** @type {bigint | null} after which moment silence makes it held */
         this.due = null;
         this.isSilent = false;
-        this.frame = 0;
+        /** @type {object | null} the request to which nobody objected */
+        this.asking = null;
+        /** The frame in which it is first claimed or held, since it wasn't. */
+        this.began = 0;
         this.refusals = 0;
         this.isMultihomed = false;
     }
@@ -49,13 +55,15 @@ export class Tenure {
     }
 
     /**
-     * Takes a standing; one that ended before begins anew.
+     * Takes a standing; one that ended before begins anew, and has no lifetime yet.
      *
      * @param {Standing} how
      * @param {bigint} at
+     * @param {number} [frame]
      */
-    begin(how, at) {
-        if (!this.isKept) Object.assign(this, { since: at, until: null });
+    begin(how, at, frame) {
+        if (!this.isKept) Object.assign(this, { since: at, until: null, lifetime: null });
+        if (!this.isClaiming && frame !== undefined) this.began = frame;
         this.how = how;
         this.isSilent = false;
     }

@@ -3,6 +3,7 @@
 export const SECOND = 1_000_000_000n;
 /** How long after its latest repeat a request may be answered: twice UCAST_REQ_RETRY_TIMEOUT, our choice. */
 const WAIT = 10n * SECOND;
+const WITHOUT_END = 1n << 64n;
 /** How many identifiers wait, and how many requests of one; the one that came first is over then. */
 const MOST_WAITING = 4_096;
 const MOST_OF_ONE = 256;
@@ -14,8 +15,8 @@ export const MOST_FRAMES = 16;
  *
  * @template T
  * @typedef {object} Request
- * @property {string} kind
- * @property {string} name
+ * @property {string | null} kind null where it isn't known
+ * @property {string | null} name
  * @property {string} asker
  * @property {string} asked
  * @property {boolean} isBroadcast
@@ -47,7 +48,7 @@ export class Waiting {
      * Takes a request, or one more time of it. An identifier that is used for another question lets the one before go.
      *
      * @param {import('./messages.js').Message} message
-     * @param {string} kind
+     * @param {string | null} kind null of a request whose type is cut
      * @returns {Request<T>}
      */
     put(message, kind) {
@@ -55,7 +56,7 @@ export class Waiting {
         const waiting = this.requests.get(`${source} ${message.id}`) ?? new Map();
         this.requests.set(`${source} ${message.id}`, waiting);
         for (const [key, each] of waiting) {
-            if (at <= each.until && each.kind === kind && each.name === name) continue;
+            if (at <= each.until && each.name === name && (each.kind === kind || each.kind === null || kind === null)) continue;
             waiting.delete(key);
             this.over(each);
         }
@@ -63,6 +64,7 @@ export class Waiting {
         const made = { kind, name, asker: source, asked: target, isBroadcast, since: at, until: at, times: 0, frames: [], subject: null };
         const request = waiting.get(`${name} ${target}`) ?? made;
         waiting.set(`${name} ${target}`, request);
+        request.kind ??= kind;
         request.times += 1;
         if (at + WAIT > request.until) request.until = at + WAIT;
         if (request.frames.length < MOST_FRAMES) request.frames.push(frame);
@@ -81,23 +83,25 @@ export class Waiting {
     }
 
     /**
-     * The requests that a response answers: its identifier and name, sent to its sender, or broadcast.
+     * The requests that a response answers: its identifier and name, sent to its sender, or broadcast. Where no name stands in it these are all
+     * that it may answer.
      *
      * @param {import('./messages.js').Message} message
      * @returns {Request<T>[]}
      */
     of({ target, id, name, at, source }) {
-        return [...this.requests.get(`${target} ${id}`)?.values() ?? []].filter((each) => each.name === name && at <= each.until
+        return [...this.requests.get(`${target} ${id}`)?.values() ?? []].filter((each) => (name === null || each.name === name) && at <= each.until
             && (each.isBroadcast || !each.asked || this.owners.areOne(each.asked, source)));
     }
 
     /**
-     * A WACK: the answer may take as long as its TTL says.
+     * A WACK: the answer may take as long as its TTL says, and without end where no TTL stands any more.
      *
      * @param {import('./messages.js').Message} message
      */
     wait(message) {
-        const until = message.at + BigInt(message.ttl ?? 0) * SECOND;
+        const isOpen = message.ttl === null && message.front !== 'whole';
+        const until = isOpen ? WITHOUT_END : message.at + BigInt(message.ttl ?? 0) * SECOND;
         for (const each of this.of(message)) {
             if (until > each.until) each.until = until;
         }

@@ -26,10 +26,19 @@ export function shownAs(row, column, since) {
     const value = row[column === 'link type' ? 'link' : column];
     if (column === 'since' || column === 'until') return value === null ? '-' : since(value);
     if (column === 'lifetime') return value === null ? '-' : `${value} s${value ? '' : ', no end'}`;
-    if (column === 'answered') return value === null ? 'never' : `a later one, in frame ${value}`;
+    if (column === 'answered') return answered(row);
+    if (column === 'how') return row.front && row.group === null ? `${value}, ${row.front}` : value;
     if (column === 'holder') return row.claimants.join(row.by ? ', ' : ' or ') || 'not in the capture';
     if (column === 'refused' && row.claimants) return String(value || 'nobody');
     return textOf(value);
+}
+
+/**
+ * @param {{answer: string, answered: number | null}} row
+ */
+function answered({ answer, answered }) {
+    if (answer === 'later') return `a later one, in frame ${answered}`;
+    return answered === null ? answer : `frame ${answered}, ${answer}`;
 }
 
 /**

@@ -2,13 +2,12 @@
 import { hostOf, portOf, shown } from '../containers/ends.js';
 import { made, written } from '../model/capture.js';
 import { Seen, withoutPlace } from '../model/seen.js';
+import { datagramFront, serviceFront } from '../model/fronts.js';
 import { kindsOf } from '../model/objects.js';
 import { Batch } from './batch.js';
 import { slicesOf } from './file.js';
 import { LEFT_OUT, Packets } from '../model/packets.js';
 
-/** MSG_TYPE of datagrams, in words. */
-const KINDS = new Map([[0x10, 'unique'], [0x11, 'group'], [0x12, 'broadcast']]);
 /** Of how many datagrams that are cut the names are kept. */
 const MOST_CUT = 65_535;
 const SERVICES = ['137', '138', '139'];
@@ -49,6 +48,8 @@ export class Tap {
          * @type {import('../model/replay.js').Names[]}
          */
         this.cut = [];
+        /** The latest frame of which a front was taken. */
+        this.frontOf = 0;
         /** Whether gzip packed the file: `file` is what it packed then. */
         this.isPacked = false;
     }
@@ -58,18 +59,30 @@ export class Tap {
         if (item.kind === 'comment') this.packets.comment(item.text);
         else if (item.kind === 'payload') this.payload(item);
         else if (item.kind === 'opened') this.opened(item);
-        else if (item.kind === 'cut') this.cutDatagram(item.bytes);
+        else if (item.kind === 'cut') this.front(item);
         else if (item.kind === 'unread') this.seen.unread.take(item);
         else this.leftOut(item);
     }
 
-    /** @param {Uint8Array} bytes what the file has of a datagram that is cut */
-    cutDatagram(bytes) {
-        const front = this.library.readDatagramFront(bytes);
-        const kind = KINDS.get(front.type);
-        if (kind && front.source !== null && front.destination !== null && this.cut.length < MOST_CUT) {
-            this.cut.push({ source: front.source, destination: front.destination, kind });
-        }
+    /** @param {import('../containers/payloads.js').Cut} item */
+    front({ port, mark, mac, bytes }) {
+        this.frontOf = mark.frame;
+        const told = { ...this.standing(port, bytes), cut: true };
+        this.seen.cut(told, endsOf(mark, port, mac));
+        const { source, destination, kind } = told;
+        if (kind && source !== undefined && destination !== undefined && this.cut.length < MOST_CUT) this.cut.push({ source, destination, kind });
+    }
+
+    /**
+     * What stands of a payload that isn't a whole packet.
+     *
+     * @param {number} port
+     * @param {Uint8Array} bytes
+     * @returns {import('../model/objects.js').Told}
+     */
+    standing(port, bytes) {
+        if (port === 139) return {};
+        return port === 137 ? serviceFront(this.library, bytes) : datagramFront(this.library, bytes);
     }
 
     /** @param {import('../containers/payloads.js').Opened} item */
@@ -84,11 +97,8 @@ export class Tap {
         const said = this.library.brief(port, bytes);
         /** @type {import('../model/objects.js').Told} */
         const told = JSON.parse(text);
-        const sender = hostOf(mark.source);
-        const isConflict = this.seen.take(told, said, {
-            frame: mark.frame, port, time: mark.time, mac, source: sender, sourcePort: portOf(mark.source),
-            destination: hostOf(mark.destination), destinationPort: portOf(mark.destination),
-        });
+        const standing = told.refused === undefined ? told : { ...this.standing(port, bytes), ...told };
+        const isConflict = this.seen.take(standing, said, endsOf(mark, port, mac));
         this.packets.add(mark, { port, mac, vlan, bytes });
         const kinds = kindsOf(told, port);
         if (isConflict && !kinds.includes('conflict')) kinds.push('conflict');
@@ -98,6 +108,10 @@ export class Tap {
     /** @param {import('../containers/report.js').LeftOut} item */
     leftOut({ mark, why }) {
         this.seen.leave(why);
+        const { source, destination } = mark;
+        if (mark.frame !== this.frontOf && [source, destination].some((end) => portOf(end) === '137')) {
+            this.seen.cannotRead({ source: hostOf(source), destination: hostOf(destination), time: mark.time });
+        }
         this.packets.add(mark, { port: LEFT_OUT, mac: null, vlan: null, bytes: new Uint8Array(0) });
         const sizes = mark.captured < mark.size ? `, ${mark.captured} of ${mark.size} bytes` : '';
         this.row(mark, LEFT_OUT, 'left-out', why, `left out: ${why}${sizes}`);
@@ -132,4 +146,14 @@ export class Tap {
             unread: seen.unread.counts(),
         };
     }
+}
+
+/**
+ * @param {import('../containers/report.js').Mark} mark
+ * @param {number} port
+ * @param {string | null} mac
+ * @returns {import('../model/seen.js').Ends}
+ */
+function endsOf({ frame, time, source, destination }, port, mac) {
+    return { frame, port, time, mac, source: hostOf(source), sourcePort: portOf(source), destination: hostOf(destination), destinationPort: portOf(destination) };
 }

@@ -1,0 +1,131 @@
+/** What stands of a packet that the snap length cut, or that the library refuses to read: as far as its header, names and records are whole. */
+
+/** Of port 137 the header, with its first four bytes, and what follows the name of a question. RFC 1002 section 4.2.1. */
+const HEADER = 12;
+const ID_AND_WORD = 4;
+const TYPE_AND_CLASS = 4;
+const CLASS = 2;
+/** The fewest bytes of a question: a name of one byte, and what follows it. */
+const LEAST = 5;
+const ONE_QUESTION = [0, 1, 0, 0, 0, 0, 0, 0];
+const SECTIONS = /** @type {const} */ (['questions', 'answers', 'authorities', 'additional']);
+/** MSG_TYPE of datagrams, in words. */
+const KINDS = new Map([[0x10, 'unique'], [0x11, 'group'], [0x12, 'broadcast']]);
+const SERVICE = 137;
+const REFUSED = 'refused: ';
+
+/**
+ * What it is read by.
+ *
+ * @typedef {Pick<import('../../../bindings/javascript/nbt.mjs').Nbt, 'json' | 'brief' | 'readDatagramFront'>} Reader
+ */
+
+/**
+ * The members that stand of a payload of port 137; none where its header doesn't stand.
+ *
+ * @param {Reader} library
+ * @param {Uint8Array} bytes
+ * @returns {import('./objects.js').Told}
+ */
+export function serviceFront(library, bytes) {
+    if (bytes.length < HEADER) return {};
+    const counts = [4, 6, 8, 10].map((at) => bytes[at] * 256 + bytes[at + 1]);
+    const told = read(library, bytes, counts, wholeItems(library, bytes, counts));
+    if (!SECTIONS.some((section) => told[section]?.length)) Object.assign(told, aboutOf(library, bytes));
+    return told;
+}
+
+/**
+ * How many of the items stand whole, one after another.
+ *
+ * @param {Reader} library
+ * @param {Uint8Array} bytes
+ * @param {number[]} counts
+ */
+function wholeItems(library, bytes, counts) {
+    const all = counts.reduce((sum, each) => sum + each, 0);
+    let [whole, most] = [0, Math.min(all, Math.floor((bytes.length - HEADER) / LEAST))];
+    while (whole < most) {
+        const middle = Math.ceil((whole + most) / 2);
+        if (library.brief(SERVICE, withItems(bytes, counts, middle)).startsWith(REFUSED)) most = middle - 1;
+        else whole = middle;
+    }
+    return whole;
+}
+
+/**
+ * A packet whose header says that it has so many items.
+ *
+ * @param {Uint8Array} bytes
+ * @param {number[]} counts
+ * @param {number} items
+ */
+function withItems(bytes, counts, items) {
+    const made = bytes.slice();
+    let left = items;
+    for (const [section, count] of counts.entries()) {
+        const kept = Math.min(count, left);
+        made.set([kept >> 8, kept & 255], ID_AND_WORD + 2 * section);
+        left -= kept;
+    }
+    return made;
+}
+
+/**
+ * @param {Reader} library
+ * @param {Uint8Array} bytes
+ * @param {number[]} counts
+ * @param {number} items
+ * @returns {import('./objects.js').Told}
+ */
+function read(library, bytes, counts, items) {
+    return JSON.parse(library.json(SERVICE, withItems(bytes, counts, items)));
+}
+
+/**
+ * The name of the first question or record, and its type, as far as they stand: both stand alike in a question, as which it is read. What is
+ * missing of the type and class is filled up.
+ *
+ * @param {Reader} library
+ * @param {Uint8Array} bytes
+ * @returns {import('./objects.js').Told}
+ */
+function aboutOf(library, bytes) {
+    let end = HEADER;
+    while (end < bytes.length && bytes[end]) end += 1 + bytes[end];
+    const missing = end < bytes.length ? Math.max(end + 1 + TYPE_AND_CLASS - bytes.length, 0) : 0;
+    const made = Uint8Array.from([...bytes.subarray(0, ID_AND_WORD), ...ONE_QUESTION, ...bytes.subarray(HEADER), ...new Array(missing).fill(0)]);
+    const { questions } = /** @type {import('./objects.js').Told} */ (JSON.parse(library.json(SERVICE, made)));
+    if (!questions?.length) return {};
+    const [{ name, type }] = questions;
+    return { about: missing > CLASS ? { name } : { name, type } };
+}
+
+/**
+ * The names that stand of a payload of port 138, and the key and the kind of a datagram.
+ *
+ * @param {Reader} library
+ * @param {Uint8Array} bytes
+ * @returns {import('./objects.js').Told}
+ */
+export function datagramFront(library, bytes) {
+    const front = frontIn(library, bytes);
+    const kind = front && KINDS.get(front.type);
+    if (!front || !kind) return {};
+    const key = `${front.address}:${front.port}/${front.identifier.toString(16).padStart(4, '0')}`;
+    return { kind, key, ...(front.source !== null && { source: front.source }), ...(front.destination !== null && { destination: front.destination }) };
+}
+
+/**
+ * @param {Reader} library
+ * @param {Uint8Array} bytes
+ */
+function frontIn(library, bytes) {
+    try {
+        return library.readDatagramFront(bytes);
+    } catch (error) {
+        // Not even its header stands.
+        if (typeof Reflect.get(Object(error), 'status') === 'string') return null;
+        throw error;
+    }
+}

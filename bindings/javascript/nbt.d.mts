@@ -1,4 +1,4 @@
-/** What a call takes as bytes. It is copied before the call begins. */
+/** What a call takes as bytes. It is copied before the call begins, and one that other threads share, once: what is answered is of that copy. */
 export type Bytes = ArrayBufferView | ArrayBuffer | SharedArrayBuffer;
 /** An address, as '10.0.0.5' or as a number: 0x0a000005. */
 export type Address = string | number;

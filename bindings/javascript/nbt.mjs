@@ -64,16 +64,15 @@ function textOf(value, what) {
 
 const encoded = (value, what) => utf8.encode(textOf(value, what));
 
-/** The bytes of a buffer, from an offset on. */
+/** The bytes of a buffer, from an offset on: a copy, where other threads may change them while they are judged. */
 function bytesOf(value, what, offset = 0) {
-    const isView = ArrayBuffer.isView(value);
-    if (!isView && !/^\[object (Shared)?ArrayBuffer\]$/.test(Object.prototype.toString.call(value))) {
-        throw new TypeError(`${what}: a Uint8Array or another buffer is wanted`);
-    }
+    const isView = ArrayBuffer.isView(value), kind = Object.prototype.toString.call(isView ? value.buffer : value);
+    if (!/^\[object (Shared)?ArrayBuffer\]$/.test(kind)) throw new TypeError(`${what}: a Uint8Array or another buffer is wanted`);
     const bytes = isView ? new Uint8Array(value.buffer, value.byteOffset, value.byteLength) : new Uint8Array(value);
-    if (offset === 0) return bytes;
-    if (Number.isInteger(offset) && offset >= 0 && offset <= bytes.length) return bytes.subarray(offset);
-    throw new RangeError(`offset: ${String(offset)} lies outside of ${bytes.length} bytes`);
+    if (!Number.isInteger(offset) || offset < 0 || offset > bytes.length) {
+        throw new RangeError(`offset: ${String(offset)} lies outside of ${bytes.length} bytes`);
+    }
+    return kind === '[object ArrayBuffer]' ? bytes.subarray(offset) : bytes.slice(offset);
 }
 
 /** A station's names with a space between two. A zero byte, which no name has, stands for a space, and for an empty text. */

@@ -567,3 +567,57 @@ test('memory: its limit, and requests that no memory has', async () => {
     heap.heap_give_back(taken[1]);
     assert.ok(heap.heap_take(900n) > 0n);
 });
+
+/** A module that does something after each call of a name. */
+async function interrupted(name, then) {
+    const { instantiate } = WebAssembly;
+    WebAssembly.instantiate = async (...words) => {
+        const { exports } = (await instantiate(...words)).instance;
+        const call = (...given) => {
+            const status = exports[name](...given);
+            then();
+            return status;
+        };
+        return { instance: { exports: { ...exports, [name]: call } } };
+    };
+    try {
+        return await load({ module: wasm });
+    } finally {
+        WebAssembly.instantiate = instantiate;
+    }
+}
+
+test('memory that other threads change is copied before it is judged', async () => {
+    const [datagram, otherDatagram] = [1, 2].map((identifier) => nbt.writeDatagram({ ...sent, identifier, most: 512, source: `NODE${identifier}<00>` })[0]);
+    const call = nbt.writeSession(0x81, Uint8Array.of(...nbt.spell('FRED<20>'), ...nbt.spell('JOE<00>')));
+    const message = Uint8Array.of(0, 0, 0, 68, ...new Uint8Array(68));
+    for (const [name, read, before, after] of [
+        ['nbt_datagram_read', (it, buffer) => it.readDatagram(buffer), datagram, otherDatagram],
+        ['nbt_datagram_front', (it, buffer) => it.readDatagramFront(buffer), datagram, otherDatagram],
+        ['nbt_session_read', (it, buffer) => it.readSession(buffer), call, message],
+    ]) {
+        const buffer = new SharedArrayBuffer(before.length), view = new Uint8Array(buffer);
+        const other = await interrupted(name, () => view.set(after));
+        for (const given of [buffer, view, new DataView(buffer)]) {
+            view.set(before);
+            assert.deepEqual(read(other, given), read(nbt, before));
+        }
+    }
+});
+
+test('package.json says which node runs it without a flag', async () => {
+    const { engines } = JSON.parse(readFileSync(new URL('../package.json', import.meta.url), 'utf8'));
+    const first = readFileSync(`${folder}/nbt.mjs`, 'utf8').match(/ node (\d+) or deno/)[1];
+    assert.equal(engines.node, `>=${first}`);
+});
+
+test('the types have each call, and each that docs/CALLING.md shows', () => {
+    const types = readFileSync(new URL('../nbt.d.mts', import.meta.url), 'utf8');
+    const page = readFileSync(new URL('../../../docs/CALLING.md', import.meta.url), 'utf8').match(/^## From JavaScript\n(.*?)^## /ms)[1];
+    const shown = Array.from(page.matchAll(/`([A-Za-z]+)`/g), ([, name]) => name).filter((name) => !['load', 'NbtError', 'status', 'at', 'limit'].includes(name));
+    assert.ok(shown.length >= 20);
+    for (const name of [...Object.keys(nbt), ...shown]) {
+        assert.ok(name in nbt, `${name} is a call`);
+        assert.match(types, new RegExp(`^    (readonly )?${name}(\\(|:)`, 'm'));
+    }
+});

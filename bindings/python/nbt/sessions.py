@@ -14,6 +14,10 @@ from .library import BYTES, Reader, behind, writer
 from .numbers import named, number, whole_number
 from .statuses import MoreNeeded, NbtError
 
+# TYPE, FLAGS and LENGTH; and with them as many bytes as LENGTH can say.
+HEADER = struct.Struct('>BBH')
+LONGEST = HEADER.size + 0x1ffff
+
 
 class SessionType(enum.IntEnum):
     """TYPE."""
@@ -46,11 +50,9 @@ class Retarget(ctypes.Structure):
     _fields_ = [('address', ctypes.c_uint32), ('port', ctypes.c_uint16)]
 
 
-READ = Reader('nbt_session_read', Found, 'body')
+READ = Reader('nbt_session_read', Found, 'body', longest=LONGEST)
 NAMES, RETARGET = Reader('nbt_session_names', Names), Reader('nbt_session_retarget', Retarget)
 WRITE = writer('nbt_session_write', ctypes.c_uint8, *BYTES)
-# TYPE, FLAGS and LENGTH.
-HEADER = struct.Struct('>BBH')
 
 
 @dataclass(frozen=True)

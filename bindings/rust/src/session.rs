@@ -7,7 +7,7 @@
 //! let mut bodies = Vec::new();
 //! for packet in &mut stream {
 //!     let packet = packet?;
-//!     bodies.push((packet.kind, packet.body));
+//!     bodies.push((packet.kind(), packet.body()));
 //! }
 //! assert_eq!(bodies, [(Kind::Message, &b"hello"[..]), (Kind::KeepAlive, b"")]);
 //! assert_eq!((stream.rest(), stream.missing()), (&b"\0\0\0\x05he"[..], 3));
@@ -71,20 +71,38 @@ impl fmt::Display for Kind {
     }
 }
 
-/// A packet of port 139, whose body is lent from what was read.
+/// A packet of port 139, whose body is lent from what was read. Nobody can give it another.
+///
+/// ```compile_fail
+/// fn other(packet: &mut nbt::session::Packet) {
+///     packet.body = b"";
+/// }
+/// ```
 #[derive(Clone, Copy, Debug, PartialEq, Eq, Hash)]
 pub struct Packet<'a> {
-    /// What it is.
-    pub kind: Kind,
-    /// What follows the four bytes of its header.
-    pub body: &'a [u8],
-    /// The bytes of the packet; what follows it isn't looked at.
-    pub used: usize,
-    /// All of them, from the header on.
+    kind: Kind,
+    body: &'a [u8],
+    used: usize,
+    /// All of its bytes, from the header on.
     whole: &'a [u8],
 }
 
 impl<'a> Packet<'a> {
+    /// What it is.
+    pub fn kind(&self) -> Kind {
+        self.kind
+    }
+
+    /// What follows the four bytes of its header.
+    pub fn body(&self) -> &'a [u8] {
+        self.body
+    }
+
+    /// The bytes of the packet; what follows it isn't looked at.
+    pub fn used(&self) -> usize {
+        self.used
+    }
+
     /// CALLED_NAME and CALLING_NAME, of a request.
     pub fn names(&self) -> Option<(Spelling<'a>, Spelling<'a>)> {
         let (mut found, mut at) = (FoundNames::EMPTY, 0);

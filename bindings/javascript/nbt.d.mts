@@ -78,6 +78,16 @@ export interface DatagramQueryToWrite {
     name: string;
 }
 
+/** The header at the front of what came over a connection to port 139, whether or not a packet stands there: RFC 1002 section 4.3.1. */
+export interface SessionFront {
+    /** TYPE, also one that no packet has. */
+    type: number;
+    /** FLAGS, all eight bits. */
+    flags: number;
+    /** How many bytes the body has: LENGTH, and 65,536 where the lowest bit of FLAGS is set. */
+    bodyLength: number;
+}
+
 /** A packet of the session service, port 139: RFC 1002 section 4.3. */
 export interface SessionPacket {
     type: number;
@@ -193,6 +203,8 @@ export interface Nbt {
     writeDatagramQuery(query: DatagramQueryToWrite): Uint8Array;
     /** NbtError: MORE where the packet isn't there whole. */
     readSession(payload: Bytes, offset?: number): SessionPacket;
+    /** The header at the front, also of what `readSession` refuses. NbtError: MORE where its four bytes aren't there. */
+    readSessionFront(payload: Bytes, offset?: number): SessionFront;
     writeSession(type: number, body?: Bytes): Uint8Array;
     request(kind: 'query' | 'nodeStatus' | 'registration' | 'refresh' | 'release', request: Request): Uint8Array;
     /** The spelling of the name of a server, which is RDATA of type NS: so many bytes of a payload of port 137, from a place on. Pointers in

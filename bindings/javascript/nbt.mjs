@@ -347,6 +347,11 @@ function libraryOf(calls) {
             return read;
         },
 
+        readSessionFront(payload, offset) {
+            calls.fill('nbt_session_front', [bytesOf(payload, 'payload', offset), FOUND, AT]);
+            return { type: calls.byte(16), flags: calls.byte(17), bodyLength: calls.number(24) };
+        },
+
         writeSession: (type, body = new Uint8Array()) => written('nbt_session_write', numberOf(type, 8, 'type'), bytesOf(body, 'body')),
 
         request(kind, { identifier, name, broadcast = false, timeToLive = 0, flags = 0, address = 0 }) {
@@ -380,7 +385,7 @@ const MEMORY64 = Uint8Array.of(0, 97, 115, 109, 1, 0, 0, 0, 5, 3, 1, 4, 1);
 const CALLS = [
     'heap_give_back', 'heap_limit', 'heap_take', 'nbt_brief', 'nbt_datagram_error', 'nbt_datagram_front', 'nbt_datagram_query',
     'nbt_datagram_read', 'nbt_datagram_write', 'nbt_json', 'nbt_name_spell', 'nbt_name_text', 'nbt_service_domain', 'nbt_service_request',
-    'nbt_service_response', 'nbt_session_names', 'nbt_session_read', 'nbt_session_retarget', 'nbt_session_write', 'nbt_show',
+    'nbt_service_response', 'nbt_session_front', 'nbt_session_names', 'nbt_session_read', 'nbt_session_retarget', 'nbt_session_write', 'nbt_show',
     'nbt_station_absorb', 'nbt_station_create', 'nbt_station_free', 'nbt_station_list', 'nbt_station_save', 'nbt_station_take',
     'nbt_station_tick', 'nbt_status_text', 'nbt_table_differ', 'nbt_table_json', 'nbt_table_list', 'nbt_table_merge', 'nbt_version',
 ];

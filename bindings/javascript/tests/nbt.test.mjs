@@ -164,6 +164,9 @@ test('session packets', () => {
     for (const [digits, address, port] of [['0a000007008b', '10.0.0.7', 139], ['ffffffffffff', '255.255.255.255', 65_535]]) {
         assert.deepEqual(nbt.readSession(nbt.writeSession(0x84, hex(digits))), { type: 0x84, body: hex(digits), used: 10, ...none, retarget: { address, port } });
     }
+    assert.deepEqual(nbt.readSessionFront(later, 1), { type: 0x81, flags: 0, bodyLength: body.length });
+    assert.deepEqual(nbt.readSessionFront(hex('7fff0203')), { type: 0x7f, flags: 0xff, bodyLength: 0x1_0203 });
+    assert.deepEqual(refused(() => nbt.readSessionFront(hex('00000005'), 2)), ['MORE', 2]);
     assert.deepEqual(refused(() => nbt.readSession(request.subarray(0, 40))), ['MORE', request.length - 40]);
     assert.deepEqual(refused(() => nbt.readSession(packet.subarray(0, 6))), ['MORE', 3]);
     assert.deepEqual(refused(() => nbt.readSession(new Uint8Array())), ['MORE', 4]);
@@ -595,6 +598,7 @@ test('memory that other threads change is copied before it is judged', async () 
         ['nbt_datagram_read', (it, buffer) => it.readDatagram(buffer), datagram, otherDatagram],
         ['nbt_datagram_front', (it, buffer) => it.readDatagramFront(buffer), datagram, otherDatagram],
         ['nbt_session_read', (it, buffer) => it.readSession(buffer), call, message],
+        ['nbt_session_front', (it, buffer) => it.readSessionFront(buffer), call, message],
     ]) {
         const buffer = new SharedArrayBuffer(before.length), view = new Uint8Array(buffer);
         const other = await interrupted(name, () => view.set(after));

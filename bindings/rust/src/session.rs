@@ -20,10 +20,11 @@ use std::iter::FusedIterator;
 use std::net::{Ipv4Addr, SocketAddrV4};
 
 use crate::calls::{
-    nbt_session_names, nbt_session_read, nbt_session_retarget, nbt_session_write, DONE, MORE,
+    nbt_session_front, nbt_session_names, nbt_session_read, nbt_session_retarget,
+    nbt_session_write, DONE, MORE,
 };
 use crate::room::written;
-use crate::structures::{FoundNames, FoundRetarget, FoundSession};
+use crate::structures::{FoundNames, FoundRetarget, FoundSession, FoundSessionFront};
 use crate::{Error, Result, Spelling};
 
 /// TYPE: what a packet is.
@@ -213,16 +214,16 @@ pub struct Front {
 /// assert_eq!(front.fault.map(|it| it.status()), Some(Status::BadLength));
 /// ```
 pub fn read_front(bytes: &[u8]) -> Front {
-    let header = match *bytes {
-        [packet_type, flags, high, low, ..] => Some(Header {
-            packet_type,
-            flags,
-            body_length: usize::from(flags & 1) << 16 | usize::from(high) << 8 | usize::from(low),
-        }),
-        _ => None,
+    let (mut found, mut at) = (FoundSessionFront::default(), 0);
+    // SAFETY: the bytes are a slice, and what is written lies apart from it.
+    let status = unsafe { nbt_session_front(bytes.as_ptr(), bytes.len(), &mut found, &mut at) };
+    let header = Header {
+        packet_type: found.kind,
+        flags: found.flags,
+        body_length: found.body_length,
     };
     Front {
-        header,
+        header: (status == DONE).then_some(header),
         fault: Packet::try_from(bytes).err(),
     }
 }

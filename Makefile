@@ -75,9 +75,10 @@ lib:
 	cd crates/nb_c && rt lib
 	tools/library crates/nb_c/out/libnb_c.a "$$LIBRARY" "$$PREFIX"
 
-# Build the library, and put it below PREFIX, with its header, the package for Python, which finds it there, and the crate for
-# Rust. The system's loader has to find it then: the last lines say how.
-install-lib: lib
+# Put the library below PREFIX, with its header, the package for Python, which finds it there, and the crate for Rust. It is built
+# first where it isn't in LIBRARY yet: after a change say make lib. The system's loader has to find it then: the last lines say how.
+install-lib:
+	@[ -f "$$LIBRARY/libnbt.a" ] && [ -f "$$LIBRARY/libnbt.so.0" ] || $(MAKE) lib
 	@tools/installation put library
 	@echo "Programs that link libnbt.so.0 start once the loader finds it: run ldconfig as root where it looks into $$PREFIX/lib,"
 	@echo "or link them with -Wl,-rpath,$$PREFIX/lib. docs/CALLING.md says more."

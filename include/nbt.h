@@ -355,6 +355,18 @@ struct nbt_session {
  * to 24, NBT_TRAILING_BYTES, judged in this order. No memory is taken. */
 uint32_t nbt_session_read(const uint8_t *bytes, size_t bytes_length, struct nbt_session *packet, size_t *at);
 
+/* The header of a packet of the session service: RFC 1002 section 4.3.1. */
+struct nbt_session_front {
+    uint8_t type;       /* TYPE, also one that no packet has */
+    uint8_t flags;      /* FLAGS, all eight bits */
+    size_t body_length; /* how many bytes the body has: LENGTH, and 65,536 where the lowest bit of FLAGS is set */
+};
+
+/* Reads the header at the front of what came over a connection to port 139, whether or not a packet stands there. What
+ * follows it isn't looked at.
+ * NBT_MORE for less than its four bytes. No memory is taken. */
+uint32_t nbt_session_front(const uint8_t *bytes, size_t bytes_length, struct nbt_session_front *front, size_t *at);
+
 /* The names of a session request: RFC 1002 section 4.3.2. */
 struct nbt_session_names {
     uint8_t called_length;  /* the bytes of the spelling of the name that is called, its last zero byte included */

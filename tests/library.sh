@@ -315,7 +315,7 @@ sys.stdout.write(nbt.list_table(bytes.fromhex(sys.stdin.read())))
 
 # The types of the package, and of calls that use them, by mypy's strict rules for the oldest Python that it is for.
 types() {
-    local each words=(--strict --python-version 3.9 --cache-dir "$room/mypy")
+    local each words=(--strict --python-version 3.10 --cache-dir "$room/mypy")
     for each in '-p nbt' tests/typed_calls.py; do
         (cd "$top/bindings/python" && MYPYPATH=. ended mypy "${words[@]}" $each) >"$room/log" 2>&1
         count $? "mypy --strict $each: $(head -n 3 "$room/log")"
@@ -341,7 +341,7 @@ station() {
 # Installed in another folder, and found by pkg-config.
 installed() {
     local each flags
-    make -s -C "$top" -o lib install-lib LIBRARY="$built" DESTDIR= PREFIX="$room/root" >"$room/log" 2>&1
+    make -s -C "$top" install-lib LIBRARY="$built" DESTDIR= PREFIX="$room/root" >"$room/log" 2>&1
     count $? "make install-lib: $(tail -n 1 "$room/log")"
     for each in '' --static; do
         flags=$(PKG_CONFIG_PATH=$room/root/lib/pkgconfig pkg-config --cflags --libs $each nbt 2>"$room/errors")
@@ -356,6 +356,10 @@ installed() {
     $CC -std=c11 -Wall -Wextra -Werror -o "$room/example" "$room/first.c" $flags >"$room/log" 2>&1
     count $? "the program in C of docs/CALLING.md: $(head -n 1 "$room/log")"
     LD_LIBRARY_PATH=$room/root/lib ended "$room/example" | same "$(block text)" 'the program in C of docs/CALLING.md'
+    mkdir "$room/page" && cp "$room/first.c" "$room/page"
+    commands 1 "$room/page" | same "$(block text)" 'the commands for C of docs/CALLING.md'
+    block python >"$room/page/first.py"
+    commands 2 "$room/page" | same "$(block text 2)" 'the command for Python of docs/CALLING.md'
     for each in 1 2 3 4; do
         block python $each >"$room/first.py"
         PYTHONPATH=$room/root/share/nbt/python PYTHONDONTWRITEBYTECODE=1 ended python3 "$room/first.py" 2>&1 \
@@ -364,12 +368,21 @@ installed() {
     installed_below "$room/it's a place & more"
 }
 
+# commands NUMBER FOLDER: a block of commands of docs/CALLING.md, over what is installed below $room/root, where no variable leads.
+commands() {
+    (
+        cd "$2" || exit
+        unset LD_LIBRARY_PATH PYTHONPATH NBT_LIBRARY NBT_STATIC PKG_CONFIG_PATH
+        block sh "$1" | sed "s,/usr/local,$room/root,g" | PYTHONDONTWRITEBYTECODE=1 CARGO_NET_OFFLINE=true "$timeout" -k 5 600 sh -e
+    ) 2>"$room/errors"
+}
+
 # installed_below PREFIX: the words of pkg-config lead a shell there, and a program that is linked with -rpath starts by itself; so
 # does the package for Python. uninstall-lib leaves nothing of it.
 installed_below() {
     local flags
     block python >"$room/first.py"
-    make -s -C "$top" -o lib install-lib LIBRARY="$built" DESTDIR= PREFIX="$1" >"$room/log" 2>&1
+    make -s -C "$top" install-lib LIBRARY="$built" DESTDIR= PREFIX="$1" >"$room/log" 2>&1
     count $? "make install-lib PREFIX=$1: $(tail -n 1 "$room/log")"
     flags=$(PKG_CONFIG_PATH=$1/lib/pkgconfig pkg-config --cflags --libs nbt)
     eval "$CC -std=c11 -o \"\$room/example\" \"\$room/first.c\" $flags \"-Wl,-rpath,\$1/lib\"" >"$room/log" 2>&1
@@ -430,6 +443,8 @@ rust() {
     LD_LIBRARY_PATH=$room/root/lib reads "$room/values" show_values.rs ended "$room/target/release/show_values"
     block rust >"$room/first.rs"
     user_program first "$room/first.rs" </dev/null | same "$(block text 6)" 'the program in Rust of docs/CALLING.md'
+    CARGO_TARGET_DIR=$room/commands commands 3 "$room/first" </dev/null \
+        | same "$(printf '%s\n' "$(block text 6)" "$(block text 6)")" 'the commands for Rust of docs/CALLING.md'
     block rust 2 >"$room/as_json.rs"
     user_program as_json "$room/as_json.rs" 'nbt.features = ["serde"]' 'serde_json = "1"' </dev/null \
         | same "$(block text 7)" 'the program in Rust of docs/CALLING.md with serde'

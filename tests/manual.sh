@@ -72,7 +72,7 @@ tool_words() {
 installing() {
     (
         PATH=$room/no_rt
-        "$(command -v make)" -s -C "$here/.." -o lib "$1" PROGRAM="$(realpath "$program")" LIBRARY="$room/lib" \
+        "$(command -v make)" -s -C "$here/.." "$1" PROGRAM="$(realpath "$program")" LIBRARY="$room/lib" \
             DESTDIR="$room/root" PREFIX="${2:-/usr}"
     ) >"$room/output" 2>&1
     count $? "make $1 PREFIX=${2:-/usr}, without rt: $(cat "$room/output")"
@@ -155,7 +155,7 @@ apart() {
 refused_prefix() {
     rm -rf "$room/root"
     mkdir "$room/root"
-    (make -s -C "$here/.." -o lib install-lib LIBRARY="$room/lib" DESTDIR="$room/root" PREFIX="$1") >"$room/output" 2>&1
+    (make -s -C "$here/.." install-lib LIBRARY="$room/lib" DESTDIR="$room/root" PREFIX="$1") >"$room/output" 2>&1
     [ $? -eq 2 ] && grep -q '^tools/pkgconfig: PREFIX is' "$room/output" && [ -z "$(ls "$room/root")" ]
     count $? "make install-lib PREFIX=$1: $(cat "$room/output")"
 }

@@ -1,4 +1,4 @@
-/** What a call takes as bytes. It is copied before the call begins. */
+/** What a call takes as bytes. It is copied before the call begins, and one that other threads share, once: what is answered is of that copy. */
 export type Bytes = ArrayBufferView | ArrayBuffer | SharedArrayBuffer;
 /** An address, as '10.0.0.5' or as a number: 0x0a000005. */
 export type Address = string | number;
@@ -76,6 +76,16 @@ export interface DatagramQueryToWrite {
     /** 138 without it. */
     port?: number;
     name: string;
+}
+
+/** The header at the front of what came over a connection to port 139, whether or not a packet stands there: RFC 1002 section 4.3.1. */
+export interface SessionFront {
+    /** TYPE, also one that no packet has. */
+    type: number;
+    /** FLAGS, all eight bits. */
+    flags: number;
+    /** How many bytes the body has: LENGTH, and 65,536 where the lowest bit of FLAGS is set. */
+    bodyLength: number;
 }
 
 /** A packet of the session service, port 139: RFC 1002 section 4.3. */
@@ -193,6 +203,8 @@ export interface Nbt {
     writeDatagramQuery(query: DatagramQueryToWrite): Uint8Array;
     /** NbtError: MORE where the packet isn't there whole. */
     readSession(payload: Bytes, offset?: number): SessionPacket;
+    /** The header at the front, also of what `readSession` refuses. NbtError: MORE where its four bytes aren't there. */
+    readSessionFront(payload: Bytes, offset?: number): SessionFront;
     writeSession(type: number, body?: Bytes): Uint8Array;
     request(kind: 'query' | 'nodeStatus' | 'registration' | 'refresh' | 'release', request: Request): Uint8Array;
     /** The spelling of the name of a server, which is RDATA of type NS: so many bytes of a payload of port 137, from a place on. Pointers in

@@ -64,16 +64,15 @@ function textOf(value, what) {
 
 const encoded = (value, what) => utf8.encode(textOf(value, what));
 
-/** The bytes of a buffer, from an offset on. */
+/** The bytes of a buffer, from an offset on: a copy, where other threads may change them while they are judged. */
 function bytesOf(value, what, offset = 0) {
-    const isView = ArrayBuffer.isView(value);
-    if (!isView && !/^\[object (Shared)?ArrayBuffer\]$/.test(Object.prototype.toString.call(value))) {
-        throw new TypeError(`${what}: a Uint8Array or another buffer is wanted`);
-    }
+    const isView = ArrayBuffer.isView(value), kind = Object.prototype.toString.call(isView ? value.buffer : value);
+    if (!/^\[object (Shared)?ArrayBuffer\]$/.test(kind)) throw new TypeError(`${what}: a Uint8Array or another buffer is wanted`);
     const bytes = isView ? new Uint8Array(value.buffer, value.byteOffset, value.byteLength) : new Uint8Array(value);
-    if (offset === 0) return bytes;
-    if (Number.isInteger(offset) && offset >= 0 && offset <= bytes.length) return bytes.subarray(offset);
-    throw new RangeError(`offset: ${String(offset)} lies outside of ${bytes.length} bytes`);
+    if (!Number.isInteger(offset) || offset < 0 || offset > bytes.length) {
+        throw new RangeError(`offset: ${String(offset)} lies outside of ${bytes.length} bytes`);
+    }
+    return kind === '[object ArrayBuffer]' ? bytes.subarray(offset) : bytes.slice(offset);
 }
 
 /** A station's names with a space between two. A zero byte, which no name has, stands for a space, and for an empty text. */
@@ -348,6 +347,11 @@ function libraryOf(calls) {
             return read;
         },
 
+        readSessionFront(payload, offset) {
+            calls.fill('nbt_session_front', [bytesOf(payload, 'payload', offset), FOUND, AT]);
+            return { type: calls.byte(16), flags: calls.byte(17), bodyLength: calls.number(24) };
+        },
+
         writeSession: (type, body = new Uint8Array()) => written('nbt_session_write', numberOf(type, 8, 'type'), bytesOf(body, 'body')),
 
         request(kind, { identifier, name, broadcast = false, timeToLive = 0, flags = 0, address = 0 }) {
@@ -381,7 +385,7 @@ const MEMORY64 = Uint8Array.of(0, 97, 115, 109, 1, 0, 0, 0, 5, 3, 1, 4, 1);
 const CALLS = [
     'heap_give_back', 'heap_limit', 'heap_take', 'nbt_brief', 'nbt_datagram_error', 'nbt_datagram_front', 'nbt_datagram_query',
     'nbt_datagram_read', 'nbt_datagram_write', 'nbt_json', 'nbt_name_spell', 'nbt_name_text', 'nbt_service_domain', 'nbt_service_request',
-    'nbt_service_response', 'nbt_session_names', 'nbt_session_read', 'nbt_session_retarget', 'nbt_session_write', 'nbt_show',
+    'nbt_service_response', 'nbt_session_front', 'nbt_session_names', 'nbt_session_read', 'nbt_session_retarget', 'nbt_session_write', 'nbt_show',
     'nbt_station_absorb', 'nbt_station_create', 'nbt_station_free', 'nbt_station_list', 'nbt_station_save', 'nbt_station_take',
     'nbt_station_tick', 'nbt_status_text', 'nbt_table_differ', 'nbt_table_json', 'nbt_table_list', 'nbt_table_merge', 'nbt_version',
 ];

@@ -106,12 +106,14 @@ static void reads_others(void) {
     struct nbt_datagram datagram;
     struct nbt_datagram_front front;
     struct nbt_session session;
+    struct nbt_session_front header;
     struct nbt_session_names names;
     struct nbt_session_retarget retarget;
     nbt_datagram_read(payload, payload_length, &datagram, &at);
     nbt_datagram_front(payload, payload_length, &front, &at);
     if (nbt_session_read(payload, payload_length, &session, &at) == NBT_DONE)
         nbt_session_write(session.type, payload + session.body, session.body_length, text, sizeof text, &used, &at);
+    nbt_session_front(payload, payload_length, &header, &at);
     nbt_session_names(payload, payload_length, &names, &at);
     nbt_session_retarget(payload, payload_length, &retarget, &at);
 }

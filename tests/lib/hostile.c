@@ -35,6 +35,7 @@ READS(service_read)
 READS(datagram_read)
 READS(datagram_front)
 READS(session_read)
+READS(session_front)
 READS(session_names)
 READS(session_retarget)
 
@@ -188,6 +189,7 @@ static void of_138(struct bytes payload) {
 
 static void of_139(struct bytes payload) {
     FILL_IN(session_read, nbt_session, .first = payload);
+    FILL_IN(session_front, nbt_session_front, .first = payload);
     FILL_IN(session_names, nbt_session_names, .first = payload);
     FILL_IN(session_retarget, nbt_session_retarget, .first = payload);
     told(payload);

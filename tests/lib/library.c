@@ -485,6 +485,24 @@ static void session_parts(const uint8_t *payload, size_t length, uint32_t whole,
     }
 }
 
+/* The header that stands at the front of any four bytes, and its numbers as a packet has them that stands there. */
+static void session_front(const uint8_t *payload, size_t length, const struct nbt_session *read)
+{
+    struct nbt_session_front front;
+    size_t at = 88;
+    uint32_t status;
+    memset(&front, FILL, sizeof front);
+    status = nbt_session_front(payload, length, &front, &at);
+    calls += 1;
+    if (length < 4) {
+        expect(status == NBT_MORE && at == 4 - length && is_filled((const uint8_t *)&front, sizeof front), "nbt_session_front: no header");
+        return;
+    }
+    expect(status == NBT_DONE && at == 88 && front.type == payload[0] && front.flags == payload[1], "nbt_session_front: the type and the flags");
+    expect(front.body_length == ((size_t)(payload[1] & 1) << 16 | (size_t)payload[2] << 8 | payload[3]), "nbt_session_front: the length");
+    expect(read == NULL || (front.type == read->type && front.body_length == read->body_length), "nbt_session_front: a packet's header");
+}
+
 static void session(const uint8_t *payload, size_t length)
 {
     struct nbt_session read;
@@ -495,6 +513,7 @@ static void session(const uint8_t *payload, size_t length)
     status = nbt_session_read(payload, length, &read, &at);
     calls += 1;
     session_parts(payload, length, status, at, &read);
+    session_front(payload, length, status == NBT_DONE ? &read : NULL);
     if (status != NBT_DONE) {
         expect(is_filled((const uint8_t *)&read, sizeof read), "nbt_session_read: a packet is filled in though nothing is done");
         return;
@@ -768,6 +787,7 @@ static void nowhere(void)
     struct nbt_datagram of_138;
     struct nbt_datagram_front front;
     struct nbt_session of_139;
+    struct nbt_session_front header;
     struct nbt_session_names both;
     struct nbt_session_retarget retarget;
     struct nbt_taken taken;
@@ -793,6 +813,7 @@ static void nowhere(void)
     expect(nbt_datagram_read(NULL, 0, &of_138, &at) == NBT_TRUNCATED && at == 0, "nbt_datagram_read: null");
     expect(nbt_datagram_front(NULL, 0, &front, &at) == NBT_TRUNCATED && at == 0, "nbt_datagram_front: null");
     expect(nbt_session_read(NULL, 0, &of_139, &at) == NBT_MORE && at == 4, "nbt_session_read: null");
+    expect(nbt_session_front(NULL, 0, &header, &at) == NBT_MORE && at == 4, "nbt_session_front: null");
     expect(nbt_session_names(NULL, 0, &both, &at) == NBT_MORE && at == 4, "nbt_session_names: null");
     expect(nbt_session_retarget(NULL, 0, &retarget, &at) == NBT_MORE && at == 4, "nbt_session_retarget: null");
     do

@@ -100,6 +100,8 @@ debian() {
     each=$fresh/usr/share/doc/python3-nbt/README.md
     block python "$each" >"$fresh/packages/first.py"
     ended chroot "$fresh" python3 /packages/first.py 2>&1 | same "$(block text "$each")" 'python3-nbt'
+    printf 'import importlib.metadata, nbt\nprint(importlib.metadata.version("nbt") == nbt.__version__)\n' >"$fresh/packages/version.py"
+    ended chroot "$fresh" python3 /packages/version.py 2>&1 | same True "the version in python3-nbt's metadata"
     ended "$program" build group 10.0.0.5:138/0001 'JOE<00>' 'FRED<20>' 68656c6c6f 4 | ended "$program" save >"$fresh/packages/table"
     "$timeout" -s TERM 120 chroot "$fresh" nbt-station --bind 127.0.0.1:0 --join /packages/table 'FRED<20>' >"$room/delivered" 2>"$room/log" &
     while [ ! -s "$room/delivered" ] && kill -0 $! 2>/dev/null; do sleep 0.1; done

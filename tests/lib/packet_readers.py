@@ -2,8 +2,8 @@
 """Whether the bindings leave the bytes of packets to the library, whose readers are proved: none of their sources has what a reader of
 its own would have, a mask of pointers, bytes that are put together to a number, or bytes that are unpacked.
 
-Usage: tests/lib/packet_readers.py, whose last line is 'N passed, M failed'. A case is a source of bindings/, or a function that may
-read bytes that are no packet's, which has to read some.
+Usage: tests/lib/packet_readers.py, whose last line is 'N passed, M failed'. A case is a source of bindings/, a function that may
+read bytes that are no packet's, which has to read some, or a line of a reader, which has to be found.
 """
 import re
 import sys
@@ -23,16 +23,18 @@ FUNCTION = {
     '.mjs': re.compile(r'(?:export )?(?:async )?function (\w+)| {4}(\w+)\(| {8}(\w+)[(:]'),
 }
 STRUCTURE, WRITTEN = 'a structure that a call filled in', 'what a call wrote, whose form nbt.h has'
+# Lines of readers that were here once, or could be.
+READERS = ("type, flags, low = HEADER.unpack(ctypes.string_at(front, 4))", 'int.from_bytes(data[2:4], "big")', 'if length & 0xc0 == 0xc0:',
+           'usize::from(flags & 1) << 16 | usize::from(low)', 'u16::from_be_bytes([high, low])', 'bytes[2] * 256 + bytes[3]',
+           'view.getUint16(2)')
 # Functions that read other bytes.
 MAY = {
     'python/nbt/service_packets.py': {'read_at': STRUCTURE, 'read_items': STRUCTURE},
     'python/nbt/rdata.py': {'parts': STRUCTURE},
     'python/nbt/datagrams.py': {'pieces': WRITTEN},
     'python/nbt/stations.py': {'deliveries': WRITTEN},
-    'python/nbt/sessions.py': {'header_at': 'the four bytes of a header, of which no call tells unless a packet stands there'},
     'rust/src/datagram.rs': {'next': WRITTEN},
     'rust/src/station.rs': {'next': WRITTEN},
-    'rust/src/session.rs': {'read_front': 'as of sessions.py'},
     'javascript/nbt.mjs': {'byte': STRUCTURE, 'word': STRUCTURE, 'long': STRUCTURE, 'free': STRUCTURE, 'deliveries': WRITTEN,
                            'writeDatagram': WRITTEN, 'addressOf': 'an address that is a text'},
 }
@@ -59,6 +61,8 @@ def cases():
         yield not others, f'bindings/{name} reads bytes by itself: {"; ".join(others)}'
         for function, what in may.items():
             yield function in found, f'bindings/{name}: {function} reads nothing any more ({what}): tests/lib/packet_readers.py'
+    for line in READERS:
+        yield READS.search(line), f'a reader goes unseen: {line}'
     lost = set(MAY) - {str(path.relative_to(BINDINGS)) for path in paths}
     yield not lost, f'no source: {sorted(lost)}'
 

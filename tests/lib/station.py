@@ -20,6 +20,8 @@ from station_runs import (ANN, EMPTY, GROUP, PATIENCE, SENDER, TRIES, UNIQUE, Le
                           replayed, station, whole_tables)
 from wire import FRED, JOE
 
+# How many payloads wait in the socket of a station that stands still.
+WAITING = 200
 
 # ---- the cases
 
@@ -43,14 +45,28 @@ def any_order_and_repeats():
 
 
 def saved_at_its_end():
-    for number in signal.SIGTERM, signal.SIGINT:
-        with station('--save', 'table') as each:
+    for number in signal.SIGTERM, signal.SIGINT, signal.SIGHUP:
+        with station('--save', 'table', '--pid', 'pid') as each:
             each.send(*pieces(1, b'hello')[:1])
             each.reached()
             expect((0, ''), each.ended(number))
             lines = nbt('list', text=whole_tables(each.saved(), 2)).splitlines()
             expect('10.0.0.5:138/0001 whole group JOE<00> FRED<20> 68656c6c6f', lines[0])
             expect(['out', 'table'], sorted(os.listdir(each.folder)))
+
+
+def read_at_its_end():
+    """What waits in the socket when a signal ends the station is taken, and its senders are answered."""
+    for number in signal.SIGTERM, signal.SIGINT, signal.SIGHUP:
+        with station('--save', 'table') as each:
+            each.process.send_signal(signal.SIGSTOP)
+            each.send(*(packet(GROUP, identifier, FRED, b'hi') for identifier in range(WAITING)), packet(UNIQUE, WAITING, ANN, b''))
+            each.process.send_signal(number)
+            each.process.send_signal(signal.SIGCONT)
+            expect((0, ''), (each.process.wait(PATIENCE), each.process.stderr.read().decode()))
+            expect(WAITING, len(each.lines(WAITING)))
+            expect(WAITING, int.from_bytes(each.answer()[2:4], 'big'))
+            expect(WAITING + 1, len(nbt('list', text=each.saved()).splitlines()))
 
 
 def saved_again():
@@ -190,7 +206,7 @@ def failing_devices():
         whole_tables(each.saved(), 1)
 
 
-CASES = (any_order_and_repeats, saved_at_its_end, saved_again, no_file, dropped_by_the_clock, error_packets, json_lines,
+CASES = (any_order_and_repeats, saved_at_its_end, read_at_its_end, saved_again, no_file, dropped_by_the_clock, error_packets, json_lines,
          any_payloads, limits, joined_tables, refused_beginnings, failing_devices, *station_system.CASES)
 
 

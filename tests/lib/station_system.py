@@ -140,7 +140,7 @@ def other_files_at_pid():
 
 def unread_output():
     """While nobody reads its lines, a station takes payloads, saves its table and ends."""
-    for number in signal.SIGTERM, signal.SIGINT:
+    for number in signal.SIGTERM, signal.SIGINT, signal.SIGHUP:
         reader, writer = os.pipe()
         try:
             with station('--save', 'table', out=writer) as each:
@@ -226,7 +226,7 @@ def interrupted_before_it_listens():
     """A signal while it begins, or waits for a table to join, ends it without a traceback."""
     with tempfile.TemporaryDirectory() as folder:
         os.mkfifo(os.path.join(folder, 'pipe'))
-        for number, words in (signal.SIGINT, 'interrupted'), (signal.SIGTERM, 'ended by a signal'):
+        for number, words in (signal.SIGINT, 'interrupted'), (signal.SIGTERM, 'ended by a signal'), (signal.SIGHUP, 'ended by a signal'):
             for moment in 0, 0.02, 0.05, 0.1, 0.2, 1:
                 each = subprocess.Popen([TOOL, *OWN, '--join', 'pipe', '--save', 'table', '--pid', 'pid', 'FRED<20>'], cwd=folder,
                                         stdout=subprocess.DEVNULL, stderr=subprocess.PIPE, text=True)
@@ -240,6 +240,16 @@ def interrupted_before_it_listens():
                 if moment == 1:
                     expect(128 + number, each.returncode)
                 expect(['pipe'], os.listdir(folder))
+
+
+def hangup_that_is_ignored():
+    """A station that nohup starts goes on at SIGHUP."""
+    with station('--save', 'table', preexec_fn=lambda: signal.signal(signal.SIGHUP, signal.SIG_IGN)) as each:
+        each.process.send_signal(signal.SIGHUP)
+        each.send(*pieces(1, b'hello'))
+        each.reached()
+        expect((0, ''), each.ended())
+        expect(1, len(each.lines(1)))
 
 
 # ---- networks
@@ -300,6 +310,6 @@ def within_a_network():
 
 
 CASES = (other_files_at_save, modes_of_saved_tables, file_put_there_meanwhile, pid_files, other_files_at_pid, unread_output, output_read_late,
-         unread_errors, closed_streams, interrupted_before_it_listens, broadcasts_heard, broadcasts_of_a_network)
+         unread_errors, closed_streams, interrupted_before_it_listens, hangup_that_is_ignored, broadcasts_heard, broadcasts_of_a_network)
 # Run by broadcasts_of_a_network, elsewhere.
 WITHIN = (within_a_network,)

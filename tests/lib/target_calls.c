@@ -117,6 +117,7 @@ static void packets(uint32_t port)
     struct nbt_datagram datagram;
     struct nbt_datagram_front front;
     struct nbt_session session;
+    struct nbt_session_front header;
     uint32_t status;
     WRITE("show", show(port | 0xabcd0000, payload, length, into, room, &used));
     memset(&datagram, FILL, sizeof datagram);
@@ -141,6 +142,12 @@ static void packets(uint32_t port)
         fprintf(out, "%lu session %u %zu %zu %zu\n", number, session.type, session.body, session.body_length, session.used);
     else
         said("session_read", status, 0);
+    used = at = UNSAID;
+    status = nbt_session_front(payload, length, &header, &at);
+    if (status == NBT_DONE)
+        fprintf(out, "%lu session_front %u %u %zu\n", number, header.type, header.flags, header.body_length);
+    else
+        said("session_front", status, 0);
     if (length > 4)
         WRITE("session_write", nbt_session_write(payload[0], payload + 4, length - 4, into, room, &used, &at));
     WRITE("service_domain", nbt_service_domain(payload, length, 12, number % 2 == 0 ? 34 : number % 50, into, room, &used, &at));

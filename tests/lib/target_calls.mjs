@@ -118,6 +118,10 @@ function packets(port, length) {
     status = nbt.nbt_session_read(...given, big(found), big(at)) >>> 0;
     if (status === DONE) fields('session', byte(0), ...sizes(8, 16, 24));
     else said('session_read', status, 0);
+    setSize(used, UNSAID), setSize(at, UNSAID);
+    status = nbt.nbt_session_front(...given, big(found), big(at)) >>> 0;
+    if (status === DONE) fields('session_front', byte(0), byte(1), ...sizes(8));
+    else said('session_front', status, 0);
     if (length > 4) write('session_write', 'nbt_session_write', [memory[payload], big(payload + 4), big(length - 4)]);
     write('service_domain', 'nbt_service_domain', [...given, 12n, big(number % 2 === 0 ? 34 : number % 50)]);
     write('datagram_write', 'nbt_datagram_write', [

@@ -1,5 +1,6 @@
 """The sockets of a station: one at its address, and where that is an interface's, one at each address of broadcasts."""
 import array
+import contextlib
 import fcntl
 import ipaddress
 import socket
@@ -14,6 +15,10 @@ ELSEWHERE = ('192.0.2.1', 138)
 EVERYWHERE, LIMITED = '0.0.0.0', '255.255.255.255'
 # netdevice(7): the requests, how long a struct ifreq is, and how many interfaces there may be.
 SIOCGIFCONF, SIOCGIFNETMASK, IFREQ, MOST = 0x8912, 0x891b, 40, 1_024
+# socket(7), bpf(2): a filter of one instruction, `ret 0`, by which no packet comes to a socket.
+SO_ATTACH_FILTER, NOTHING = 26, array.array('B', struct.pack('HBBI', 0x06, 0, 0, 0))
+# No payload has as many bytes.
+LONGEST = 65_536
 
 
 def opened(host, port, device=None):
@@ -30,6 +35,14 @@ def opened(host, port, device=None):
     except OSError as error:
         sock.close()
         raise Stopped(3, f'{host}:{port}: {error.strerror}') from error
+
+
+def waiting(sock):
+    """What waits in a socket, to which nothing more comes from here on: each payload, and its sender."""
+    sock.setsockopt(socket.SOL_SOCKET, SO_ATTACH_FILTER, struct.pack('HP', 1, NOTHING.buffer_info()[0]))
+    with contextlib.suppress(BlockingIOError):
+        while True:
+            yield sock.recvfrom(LONGEST)
 
 
 def own_address(sock):

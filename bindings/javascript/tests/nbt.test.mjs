@@ -164,6 +164,9 @@ test('session packets', () => {
     for (const [digits, address, port] of [['0a000007008b', '10.0.0.7', 139], ['ffffffffffff', '255.255.255.255', 65_535]]) {
         assert.deepEqual(nbt.readSession(nbt.writeSession(0x84, hex(digits))), { type: 0x84, body: hex(digits), used: 10, ...none, retarget: { address, port } });
     }
+    assert.deepEqual(nbt.readSessionFront(later, 1), { type: 0x81, flags: 0, bodyLength: body.length });
+    assert.deepEqual(nbt.readSessionFront(hex('7fff0203')), { type: 0x7f, flags: 0xff, bodyLength: 0x1_0203 });
+    assert.deepEqual(refused(() => nbt.readSessionFront(hex('00000005'), 2)), ['MORE', 2]);
     assert.deepEqual(refused(() => nbt.readSession(request.subarray(0, 40))), ['MORE', request.length - 40]);
     assert.deepEqual(refused(() => nbt.readSession(packet.subarray(0, 6))), ['MORE', 3]);
     assert.deepEqual(refused(() => nbt.readSession(new Uint8Array())), ['MORE', 4]);
@@ -566,4 +569,59 @@ test('memory: its limit, and requests that no memory has', async () => {
     assert.equal(heap.heap_take(60_000n), 0n);
     heap.heap_give_back(taken[1]);
     assert.ok(heap.heap_take(900n) > 0n);
+});
+
+/** A module that does something after each call of a name. */
+async function interrupted(name, then) {
+    const { instantiate } = WebAssembly;
+    WebAssembly.instantiate = async (...words) => {
+        const { exports } = (await instantiate(...words)).instance;
+        const call = (...given) => {
+            const status = exports[name](...given);
+            then();
+            return status;
+        };
+        return { instance: { exports: { ...exports, [name]: call } } };
+    };
+    try {
+        return await load({ module: wasm });
+    } finally {
+        WebAssembly.instantiate = instantiate;
+    }
+}
+
+test('memory that other threads change is copied before it is judged', async () => {
+    const [datagram, otherDatagram] = [1, 2].map((identifier) => nbt.writeDatagram({ ...sent, identifier, most: 512, source: `NODE${identifier}<00>` })[0]);
+    const call = nbt.writeSession(0x81, Uint8Array.of(...nbt.spell('FRED<20>'), ...nbt.spell('JOE<00>')));
+    const message = Uint8Array.of(0, 0, 0, 68, ...new Uint8Array(68));
+    for (const [name, read, before, after] of [
+        ['nbt_datagram_read', (it, buffer) => it.readDatagram(buffer), datagram, otherDatagram],
+        ['nbt_datagram_front', (it, buffer) => it.readDatagramFront(buffer), datagram, otherDatagram],
+        ['nbt_session_read', (it, buffer) => it.readSession(buffer), call, message],
+        ['nbt_session_front', (it, buffer) => it.readSessionFront(buffer), call, message],
+    ]) {
+        const buffer = new SharedArrayBuffer(before.length), view = new Uint8Array(buffer);
+        const other = await interrupted(name, () => view.set(after));
+        for (const given of [buffer, view, new DataView(buffer)]) {
+            view.set(before);
+            assert.deepEqual(read(other, given), read(nbt, before));
+        }
+    }
+});
+
+test('package.json says which node runs it without a flag', async () => {
+    const { engines } = JSON.parse(readFileSync(new URL('../package.json', import.meta.url), 'utf8'));
+    const first = readFileSync(`${folder}/nbt.mjs`, 'utf8').match(/ node (\d+) or deno/)[1];
+    assert.equal(engines.node, `>=${first}`);
+});
+
+test('the types have each call, and each that docs/CALLING.md shows', () => {
+    const types = readFileSync(new URL('../nbt.d.mts', import.meta.url), 'utf8');
+    const page = readFileSync(new URL('../../../docs/CALLING.md', import.meta.url), 'utf8').match(/^## From JavaScript\n(.*?)^## /ms)[1];
+    const shown = Array.from(page.matchAll(/`([A-Za-z]+)`/g), ([, name]) => name).filter((name) => !['load', 'NbtError', 'status', 'at', 'limit'].includes(name));
+    assert.ok(shown.length >= 20);
+    for (const name of [...Object.keys(nbt), ...shown]) {
+        assert.ok(name in nbt, `${name} is a call`);
+        assert.match(types, new RegExp(`^    (readonly )?${name}(\\(|:)`, 'm'));
+    }
 });

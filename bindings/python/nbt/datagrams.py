@@ -13,6 +13,9 @@ from .library import BYTES, Reader, writer
 from .numbers import Address, address_number, encoded, named, number
 from .statuses import NbtError
 
+# A header, and as many bytes as DGM_LENGTH can say.
+LONGEST = 14 + 0xffff
+
 
 class DatagramType(enum.IntEnum):
     """MSG_TYPE: three kinds of fragment, an error, and a query with its two answers."""
@@ -45,7 +48,7 @@ class FoundFront(ctypes.Structure):
                 ('destination_length', ctypes.c_size_t)]
 
 
-READ = Reader('nbt_datagram_read', Found, 'source', 'destination', 'data')
+READ = Reader('nbt_datagram_read', Found, 'source', 'destination', 'data', longest=LONGEST)
 FRONT = Reader('nbt_datagram_front', FoundFront, 'source', 'destination')
 WRITE = writer('nbt_datagram_write', ctypes.c_uint8, ctypes.c_uint16, ctypes.c_uint32, ctypes.c_uint16, *BYTES, *BYTES,
                *BYTES, ctypes.c_uint16)

@@ -16,6 +16,8 @@ from .statuses import NbtError, Status, refusal
 NAME = 'libnbt.so.0'
 # How many bytes an answer may have before a call is made a second time, and how many a room has that is kept.
 ROOM, MOST_SPARE = 4_096, 1 << 20
+# How many bytes of a buffer are copied at first.
+FRONT = 4_096
 # Of enum nbt_status.
 DONE, NO_ROOM = 0, 1
 
@@ -70,18 +72,40 @@ def found_at() -> str:
     return os.path.abspath(os.fsdecode(loaded.file))
 
 
-class Reader:
-    """A call that fills in a structure of numbers, and of places: of each part where it begins and its length. It reads a
-    buffer where that lies."""
+def copied(address: int, length: int, offset: int, most: int) -> Tuple[bytes, int]:
+    """A copy of so many bytes at most that stand at an offset of those at an address, and how many stand there."""
+    front, left = behind(address, length, offset)
+    return ctypes.string_at(front, min(left, most)), left
 
-    def __init__(self, name: str, structure: Any, *parts: str) -> None:
-        self.structure = structure
+
+class Reader:
+    """A call that fills in a structure of numbers, and of places: of each part where it begins and its length. It reads `bytes`
+    where they lie. What others may change meanwhile is copied before it is judged: FRONT bytes, and as many as are wanted
+    where no packet stands in those."""
+
+    def __init__(self, name: str, structure: Any, *parts: str, longest: int = FRONT) -> None:
+        self.structure, self.longest = structure, longest
         self.parts = [(part, f'{part}_length') for part in parts]
         self.call = call(name, ADDRESS, LENGTH, ADDRESS, ADDRESS, library=ALONE)
 
     def __call__(self, data: Buffer, offset: int) -> Tuple[Any, List[bytes]]:
         """What the bytes of a buffer from an offset on fill in, and the bytes of each part."""
-        return lend(data, self.read, whole_number(offset, 'offset'))
+        place = whole_number(offset, 'offset')
+        if type(data) is bytes:
+            return lend(data, self.read, place)
+        most = FRONT
+        while True:
+            copy, left = lend(data, copied, place, most)
+            wanted = lend(copy, self.wanted) if most < min(left, self.longest) else 0
+            if wanted <= most:
+                return lend(copy, self.read, 0)
+            most = wanted
+
+    def wanted(self, address: int, length: int) -> int:
+        """How many bytes a packet may have whose front stands at an address; no more than there are, where it stands whole."""
+        found, at = self.structure(), ctypes.c_size_t()
+        status = self.call(address, length, ctypes.addressof(found), ctypes.addressof(at))
+        return length + at.value if status == Status.MORE else length if status == DONE else self.longest
 
     def read(self, address: int, length: int, offset: int) -> Tuple[Any, List[bytes]]:
         """The same of the bytes at an address."""

@@ -35,8 +35,17 @@ def named(kind: Type[Member], value: int) -> Union[Member, int]:
 
 
 def address_number(address: Address) -> int:
-    """An address as a number: '10.0.0.5' is 0x0a000005."""
+    """An address as a number: '10.0.0.5' is 0x0a000005. TypeError where it is no address's text, number or bytes."""
+    if not isinstance(address, (str, int, bytes, ipaddress.IPv4Address)):
+        raise TypeError(f'address: {address!r} is none')
     return int(ipaddress.IPv4Address(address))
+
+
+def truth(value: bool, what: str) -> bool:
+    """The truth value; TypeError where it is something else, of which C would be given whether it is empty."""
+    if not isinstance(value, int):
+        raise TypeError(f'{what}: {value!r} is neither True nor False')
+    return bool(value)
 
 
 def encoded(text: str, what: str) -> bytes:

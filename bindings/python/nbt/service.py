@@ -9,7 +9,7 @@ from __future__ import annotations
 import ctypes
 
 from .library import BYTES, writer
-from .numbers import Address, address_number, encoded, number
+from .numbers import Address, address_number, encoded, number, truth
 
 QUERY, NODE_STATUS, REGISTRATION, REFRESH, RELEASE = range(5)
 REQUEST = writer('nbt_service_request', ctypes.c_uint32, ctypes.c_uint16, ctypes.c_bool, *BYTES, ctypes.c_uint32,
@@ -46,5 +46,5 @@ def request(kind: int, identifier: int, name: str, broadcast: bool, time_to_live
             address: Address = 0) -> bytes:
     """The request of a kind."""
     text = encoded(name, 'name')
-    return REQUEST(kind, number(identifier, 16, 'identifier'), broadcast, text, len(text),
+    return REQUEST(kind, number(identifier, 16, 'identifier'), truth(broadcast, 'broadcast'), text, len(text),
                    number(time_to_live, 32, 'time to live'), number(nb_flags, 16, 'NB_FLAGS'), address_number(address))

@@ -4,15 +4,18 @@ from __future__ import annotations
 import ctypes
 import enum
 import ipaddress
-import struct
 from dataclasses import dataclass
 from typing import Any, Iterator, Optional, Tuple, Union
 
 from . import names
-from .buffers import Buffer, given, lend
-from .library import BYTES, Reader, behind, writer
-from .numbers import named, number, whole_number
+from .buffers import Buffer, given
+from .library import BYTES, Reader, writer
+from .numbers import named, number
 from .statuses import MoreNeeded, NbtError
+
+# TYPE, FLAGS and LENGTH, in so many bytes; and with them as many as LENGTH can say.
+HEADER = 4
+LONGEST = HEADER + 0x1ffff
 
 
 class SessionType(enum.IntEnum):
@@ -33,6 +36,12 @@ class Found(ctypes.Structure):
                 ('used', ctypes.c_size_t)]
 
 
+class FoundFront(ctypes.Structure):
+    """struct nbt_session_front."""
+
+    _fields_ = [('type', ctypes.c_uint8), ('flags', ctypes.c_uint8), ('body_length', ctypes.c_size_t)]
+
+
 class Names(ctypes.Structure):
     """struct nbt_session_names."""
 
@@ -46,11 +55,10 @@ class Retarget(ctypes.Structure):
     _fields_ = [('address', ctypes.c_uint32), ('port', ctypes.c_uint16)]
 
 
-READ = Reader('nbt_session_read', Found, 'body')
+READ = Reader('nbt_session_read', Found, 'body', longest=LONGEST)
+FRONT = Reader('nbt_session_front', FoundFront, longest=HEADER)
 NAMES, RETARGET = Reader('nbt_session_names', Names), Reader('nbt_session_retarget', Retarget)
 WRITE = writer('nbt_session_write', ctypes.c_uint8, *BYTES)
-# TYPE, FLAGS and LENGTH.
-HEADER = struct.Struct('>BBH')
 
 
 @dataclass(frozen=True)
@@ -108,7 +116,12 @@ class SessionPacket:
         """The header at the front of what came over a connection to port 139, and the fault with which `read` refuses it, or None.
         There is no header where its four bytes aren't there.
         """
-        return lend(data, header_at, whole_number(offset, 'offset')), READ.fault(data, offset)
+        fault = READ.fault(data, offset)
+        try:
+            found, _ = FRONT(data, offset)
+        except MoreNeeded:
+            return None, fault
+        return SessionFront(named(SessionType, found.type), found.flags, found.body_length), fault
 
     @staticmethod
     def stream(data: Buffer, offset: int = 0) -> SessionStream:
@@ -124,15 +137,6 @@ class SessionPacket:
         """
         data = given(body)
         return WRITE(number(type, 8, 'type'), data, len(data))
-
-
-def header_at(address: int, length: int, offset: int) -> Optional[SessionFront]:
-    """The header that stands at an offset of the bytes at an address."""
-    front, left = behind(address, length, offset)
-    if left < HEADER.size:
-        return None
-    type, flags, low = HEADER.unpack(ctypes.string_at(front, HEADER.size))
-    return SessionFront(named(SessionType, type), flags, (flags & 1) << 16 | low)
 
 
 class SessionStream(Iterator[SessionPacket]):

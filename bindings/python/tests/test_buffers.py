@@ -1,17 +1,21 @@
 """Buffers of any kind, read from an offset on without a copy; streams; and what isn't a buffer, a number or a text."""
 import mmap
+import re
 import tempfile
 import time
 import tracemalloc
 import unittest
 from array import array
 
+from unittest import mock
+
 import nbt
-from nbt import SessionType, Status
+from nbt import SessionType, Status, datagrams, sessions
 
 ALIVE, HELLO = b'\x85\0\0\0', b'\0\0\0\x05hello'
 CLAIM = nbt.registration(2, 'FRED<20>', 300_000, 0, '10.0.0.6', broadcast=True)
 DATAGRAM = nbt.Datagram.write(nbt.DatagramType.GROUP, 10, '10.0.0.5', 138, 'JOE<00>', 'FRED<20>', b'hello')[0]
+CALL = nbt.SessionPacket.write(SessionType.REQUEST, DATAGRAM[14:82])
 RUNS, SLACK = 3, 3
 
 
@@ -84,6 +88,37 @@ class Offsets(unittest.TestCase):
                     self.assertLess(peak, 1 << 14)
 
 
+class Changes(unittest.TestCase):
+    def test_judged_bytes_are_answered(self):
+        """What a read answers is of the bytes that it judged, whatever others write to the buffer meanwhile."""
+        other = nbt.Datagram.write(nbt.DatagramType.GROUP, 11, '10.0.0.6', 138, 'ANN<00>', 'MARY<20>', b'HELLO')[0]
+        long = nbt.SessionPacket.write(SessionType.MESSAGE, bytes(5_000)) + bytes(95_000)
+        longer = nbt.SessionPacket.write(SessionType.MESSAGE, bytes(100_000))
+        for reader, call, before, after in ((sessions.READ, nbt.SessionPacket.read, long, longer), (datagrams.READ, nbt.Datagram.read, DATAGRAM, other),
+                                            (sessions.READ, nbt.SessionPacket.read, CALL, b'\0' + CALL[1:4] + bytes(68))):
+            for kind in bytearray, lambda data: memoryview(bytearray(data)), lambda data: array('B', data):
+                buffer, judge = kind(before), reader.call
+
+                def judged(*words):
+                    status = judge(*words)
+                    memoryview(buffer)[:] = kind(after)
+                    return status
+
+                with self.subTest(f'{call.__qualname__} of {type(buffer).__name__}'), mock.patch.object(reader, 'call', judged):
+                    self.assertIn(call(buffer), (call(before), call(after)))
+
+    def test_longest(self):
+        """The longest packets of a buffer that may change, and one that lacks a byte."""
+        message = nbt.SessionPacket.write(SessionType.MESSAGE, bytes(0x1ffff))
+        head = b'\x11\x02\0\1\x0a\0\0\5\0\x8a\xff\xff\0\0'
+        datagram = head + DATAGRAM[14:82] + bytes(0xffff - 68)
+        for call, packet, missing in ((nbt.SessionPacket.read, message, nbt.MoreNeeded), (nbt.Datagram.read, datagram, nbt.NbtError)):
+            for length in 4_096, len(packet) - 1:
+                self.assertRaises(missing, call, bytearray(packet[:length]))
+            for rest in b'', bytes(100):
+                self.assertEqual(call(bytearray(packet + rest)), call(packet))
+
+
 class Streams(unittest.TestCase):
     def test_what_is_left(self):
         for rest, missing in ((b'', 0), (b'\x85', 3), (HELLO[:6], 3), (ALIVE[:3], 1)):
@@ -135,6 +170,23 @@ class Words(unittest.TestCase):
         with self.assertRaises(nbt.NbtError) as caught:
             nbt.spell('FRED\udcff<20>')
         self.assertEqual((caught.exception.status, caught.exception.at), (Status.BAD_TEXT, 4))
+
+    def test_no_address(self):
+        for none in None, 3.5, []:
+            for call in (lambda: nbt.registration(3, 'FRED<20>', 0, 0, none), lambda: nbt.Station([], none),
+                         lambda: nbt.datagram_error(3, none, 138, 0x82)):
+                with self.assertRaisesRegex(TypeError, f'^address: {re.escape(repr(none))} is none$'):
+                    call()
+        self.assertRaises(ValueError, nbt.Station, [], '10.0.0')
+
+    def test_no_truth_value(self):
+        for none in 'no', None, b'', []:
+            for call in (lambda: nbt.query(3, 'FRED<20>', none), lambda: nbt.node_status(3, 'FRED<20>', broadcast=none),
+                         lambda: nbt.registration(3, 'FRED<20>', 0, 0, 0, none), lambda: nbt.refresh(3, 'FRED<20>', 0, 0, 0, none),
+                         lambda: nbt.release(3, 'FRED<20>', 0, 0, none)):
+                with self.assertRaisesRegex(TypeError, f'^broadcast: {re.escape(repr(none))} is neither True nor False$'):
+                    call()
+        self.assertEqual(nbt.query(3, 'FRED<20>', 1), nbt.query(3, 'FRED<20>', True))
 
     def test_no_buffer(self):
         for call in (lambda: nbt.text('FRED'), lambda: nbt.SessionPacket.read('FRED'), lambda: nbt.show(139, 'FRED')):

@@ -3,7 +3,6 @@ import copy
 import ipaddress
 import json
 import pickle
-import sys
 import unittest
 from concurrent.futures import ThreadPoolExecutor
 from dataclasses import FrozenInstanceError, replace
@@ -183,7 +182,6 @@ class Values(unittest.TestCase):
                 self.assertEqual(hash(each), hash(other))
         self.assertEqual(len(set(self.packets)), len(self.packets))
 
-    @unittest.skipIf(sys.version_info < (3, 10), 'Python 3.9 has no match')
     def test_matched(self):
         claimed = {'packet': self.packets[0], **vars(nbt)}
         exec(MATCH, claimed)

@@ -33,6 +33,27 @@ def run():
 threading.Thread(target=run, daemon=True).start()
 print('done')
 '''
+# A station whose calls are interrupted, wherever that falls, and a thread for which its turn comes all the same.
+INTERRUPTED = '''
+import random
+import signal
+import threading
+import nbt
+station = nbt.Station(['FRED<20>'], '10.0.0.9')
+def interrupt(*_):
+    raise KeyboardInterrupt
+signal.signal(signal.SIGALRM, interrupt)
+for _ in range(2_000):
+    try:
+        signal.setitimer(signal.ITIMER_REAL, random.uniform(1e-5, 1e-4))
+        while True:
+            station.tick(0)
+    except KeyboardInterrupt:
+        pass
+last = threading.Thread(target=lambda: print(station.save()), daemon=True)
+last.start()
+last.join(10)
+'''
 
 
 def payload(identifier):
@@ -49,6 +70,9 @@ def python(*words):
 class Threads(unittest.TestCase):
     def test_a_hundred_thousand_takes(self):
         self.assertEqual(python(os.path.join(HERE, 'threads.py')), (0, ' '.join(['12500'] * 8) + '\n'))
+
+    def test_interrupted_calls(self):
+        self.assertEqual(python('-c', INTERRUPTED), (0, f'{EMPTY}\n'))
 
 
 class Reentry(unittest.TestCase):

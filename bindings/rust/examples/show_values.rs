@@ -74,7 +74,7 @@ fn record_line(it: &Record<'_>) -> String {
         Section::Additional => 3,
     };
     let said = rdata_words(&it.rdata());
-    let (name, kind, class, seconds) = (marked(it.name), it.kind, it.class, it.time_to_live);
+    let (name, kind, class, seconds) = (marked(it.name), it.kind(), it.class, it.time_to_live);
     format!("\n  {section} {name} {kind:04x} {class:04x} {seconds} {said}")
 }
 
@@ -156,14 +156,14 @@ fn session_line(payload: &[u8]) -> nbt::Result<String> {
         Next::More(missing) => return Ok(format!("more {missing}")),
         Next::Packet(packet) => packet,
     };
-    let mut said = format!("{:02x} {}", packet.kind as u8, digits_of(packet.body));
+    let mut said = format!("{:02x} {}", packet.kind() as u8, digits_of(packet.body()));
     if let Some((called, calling)) = packet.names() {
         said += &format!(" called {called} calling {calling}");
     }
     if let Some(other) = packet.retarget() {
         said += &format!(" retarget {other}");
     }
-    Ok(format!("{said} used {}", packet.used))
+    Ok(format!("{said} used {}", packet.used()))
 }
 
 /// Bytes as digits.

@@ -7,7 +7,7 @@ use std::ffi::c_void;
 
 use crate::structures::{
     Difference, FoundAddress, FoundDatagram, FoundFront, FoundHeader, FoundItem, FoundNames,
-    FoundNode, FoundRetarget, FoundSession, Handle, Taken,
+    FoundNode, FoundRetarget, FoundSession, FoundSessionFront, Handle, Taken,
 };
 
 /// NBT_DONE: the call did what it says.
@@ -191,6 +191,13 @@ extern "C" {
         bytes: *const u8,
         bytes_length: usize,
         packet: *mut FoundSession,
+        at: *mut usize,
+    ) -> u32;
+
+    pub fn nbt_session_front(
+        bytes: *const u8,
+        bytes_length: usize,
+        front: *mut FoundSessionFront,
         at: *mut usize,
     ) -> u32;
 

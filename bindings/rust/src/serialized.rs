@@ -117,7 +117,7 @@ impl Serialize for Record<'_> {
         let mut fields = out.serialize_struct("Record", 6)?;
         fields.serialize_field("section", &self.section)?;
         fields.serialize_field("name", &self.name)?;
-        fields.serialize_field("kind", &self.kind)?;
+        fields.serialize_field("kind", &self.kind())?;
         fields.serialize_field("class", &self.class)?;
         fields.serialize_field("time_to_live", &self.time_to_live)?;
         fields.serialize_field("rdata", &self.rdata())?;
@@ -128,11 +128,11 @@ impl Serialize for Record<'_> {
 impl Serialize for session::Packet<'_> {
     fn serialize<S: Serializer>(&self, out: S) -> Result<S::Ok, S::Error> {
         let mut fields = out.serialize_struct("Packet", 5)?;
-        fields.serialize_field("kind", &self.kind)?;
-        fields.serialize_field("body", &digits_of(self.body))?;
+        fields.serialize_field("kind", &self.kind())?;
+        fields.serialize_field("body", &digits_of(self.body()))?;
         fields.serialize_field("names", &self.names())?;
         fields.serialize_field("retarget", &self.retarget())?;
-        fields.serialize_field("used", &self.used)?;
+        fields.serialize_field("used", &self.used())?;
         fields.end()
     }
 }

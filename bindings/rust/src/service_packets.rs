@@ -286,21 +286,31 @@ pub enum Section {
     Additional,
 }
 
-/// What is said of a name: RFC 1002 section 4.2.1.3.
+/// What is said of a name: RFC 1002 section 4.2.1.3. By what [`rdata`](Record::rdata) reads nobody can put anything else.
+///
+/// ```compile_fail
+/// fn other(record: &mut nbt::service::Record) {
+///     record.kind = nbt::service::NS;
+/// }
+/// ```
+///
+/// ```compile_fail
+/// fn other(record: &mut nbt::service::Record) {
+///     record.data = b"";
+/// }
+/// ```
 #[derive(Clone, Copy)]
 pub struct Record<'a> {
     /// Where it stands.
     pub section: Section,
     /// RR_NAME.
     pub name: Name,
-    /// RR_TYPE: 0x0020 NB, 0x0021 NBSTAT, 0x0002 NS.
-    pub kind: u16,
     /// RR_CLASS.
     pub class: u16,
     /// TTL, in seconds.
     pub time_to_live: u32,
-    /// RDATA.
-    pub data: &'a [u8],
+    kind: u16,
+    data: &'a [u8],
     payload: &'a [u8],
     place: usize,
 }
@@ -315,13 +325,23 @@ impl<'a> Record<'a> {
                 _ => Section::Answer,
             },
             name: Name::of_bytes(found.name, found.name_length),
-            kind: found.kind,
             class: found.class,
             time_to_live: found.time_to_live,
+            kind: found.kind,
             data: &payload[found.data..found.data + found.data_length],
             payload,
             place: found.data,
         }
+    }
+
+    /// RR_TYPE: 0x0020 NB, 0x0021 NBSTAT, 0x0002 NS.
+    pub fn kind(&self) -> u16 {
+        self.kind
+    }
+
+    /// RDATA.
+    pub fn data(&self) -> &'a [u8] {
+        self.data
     }
 
     /// What its RDATA says, by its type.

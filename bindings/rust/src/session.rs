@@ -7,7 +7,7 @@
 //! let mut bodies = Vec::new();
 //! for packet in &mut stream {
 //!     let packet = packet?;
-//!     bodies.push((packet.kind, packet.body));
+//!     bodies.push((packet.kind(), packet.body()));
 //! }
 //! assert_eq!(bodies, [(Kind::Message, &b"hello"[..]), (Kind::KeepAlive, b"")]);
 //! assert_eq!((stream.rest(), stream.missing()), (&b"\0\0\0\x05he"[..], 3));
@@ -20,10 +20,11 @@ use std::iter::FusedIterator;
 use std::net::{Ipv4Addr, SocketAddrV4};
 
 use crate::calls::{
-    nbt_session_names, nbt_session_read, nbt_session_retarget, nbt_session_write, DONE, MORE,
+    nbt_session_front, nbt_session_names, nbt_session_read, nbt_session_retarget,
+    nbt_session_write, DONE, MORE,
 };
 use crate::room::written;
-use crate::structures::{FoundNames, FoundRetarget, FoundSession};
+use crate::structures::{FoundNames, FoundRetarget, FoundSession, FoundSessionFront};
 use crate::{Error, Result, Spelling};
 
 /// TYPE: what a packet is.
@@ -71,20 +72,38 @@ impl fmt::Display for Kind {
     }
 }
 
-/// A packet of port 139, whose body is lent from what was read.
+/// A packet of port 139, whose body is lent from what was read. Nobody can give it another.
+///
+/// ```compile_fail
+/// fn other(packet: &mut nbt::session::Packet) {
+///     packet.body = b"";
+/// }
+/// ```
 #[derive(Clone, Copy, Debug, PartialEq, Eq, Hash)]
 pub struct Packet<'a> {
-    /// What it is.
-    pub kind: Kind,
-    /// What follows the four bytes of its header.
-    pub body: &'a [u8],
-    /// The bytes of the packet; what follows it isn't looked at.
-    pub used: usize,
-    /// All of them, from the header on.
+    kind: Kind,
+    body: &'a [u8],
+    used: usize,
+    /// All of its bytes, from the header on.
     whole: &'a [u8],
 }
 
 impl<'a> Packet<'a> {
+    /// What it is.
+    pub fn kind(&self) -> Kind {
+        self.kind
+    }
+
+    /// What follows the four bytes of its header.
+    pub fn body(&self) -> &'a [u8] {
+        self.body
+    }
+
+    /// The bytes of the packet; what follows it isn't looked at.
+    pub fn used(&self) -> usize {
+        self.used
+    }
+
     /// CALLED_NAME and CALLING_NAME, of a request.
     pub fn names(&self) -> Option<(Spelling<'a>, Spelling<'a>)> {
         let (mut found, mut at) = (FoundNames::EMPTY, 0);
@@ -195,16 +214,16 @@ pub struct Front {
 /// assert_eq!(front.fault.map(|it| it.status()), Some(Status::BadLength));
 /// ```
 pub fn read_front(bytes: &[u8]) -> Front {
-    let header = match *bytes {
-        [packet_type, flags, high, low, ..] => Some(Header {
-            packet_type,
-            flags,
-            body_length: usize::from(flags & 1) << 16 | usize::from(high) << 8 | usize::from(low),
-        }),
-        _ => None,
+    let (mut found, mut at) = (FoundSessionFront::default(), 0);
+    // SAFETY: the bytes are a slice, and what is written lies apart from it.
+    let status = unsafe { nbt_session_front(bytes.as_ptr(), bytes.len(), &mut found, &mut at) };
+    let header = Header {
+        packet_type: found.kind,
+        flags: found.flags,
+        body_length: found.body_length,
     };
     Front {
-        header,
+        header: (status == DONE).then_some(header),
         fault: Packet::try_from(bytes).err(),
     }
 }

@@ -104,6 +104,15 @@ pub struct FoundSession {
     pub used: usize,
 }
 
+/// struct nbt_session_front: the header of a packet of port 139.
+#[repr(C)]
+#[derive(Default)]
+pub struct FoundSessionFront {
+    pub kind: u8,
+    pub flags: u8,
+    pub body_length: usize,
+}
+
 /// struct nbt_session_names: the spellings of a session request's names.
 #[repr(C)]
 pub struct FoundNames {

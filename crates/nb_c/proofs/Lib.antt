@@ -16,6 +16,7 @@ pub mod PlaceLemmas
 pub mod ReadLemmas
 pub mod ResponseLemmas
 pub mod ServiceLemmas
+pub mod SessionFrontLemmas
 pub mod ShowLemmas
 pub mod StationLemmas
 pub mod StationNameLemmas

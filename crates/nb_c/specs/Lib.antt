@@ -13,6 +13,7 @@ pub mod Requests
 pub mod Responses
 pub mod ServiceParts
 pub mod Services
+pub mod SessionFronts
 pub mod Sessions
 pub mod Showing
 pub mod Stations

@@ -21,6 +21,7 @@ pub mod responses;
 pub mod service;
 pub mod service_parts;
 pub mod service_reading;
+pub mod session_fronts;
 pub mod session_parts;
 pub mod sessions;
 pub mod showing;

@@ -251,7 +251,7 @@ fn responses_by_chance() {
         assert_eq!((record.name.to_string(), record.class), (name.clone(), 1));
         assert_eq!(record.time_to_live, response.time_to_live);
         assert!(
-            is_same(response.answer, record.kind, record.rdata()),
+            is_same(response.answer, record.kind(), record.rdata()),
             "{response:?}"
         );
     }

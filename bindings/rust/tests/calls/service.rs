@@ -117,10 +117,10 @@ fn a_packet_is_read() {
         (Section::Additional, question.name)
     );
     assert_eq!(
-        (record.kind, record.class, record.time_to_live),
+        (record.kind(), record.class, record.time_to_live),
         (0x20, 1, 300_000)
     );
-    assert_eq!(record.data, b"\x60\0\x0a\0\0\x05");
+    assert_eq!(record.data(), b"\x60\0\x0a\0\0\x05");
     assert_eq!(Packet::try_from(&payload[..]).unwrap().used, 68);
     let shown = format!("{packet:?}");
     assert!(

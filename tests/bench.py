@@ -19,9 +19,9 @@ import time
 sys.dont_write_bytecode = True
 sys.path.insert(1, f'{sys.path[0]}/lib')
 import plain_program
-from bench_bars import GROWTH, PER_SOURCE, PLAIN, TEXT, WORST, Bars
-from bench_captures import (FRED, MOST_IN_A_CAPTURE, descending, labels, office, one_address, pointed, refused, shuffled,
-                            unfragmented)
+from bench_bars import GROWN, GROWTH, PER_SOURCE, PIECES, PLAIN, TEXT, WORST, Bars
+from bench_captures import (FRED, MOST_IN_A_CAPTURE, descending, labels, office, one_address, pointed, refused,
+                            saved_after, shuffled, unfragmented)
 
 HERE = os.path.dirname(os.path.abspath(__file__))
 PROGRAM = os.path.join(HERE, '..', 'crates', 'nbt', 'out', 'nbt')
@@ -29,13 +29,15 @@ KEYS = ['--keys', '65535']
 REPLAY, SHOW, SAVE, MERGE = ['replay', 'FRED<20>'], ['show'], ['save', *KEYS], ['merge', *KEYS]
 # How many keys one address may have in a table of 65,535, in the last rows of one address.
 LIMITS = (64, 1_000, 30_000)
-GROWING = (('pieces of a byte, shuffled', REPLAY, lambda size: shuffled(random.Random(size), 1, size, 1)),
-           ('pieces of a byte, descending', REPLAY, lambda size: descending(random.Random(size), size)),
-           ('keys', ['replay', *KEYS, 'FRED<20>'], one_address),
-           ('keys of an address, counted', ['replay', *KEYS, '--per-source', '65534', 'FRED<20>'], one_address),
-           ('lines', SHOW, lambda size: office(138, size)),
-           ('keys', SAVE, one_address),
-           ('keys', MERGE, one_address))
+# How many tables of a byte each are merged into one entry.
+TABLES = 200
+GROWING = (('pieces of a byte, shuffled', REPLAY, lambda size: shuffled(random.Random(size), 1, size, 1), PIECES),
+           ('pieces of a byte, descending', REPLAY, lambda size: descending(random.Random(size), size), GROWTH),
+           ('keys', ['replay', *KEYS, 'FRED<20>'], one_address, GROWTH),
+           ('keys of an address, counted', ['replay', *KEYS, '--per-source', '65534', 'FRED<20>'], one_address, GROWTH),
+           ('lines', SHOW, lambda size: office(138, size), GROWTH),
+           ('keys', SAVE, one_address, GROWTH),
+           ('keys', MERGE, one_address, GROWTH))
 
 
 def written(folder, title, lines):
@@ -168,12 +170,21 @@ class Bench:
     def growth(self):
         """A line for each way to grow: the instructions of one among so many, and among ten times and a hundred times as many."""
         if not shutil.which('valgrind'):
-            self.bars.skipped += len(GROWING)
+            self.bars.skipped += len(GROWING) + 1
             return
-        for title, words, lines in GROWING:
-            costs = [self.cost_of_one(words, lines, size) for size in self.sizes]
-            ratio = self.bars.judged((f'growth of {words[0]}', title), costs[-1] / costs[0], GROWTH)
-            print('%-13s %-36s %8d %8d %8d  %s' % (words[0], title, *costs, ratio), flush=True)
+        for title, words, lines, bar in GROWING:
+            self.growth_row(words, title, [self.cost_of_one(words, lines, size) for size in self.sizes], bar)
+        self.growth_row(MERGE, 'bytes of an entry that grows', [self.cost_of_a_byte(size) for size in self.sizes], GROWN)
+
+    def growth_row(self, words, title, costs, bar):
+        """Prints the row of what one costs among so many, among ten times and among a hundred times as many."""
+        ratio = self.bars.judged((f'growth of {words[0]}', title), costs[-1] / costs[0], bar)
+        print('%-13s %-36s %8d %8d %8d  %s' % (words[0], title, *costs, ratio), flush=True)
+
+    def cost_of_a_byte(self, held):
+        """The instructions for a saved table of a byte that is merged behind so many bytes of its key: these grow in place."""
+        alone, grown = (written(self.folder, f'{count} tables', saved_after(held, count))[0] for count in (0, TABLES))
+        return (instructions([self.program, *MERGE], grown) - instructions([self.program, *MERGE], alone)) / TABLES
 
     def cost_of_one(self, words, lines, size):
         """The instructions for each packet, without those for none."""

@@ -279,6 +279,10 @@ memory() {
     input=$room/input
     remembers show --comments
     remembers replay --comments 'FRED<20>'
+    printf '137 0 %s\n138 0 %s\n139 0 0000\n' "$(nbt build query 0001 'FRED<20>.A' | cut -c 7-106)" "${empty:0:34}" >"$room/cut"
+    input=$room/cut
+    remembers show --partial
+    remembers show --partial --json
     printf '138 0 %s\n' $empty "${empty/0001/0002}" "${empty/0001/0003}" >"$room/several"
     input=$room/several
     remembers replay --per-source 2 'FRED<20>'
@@ -296,6 +300,7 @@ memory() {
     remembers merge
     remembers list
     remembers agree
+    remembers agree --list
     remembers merge --keys 2
     remembers merge --per-source 2
     printf '4e425433\n' >"$room/input"

@@ -8,10 +8,14 @@ WITHOUT = {('merge', 'pieces of a byte, shuffled'), ('merge', 'pieces of a byte,
 TEXT = {'--json': 1.6, '--brief': 1.1}
 # The cost of one among a hundred times as many, of one that is.
 GROWTH = 2.0
+# The same of a piece of one datagram, shuffled: 1.1 where rows of runs are halved, 1.6 among 10,000 where none is.
+PIECES = 1.4
 # The packet of which most labels are read, beside the cheapest of its size that is refused.
 WORST = 10.0
 # A replay with --per-source, beside one without.
 PER_SOURCE = 1.2
+# A byte that is merged into an entry of a hundred times as many, beside one into the small entry.
+GROWN = 1.1
 # How far a number may be past its bar, or past what it is known to be.
 ALLOWED = 1.05
 # The row that misses its bar, with its number, and that over captures a tenth as long.

@@ -151,6 +151,18 @@ def one_address(count):
         yield line(0, packet(bytes([10, 0, 0, 5]), i % 65_536, 3, 0, b'x'))
 
 
+def saved_piece(offset, data):
+    """The line of a saved table that holds one piece of a datagram, with more to come: docs/FORMATS.md, "Saved tables"."""
+    key = struct.pack('>4sHH', bytes([10, 0, 0, 5]), 138, 1)
+    held = b'\x01\x11' + JOE + FRED + b'\0' + struct.pack('>BH', 1, offset + len(data))
+    return (b'NBT2' + struct.pack('>I', 1) + key + held + struct.pack('>HHH', 1, offset, len(data)) + data).hex().encode() + b'\n'
+
+
+def saved_after(size, count):
+    """A table of a piece of so many bytes, and tables of the bytes that follow, each of one."""
+    return [saved_piece(0, b'x' * size), *(saved_piece(size + each, b'x') for each in range(count))]
+
+
 # ---- the largest packets of port 137
 
 def pointed(name, count, times):

@@ -162,7 +162,7 @@ def law_of(function):
 def laws():
     """The page of the laws."""
     lines = [LAWS_HEAD]
-    for crate in LIBRARIES:
+    for crate in (*LIBRARIES, 'nbt'):
         found = {path: [law_of(it) for it in functions(path) if it.is_public] for path in law_files(crate)}
         lines += [f'## {crate}\n'] if any(found.values()) else []
         for path, of_file in found.items():

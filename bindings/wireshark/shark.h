@@ -72,7 +72,7 @@ const char *words_of(wmem_allocator_t *scope, guint32 status);
 void read_stream(packet_info *pinfo, tvbuff_t *tvb, guint32 sequence);
 
 /* Adds what the first reading of the frame found, where TCP doesn't hand its bytes over once more. */
-void read_stream_again(packet_info *pinfo, tvbuff_t *frame);
+void read_stream_again(packet_info *pinfo);
 
 /* station.c: what becomes of the payloads of port 138. ------------------------------------------------------------------- */
 

@@ -80,11 +80,11 @@ static void show_payload(packet_info *pinfo, proto_tree *top, const struct paylo
     if (fragment != NULL) show_state(pinfo, top, tree, payload, fragment);
 }
 
-int show_frame(tvbuff_t *tvb, packet_info *pinfo, proto_tree *tree, void *data _U_)
+int show_frame(tvbuff_t *tvb _U_, packet_info *pinfo, proto_tree *tree, void *data _U_)
 {
     wmem_array_t *payloads;
     begin_frame(pinfo);
-    read_stream_again(pinfo, tvb);
+    read_stream_again(pinfo);
     payloads = payloads_of(pinfo);
     for (guint i = 0; payloads != NULL && i < wmem_array_get_count(payloads); i++)
         show_payload(pinfo, tree, wmem_array_index(payloads, i));

@@ -187,24 +187,35 @@ static struct found *read_bytes(struct direction *way, const guint8 *data, size_
     return found;
 }
 
-/* Notes where in the frame what was found stands, for a pass in which TCP doesn't hand it over. */
+static tvbuff_t *frame_of(const packet_info *pinfo)
+{
+    return get_data_source_tvb(pinfo->data_src->data);
+}
+
+/* Notes where in the frame what was found stands. Of what stands elsewhere the phrase is kept: TCP may not join it in later passes. */
 static void note_places(const packet_info *pinfo, tvbuff_t *tvb, struct found *found)
 {
-    const struct data_source *frame = pinfo->data_src != NULL ? pinfo->data_src->data : NULL;
-    if (frame == NULL || tvb_get_ds_tvb(tvb) != tvb_get_ds_tvb(get_data_source_tvb(frame))) return;
+    bool in_frame = tvb_get_ds_tvb(tvb) == tvb_get_ds_tvb(frame_of(pinfo));
     for (; found != NULL; found = found->next) {
-        found->raw = tvb_raw_offset(tvb) + found->start;
+        if (in_frame)
+            found->raw = tvb_raw_offset(tvb) + found->start;
+        else if (found->phrase == NULL)
+            found->phrase = phrase_of(wmem_file_scope(), SESSION_SERVICE, tvb_get_ptr(tvb, found->start, found->length),
+                                      (size_t)found->length);
     }
 }
 
-static void add_found(packet_info *pinfo, tvbuff_t *tvb, const struct found *found, bool raw)
+/* Adds what was found, with its bytes in the frame, or else in what TCP joined. */
+static void add_found(packet_info *pinfo, tvbuff_t *frame, tvbuff_t *joined, const struct found *found)
 {
     for (; found != NULL; found = found->next) {
-        struct payload payload = {.port = SESSION_SERVICE, .status = found->status, .used = found->used, .tvb = tvb,
+        bool in_frame = found->raw >= 0 && tvb_bytes_exist(frame, found->raw, found->length);
+        bool is_joined = !in_frame && joined != NULL && tvb_bytes_exist(joined, found->start, found->length);
+        struct payload payload = {.port = SESSION_SERVICE, .status = found->status, .used = found->used, .phrase = found->phrase,
                                   .at = found->at == UINT32_MAX ? SIZE_MAX : found->at,
-                                  .start = raw ? found->raw : found->start, .length = found->length,
-                                  .phrase = found->phrase};
-        if (payload.start < 0 || !tvb_bytes_exist(tvb, payload.start, payload.length)) payload.start = payload.length = 0;
+                                  .tvb = is_joined ? joined : frame,
+                                  .start = in_frame ? found->raw : is_joined ? found->start : 0,
+                                  .length = in_frame || is_joined ? found->length : 0};
         add_payload(pinfo, &payload);
     }
 }
@@ -254,16 +265,16 @@ void read_stream(packet_info *pinfo, tvbuff_t *tvb, guint32 sequence)
             keep(pinfo, sequence, found);
         }
     }
-    add_found(pinfo, tvb, found, false);
+    add_found(pinfo, frame_of(pinfo), tvb, found);
 }
 
-void read_stream_again(packet_info *pinfo, tvbuff_t *frame)
+void read_stream_again(packet_info *pinfo)
 {
     struct reading *reading = p_get_proto_data(wmem_file_scope(), pinfo, proto_nbt, READINGS_KEY);
     wmem_list_t *seen;
     if (reading == NULL || !PINFO_FD_VISITED(pinfo)) return;
     seen = p_get_proto_data(pinfo->pool, pinfo, proto_nbt, SEEN_KEY);
     for (; reading != NULL; reading = reading->next) {
-        if (seen == NULL || wmem_list_find(seen, reading) == NULL) add_found(pinfo, frame, reading->found, true);
+        if (seen == NULL || wmem_list_find(seen, reading) == NULL) add_found(pinfo, frame_of(pinfo), NULL, reading->found);
     }
 }

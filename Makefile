@@ -10,10 +10,11 @@ LIBRARY = out/lib
 TARGETS = out
 DIST = out/dist
 GATE =
+PLUGIN = out/nbt.so
 # The shell is given what users choose in the environment, whatever characters it has.
-export PROGRAM DESTDIR PREFIX DEB LIBRARY TARGETS DIST
+export PROGRAM DESTDIR PREFIX DEB LIBRARY TARGETS DIST PLUGIN PLUGINS
 
-.PHONY: run build try check test bench fuzz completions install uninstall deb lib install-lib uninstall-lib targets page fuzz-coverage dist
+.PHONY: run build try check test bench fuzz completions install uninstall deb lib install-lib uninstall-lib targets page wireshark install-wireshark fuzz-coverage dist
 
 # Prove and build the program, and replay a capture in a station with these names.
 run: build
@@ -37,12 +38,13 @@ test:
 	tests/all.sh
 
 # Build the program, and print what its commands cost, beside bars: instructions, packets a second, memory; what nbt-look costs; and,
-# where the library and the page are made, what they cost.
+# where the library, the page and the plugin for Wireshark are made, what they cost.
 bench: build
 	tests/bench.py
 	tests/bench_look.py
 	[ ! -f "$$LIBRARY/libnbt.a" ] || tests/bench_library.py "$$PROGRAM" "$$LIBRARY"
 	[ ! -f "$$TARGETS/nbt.html" ] || tests/bench_page.py "$$TARGETS/nbt.html"
+	[ ! -f "$$PLUGIN" ] || tests/bench_wireshark.py "$$PLUGIN"
 
 # Build the program, and give it random and changed inputs: make fuzz SECONDS=600.
 fuzz: build
@@ -99,6 +101,16 @@ targets:
 # Make the page of what targets makes: one file for a browser, nbt.html in TARGETS, with the module in it.
 page: targets $(PROGRAM)
 	tools/page "$$TARGETS/nbt.wasm" "$$PROGRAM" "$$TARGETS/nbt.html"
+
+# Make the plugin for the Wireshark whose headers are installed, with the library in it: PLUGIN. The library is proved and built first where
+# it isn't there yet.
+wireshark:
+	[ -f "$$LIBRARY/libnbt.a" ] || $(MAKE) lib
+	tools/plugin make "$$LIBRARY" "$$PLUGIN"
+
+# Put the plugin where `tshark -G folders` says that yours are, as root those of all users; PLUGINS names another folder.
+install-wireshark: wireshark
+	@tools/plugin put "$$PLUGIN"
 
 # Give the library random and changed inputs, with counters of what they reach, over the module that targets keeps.
 fuzz-coverage: $(TARGETS)/nbt.bc

@@ -10,16 +10,18 @@ import sys
 from pathlib import Path
 
 BINDINGS = Path(__file__).resolve().parent.parent.parent / 'bindings'
-SOURCES = 'python/nbt/*.py', 'rust/*.rs', 'rust/src/*.rs', 'javascript/*.mjs'
+SOURCES = 'python/nbt/*.py', 'rust/*.rs', 'rust/src/*.rs', 'javascript/*.mjs', 'wireshark/*.c'
 # What a reader has.
 READS = re.compile(r'''0x(?:c0|3f)(?:00|ff)?\b | \b192\b                    # the bits of a pointer
     | <<\s*(?:8|16|24)\b | \*\s*(?:256|65_?536)\b                           # bytes put together
+    | \btvb_(?:get|find)_(?!ptr\b|ds_tvb\b)                                  # what Wireshark's calls read
     | \bfrom_(?:be_|le_|ne_)?bytes\b | unpack(?:_from)?\( | \bget(?:Big)?(?:Ui|I)nt\d+\(
     ''', re.VERBOSE | re.IGNORECASE)
 # Where a function begins.
 FUNCTION = {
     '.py': re.compile(r'\s*def (\w+)'),
     '.rs': re.compile(r'.*\bfn (\w+)'),
+    '.c': re.compile(r'(?:static )?(?:const )?(?:struct )?\w+ \*?(\w+)\(.*[^;]$'),
     '.mjs': re.compile(r'(?:export )?(?:async )?function (\w+)| {4}(\w+)\(| {8}(\w+)[(:]'),
 }
 STRUCTURE, WRITTEN = 'a structure that a call filled in', 'what a call wrote, whose form nbt.h has'
@@ -37,6 +39,8 @@ MAY = {
     'rust/src/station.rs': {'next': WRITTEN},
     'javascript/nbt.mjs': {'byte': STRUCTURE, 'word': STRUCTURE, 'long': STRUCTURE, 'free': STRUCTURE, 'deliveries': WRITTEN,
                            'writeDatagram': WRITTEN, 'addressOf': 'an address that is a text'},
+    'wireshark/collect.c': {'length_by_header': 'a header of UDP'},
+    'wireshark/station.c': {'datagram_of': 'a key, of numbers'},
 }
 
 

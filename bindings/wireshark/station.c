@@ -1,0 +1,169 @@
+/* What becomes of the payloads of port 138: a station of the library takes each fragment once, in the order of the frames, and is
+ * shown the clock as `nbt replay` is by the ticks of `nbt-pcap2cap`: each second that begins since the file's first frame.
+ */
+#include "shark.h"
+#include <epan/proto_data.h>
+
+/* How long a key is kept, and what the clock shows, in milliseconds. */
+#define KEPT 2000
+#define SECOND 1000
+#define DATAGRAM_PORT 138
+/* Proto data of a frame: from this key on the fragments, by the numbers of their payloads. */
+#define FRAGMENTS_KEY 16
+
+static struct nbt_station station;
+static GHashTable *known;      /* the datagrams of the keys that the station holds */
+static bool all_are_heard;     /* no name is asked for */
+static const char *names_fault;
+static guint8 *room;
+static guint64 second;         /* the last one that the clock was shown */
+static nstime_t first_time;
+static guint32 latest_number;  /* of the frame that was read last for the first time; 0 before the first */
+static struct fragment *latest; /* those of that frame */
+
+const char *fault_of_names(void)
+{
+    return names_fault;
+}
+
+static guint32 create(const char *names, size_t *at)
+{
+    return nbt_station_create((const guint8 *)names, strlen(names), 0, DATAGRAM_PORT, UINT32_MAX, UINT32_MAX, &station.at, at);
+}
+
+static void forget(gpointer datagram)
+{
+    drop_data(datagram);
+}
+
+void begin_station(void)
+{
+    const char *names = station_names != NULL ? station_names : "";
+    size_t at = SIZE_MAX;
+    guint32 status = create(names, &at);
+    if (status != NBT_DONE) {
+        const char *place = at == SIZE_MAX ? "" : wmem_strdup_printf(wmem_file_scope(), ", at character %u", (guint32)at);
+        names_fault = wmem_strdup_printf(wmem_file_scope(), "nbt.names: %s%s", words_of(wmem_file_scope(), status), place);
+        create("", &at);
+    }
+    all_are_heard = *names == 0 || names_fault != NULL;
+    known = g_hash_table_new_full(g_int64_hash, g_int64_equal, g_free, forget);
+    room = g_malloc(NBT_TAKE_ROOM);
+    second = 0;
+    latest_number = 0;
+    latest = NULL;
+}
+
+void end_station(void)
+{
+    nbt_station_free(station);
+    station.at = NULL;
+    g_clear_pointer(&known, g_hash_table_destroy);
+    g_clear_pointer(&room, g_free);
+    names_fault = NULL;
+}
+
+void begin_frame(const packet_info *pinfo)
+{
+    if (PINFO_FD_VISITED(pinfo)) return;
+    if (latest_number == 0) first_time = pinfo->abs_ts;
+    for (; pinfo->num == latest_number && latest != NULL; latest = latest->beside) latest->frame = 0;
+    latest_number = pinfo->num;
+    latest = NULL;
+}
+
+/* Milliseconds since the file's first frame; 0 before it. */
+static guint64 moment_of(const packet_info *pinfo)
+{
+    nstime_t since;
+    nstime_delta(&since, &pinfo->abs_ts, &first_time);
+    return since.secs < 0 || since.nsecs < 0 ? 0 : (guint64)since.secs * 1000 + (guint64)since.nsecs / 1000000;
+}
+
+static gboolean is_dropped(gpointer key _U_, gpointer datagram, gpointer now)
+{
+    return ((struct datagram *)datagram)->born + KEPT <= *(guint64 *)now;
+}
+
+void look_at_clock(const packet_info *pinfo)
+{
+    guint32 dropped = 0;
+    guint64 now = moment_of(pinfo) / SECOND * SECOND;
+    if (PINFO_FD_VISITED(pinfo) || now <= second || known == NULL) return;
+    second = now;
+    if (nbt_station_tick(&station, now, &dropped) == NBT_DONE && dropped > 0)
+        g_hash_table_foreach_remove(known, is_dropped, &now);
+}
+
+static struct datagram *datagram_of(const struct nbt_taken *taken, guint64 moment)
+{
+    gint64 key = (gint64)((guint64)taken->address << 32 | (guint64)taken->port << 16 | taken->identifier);
+    struct datagram *datagram = g_hash_table_lookup(known, &key);
+    if (datagram == NULL) {
+        gint64 *kept = g_new(gint64, 1);
+        *kept = key;
+        datagram = wmem_new0(wmem_file_scope(), struct datagram);
+        datagram->born = moment;
+        g_hash_table_insert(known, kept, datagram);
+    }
+    return datagram;
+}
+
+static void append(struct datagram *datagram, struct fragment *fragment)
+{
+    fragment->datagram = datagram;
+    if (datagram->last != NULL) datagram->last->next = fragment;
+    else datagram->first = fragment;
+    datagram->last = fragment;
+    datagram->count++;
+}
+
+/* Enters a fragment that the station took. */
+static void enter(struct fragment *fragment, const struct nbt_taken *taken, guint64 moment, const guint8 *bytes, size_t length)
+{
+    struct nbt_datagram packet;
+    size_t at;
+    struct datagram *datagram = datagram_of(taken, moment);
+    append(datagram, fragment);
+    if (nbt_datagram_read(bytes, length, &packet, &at) != NBT_DONE) return;
+    fragment->offset = packet.offset;
+    fragment->length = (guint16)packet.data_length;
+    fragment->more = (packet.flags & 1) != 0;
+    if (taken->outcome == NBT_SPOILT) {
+        datagram->spoilt_by = fragment;
+        drop_data(datagram);
+        return;
+    }
+    if (datagram->completed_by != NULL || datagram->spoilt_by != NULL) return;
+    if (taken->outcome != NBT_KEPT) datagram->completed_by = fragment;
+    if (taken->outcome == NBT_UNHEARD && all_are_heard) fragment->outcome = NBT_DELIVERED;
+    if (taken->outcome == NBT_KEPT || datagram->count > 1) keep_data(fragment, bytes + packet.data);
+    if (datagram->completed_by == NULL) return;
+    if (fragment->outcome == NBT_DELIVERED && datagram->count > 1) put_together(datagram);
+    drop_data(datagram);
+}
+
+const struct fragment *take_payload(packet_info *pinfo, const struct payload *payload, const guint8 *bytes)
+{
+    guint32 key = FRAGMENTS_KEY + payload->number;
+    struct nbt_taken taken;
+    struct fragment *fragment;
+    size_t used = 0;
+    if (PINFO_FD_VISITED(pinfo) || known == NULL)
+        return p_get_proto_data(wmem_file_scope(), pinfo, proto_nbt, key);
+    fragment = wmem_new0(wmem_file_scope(), struct fragment);
+    fragment->frame = pinfo->num;
+    fragment->beside = latest;
+    latest = fragment;
+    fragment->refusal = nbt_station_take(&station, moment_of(pinfo), bytes, (size_t)payload->length, &taken, room, NBT_TAKE_ROOM,
+                                         &used);
+    if (fragment->refusal != NBT_DONE) {
+        fragment->outcome = TAKEN_NOT;
+    } else {
+        fragment->outcome = taken.outcome;
+        fragment->refusal = taken.refusal;
+        if (taken.outcome <= NBT_UNHEARD) enter(fragment, &taken, moment_of(pinfo), bytes, (size_t)payload->length);
+    }
+    p_add_proto_data(wmem_file_scope(), pinfo, proto_nbt, key, fragment);
+    return fragment;
+}

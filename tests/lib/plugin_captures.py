@@ -1,0 +1,172 @@
+"""Captures of datagrams in pieces, as frames and as the lines that nbt reads, with a plain model of which frames belong together."""
+import os
+import struct
+import sys
+import types
+
+sys.path.insert(1, os.path.join(os.path.dirname(os.path.abspath(__file__)), '..', '..', 'tools'))
+from nbt_pcap.capture import Capture, Output
+from plugin_pcap import datagram_frame, segment_frame
+from wire import FRED, JOE, KEEPALIVE, QUERY, first_level
+
+ANN = first_level('ANN', 0x03)[:-1] + b'\x01A\0'
+BOB = first_level('BOB', 0x20)
+NAMES = (FRED, JOE, ANN, BOB)
+MORE, FIRST = 1, 2
+KEPT_MILLISECONDS = 2_000
+
+
+class Made:
+    """One capture."""
+
+    def __init__(self, rng):
+        self.rng = rng
+        self.frames = []            # time in microseconds, bytes, and how many of them the file has
+        self.datagrams = {}         # of frames of port 138 that aren't cut, the line's number
+        self.pieces = {}            # of those frames the key, where the data begins and ends, and whether more was promised
+        self.drops = []             # the frames before which the clock was looked at, and the moment that it showed
+        output = Output(quiet=True)
+        self.lines = output.lines
+        self.capture = Capture(output, types.SimpleNamespace(bare=True, no_ticks=False))
+        self.now = 0
+        payloads = list(self.payloads())
+        for each in payloads:
+            self.add(*each)
+
+    @property
+    def count(self):
+        return len(self.frames)
+
+    def payloads(self):
+        """Ports and payloads, in the order of their frames."""
+        rng = self.rng
+        found = []
+        for _ in range(rng.randrange(3, 25)):
+            found += self.datagram() if rng.random() < 0.8 else [self.another()]
+        for _ in range(rng.randrange(0, len(found))):
+            one, other = rng.randrange(len(found)), rng.randrange(len(found))
+            if abs(one - other) < 8:
+                found[one], found[other] = found[other], found[one]
+        return found
+
+    def datagram(self):
+        """The pieces of a datagram, of which some are lost, changed or repeated."""
+        rng = self.rng
+        data = rng.randbytes(rng.choice((0, 1, 5, 30, 200, 700)))
+        size = max(1, rng.choice((1, 7, 60, 300, 1_000)), len(data) // 12)
+        head = (rng.choice((0x10, 0x11, 0x12)), rng.randrange(6), rng.choice((5, 5, 7)), rng.choice(NAMES), rng.choice(NAMES))
+        pieces = [self.piece(head, data, at, min(at + size, len(data))) for at in range(0, max(1, len(data)), size)]
+        for _ in range(rng.choice((0, 0, 0, 1, 2))):
+            how = rng.randrange(5)
+            at = rng.randrange(len(pieces))
+            if how == 0 and len(pieces) > 1:
+                del pieces[at]
+            elif how == 1:
+                pieces.insert(at, pieces[rng.randrange(len(pieces))])
+            else:
+                pieces[at] = self.changed(pieces[at])
+        return [(138, each) for each in pieces]
+
+    @staticmethod
+    def piece(head, data, start, end):
+        kind, identifier, host, source, destination = head
+        flags = (FIRST if start == 0 else 0) | (MORE if end < len(data) else 0)
+        body = source + destination + data[start:end]
+        return struct.pack('>BBH4sHHH', kind, flags, identifier, bytes([10, 0, 0, host]), 138, len(body), start) + body
+
+    def changed(self, payload):
+        """A byte of a fragment changed: of its data, its header, or any."""
+        payload = bytearray(payload)
+        at = self.rng.choice((len(payload) - 1, len(payload) - 1, 1, 11, 12, 13, self.rng.randrange(len(payload))))
+        payload[at] ^= 1 << self.rng.randrange(8)
+        return bytes(payload)
+
+    def another(self):
+        """A packet of another kind or port."""
+        return self.rng.choice(((137, QUERY), (137, QUERY[:7]), (139, KEEPALIVE), (138, b'\x13\x02\0\x01\x0a\0\0\5\0\x8a\x82'),
+                                (138, b'\x14\x02\0\x02\x0a\0\0\5\0\x8a' + FRED), (138, b'\x10\x02'), (138, b'\x77' * 20), (138, b'')))
+
+    def add(self, port, payload):
+        """A frame of this payload, and its line."""
+        rng = self.rng
+        self.now = max(0, self.now + rng.choice((0, 1, 50, 300, 300, 700, 700, 2_600, -800)) * rng.randrange(1_000))
+        number = self.count + 1
+        source = bytes([10, 0, 0, rng.randrange(5, 9)])
+        frame = segment_frame(number, payload, source) if port == 139 else datagram_frame(port, payload, source)
+        cut = rng.random() < 0.04 and number > 1 and port != 139 and len(payload) > 2
+        self.frames.append((self.now, frame, 42 + rng.randrange(len(payload)) if cut else None))
+        if cut:
+            return
+        before = self.capture.next_second
+        self.capture.payload(port, (self.now - self.frames[0][0]) // 1_000 if self.now > self.frames[0][0] else 0, payload.hex(), None)
+        if self.capture.next_second != before:
+            self.drops.append((number, self.capture.next_second - 1_000))
+        if port == 138:
+            self.datagrams[number] = len(self.lines)
+            self.note(number, payload)
+
+    def note(self, number, payload):
+        if len(payload) >= 14 and 0x10 <= payload[0] <= 0x12:
+            size, start = struct.unpack('>HH', payload[10:14])
+            names = sum(len(name) for name in self.names_of(payload))
+            self.pieces[number] = start, start + size - names, payload[1] & MORE
+
+    @staticmethod
+    def names_of(payload):
+        """The two names, as they stand in a packet that is one."""
+        at = 14
+        for _ in range(2):
+            start = at
+            while at < len(payload) and payload[at]:
+                at += payload[at] + 1
+            at += 1
+            yield payload[start:at]
+
+    def moment(self, frame):
+        return max(0, self.frames[frame - 1][0] - self.frames[0][0]) // 1_000
+
+    def links(self, states):
+        """Of each fragment the frame that completes, the one that spoils, what is missing and, where it was decided, the fragments."""
+        held, groups = {}, []
+        drops = dict(self.drops)
+        for frame in range(1, self.count + 1):
+            if frame in drops:
+                held = {key: group for key, group in held.items() if self.moment(group[0]) + KEPT_MILLISECONDS > drops[frame]}
+            if states.get(frame) in ('kept', 'spoilt', 'delivered', 'unheard'):
+                key = self.key(frame)
+                if key not in held:
+                    held[key] = []
+                    groups.append(held[key])
+                held[key].append(frame)
+        return {frame: self.linked(frame, group, states) for group in groups for frame in group}
+
+    def key(self, frame):
+        payload = self.frames[frame - 1][1][42:]
+        return payload[2:10]
+
+    def linked(self, frame, group, states):
+        whole = [each for each in group if states[each] in ('delivered', 'unheard')][-1:]
+        spoilt = [each for each in group if states[each] == 'spoilt'][-1:]
+        missing = '' if whole or spoilt else self.missing(group)
+        decided = states[frame] != 'kept' or missing and frame == group[-1]
+        fragments = [each for each in group if each <= frame] if decided and len(group) > 1 else []
+        return [*(','.join(map(str, [each for each in some if each != frame])) for some in (whole, spoilt)), missing,
+                ','.join(map(str, fragments))]
+
+    def missing(self, group):
+        """The words for the bytes that no fragment has."""
+        covered, ends = set(), []
+        for start, end, more in (self.pieces[each] for each in group):
+            covered.update(range(start, end))
+            ends += [] if more else [end]
+        size = max(ends) if ends else max(end for _, end, _ in (self.pieces[each] for each in group))
+        runs = []
+        for at in range(size):
+            if at in covered:
+                continue
+            if at and at - 1 not in covered and runs:
+                runs[-1][1] += 1
+            else:
+                runs.append([at, 1])
+        words = ['%d byte%s from byte %d on' % (bytes_, '' if bytes_ == 1 else 's', at) for at, bytes_ in runs]
+        return ', '.join(words + ([] if ends else ['all from byte %d on' % size]))

@@ -1,0 +1,48 @@
+"""Files of frames for the tests of the plugin for Wireshark, and what tshark prints of them."""
+import os
+import struct
+import subprocess
+
+from wire import TCP, UDP, ip, udp
+
+ETHERNET = bytes(12) + b'\x08\0'
+START = 1_700_000_000 * 10**6
+# Between fields, and between the values of one.
+FIELDS, VALUES = '\x1f', '\x1e'
+
+
+def framed(packet):
+    """A frame with its padding."""
+    frame = ETHERNET + packet
+    return frame + bytes(max(0, 60 - len(frame)))
+
+
+def datagram_frame(port, payload, source):
+    return framed(ip(UDP, udp(port, port, payload), source))
+
+
+def segment_frame(number, payload, source, sequence=1):
+    """Bytes of a connection of their own, by its client."""
+    header = struct.pack('>HHLLBBHHH', 1024 + number % 60_000, 139, sequence, 1, 0x50, 0x18, 8_192, 0, 0)
+    return framed(ip(TCP, header + payload, source))
+
+
+def write_pcap(path, frames):
+    """Frames with their times in microseconds, and how many bytes the file has of each; None is all."""
+    with open(path, 'wb') as file:
+        file.write(struct.pack('<LHHLLLL', 0xa1b2c3d4, 2, 4, 0, 0, 262_144, 1))
+        for moment, data, snap in frames:
+            captured = data[:snap]
+            second, part = divmod(START + moment, 10**6)
+            file.write(struct.pack('<LLLL', second, part, len(captured), len(data)) + captured)
+    os.chmod(path, 0o644)
+
+
+def fields_of(tshark, path, fields, *words):
+    """Of each frame the values of these fields, a list for each. tshark writes a backslash as two."""
+    command = [tshark, '-n', '-r', path, *words, '-T', 'fields', '-E', 'separator=' + FIELDS, '-E', 'aggregator=' + VALUES]
+    for each in fields:
+        command += ['-e', each]
+    done = subprocess.run(command, capture_output=True, text=True, check=True, timeout=300)
+    rows = done.stdout.replace('\\\\', '\\').split('\n')[:-1]
+    return [[value.split(VALUES) if value else [] for value in row.split(FIELDS)] for row in rows]

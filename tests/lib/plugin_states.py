@@ -1,0 +1,111 @@
+#!/usr/bin/env python3
+"""What the plugin for Wireshark says of datagrams, beside the report of `nbt replay`.
+
+Usage: tests/lib/plugin_states.py SHARKD PROGRAM FOLDER COUNT [SEED]
+
+So many captures of fragments that are shuffled, lost, repeated and changed, with pauses, times that go back, packets of other kinds
+and ports and frames that are cut. All are read by one sharkd, which has the plugin, one after the other, for a station with names or
+for all; the program replays the same with the ticks of nbt-pcap2cap. Of each payload of port 138 the state, the key and the data have
+to be those of the report, and the links and what is missing those of a plain model. A case is a capture; the last line is 'N passed, M failed'.
+"""
+import json
+import os
+import random
+import subprocess
+import sys
+
+sys.dont_write_bytecode = True
+from plugin_captures import Made
+from plugin_pcap import write_pcap
+
+COLUMNS = ('nbt.state', 'nbt.key', 'nbt.datagram', 'nbt.whole_in', 'nbt.spoilt_in', 'nbt.missing', 'nbt.fragment')
+SOME, ALL = ['FRED<20>', 'JOE<00>'], ['FRED<20>', 'JOE<00>', 'ANN<03>.A', 'BOB<20>']
+
+
+class Sharkd:
+    """sharkd as a process: requests, and their answers."""
+
+    def __init__(self, command):
+        self.process = subprocess.Popen([command, '-'], stdin=subprocess.PIPE, stdout=subprocess.PIPE, stderr=subprocess.DEVNULL, text=True)
+        self.count = 0
+
+    def ask(self, method, **words):
+        self.count += 1
+        request = {'jsonrpc': '2.0', 'id': self.count, 'method': method}
+        if words:
+            request['params'] = words
+        self.process.stdin.write(json.dumps(request) + '\n')
+        self.process.stdin.flush()
+        while line := self.process.stdout.readline():
+            answer = json.loads(line)
+            if answer.get('id') == self.count:
+                if 'error' in answer:
+                    raise ValueError(f'{method}: {answer["error"]}')
+                return answer['result']
+        raise ValueError(f'{method}: sharkd ended with status {self.process.wait()}')
+
+    def rows(self, path):
+        """Of each frame the columns."""
+        self.ask('load', file=path)
+        columns = {f'column{number}': each + ':0' for number, each in enumerate(COLUMNS)}
+        return {frame['num']: frame['c'] for frame in self.ask('frames', **columns)}
+
+    def end(self):
+        self.process.stdin.close()
+        return self.process.wait(timeout=60)
+
+
+def report_of(program, lines, names):
+    """What is reported of each line, by its number."""
+    done = subprocess.run([program, 'replay', '--keys', '65535', *names], input='\n'.join([*lines, '']), capture_output=True, text=True, check=True)
+    return {int(number): words for number, _, words in (line.partition(' ') for line in done.stdout.splitlines())}
+
+
+def wanted_of(words):
+    """State, key and data by a report."""
+    kind, *rest = words.split(' ')
+    if kind not in ('kept', 'spoilt', 'delivered', 'unheard'):
+        return [kind, '', '']
+    data = rest[-1].replace('empty', '') if kind == 'delivered' else ''
+    return [kind, rest[0], data]
+
+
+def first_difference(made, rows, report):
+    """The first frame that isn't as wanted, in words; '' where there is none."""
+    states = {frame: wanted_of(report[line]) for frame, line in made.datagrams.items()}
+    links = made.links({frame: state[0] for frame, state in states.items()})
+    for frame in range(1, made.count + 1):
+        wanted = [*states.get(frame, ['', '', '']), *links.get(frame, ['', '', '', ''])]
+        if rows[frame] != wanted:
+            return f'frame {frame}: {rows[frame]}, not {wanted}'
+    return ''
+
+
+def main():
+    command, program, folder, count = sys.argv[1], sys.argv[2], sys.argv[3], int(sys.argv[4])
+    seed = sys.argv[5] if len(sys.argv) > 5 else 'states'
+    sharkd = Sharkd(command)
+    passed, seen = 0, {}
+    for number in range(count):
+        made = Made(random.Random(f'{seed}-{number}'))
+        path = os.path.join(folder, 'states.pcap')
+        write_pcap(path, made.frames)
+        asked = SOME if number % 2 else []
+        sharkd.ask('setconf', name='nbt.names', value=' '.join(asked))
+        report = report_of(program, made.lines, asked or ALL)
+        difference = first_difference(made, sharkd.rows(path), report)
+        passed += not difference
+        for words in report.values():
+            seen[words.split(' ')[0]] = seen.get(words.split(' ')[0], 0) + 1
+        if difference:
+            kept = os.path.join(folder, f'states-{seed}-{number}.pcap')
+            os.rename(path, kept)
+            print(f'failed: {seed}-{number}: {difference} ({kept})')
+    print(', '.join(f'{number} {each}' for each, number in sorted(seen.items())))
+    passed += sharkd.end() == 0
+    print(f'{passed} passed, {count + 1 - passed} failed')
+    return passed <= count
+
+
+if __name__ == '__main__':
+    sys.exit(main())

@@ -1,0 +1,53 @@
+#!/usr/bin/env bash
+# The plugin for Wireshark: what it is made of, that its phrases, faults and places are those of nbt_brief, its states those of
+# `nbt replay`, that tools print the same beside it, changed and cut captures, valgrind, and the samples of its page. Usage:
+# tests/plugin.sh [LIBRARY [PROGRAM]]; its last line is 'N passed, M failed, K skipped'. LIBRARY is a folder with libnbt.a and
+# libnbt.so.0, out/lib without it. Where tshark or Wireshark's headers aren't installed all of it is left out.
+set -uo pipefail
+. "$(dirname "$0")/lib/counting.sh"
+. "$here/lib/plugin_cases.sh"
+top=$(realpath "$here/..")
+library=$(realpath "${1:-$top/out/lib}")
+program=$(realpath "${2:-$top/crates/nbt/out/nbt}")
+
+for each in tshark sharkd editcap pkg-config setpriv; do
+    command -v $each >/dev/null && continue
+    lacks all $each
+    finish
+    exit
+done
+if ! pkg-config --exists wireshark glib-2.0; then
+    lacks all 'libwireshark-dev or libglib2.0-dev'
+    finish
+    exit
+fi
+
+# Wireshark loads a user's plugins for users alone, not for root: there nobody runs it. $room/with has the commands with the plugin,
+# $room/without the same without it.
+chmod 755 "$room"
+export XDG_DATA_HOME=
+as=(env -u XDG_CONFIG_HOME -u WIRESHARK_CONFIG_DIR)
+[ "$(id -u)" -ne 0 ] || as=(setpriv --reuid=65534 --regid=65534 --clear-groups "${as[@]}")
+commands() {
+    local kind tool
+    for kind in with without; do
+        mkdir -p "$room/$kind" "$room/home-$kind"
+        chmod 777 "$room/home-$kind"
+        for tool in tshark sharkd; do
+            printf '#!/bin/sh\nexec %s HOME=%s %s "$@"\n' "${as[*]}" "$room/home-$kind" "$(command -v $tool)" >"$room/$kind/$tool"
+            chmod 755 "$room/$kind/$tool"
+        done
+    done
+    place=$(HOME=$room/home-with "$room/with/tshark" -G folders 2>/dev/null | sed -n 's/^Personal Plugins:[[:space:]]*//p')/epan
+}
+commands
+
+part built built
+part payloads said
+part states states
+part tools tools
+part bad bad
+part again again
+part valgrind under_valgrind
+part page page_samples
+finish

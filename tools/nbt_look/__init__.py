@@ -22,6 +22,7 @@ screen       lines, tables and colours
 listing      a line for each packet
 objects      an object of JSON for each packet
 whole        all of one frame
+places       which byte of a payload the place of a fault is
 advice       what to do about a fault, by its port
 tally        what the last line counts
 counts       counts in words

@@ -1,14 +1,12 @@
 """All of the packets of one frame."""
-import re
 import subprocess
 
 from .advice import of_port
 from .counts import counted
 from .listing import ends
+from .places import is_in_name, place_of
 
 ROW = 16
-# Of these the place is in the spelling of a name, and not in the packet.
-ELSEWHERE = re.compile('not netbios [0-9]+$')
 
 
 class Whole:
@@ -35,9 +33,12 @@ class Whole:
             self.screen.line(line.removeprefix('1 '))
         self.screen.line('')
         self.screen.line('payload, %s' % counted(len(item.digits) // 2, 'byte'), 'head')
-        self.dump(bytes.fromhex(item.digits), marked(shown))
+        data = bytes.fromhex(item.digits)
+        place = place_of(item.service, data, shown)
+        self.dump(data, place)
         if 'refused' in shown:
             self.advise(item.service, shown['refused'])
+            self.place(shown['refused'], place)
         if item.source:
             self.screen.line('')
             self.screen.line('Wireshark: frame.number == %d' % self.number)
@@ -68,6 +69,11 @@ class Whole:
         for line in [advice] if advice else self.asked(['help', refused], ''):
             self.screen.line('  ' + line)
 
+    def place(self, refused, place):
+        """Which byte of the payload it is, where the place of a fault counts in a name."""
+        if place is not None and is_in_name(refused):
+            self.screen.line('  byte %s of the name is byte %d of the payload' % (refused.rpartition(' ')[2], place))
+
     def asked(self, words, text):
         """What nbt prints."""
         done = subprocess.run([self.program, *words], input=text.encode(), stdout=subprocess.PIPE, check=False)
@@ -93,11 +99,6 @@ class Whole:
             self.screen.line('there is no frame %d: the capture has %s' % (self.number, counted(tally.frames, 'frame')))
         else:
             self.screen.line('frame %d completes no packet of these ports' % self.number)
-
-
-def marked(shown):
-    """The place of the fault in the packet, if it is there."""
-    return None if ELSEWHERE.search(shown.get('refused', '')) else shown.get('at')
 
 
 def wireshark(item, shown):

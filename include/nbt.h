@@ -61,7 +61,10 @@ enum nbt_status {
     NBT_NAME_RESERVED_LABEL = 21,  /* a length byte begins with the bits 01 or 10; *at: where it stands */
     NBT_NAME_POINTER = 22,         /* a pointer stands where none may; *at: where */
     NBT_NAME_LONG = 23,            /* a label makes the spelling longer than 255 bytes; *at: where it stands */
-    NBT_NAME_NOT_NETBIOS = 24,     /* labels that no NetBIOS name has; *at: a place in their spelling */
+    NBT_NAME_NOT_NETBIOS = 24,     /* labels that no NetBIOS name has; *at: a place in their spelling. In a payload in which the
+                                    * name has no pointer, byte *at after the one where the name begins: 4 for the first name of
+                                    * a session request, 14 for the source of a datagram, 10 for the name of a query of port
+                                    * 138; a second name begins after the zero byte of the first */
     NBT_NAME_TRAILING_BYTES = 25,  /* bytes after the spelling; *at: where they begin */
     NBT_NAME_BAD_POINTER = 26,     /* a pointer that doesn't go back; *at: where; of names of the name service alone */
 
@@ -177,8 +180,9 @@ uint32_t nbt_json(uint16_t port, const uint8_t *payload, size_t payload_length,
                   uint8_t *into, size_t into_length, size_t *used);
 
 /* The phrase of a payload that came to this port, without a line feed: what the command `nbt show --brief` prints of it
- * after the two numbers of its line (the words are our choice). Ports are as of nbt_show. It has at most 200 bytes where
- * no name has more than 19, and never more than NBT_BRIEF_ROOM.
+ * after the two numbers of its line (the words are our choice). Ports are as of nbt_show. Of a payload of at most 131,097
+ * bytes, as many as a line of a capture has, it has at most 205 bytes where no name has more than 19, else at most 1,633; of any
+ * payload at most 222 and 1,652, which is less than NBT_BRIEF_ROOM.
  * NBT_NO_MEMORY, NBT_NO_ROOM. */
 uint32_t nbt_brief(uint16_t port, const uint8_t *payload, size_t payload_length,
                    uint8_t *into, size_t into_length, size_t *used);

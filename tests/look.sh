@@ -409,6 +409,15 @@ END
         grep -qxF "  $(nbt help 'destination name: pointer not allowed 48')" "$room/output" &&
         grep -qxF "nbt help 'destination name: pointer not allowed 48'" "$room/output"
     count $? "the byte with the fault, and what to do: $(grep -n '\[' "$room/output")"
+    nbt build unique 10.0.0.5:138/0001 'JOE<00>' 'FRED<20>' 61 1 | sed -E 's/^(138 0 .{46})../\161/' >"$room/named.txt"
+    nbt build request 'FRED<20>' 'JOE<00>' | sed -E 's/^(139 0 .{86})../\161/' >>"$room/named.txt"
+    look --frame 1 "$room/named.txt" >"$room/output" 2>&1
+    grep -qxF 'refused: source name: not netbios, at byte 9 of the name' "$room/output" && grep -q '^00010 .*\[61\]' "$room/output" &&
+        [ "$(tail -n 1 "$room/output")" = '  byte 9 of the name is byte 23 of the payload' ]
+    count $? "the byte of the payload that a byte of a name is: $(cat "$room/output")"
+    look --frame 2 "$room/named.txt" >"$room/output" 2>&1
+    grep -q '^00020 .*\[61\]' "$room/output" && [ "$(tail -n 1 "$room/output")" = '  byte 5 of the name is byte 43 of the payload' ]
+    count $? "the same of a request's second name: $(cat "$room/output")"
     made disputes
     look --frame 16 "$room/disputes.pcap" 2>&1 | grep -A 1 '^nbt help' | diff - <(printf '%s\n' "nbt help 'name: reserved label 12'" \
         '  no name stands there: perhaps other traffic')

@@ -4,7 +4,7 @@
 
 int main(void) {
     static const uint8_t data[] = {0, 0, 0, 2, 'h', 'i', 0x85};
-    uint8_t phrase[1024];
+    uint8_t phrase[NBT_BRIEF_ROOM];
     size_t used;
     if (nbt_brief(139, data, sizeof data, phrase, sizeof phrase, &used) == NBT_DONE)
         printf("%.*s\n", (int)used, (const char *)phrase);
@@ -13,6 +13,6 @@ int main(void) {
     return 0;
 }
 /* Prints:
- * sends 2 bytes, 1 bytes follow
+ * sends 2 bytes, 1 byte follows
  * refused: truncated, at byte 7
  */

@@ -10,6 +10,7 @@ import { Blocks, Column, Texts } from '../src/model/columns.js';
 import { commentOf, made, textOf, written } from '../src/model/capture.js';
 import { keyOf } from '../src/model/keys.js';
 import { LEFT_OUT, Packets } from '../src/model/packets.js';
+import { placeInName } from '../src/model/places.js';
 import { Seen } from '../src/model/seen.js';
 import { momentOf, since, utc } from '../src/model/times.js';
 import { Advice, placed } from '../src/view/advice.js';
@@ -85,7 +86,21 @@ test('advice on a refusal, with its place', () => {
     assert.equal(advice.of('trailing bytes'), 'leave out the bytes from there on');
     assert.equal(advice.of('bad length'), 'cut the stream');
     assert.equal(advice.of('bad'), '');
-    assert.deepEqual(['name: reserved label 12', 'bad length'].map(placed), ['name: reserved label, at byte 12', 'bad length']);
+    assert.deepEqual(['name: reserved label 12', 'source name: not netbios 9', 'bad length'].map(placed),
+        ['name: reserved label, at byte 12', 'source name: not netbios, at byte 9 of the name', 'bad length']);
+});
+
+test('which byte of the payload a byte of a name is', () => {
+    const name = (letters, scope = '') => `\x20${letters.padEnd(32, 'A')}${scope}\0`;
+    const [good, bad] = [name('EGFC'), name('EGFCa')];
+    const scoped = name('EGFC', '\x03NET\x02US');
+    for (const [port, text, refused, at] of [
+        [138, `\x10${'.'.repeat(13)}${bad}${good}`, 'source name: not netbios 5', 19], [138, `\x11${'.'.repeat(13)}${good}${bad}`, 'destination name: not netbios 5', 53],
+        [138, `\x12${'.'.repeat(13)}${scoped}${bad}`, 'destination name: not netbios 5', 60], [138, `\x14${'.'.repeat(9)}${bad}`, 'destination name: not netbios 5', 15],
+        [139, `\x81...${bad}${bad}`, 'name: not netbios 5', 9], [139, `\x81...${good}${bad}`, 'name: not netbios 5', 43],
+        [139, `\x81...\x03abc\0${good}`, 'name: not netbios 0', 4], [138, `\x10${'.'.repeat(13)}\xc0\x0c${bad}`, 'destination name: not netbios 5', null],
+    ]) assert.deepEqual(placeInName(port, bytes(text), refused), { inName: Number(refused.at(-1)), inPayload: at }, refused);
+    assert.equal(placeInName(138, bytes(''), 'source name: truncated 0'), null);
 });
 
 test('times', () => {

@@ -8,7 +8,7 @@
 #include <sys/mman.h>
 #include <ucontext.h>
 
-enum { PAINT = 0x5a, STACK = 1 << 20, PAGE = 4096, LONGEST_NAME = 255, LONGEST_PAYLOAD = 65503, TABLE_ROOM = 1 << 22, KEYS = 2000 };
+enum { PAINT = 0x5a, STACK = 1 << 20, PAGE = 4096, LONGEST_NAME = 255, LONGEST_PAYLOAD = 65503, LINE_PAYLOAD = 131097, TABLE_ROOM = 1 << 22, KEYS = 2000 };
 
 /* ---- the stack of a call */
 
@@ -230,6 +230,57 @@ static void longest_redirect(void) {
     given(137, bytes, 12 + 2 * length + 10);
 }
 
+/* Puts bytes at a place, and answers the place after them. */
+static size_t put(uint8_t *into, size_t at, const void *bytes, size_t length) {
+    memcpy(into + at, bytes, length);
+    return at + length;
+}
+
+/* What is said of the bytes up to here, with zeros up to as many bytes as a line of a capture has, which has to be so long. */
+static void phrase_of(const char *name, uint8_t *bytes, size_t end, size_t length) {
+    memset(bytes + end, 0, LINE_PAYLOAD - end);
+    given(137, bytes, LINE_PAYLOAD);
+    says();
+    measured(name, used, length);
+    if (used != length)
+        exit(3);
+}
+
+/* The longest phrase where no name has more than 19 bytes: one of several addresses is claimed for more than a thousand names of
+ * node statuses, of which the first is a group's. */
+static void longest_claim(void) {
+    static uint8_t bytes[LINE_PAYLOAD];
+    static const uint8_t header[] = {0, 1, 0x78, 0, 0, 1, 0, 0, 0, 0, 0, 4}, fields[] = {0, 0x21, 0, 1};
+    static const uint8_t record[] = {0xc0, 12, 0, 0x21, 0, 1, 255, 255, 255, 255, 4591 >> 8, 4591 & 255, 255};
+    size_t end = put(bytes, 0, header, sizeof header), i;
+    bytes[end++] = 32;
+    for (i = 0; i < 32; i++)
+        bytes[end++] = i % 2 == 0 ? 'E' : 'B';
+    bytes[end++] = 0;
+    end = put(bytes, end, fields, sizeof fields);
+    for (i = 0; i < 4 * 255; i++) {
+        if (i % 255 == 0)
+            end = put(bytes, end, record, sizeof record);
+        end = put(bytes, end, "ABCDEFGHIJKLMNO \x80", 18);
+    }
+    phrase_of("text: nbt_brief, names of 19 bytes", bytes, end, 205);
+}
+
+/* The longest phrase: the longest names that aren't NetBIOS names, and more than a thousand addresses. */
+static void longest_phrase(void) {
+    static uint8_t bytes[LINE_PAYLOAD];
+    static const uint8_t header[] = {0, 1, 0x80, 0, 0, 0, 0, 1, 0, 0, 0, 1}, fields[] = {0, 2, 0, 1, 0, 0, 0, 0, 0, LONGEST_NAME};
+    static const uint8_t record[] = {0, 0, 0x20, 0, 1, 0, 0, 0, 0, 6024 >> 8, 6024 & 255};
+    size_t end = put(bytes, 0, header, sizeof header), i;
+    end += longest_name(bytes + end, false);
+    end = put(bytes, end, fields, sizeof fields);
+    end += longest_name(bytes + end, false);
+    end = put(bytes, end, record, sizeof record);
+    for (i = 0; i < 1004; i++)
+        end = put(bytes, end, "\0\0\xff\xff\xff\xff", 6);
+    phrase_of("text: nbt_brief, of a line", bytes, end, 1633);
+}
+
 static void names(void) {
     uint8_t name[LONGEST_NAME];
     size_t length = longest_name(name, true);
@@ -281,6 +332,8 @@ int main(void) {
     pointers(LONGEST_PAYLOAD, true);
     longest_datagram();
     longest_redirect();
+    longest_claim();
+    longest_phrase();
     names();
     status_texts();
     measured("stack: what is written", depth_of(writes), NBT_STACK);

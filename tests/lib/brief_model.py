@@ -31,17 +31,23 @@ def said(port, payload):
     if 'refused' in fields:
         return refused(fields['refused'], fields.get('at'))
     if 'more' in fields:
-        return f'begins a packet that lacks {fields["more"]} bytes'
+        return f'begins a packet that lacks {sized(fields["more"])}'
     left = len(payload) - fields['used']
     phrase = {137: service, 138: datagram, 139: session}[port](fields)
-    return phrase + (f', {left} bytes follow' if left else '')
+    return phrase + (f', {sized(left)} follow{"s" if left == 1 else ""}' if left else '')
 
 
 def refused(fault, place):
     """A payload that begins with no packet."""
     if place is None:
         return f'refused: {fault}'
-    return f'refused: {fault.removesuffix(f" {place}")}, at byte {place}'
+    words = fault.removesuffix(f' {place}')
+    return f'refused: {words}, at byte {place}{" of the name" if words.endswith(": not netbios") else ""}'
+
+
+def sized(count):
+    """So many bytes."""
+    return f'{count} byte' + ('' if count == 1 else 's')
 
 
 def coded(words, code):
@@ -172,15 +178,15 @@ def datagram(fields):
 def extent(size, offset, goes_on):
     """Which bytes a fragment has."""
     if goes_on:
-        return f'{size} bytes at offset {offset} of one that goes on'
-    return f'{size} bytes at offset {offset}, the last' if offset else f'{size} bytes'
+        return f'{sized(size)} at offset {offset} of one that goes on'
+    return f'{sized(size)} at offset {offset}, the last' if offset else sized(size)
 
 
 def session(fields):
     """A packet of port 139."""
     kind = fields['kind']
     if kind == 'message':
-        return f'sends {fields["length"]} bytes'
+        return f'sends {sized(fields["length"])}'
     if kind == 'request':
         return f'calls {fields["called"]} as {fields["calling"]}'
     if kind == 'negative':

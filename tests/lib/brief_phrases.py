@@ -3,7 +3,8 @@
 
 Usage: tests/lib/brief_phrases.py [--seed N] [--payloads N] [PROGRAM]; its last line is 'N passed, M failed', the one before says
 what was compared. Captures are the payloads of the examples of crates/nb_examples, and such as are made by chance, until so
-many payloads (10,000) were said. The lines of each are a case, and so is each phrase of docs/FORMATS.md: it was said. Objects with
+many payloads (10,000) were said. The lines of each are a case, and so is each phrase of docs/FORMATS.md: it was said. The two longest
+phrases are as long as docs/FORMATS.md has it, and none is longer. Objects with
 phrases are held against the same model by tests/lib/json_objects.py.
 """
 import argparse
@@ -26,6 +27,10 @@ IN_CAPTURE = 100
 PHRASES = re.compile(r'^\| .* \| `([^`]+)` \|$', re.MULTILINE)
 BY = re.compile(r'[A-Z]+|[.*+?^$()\[\]{}|\\]')
 LONGEST_PRINTED = 1_000
+# How many bytes of a payload a line of a capture has, and how long phrases of them are: where no name has more than 19, and of any names.
+IN_LINE = 131_097
+LONGEST_OF_19 = 205
+LONGEST = 1_633
 
 
 def phrases():
@@ -52,6 +57,18 @@ def made_by_chance(rng, count):
     for at in range(count):
         payload = (137, ServicePacket(rng, inputs.traffic.name).made()) if at % 2 else inputs.payload()
         yield likely(rng, *payload)
+
+
+def longest():
+    """The payloads with the longest phrases, and how long these are: where no name has more than 19 bytes, and where names have any
+    length. Zeros follow up to the length of a capture's line."""
+    name = bytes([32]) + b'EB' * 16 + b'\0'
+    status = b'\xc0\x0c\0\x21\0\x01' + b'\xff' * 4 + (1 + 255 * 18).to_bytes(2, 'big') + b'\xff' + b'ABCDEFGHIJKLMNO \x80\0' * 255
+    claim = bytes.fromhex('000178000001000000000004') + name + bytes.fromhex('00210001') + status * 4
+    labels = b''.join(bytes([each]) + b'\x01' * each for each in (63, 63, 63, 61)) + b'\0'
+    addresses = bytes.fromhex('000020000100000000') + (6 * 1_004).to_bytes(2, 'big') + b'\0\0\xff\xff\xff\xff' * 1_004
+    redirect = bytes.fromhex('000180000000000100000001') + labels + bytes.fromhex('000200010000000000ff') + labels + addresses
+    return [(payload.ljust(IN_LINE, b'\0'), length) for payload, length in ((claim, LONGEST_OF_19), (redirect, LONGEST))]
 
 
 class Cases:
@@ -107,6 +124,11 @@ def main():
     payloads += made_by_chance(random.Random(given.seed), given.payloads)
     for at in range(0, len(payloads), IN_CAPTURE):
         cases.check(payloads[at:at + IN_CAPTURE])
+    for payload, length in longest():
+        cases.check([(137, payload)])
+        cases.count('' if len(cases.said[-1]) == length else f'{len(cases.said[-1])} bytes, not {length}: {cases.said[-1]}')
+    longer = [it for it in cases.said if len(it) > LONGEST]
+    cases.count(f'longer than {LONGEST}: {longer[0]}' if longer else '')
     for phrase in phrases():
         is_said = any(map(phrase.fullmatch, cases.said))
         cases.count('' if is_said else f'nothing is said as {phrase.pattern}')

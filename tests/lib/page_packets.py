@@ -26,7 +26,11 @@ class PacketCases:
             told = self.program.told(line)
             self.browser.choose(number)
             data = bytes.fromhex(line.split()[2].replace('empty', ''))
-            at = told.get('at') if 'not netbios' not in told['refused'] else None
+            at = told.get('at')
+            if 'not netbios' in told['refused']:
+                # The source's name of a datagram begins at byte 14.
+                equal(self.browser.texts('#packet .fault p')[1:], [f'Byte {at} of the name is byte {14 + at} of the payload.'], 'the byte of the payload')
+                at += 14
             wanted = [] if at is None else ['  '] if at >= len(data) else [f'{data[at]:02x}']
             equal(self.browser.texts('#packet mark')[:1], wanted, f"the mark of {told['refused']}")
             equal(self.browser.texts('#packet .fault b'), [told['brief'].removeprefix('refused: ')], 'the fault')

@@ -27,6 +27,7 @@ tables       the words that choose tables of the summary
 merging      several files as one capture
 version      the version of these tools
 trial        whether a nbt on PATH is the one of this version
+places       which byte of a payload the place of a fault is
 advice       what to do about a fault, by its port
 tally        what the last line counts
 counts       counts in words

@@ -1,5 +1,4 @@
 """All of the packets of one frame."""
-import re
 import subprocess
 
 from nbt_pcap.process import say
@@ -8,10 +7,9 @@ from .advice import of_port
 from .counts import counted, left_out_words
 from .listing import ends
 from .objects import ENCODE, Objects
+from .places import is_in_name, place_of
 
 ROW = 16
-# Of these the place is in the spelling of a name, and not in the packet.
-ELSEWHERE = re.compile('not netbios [0-9]+$')
 
 
 class Whole:
@@ -38,12 +36,12 @@ class Whole:
             self.screen.line(line.removeprefix('1 '))
         self.screen.line('')
         self.screen.line('payload, %s' % counted(len(item.digits) // 2, 'byte'), 'head')
-        self.dump(bytes.fromhex(item.digits), marked(shown))
+        data = bytes.fromhex(item.digits)
+        place = place_of(item.service, data, shown)
+        self.dump(data, place)
         if 'refused' in shown:
-            self.screen.line('')
-            self.screen.line("nbt help '%s'" % shown['refused'])
-            for line in advice_of(self.program, item.service, shown['refused']):
-                self.screen.line('  ' + line)
+            self.advise(item.service, shown['refused'])
+            self.place(shown['refused'], place)
         if item.source:
             self.screen.line('')
             self.screen.line('Wireshark: frame.number == %d' % self.number)
@@ -65,6 +63,18 @@ class Whole:
             words.append('MAC %s > %s' % (frame.source_mac, frame.target_mac))
         words += ['%s %s' % each for each in (('VLAN', frame.vlans), ('interface', frame.interface_name)) if each[1]]
         self.screen.line(', '.join(words))
+
+    def advise(self, port, refused):
+        """What to do about a fault, and how nbt is asked for it."""
+        self.screen.line('')
+        self.screen.line("nbt help '%s'" % refused)
+        for line in advice_of(self.program, port, refused):
+            self.screen.line('  ' + line)
+
+    def place(self, refused, place):
+        """Which byte of the payload it is, where the place of a fault counts in a name."""
+        if place is not None and is_in_name(refused):
+            self.screen.line('  byte %s of the name is byte %d of the payload' % (refused.rpartition(' ')[2], place))
 
     def dump(self, data, mark):
         """The bytes, sixteen a row; the one with the fault stands in brackets, and so does the place after the last one."""
@@ -143,11 +153,6 @@ def asked(program, words, text):
     """What nbt prints."""
     done = subprocess.run([program, *words], input=text.encode(), stdout=subprocess.PIPE, check=False)
     return done.stdout.decode(errors='replace').splitlines()
-
-
-def marked(shown):
-    """The place of the fault in the packet, if it is there."""
-    return None if ELSEWHERE.search(shown.get('refused', '')) else shown.get('at')
 
 
 def wireshark(item, shown):

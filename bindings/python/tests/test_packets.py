@@ -248,7 +248,7 @@ class Shown(unittest.TestCase):
     def test_brief(self):
         self.assertEqual(nbt.brief(137, nbt.query(3, 'FRED<20>')), 'asks for FRED<20>')
         self.assertEqual(nbt.brief(138, HELLO), 'group datagram from JOE<00> to FRED<20>, 5 bytes')
-        self.assertEqual(nbt.brief(139, b'\0\0\0\2hi\x85'), 'sends 2 bytes, 1 bytes follow')
+        self.assertEqual(nbt.brief(139, b'\0\0\0\2hi\x85'), 'sends 2 bytes, 1 byte follows')
         self.assertEqual(nbt.brief(7, bytearray(b'\x85')), nbt.brief(139, b'\x85'))
         self.assertEqual(nbt.brief(138, b''), 'refused: truncated, at byte 0')
         with self.assertRaises(ValueError):

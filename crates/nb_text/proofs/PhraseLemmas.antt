@@ -11,7 +11,7 @@ use Rattle.nb_names.specs.declared.limits.TheConstants.{FRONT_LENGTH}
 use Rattle.nb_names.specs.Ascii.{less_than, greater_than}
 use Rattle.nb_text.proofs.LabelLemmas.{name_written}
 use Rattle.nb_text.specs.Noted.{first_text}
-use Rattle.nb_text.specs.Said.{follow_said, name_said}
+use Rattle.nb_text.specs.Said.{follow_said, follow_word, name_said}
 use Rattle.nb_text.specs.Words.{is_set}
 
 -- ---- tests
@@ -41,16 +41,16 @@ whole text n = ap (λ (t : List ℕ). text ++ t) (if_false (nat_lt n n) _ [] (no
 
 -- some do
 pub follows : (text : List ℕ) (used size : ℕ) → used < size
-    → text ++ follow_said (Some used) size ≡ text ++ (codes ", " ++ (decimal (size - used) ++ codes " bytes follow"))
+    → text ++ follow_said (Some used) size ≡ text ++ (codes ", " ++ (decimal (size - used) ++ follow_word (size - used)))
 follows text used size h =
     let test : nat_lt used size ≡ true = grind (arith, nat_tests, h) in
-    ap (λ (t : List ℕ). text ++ t) (if_true (nat_lt used size) (codes ", " ++ (decimal (size - used) ++ codes " bytes follow")) [] test)
+    ap (λ (t : List ℕ). text ++ t) (if_true (nat_lt used size) (codes ", " ++ (decimal (size - used) ++ follow_word (size - used))) [] test)
 
 -- the phrase of a packet after which bytes follow, beside that of one that is all of its payload
 pub behind : (text : List ℕ) (used size : ℕ) → used < size
-    → text ++ follow_said (Some used) size ≡ (text ++ follow_said (Some used) used) ++ (codes ", " ++ (decimal (size - used) ++ codes " bytes follow"))
+    → text ++ follow_said (Some used) size ≡ (text ++ follow_said (Some used) used) ++ (codes ", " ++ (decimal (size - used) ++ follow_word (size - used)))
 behind text used size low =
-    follows text used size low ∙ ap (λ (t : List ℕ). t ++ (codes ", " ++ (decimal (size - used) ++ codes " bytes follow"))) (sym (whole text used))
+    follows text used size low ∙ ap (λ (t : List ℕ). t ++ (codes ", " ++ (decimal (size - used) ++ follow_word (size - used)))) (sym (whole text used))
 
 -- ---- names
 

@@ -28,7 +28,7 @@ use Rattle.nb_text.specs.SessionFields.{session_fields}
 use Rattle.nb_text.specs.Kinds.{is_text}
 use Rattle.nb_text.specs.LineFields.{refused_fields}
 use Rattle.nb_text.specs.Noted.{first_text, without_end}
-use Rattle.nb_text.specs.Said.{error_said, refusal_said, said, name_said, follow_said}
+use Rattle.nb_text.specs.Said.{bytes_word, error_said, refusal_said, said, name_said, follow_said, follow_word, place_word}
 use Rattle.nb_text.proofs.FieldLemmas.{labels_word}
 use Rattle.nb_text.proofs.LabelLemmas.{name_written}
 use Rattle.nb_text.proofs.TextTests.{is_so}
@@ -42,8 +42,8 @@ pub called_said : (called calling : NetbiosName) (used : ℕ)
 called_said called calling used = whole (codes "calls " ++ (written called ++ (codes " as " ++ written calling))) used
 
 pub message_said : (bytes : List ℕ) (used : ℕ)
-    → said (session_fields (Whole (sessions.Message bytes) used)) used ≡ codes "sends " ++ (decimal (length bytes) ++ codes " bytes")
-message_said bytes used = whole (codes "sends " ++ (decimal (length bytes) ++ codes " bytes")) used
+    → said (session_fields (Whole (sessions.Message bytes) used)) used ≡ codes "sends " ++ (decimal (length bytes) ++ bytes_word (length bytes))
+message_said bytes used = whole (codes "sends " ++ (decimal (length bytes) ++ bytes_word (length bytes))) used
 
 pub positive_said : (used : ℕ) → said (session_fields (Whole sessions.Positive used)) used ≡ codes "accepts"
 positive_said used = whole (codes "accepts") used
@@ -72,17 +72,17 @@ part_place more offset =
     else codes " at offset " ++ (decimal offset ++ codes ", the last")
 
 datagram : (lead source destination : List ℕ) (size : ℕ) (place ending : List ℕ) (used : ℕ) → place ≡ ending
-    → (lead ++ (source ++ (codes " to " ++ (destination ++ (codes ", " ++ (decimal size ++ (codes " bytes" ++ place))))))) ++ follow_said (Some used) used
-    ≡ lead ++ (source ++ (codes " to " ++ (destination ++ (codes ", " ++ (decimal size ++ (codes " bytes" ++ ending))))))
+    → (lead ++ (source ++ (codes " to " ++ (destination ++ (codes ", " ++ (decimal size ++ (bytes_word size ++ place))))))) ++ follow_said (Some used) used
+    ≡ lead ++ (source ++ (codes " to " ++ (destination ++ (codes ", " ++ (decimal size ++ (bytes_word size ++ ending))))))
 datagram lead source destination size place ending used same =
-    whole (lead ++ (source ++ (codes " to " ++ (destination ++ (codes ", " ++ (decimal size ++ (codes " bytes" ++ place))))))) used
-    ∙ ap (λ (t : List ℕ). lead ++ (source ++ (codes " to " ++ (destination ++ (codes ", " ++ (decimal size ++ (codes " bytes" ++ t))))))) same
+    whole (lead ++ (source ++ (codes " to " ++ (destination ++ (codes ", " ++ (decimal size ++ (bytes_word size ++ place))))))) used
+    ∙ ap (λ (t : List ℕ). lead ++ (source ++ (codes " to " ++ (destination ++ (codes ", " ++ (decimal size ++ (bytes_word size ++ t))))))) same
 
 -- the phrase of a fragment, whose bytes are in their place
 pub fragment_said : (kind : Kind) (flags : ℕ) (key : Key) (offset : ℕ) (source destination : NetbiosName) (bytes ending : List ℕ) (used : ℕ)
     → part_place (has_more flags) offset ≡ ending
     → said (datagram_fields (Direct (record { kind = kind; flags = flags; key = key; offset = offset; source = source; destination = destination; bytes = bytes })) used) used
-    ≡ datagram_lead kind ++ (written source ++ (codes " to " ++ (written destination ++ (codes ", " ++ (decimal (length bytes) ++ (codes " bytes" ++ ending))))))
+    ≡ datagram_lead kind ++ (written source ++ (codes " to " ++ (written destination ++ (codes ", " ++ (decimal (length bytes) ++ (bytes_word (length bytes) ++ ending))))))
 fragment_said Unique flags key offset source destination bytes ending used same =
     datagram (codes "datagram from ") (written source) (written destination) (length bytes) (part_place (has_more flags) offset) ending used same
 fragment_said Group flags key offset source destination bytes ending used same =
@@ -93,15 +93,17 @@ fragment_said Broadcast flags key offset source destination bytes ending used sa
 -- the phrase of all of a datagram
 pub whole_said : (kind : Kind) (flags used : ℕ) (key : Key) (source destination : NetbiosName) (bytes : List ℕ) → has_more flags ≡ false
     → said (datagram_fields (Direct (record { kind = kind; flags = flags; key = key; offset = 0; source = source; destination = destination; bytes = bytes })) used) used
-    ≡ datagram_lead kind ++ (written source ++ (codes " to " ++ (written destination ++ (codes ", " ++ (decimal (length bytes) ++ codes " bytes")))))
+    ≡ datagram_lead kind ++ (written source ++ (codes " to " ++ (written destination ++ (codes ", " ++ (decimal (length bytes) ++ bytes_word (length bytes))))))
 whole_said kind flags used key source destination bytes last =
     fragment_said kind flags key 0 source destination bytes [] used (if_false (has_more flags) _ [] last)
+    ∙ ap (λ (t : List ℕ). datagram_lead kind ++ (written source ++ (codes " to " ++ (written destination ++ (codes ", " ++ (decimal (length bytes) ++ t))))))
+    (append-nil (bytes_word (length bytes)))
 
 -- of a part of one, after which more follow
 pub front_said : (flags used offset : ℕ) (key : Key) (source destination : NetbiosName) (bytes : List ℕ) → has_more flags ≡ true
     → said (datagram_fields (Direct (record { kind = Unique; flags = flags; key = key; offset = offset; source = source; destination = destination; bytes = bytes })) used) used
     ≡ codes "datagram from " ++ (written source ++ (codes " to " ++ (written destination ++ (codes ", " ++ (decimal (length bytes)
-    ++ (codes " bytes at offset " ++ (decimal offset ++ codes " of one that goes on")))))))
+    ++ (bytes_word (length bytes) ++ (codes " at offset " ++ (decimal offset ++ codes " of one that goes on"))))))))
 front_said flags used offset key source destination bytes more =
     fragment_said Unique flags key offset source destination bytes (codes " at offset " ++ (decimal offset ++ codes " of one that goes on")) used
     (if_true (has_more flags) _ _ more)
@@ -110,7 +112,7 @@ front_said flags used offset key source destination bytes more =
 pub last_said : (flags used offset : ℕ) (key : Key) (source destination : NetbiosName) (bytes : List ℕ) → has_more flags ≡ false → 0 < offset
     → said (datagram_fields (Direct (record { kind = Unique; flags = flags; key = key; offset = offset; source = source; destination = destination; bytes = bytes })) used) used
     ≡ codes "datagram from " ++ (written source ++ (codes " to " ++ (written destination ++ (codes ", " ++ (decimal (length bytes)
-    ++ (codes " bytes at offset " ++ (decimal offset ++ codes ", the last")))))))
+    ++ (bytes_word (length bytes) ++ (codes " at offset " ++ (decimal offset ++ codes ", the last"))))))))
 last_said flags used offset key source destination bytes last past =
     fragment_said Unique flags key offset source destination bytes (codes " at offset " ++ (decimal offset ++ codes ", the last")) used
     (if_false (has_more flags) _ _ last ∙ if_false (offset == 0) [] _ (not_zero offset past))
@@ -291,8 +293,8 @@ relay_said queries.Negative flags used key destination = whole (codes "answers: 
 -- a packet of a session, after which bytes follow
 pub session_follows : (packet : SessionPacket) (used size : ℕ) → used < size
     → said (session_fields (Whole packet used)) size
-    ≡ said (session_fields (Whole packet used)) used ++ (codes ", " ++ (decimal (size - used) ++ codes " bytes follow"))
-session_follows (sessions.Message bytes) used size low = behind (codes "sends " ++ (decimal (length bytes) ++ codes " bytes")) used size low
+    ≡ said (session_fields (Whole packet used)) used ++ (codes ", " ++ (decimal (size - used) ++ follow_word (size - used)))
+session_follows (sessions.Message bytes) used size low = behind (codes "sends " ++ (decimal (length bytes) ++ bytes_word (length bytes))) used size low
 session_follows (sessions.Request called calling) used size low =
     behind (codes "calls " ++ (written called ++ (codes " as " ++ written calling))) used size low
 session_follows sessions.Positive used size low = behind (codes "accepts") used size low
@@ -327,13 +329,14 @@ end_off front ending =
     (is_so _ (front ++ ending) (ap (λ (t : List ℕ). t ++ ending) cut)) ∙ cut
 
 pub refused_said : (fault : List ℕ) (place size : ℕ)
-    → said (refused_fields (fault ++ 32 ∷ decimal place) (Some place)) size ≡ codes "refused: " ++ (fault ++ (codes ", at byte " ++ decimal place))
+    → said (refused_fields (fault ++ 32 ∷ decimal place) (Some place)) size ≡ codes "refused: " ++ (fault ++ (codes ", at byte " ++ (decimal place ++ place_word fault)))
 refused_said fault place size =
-    append-nil (codes "refused: " ++ (without_end (fault ++ 32 ∷ decimal place) (32 ∷ decimal place) ++ (codes ", at byte " ++ decimal place)))
-    ∙ ap (λ (t : List ℕ). codes "refused: " ++ (t ++ (codes ", at byte " ++ decimal place))) (end_off fault (32 ∷ decimal place))
+    let without = without_end (fault ++ 32 ∷ decimal place) (32 ∷ decimal place) in
+    append-nil (codes "refused: " ++ (without ++ (codes ", at byte " ++ (decimal place ++ place_word without))))
+    ∙ ap (λ (t : List ℕ). codes "refused: " ++ (t ++ (codes ", at byte " ++ (decimal place ++ place_word t)))) (end_off fault (32 ∷ decimal place))
 
 pub unplaced_said : (fault : List ℕ) (size : ℕ) → said (refused_fields fault None) size ≡ codes "refused: " ++ fault
 unplaced_said fault size = append-nil (codes "refused: " ++ fault)
 
-pub front_lacks : (needed size : ℕ) → said (session_fields (More needed)) size ≡ codes "begins a packet that lacks " ++ (decimal needed ++ codes " bytes")
-front_lacks needed size = append-nil (codes "begins a packet that lacks " ++ (decimal needed ++ codes " bytes"))
+pub front_lacks : (needed size : ℕ) → said (session_fields (More needed)) size ≡ codes "begins a packet that lacks " ++ (decimal needed ++ bytes_word needed)
+front_lacks needed size = append-nil (codes "begins a packet that lacks " ++ (decimal needed ++ bytes_word needed))

@@ -11,10 +11,15 @@ use Rattle.nb_text.specs.declared.brief.form.Form.TheVariants as forms
 use Rattle.nb_text.specs.declared.brief.kind.Kind.{Kind}
 use Rattle.nb_text.specs.declared.brief.kind.Kind.TheVariants as kinds
 use Rattle.nb_text.specs.Forms.{form_of}
+use Rattle.nb_text.specs.Kinds.{is_text}
 use Rattle.nb_text.specs.Noted.{Noted, most_listed, note, nothing_noted}
 use Rattle.nb_text.specs.Words.{is_set}
 
 -- ---- parts of phrases
+
+-- what is counted, where so many bytes are: one is no plural
+abbrev pub bytes_word : ℕ → List ℕ
+bytes_word count = if count == 1 then codes " byte" else codes " bytes"
 
 -- whom a packet of port 137 is about
 abbrev pub name_said : List ℕ → List ℕ
@@ -154,7 +159,7 @@ offset_said facts =
 
 -- extent_said facts: how many bytes of a datagram there are, and which
 abbrev pub extent_said : Facts → List ℕ
-extent_said facts = codes ", " ++ (decimal facts.size ++ (codes " bytes" ++ offset_said facts))
+extent_said facts = codes ", " ++ (decimal facts.size ++ (bytes_word facts.size ++ offset_said facts))
 
 -- datagram_said lead n: a datagram, or a part of one
 abbrev pub datagram_said : List ℕ → Noted → List ℕ
@@ -184,10 +189,18 @@ coded_said lead words code = lead ++ (words ++ (codes " (" ++ (digits_of code ++
 
 -- ---- refusals
 
+-- of what the place of a fault is a byte: of the payload, or of the spelling of a name (4.1) that is no NetBIOS name's
+abbrev pub place_word : List ℕ → List ℕ
+place_word fault =
+    if is_text fault (codes "name: not netbios") then codes " of the name"
+    else if is_text fault (codes "source name: not netbios") then codes " of the name"
+    else if is_text fault (codes "destination name: not netbios") then codes " of the name"
+    else []
+
 -- fault_said fault place: why there is no packet: the fault without its place, and the place
 abbrev pub fault_said : List ℕ → Option ℕ → List ℕ
 fault_said fault None = codes "refused: " ++ fault
-fault_said fault (Some place) = codes "refused: " ++ (fault ++ (codes ", at byte " ++ decimal place))
+fault_said fault (Some place) = codes "refused: " ++ (fault ++ (codes ", at byte " ++ (decimal place ++ place_word fault)))
 
 -- ---- the phrase
 
@@ -201,19 +214,23 @@ kind_said kinds.Error n = coded_said (codes "error: ") (error_said n.facts.code)
 kind_said kinds.Find n = codes "asks whether datagrams are relayed to " ++ n.other
 kind_said kinds.Found n = codes "answers: datagrams are relayed to " ++ n.other
 kind_said kinds.Missing n = codes "answers: no datagrams are relayed to " ++ n.other
-kind_said kinds.Message n = codes "sends " ++ (decimal n.facts.size ++ codes " bytes")
+kind_said kinds.Message n = codes "sends " ++ (decimal n.facts.size ++ bytes_word n.facts.size)
 kind_said kinds.Request n = codes "calls " ++ (n.name ++ (codes " as " ++ n.other))
 kind_said kinds.Positive n = codes "accepts"
 kind_said kinds.Negative n = coded_said (codes "refuses: ") (refusal_said n.facts.code) n.facts.code
 kind_said kinds.Retarget n = codes "sends the caller to " ++ (n.listed ++ (codes ", port " ++ decimal n.facts.number))
 kind_said kinds.Keepalive n = codes "keeps the session alive"
-kind_said kinds.More n = codes "begins a packet that lacks " ++ (decimal n.facts.number ++ codes " bytes")
+kind_said kinds.More n = codes "begins a packet that lacks " ++ (decimal n.facts.number ++ bytes_word n.facts.number)
 kind_said kinds.Refused n = fault_said n.name n.facts.place
+
+-- what follows, where so many bytes do
+abbrev pub follow_word : ℕ → List ℕ
+follow_word count = if count == 1 then codes " byte follows" else codes " bytes follow"
 
 -- follow_said used size: how many bytes of a payload of this size follow the packet
 abbrev pub follow_said : Option ℕ → ℕ → List ℕ
 follow_said None size = []
-follow_said (Some used) size = if nat_lt used size then codes ", " ++ (decimal (size - used) ++ codes " bytes follow") else []
+follow_said (Some used) size = if nat_lt used size then codes ", " ++ (decimal (size - used) ++ follow_word (size - used)) else []
 
 -- noted_said n size: the phrase of what is noted of a payload of this size
 abbrev pub noted_said : Noted → ℕ → List ℕ

@@ -26,10 +26,10 @@ export class Advice {
 }
 
 /**
- * A refusal with its place in words.
+ * A refusal with its place in words: a byte of the payload, or of a name that is no NetBIOS name.
  *
  * @param {string} refused
  */
 export function placed(refused) {
-    return refused.replace(/ (\d+)$/, ', at byte $1');
+    return refused.replace(/(not netbios) (\d+)$/, '$1, at byte $2 of the name').replace(/ (\d+)$/, ', at byte $1');
 }

@@ -1,12 +1,11 @@
 /** All of one packet: where it comes from, what it says, its fault, its fields and bytes. */
 import { hostOf } from '../containers/ends.js';
+import { placeInName } from '../model/places.js';
 import { since } from '../model/times.js';
 import { placed } from './advice.js';
 import { byId, element, withCode } from './dom.js';
 import { dumpOf } from './dump.js';
 
-/** Of these the place is in the spelling of a name, and not in the packet. */
-const ELSEWHERE = /not netbios \d+$/;
 const MOST_DIGITS = 128;
 
 /**
@@ -35,10 +34,11 @@ export class PacketPanel {
      */
     show(packet, first, phrase) {
         const refused = typeof packet.told?.refused === 'string' ? packet.told.refused : '';
-        const at = typeof packet.told?.at === 'number' && !ELSEWHERE.test(refused) ? packet.told.at : null;
+        const named = placeInName(packet.port, packet.bytes, refused);
+        const at = named ? named.inPayload : typeof packet.told?.at === 'number' ? packet.told.at : null;
         this.root.replaceChildren(
             this.hidden, element('h2', {}, `${packet.isFrame ? 'Frame' : 'Line'} ${packet.frame}`), element('p', { class: 'said' }, packet.said || phrase),
-            ...(refused ? [this.fault(refused)] : []), facts(packet, first),
+            ...(refused ? [this.fault(refused, named)] : []), facts(packet, first),
             ...(packet.told ? [fields(packet.told), ...dumpOf(packet.bytes, at)] : []),
             ...(packet.isFrame ? [wireshark(packet)] : []));
     }
@@ -48,11 +48,14 @@ export class PacketPanel {
         this.hidden.hidden = !isHidden;
     }
 
-    /** @param {string} refused */
-    fault(refused) {
-        const elsewhere = ELSEWHERE.test(refused) ? [element('p', {}, 'The place is in the spelling of the name, not in the packet.')] : [];
+    /**
+     * @param {string} refused
+     * @param {import('../model/places.js').NamePlace | null} named
+     */
+    fault(refused, named) {
+        const place = named && named.inPayload !== null ? [element('p', {}, `Byte ${named.inName} of the name is byte ${named.inPayload} of the payload.`)] : [];
         return element('div', { class: 'fault', role: 'note', 'aria-label': 'Why it is refused' },
-            element('b', {}, placed(refused)), element('p', {}, ...withCode(this.advice.of(refused))), ...elsewhere);
+            element('b', {}, placed(refused)), element('p', {}, ...withCode(this.advice.of(refused))), ...place);
     }
 }
 

@@ -46,7 +46,7 @@ fn phrases_are_shown() {
         (
             139,
             &b"\0\0\0\x02hi\x85"[..],
-            "sends 2 bytes, 1 bytes follow",
+            "sends 2 bytes, 1 byte follows",
         ),
         (7, b"\0\0\0\x02hi", "sends 2 bytes"),
         (138, b"", "refused: truncated, at byte 0"),

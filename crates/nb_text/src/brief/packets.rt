@@ -4,7 +4,7 @@ ghost use Rattle.std.specs.Prelude.{◌≡◌, ◌++◌, OnOk, codes, string_byt
 ghost use Rattle.std.specs.Fmt.{decimal};
 ghost use Rattle.nb_names.specs.Growth.{OnlyAdds};
 ghost use Rattle.nb_names.specs.NameText.{digits_of};
-ghost use Rattle.nb_text.specs.Said.{coded_said, datagram_said, error_said, extent_said, goes_on, offset_said, refusal_said};
+ghost use Rattle.nb_text.specs.Said.{bytes_word, coded_said, datagram_said, error_said, extent_said, goes_on, offset_said, refusal_said};
 
 use crate::brief::facts::Facts;
 use crate::brief::notes::Notes;
@@ -44,6 +44,22 @@ pub fn push_count(first: &str, count: u64, last: &str, text: &mut String) -> Res
     push_text(last, text)
 }
 
+/// Adds how many bytes there are, after a text.
+pub fn push_bytes(lead: &str, count: u64, text: &mut String) -> Result<(), NoMemory>
+    ensures added { OnOk result (string_bytes text.new
+        ≡ string_bytes text.old ++ (lead.now ++ (decimal count ++ bytes_word count))) }
+    ensures front { OnlyAdds (string_bytes text.old) (string_bytes text.new) }
+{
+    push_count(lead, count, bytes_word(count), text)
+}
+
+/// What is counted, where so many bytes are.
+fn bytes_word(count: u64) -> &'static str
+    ensures { result.now ≡ bytes_word count }
+{
+    if count == 1 { " byte" } else { " bytes" }
+}
+
 /// Adds a datagram, or a part of one, which is called so.
 pub fn push_datagram(lead: &str, notes: &Notes, text: &mut String) -> Result<(), NoMemory>
     ensures added { OnOk result (string_bytes text.new
@@ -63,7 +79,7 @@ fn push_extent(facts: &Facts, text: &mut String) -> Result<(), NoMemory>
         (string_bytes text.new ≡ string_bytes text.old ++ extent_said facts.now) }
     ensures front { OnlyAdds (string_bytes text.old) (string_bytes text.new) }
 {
-    push_count(", ", facts.size, " bytes", text)?;
+    push_bytes(", ", facts.size, text)?;
     push_offset(facts, text)
 }
 

@@ -1,5 +1,5 @@
 //! Laws of the phrases of codes, of refusals and of what follows a packet.
-ghost use Rattle.std.specs.Prelude.{◌≡◌, ℕ, ◌<◌, ◌-◌, List, [], ◌∷◌, ◌++◌, Some, None, codes};
+ghost use Rattle.std.specs.Prelude.{◌≡◌, ◌==◌, ℕ, ◌<◌, ◌-◌, List, [], ◌∷◌, ◌++◌, Some, None, codes, if◌then◌else◌};
 ghost use Rattle.std.specs.Fmt.{decimal};
 ghost use Rattle.nb_names.specs.Addresses.{address_text};
 ghost use Rattle.nb_names.specs.DomainName.{IsDomain, AreByteLabels};
@@ -15,7 +15,7 @@ ghost use Rattle.nb_datagram.specs.declared.packet.Packet.TheVariants.{Error, Qu
 ghost use Rattle.nb_datagram.specs.declared.packet.QueryKind.TheVariants as queries;
 ghost use Rattle.nb_text.specs.DatagramFields.{datagram_fields};
 ghost use Rattle.nb_text.specs.LineFields.{refused_fields};
-ghost use Rattle.nb_text.specs.Said.{said};
+ghost use Rattle.nb_text.specs.Said.{place_word, said};
 ghost use Rattle.nb_text.specs.ServiceFields.{service_fields};
 ghost use Rattle.nb_text.specs.SessionFields.{session_fields};
 
@@ -88,18 +88,35 @@ pub fn relays_in_words()
         ≡ codes "answers: no datagrams are relayed to " ++ written destination }
 {}
 
-/// A payload that begins with no packet: the fault, and its place, with which its text ends; the
-/// front of a packet of port 139; and what stands after such a packet.
+/// A payload that begins with no packet: the fault, and its place, with which its text ends, and
+/// which counts in the payload, or in the spelling of a name that is no NetBIOS name's (RFC 1002
+/// section 4.1); the front of a packet of port 139; and what stands after such a packet.
 pub fn refusals_in_words()
     ensures placed { (fault : List ℕ) (place size : ℕ) →
         said (refused_fields (fault ++ 32 ∷ decimal place) (Some place)) size
-        ≡ codes "refused: " ++ (fault ++ (codes ", at byte " ++ decimal place)) }
+        ≡ codes "refused: " ++ (fault ++ (codes ", at byte "
+        ++ (decimal place ++ place_word fault))) }
+    ensures in_names { (place size : ℕ) →
+        (said (refused_fields (codes "name: not netbios" ++ 32 ∷ decimal place)
+        (Some place)) size
+        ≡ codes "refused: name: not netbios, at byte "
+        ++ (decimal place ++ codes " of the name"))
+        × (said (refused_fields (codes "source name: not netbios" ++ 32 ∷ decimal place)
+        (Some place)) size
+        ≡ codes "refused: source name: not netbios, at byte "
+        ++ (decimal place ++ codes " of the name"))
+        × (said (refused_fields (codes "destination name: not netbios" ++ 32 ∷ decimal place)
+        (Some place)) size
+        ≡ codes "refused: destination name: not netbios, at byte "
+        ++ (decimal place ++ codes " of the name")) }
     ensures unplaced { (fault : List ℕ) (size : ℕ) →
         said (refused_fields fault None) size ≡ codes "refused: " ++ fault }
     ensures fronts { (needed size : ℕ) → said (session_fields (More needed)) size
-        ≡ codes "begins a packet that lacks " ++ (decimal needed ++ codes " bytes") }
+        ≡ codes "begins a packet that lacks " ++ (decimal needed
+        ++ (if needed == 1 then codes " byte" else codes " bytes")) }
     ensures followed { (packet : SessionPacket) (used size : ℕ) → used < size →
         said (session_fields (Whole packet used)) size
         ≡ said (session_fields (Whole packet used)) used
-        ++ (codes ", " ++ (decimal (size - used) ++ codes " bytes follow")) }
+        ++ (codes ", " ++ (decimal (size - used)
+        ++ (if size - used == 1 then codes " byte follows" else codes " bytes follow"))) }
 {}

@@ -1,5 +1,5 @@
 //! Laws of the phrases of packets: what a phrase says stands in the packet's own values.
-ghost use Rattle.std.specs.Prelude.{◌≡◌, ℕ, ◌<◌, Bool, true, false, List, [], ◌∷◌, ◌++◌, length, codes, if◌then◌else◌};
+ghost use Rattle.std.specs.Prelude.{◌≡◌, ◌==◌, ℕ, ◌<◌, Bool, true, false, List, [], ◌∷◌, ◌++◌, length, codes, if◌then◌else◌};
 ghost use Rattle.std.specs.Fmt.{decimal};
 ghost use Rattle.std.specs.Int.{w16, to_be_bytes};
 ghost use Rattle.nb_names.specs.Addresses.{address_text};
@@ -85,7 +85,8 @@ pub fn datagrams_in_words()
           bytes = bytes;
         })) used) used
         ≡ codes "datagram from " ++ (written source ++ (codes " to " ++ (written destination
-        ++ (codes ", " ++ (decimal (length bytes) ++ codes " bytes"))))) }
+        ++ (codes ", " ++ (decimal (length bytes)
+        ++ (if length bytes == 1 then codes " byte" else codes " bytes")))))) }
     ensures group { (flags used : ℕ) (key : Key) (source destination : NetbiosName)
         (bytes : List ℕ) → has_more flags ≡ false →
         said (datagram_fields (Direct (record {
@@ -99,7 +100,7 @@ pub fn datagrams_in_words()
         })) used) used
         ≡ codes "group datagram from " ++ (written source ++ (codes " to "
         ++ (written destination ++ (codes ", " ++ (decimal (length bytes)
-        ++ codes " bytes"))))) }
+        ++ (if length bytes == 1 then codes " byte" else codes " bytes")))))) }
     ensures broadcast { (flags used : ℕ) (key : Key) (source destination : NetbiosName)
         (bytes : List ℕ) → has_more flags ≡ false →
         said (datagram_fields (Direct (record {
@@ -113,7 +114,7 @@ pub fn datagrams_in_words()
         })) used) used
         ≡ codes "broadcast datagram from " ++ (written source ++ (codes " to "
         ++ (written destination ++ (codes ", " ++ (decimal (length bytes)
-        ++ codes " bytes"))))) }
+        ++ (if length bytes == 1 then codes " byte" else codes " bytes")))))) }
     ensures front { (flags used offset : ℕ) (key : Key) (source destination : NetbiosName)
         (bytes : List ℕ) → has_more flags ≡ true →
         said (datagram_fields (Direct (record {
@@ -127,8 +128,9 @@ pub fn datagrams_in_words()
         }))
         used) used
         ≡ codes "datagram from " ++ (written source ++ (codes " to " ++ (written destination
-        ++ (codes ", " ++ (decimal (length bytes) ++ (codes " bytes at offset "
-        ++ (decimal offset ++ codes " of one that goes on"))))))) }
+        ++ (codes ", " ++ (decimal (length bytes)
+        ++ ((if length bytes == 1 then codes " byte" else codes " bytes")
+        ++ (codes " at offset " ++ (decimal offset ++ codes " of one that goes on")))))))) }
     ensures last { (flags used offset : ℕ) (key : Key) (source destination : NetbiosName)
         (bytes : List ℕ) → has_more flags ≡ false → 0 < offset →
         said (datagram_fields (Direct (record {
@@ -142,8 +144,9 @@ pub fn datagrams_in_words()
         }))
         used) used
         ≡ codes "datagram from " ++ (written source ++ (codes " to " ++ (written destination
-        ++ (codes ", " ++ (decimal (length bytes) ++ (codes " bytes at offset "
-        ++ (decimal offset ++ codes ", the last"))))))) }
+        ++ (codes ", " ++ (decimal (length bytes)
+        ++ ((if length bytes == 1 then codes " byte" else codes " bytes")
+        ++ (codes " at offset " ++ (decimal offset ++ codes ", the last")))))))) }
 {}
 
 /// Packets of port 139, after which no bytes follow (RFC 1002 section 4.3): a request says who is
@@ -154,7 +157,8 @@ pub fn sessions_in_words()
         ≡ codes "calls " ++ (written called ++ (codes " as " ++ written calling)) }
     ensures messages { (bytes : List ℕ) (used : ℕ) →
         said (session_fields (Whole (sessions.Message bytes) used)) used
-        ≡ codes "sends " ++ (decimal (length bytes) ++ codes " bytes") }
+        ≡ codes "sends " ++ (decimal (length bytes)
+        ++ (if length bytes == 1 then codes " byte" else codes " bytes")) }
     ensures positives { (used : ℕ) →
         said (session_fields (Whole sessions.Positive used)) used ≡ codes "accepts" }
     ensures retargets { (address : List ℕ) (port used : ℕ) →

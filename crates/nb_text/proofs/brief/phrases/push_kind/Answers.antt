@@ -3,6 +3,7 @@ use Rattle.std.specs.Fmt.{decimal}
 use Rattle.std.proofs.lemmas.Result.{on_ok_weaker}
 use Rattle.nb_text.specs.declared.brief.facts.Facts.{Facts}
 use Rattle.nb_text.specs.declared.brief.kind.Kind.TheVariants as kinds
+use Rattle.nb_text.specs.Said.{bytes_word}
 use Rattle.nb_text.proofs.PushLemmas.{kind_added}
 use Rattle.nb_text.proofs.brief.phrases.push_kind.Goals as goal
 
@@ -22,8 +23,8 @@ returns-in-Missing-clause-added c =
 
 pub returns-in-More-clause-added : goal.returns-in-More-clause-added
 returns-in-More-clause-added c =
-    on_ok_weaker c.push_count-in-More.result
-    (kind_added (string_bytes c.args.text.now) _ (string_bytes c.push_count-in-More.new.text) c.args.notes.now c.facts-facts.result kinds.More
+    on_ok_weaker c.push_bytes-in-More.result
+    (kind_added (string_bytes c.args.text.now) _ (string_bytes c.push_bytes-in-More.new.text) c.args.notes.now c.facts-facts.result kinds.More
     c.facts-facts.ensures c.in-More.is
-    (ap (λ (f : Facts). codes "begins a packet that lacks " ++ (decimal f.number ++ codes " bytes")) c.facts-facts.ensures))
-    c.push_count-in-More.ensures.added
+    (ap (λ (f : Facts). codes "begins a packet that lacks " ++ (decimal f.number ++ bytes_word f.number)) c.facts-facts.ensures))
+    c.push_bytes-in-More.ensures.added

@@ -32,7 +32,7 @@ ONLY = [each.removeprefix('--part=') for each in sys.argv[1:] if each.startswith
 FOLDER = os.path.realpath(WORDS[0]) if WORDS else f'{TOP}/out'
 PROGRAM = os.path.realpath(WORDS[1]) if WORDS[1:] else f'{TOP}/crates/nbt/out/nbt'
 LACKS = 'chromium, chromium-driver, python3-selenium, esbuild, nodejs, node-typescript and tshark'
-CAPTURES, NETWORKS = 20, 60
+CAPTURES, NETWORKS, CHANGED = 20, 60, 10
 EMPTY_CATCH = re.compile(r'catch\s*(?:\(\w*\))?\s*\{\s*\}|catch\(\(\w*\) => \{\s*\}\)')
 
 
@@ -64,6 +64,7 @@ def modules():
     counted([f'{TESTS}/page_captures.py', str(CAPTURES)])
     counted([f'{TESTS}/summary.py', '--page', PROGRAM])
     counted([f'{TESTS}/random_networks.py', '--page', str(NETWORKS), '1', PROGRAM])
+    counted([f'{TESTS}/random_networks.py', '--changed', str(CHANGED), '1', PROGRAM])
 
 
 def empty_catches():

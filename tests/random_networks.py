@@ -2,12 +2,14 @@
 """Random networks through tools/nbt-look --summary, or with --page through the modules of the page in node: each has the tables that are true of
 it, and nothing that happened is missing.
 
-Usage: tests/random_networks.py [--page] [--keep] COUNT [SEED [PROGRAM]], with nbt on PATH for nbt-look, or PROGRAM in its place for the page. The
+Usage: tests/random_networks.py [--page | --changed] COUNT [SEED [PROGRAM]], with nbt on PATH for nbt-look, or PROGRAM in its place for the page. The
 networks are those of the seeds SEED and on (1). What is true is known from what was made to happen (tests/lib/story_network.py), by
-docs/SUMMARY.md. The last line is 'N passed, M failed'; a capture that fails is kept in the folder of temporary files, and named.
+docs/SUMMARY.md. With --changed the captures are changed as nobody sends them, and both say the same, row for row. The last line is
+'N passed, M failed'; a capture that fails is kept in the folder of temporary files, and named.
 """
 import concurrent.futures
 import os
+import random
 import shutil
 import sys
 import tempfile
@@ -15,9 +17,11 @@ import tempfile
 sys.dont_write_bytecode = True
 sys.path.insert(1, f'{os.path.dirname(os.path.abspath(__file__))}/lib')
 import summary
+from story_changes import changed
 from story_network import Network
 
 AT_ONCE, PART = 2, 20
+UNREAD = 'not read here'
 # Cells that are lists: in the order of what is first seen, which nothing says.
 LISTS = ('names', 'refused', 'status', 'holder')
 
@@ -26,15 +30,23 @@ def main():
     words = [each for each in sys.argv[1:] if not each.startswith('--')]
     count, first = int(words[0]), int(words[1]) if words[1:] else 1
     program = words[2] if words[2:] else shutil.which('nbt')
+    networks = {seed: Network(seed) for seed in range(first, first + count)}
     with tempfile.TemporaryDirectory() as folder:
-        networks = {f'{folder}/{seed}.pcap': Network(seed) for seed in range(first, first + count)}
-        for path, network in networks.items():
-            with open(path, 'wb') as file:
-                file.write(network.file)
-        shown = by_page(program, list(networks)) if '--page' in sys.argv else by_tool(networks)
-        failed = sum(not agrees(path, network, tables) for (path, network), tables in zip(networks.items(), shown))
+        paths = [written(f'{folder}/{seed}.pcap', network, seed) for seed, network in networks.items()]
+        by_both = [by_page(program, paths) if '--page' in sys.argv or '--changed' in sys.argv else None, by_tool(paths) if '--page' not in sys.argv else None]
+        if '--changed' in sys.argv:
+            found = [alike(*tables) for tables in zip(*by_both)]
+        else:
+            found = [list(differing(network.tables(), tables)) for network, tables in zip(networks.values(), by_both[0] or by_both[1])]
+        failed = sum(tell(path, differences) for path, differences in zip(paths, found))
     print(f'{count - failed} passed, {failed} failed')
     return failed > 0
+
+
+def written(path, network, seed):
+    with open(path, 'wb') as file:
+        file.write(changed(network, random.Random(f'changes {seed}')) if '--changed' in sys.argv else network.file)
+    return path
 
 
 def by_page(program, paths):
@@ -47,14 +59,23 @@ def by_tool(paths):
         return list(pool.map(summary.shown_by_tool, paths))
 
 
-def agrees(path, network, tables):
-    """Whether these tables are shown; a capture of which others are is kept."""
-    differences = list(differing(network.tables(), tables))
+def tell(path, differences):
+    """Keeps a capture of which other tables are shown; answers whether it is one."""
     if differences:
         kept = os.path.join(tempfile.gettempdir(), f'network-{os.path.basename(path)}')
         shutil.copy(path, kept)
         print('\n    '.join([f'failed: {kept}', *differences[:12]]), flush=True)
-    return not differences
+    return bool(differences)
+
+
+def alike(page, tool):
+    """The tables that the page and the tool don't show alike. What the page doesn't read it says alone."""
+    titles = sorted((page.keys() | tool.keys()) - {UNREAD})
+    return [f'{title}: the page {rows_of(page, title)}, nbt-look {rows_of(tool, title)}' for title in titles if rows_of(page, title) != rows_of(tool, title)]
+
+
+def rows_of(tables, title):
+    return tables[title].rows if title in tables else []
 
 
 def differing(wanted, shown):

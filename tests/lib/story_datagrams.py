@@ -2,7 +2,7 @@
 import struct
 from dataclasses import dataclass, field
 
-from story_frames import BELOW_UDP, MILLISECOND, NAMES_END, SECOND, address_of, spelled
+from story_frames import BELOW_UDP, MILLISECOND, NAMES_END, address_of, spelled
 
 KINDS = {0x10: 'unique', 0x11: 'group', 0x12: 'broadcast'}
 MORE, FIRST = 1, 2

@@ -2,8 +2,9 @@
 import struct
 
 from story_asks import Ask
-from story_claims import Claim, History
-from story_frames import AA, B, MILLISECOND, NB, NBSTAT, NULL, RA, RD, SECOND, entries, node_names, question, request, response
+from story_claims import History
+from story_frames import AA, B, MILLISECOND, NBSTAT, NULL, RA, RD, SECOND, entries, node_names, question, request, response
+from story_tenures import Claim
 
 RETRY = 250 * MILLISECOND
 GROUP, ACTIVE, CONFLICT = 0x8000, 0x0400, 0x0800
@@ -190,10 +191,15 @@ class NameStory:
         net.asks.append(ask)
         ask.sent.append(self.send(asker.address, target, question('query', identifier, self.name, flags), identifier))
         self.time += random.randint(2, 900) * MILLISECOND
-        if not self.holders:
-            if not self.is_broadcast and random.random() < 0.7:
-                ask.answers.append(self.respond(net.server, asker.address, response('query', identifier, self.name, AA | RD | RA, 'NAM_ERR', 0, b'', NULL), identifier))
-            return
+        if self.holders:
+            self.is_at(ask, asker, identifier)
+        elif not self.is_broadcast and random.random() < 0.7:
+            data = response('query', identifier, self.name, AA | RD | RA, 'NAM_ERR', 0, b'', NULL)
+            ask.answers.append(self.respond(net.server, asker.address, data, identifier))
+
+    def is_at(self, ask, asker, identifier):
+        """A holder answers, perhaps with both of its addresses, or the server does."""
+        net, random = self.net, self.random
         holder = random.choice(list(self.holders))
         source = holder.address if self.is_broadcast else net.server
         places = [(each.address, group) for each, group in self.holders.items() if each is holder or (group and self.holders[holder])]

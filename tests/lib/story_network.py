@@ -6,7 +6,7 @@ from dataclasses import dataclass
 import story_asks
 from story_asks import Ask
 from story_datagrams import Datagrams
-from story_frames import AA, B, MILLISECOND, NBSTAT, NULL, RA, RD, SECOND, Capture, entries, node_names, question, response, spelled
+from story_frames import AA, B, MILLISECOND, NB, NBSTAT, NULL, RA, RD, SECOND, Capture, node_names, question, response, spelled
 from story_names import NameStory
 from story_sessions import Calls
 
@@ -122,7 +122,7 @@ class Network:
         self.asks.append(ask)
         identifier = self.identifier(ask.asker)
         flags = (B if ask.is_broadcast else 0) | (0 if ask.kind == 'status' else RD)
-        data = question('query', identifier, ask.name, flags, NBSTAT if ask.kind == 'status' else 0x20)
+        data = question('query', identifier, ask.name, flags, NBSTAT if ask.kind == 'status' else NB)
         for _ in range(self.random.choice((1, 1, 2, 3))):
             ask.sent.append(self.udp(at, ask.asker, ask.asked, data, identifier))
             at += self.random.randint(20, 4_000) * MILLISECOND
@@ -176,7 +176,8 @@ class Network:
         other = Ask(self.new_name(), ask.kind, ask.asker, ask.asked, ask.is_broadcast)
         self.asks.append(other)
         flags = (B if ask.is_broadcast else 0) | (0 if ask.kind == 'status' else RD)
-        other.sent.append(self.udp(at, ask.asker, ask.asked, question('query', identifier, other.name, flags, NBSTAT if ask.kind == 'status' else 0x20), identifier, False))
+        data = question('query', identifier, other.name, flags, NBSTAT if ask.kind == 'status' else NB)
+        other.sent.append(self.udp(at, ask.asker, ask.asked, data, identifier, False))
         ask.over = at
         self.udp(at + 5 * MILLISECOND, source, ask.asker, self.answer_to(ask, source, identifier), identifier, False)
 
@@ -192,14 +193,13 @@ class Network:
         self.asks.append(later)
         at += self.random.randint(20, 4_000) * SECOND
         flags = (B if ask.is_broadcast else 0) | (0 if ask.kind == 'status' else RD)
-        data = question('query', identifier, ask.name, flags, NBSTAT if ask.kind == 'status' else 0x20)
+        data = question('query', identifier, ask.name, flags, NBSTAT if ask.kind == 'status' else NB)
         later.sent.append(self.udp(at, ask.asker, ask.asked, data, identifier))
         self.it_answers(at + 20 * MILLISECOND, later, source, identifier)
 
     def it_waits_without_R(self, at, ask, source, identifier):
         """Operation 7 without R is nothing, and asks for nothing."""
-        data = bytearray(question('wack', identifier, ask.name, 0))
-        self.udp(at, ask.asker, ask.asked, bytes(data), identifier)
+        self.udp(at, ask.asker, ask.asked, question('wack', identifier, ask.name, 0), identifier)
 
     def udp(self, at, source, target, data, identifier, may_be_cut=True):
         return self.capture.udp(at, source, target, 137, data, identifier, self.snap_of(len(data) + 42) if may_be_cut else None)

@@ -97,7 +97,8 @@ class Network:
         if verb in ('syn', 'ack'):
             return [(139, b'', SYN if verb == 'syn' else SYN | ACK)]
         if verb == 'skip':
-            self.due[ends] = self.due.get(ends, 1_000) + int(words[0])
+            key = tuple(ends_of(each, 139) for each in ends)
+            self.due[key] = self.due.get(key, 1_000) + int(words[0])
             return []
         if verb == 'bytes':
             return [(int(words[0]), changed(bytes.fromhex(words[1]), options), ACK)]

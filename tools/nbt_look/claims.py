@@ -92,6 +92,8 @@ class Claims:
 
     def granted(self, message):
         """A positive response; where its claim isn't in the capture, its record has the name and the address."""
+        if message.name is None:
+            return self.left_open(self.asked_for(message))
         groups = {address: group for _, address, group, _ in message.places()}
         for tenure in self.asked_for(message) or self.recorded(message):
             is_new = tenure.standing is not Standing.HOLDS or tenure.group is None
@@ -102,6 +104,7 @@ class Claims:
             tenure.renew(message.lifetime, message.at)
             if is_new:
                 self.contest(tenure, message.at)
+        return False
 
     def refused(self, message):
         """A negative response, whatever its code: it refuses what its request claims, or its target where that isn't in the capture."""
@@ -159,7 +162,9 @@ class Claims:
                 self.release(name, address, message.at)
 
     def released(self, message):
-        """A positive release response."""
+        """A positive release response. Of one whose name is cut it isn't known which it grants."""
+        if message.name is None:
+            return
         for name, address, *_ in [each for request in self.releasing.of(message) for each in request.subject] or message.places():
             self.release(name, address, message.at)
 

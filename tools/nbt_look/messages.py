@@ -36,6 +36,7 @@ class Front(enum.Enum):
 
 CLAIMS = (Act.CLAIMS, Act.OVERWRITES)
 MULTIHOMED = 15
+NOBODYS = '0.0.0.0'
 REGISTERING = ('registration', 'refresh', MULTIHOMED)
 
 
@@ -98,8 +99,8 @@ class Message:
         return [(self.name, self.source, None, None)]
 
     def named(self):
-        """The addresses that its records have."""
-        return [each['address'] for each in entries(self.shown)]
+        """The addresses of stations that its records have."""
+        return [each['address'] for each in entries(self.shown) if each['address'] != NOBODYS]
 
 
 def message_of(item, shown):

@@ -171,7 +171,8 @@ export class PayloadReader {
     }
 
     /**
-     * The number of a stream: that of its ends, and a new one where they begin anew: with a SYN of another place than the first segment's.
+     * The number of a stream: that of its ends, and a new one where they begin anew: with a SYN of another place than their first segments say,
+     * those of the other side by what they acknowledge.
      *
      * @param {import('./transport.js').Segment} segment
      */
@@ -187,6 +188,7 @@ export class PayloadReader {
         }
         if (segment.syn) known.starts.set(source, segment.sequence);
         else if (!known.starts.has(source)) known.starts.set(source, (segment.sequence - 1) >>> 0);
+        if (segment.ack && !known.starts.has(destination)) known.starts.set(destination, (segment.acknowledged - 1) >>> 0);
         return known.number;
     }
 

@@ -135,6 +135,7 @@ export class Claims {
      */
     granted(message) {
         const asked = this.askedFor(message);
+        if (message.name === null) return leaveOpen(asked);
         const groups = new Map(message.places.map(({ address, group }) => [address, group]));
         for (const tenure of asked.length ? asked : this.recorded(message)) {
             const isNew = tenure.how !== 'holds' || tenure.group === null;
@@ -204,11 +205,12 @@ export class Claims {
     }
 
     /**
-     * A positive release response.
+     * A positive release response. Of one whose name is cut it isn't known which it grants.
      *
      * @param {Message} message
      */
     released(message) {
+        if (message.name === null) return false;
         const asked = this.releasing.of(message).flatMap(({ subject }) => subject ?? []);
         for (const { name, address } of asked.length ? asked : message.places) this.release(name, address, message.at);
         return false;

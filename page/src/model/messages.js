@@ -30,11 +30,12 @@ import { entriesOf, firstOf, frontOf, isGroup, isResponse, subject } from './obj
  * @property {number | null} ttl of its first record, in seconds
  * @property {Place[]} places name and address of each entry in its answers and additional records; of a claim or release of which no record
  *     stands its sender's
- * @property {string[]} named the addresses that its records have
+ * @property {string[]} named the addresses of stations that its records have
  * @property {import('./objects.js').ResourceRecord[]} answers
  */
 
 const MULTIHOMED = 15;
+const NOBODYS = '0.0.0.0';
 const NBSTAT = '0021';
 /** The bits RD, RA and B of the flag word. RFC 1002 section 4.2.1.1. */
 const [RD, RA, B] = [0x0100, 0x0080, 0x0010];
@@ -55,7 +56,7 @@ export function messageOf(service, { time, frame, source, destination, mac }) {
         act: actOf(service), front, name, id: service.id, code: String(service.rcode), at: time ?? 0n, frame, source, target: destination, mac,
         isBroadcast: has(service, B), isMultihomed: service.op === MULTIHOMED, ttl: records[0]?.ttl ?? null,
         places: isSenders ? [{ name, address: source, group: null, ttl: null }] : told,
-        named: entriesOf(service).map(({ address }) => address), answers: service.answers,
+        named: entriesOf(service).map(({ address }) => address).filter((each) => each !== NOBODYS), answers: service.answers,
     };
 }
 

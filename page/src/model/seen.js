@@ -1,7 +1,7 @@
 /** What is made of the packets of a capture, one after another. */
 import { Claims } from './claims.js';
 import { messageOf } from './messages.js';
-import { nameRows } from './names.js';
+import { compare, nameRows } from './names.js';
 import { serviceOf } from './objects.js';
 import { Queries } from './queries.js';
 import { Room } from './room.js';
@@ -128,7 +128,8 @@ export class Seen {
         return {
             names: nameRows(this.claims), conflicts: this.claims.conflicts.rows(),
             stations: this.stations.rows((name, address) => this.claims.isRefused(name, address)), queries: this.queries.rows(), sessions: this.sessions.rows(),
-            refused: Array.from(this.refused.entries.values()), 'left out': Array.from(this.leftOut.entries.values()),
+            refused: [...this.refused.entries.values()].sort((one, other) => compare(one.reason, other.reason)),
+            'left out': [...this.leftOut.entries.values()].sort((one, other) => other.frames - one.frames),
             unread: this.unread.rows(),
         };
     }

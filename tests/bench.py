@@ -30,7 +30,7 @@ REPLAY, SHOW, SAVE, MERGE = ['replay', 'FRED<20>'], ['show'], ['save', *KEYS], [
 # How many keys one address may have in a table of 65,535, in the last rows of one address.
 LIMITS = (64, 1_000, 30_000)
 # How many tables of a byte each are merged into one entry.
-TABLES = 200
+TABLES = 1_000
 GROWING = (('pieces of a byte, shuffled', REPLAY, lambda size: shuffled(random.Random(size), 1, size, 1), PIECES),
            ('pieces of a byte, descending', REPLAY, lambda size: descending(random.Random(size), size), GROWTH),
            ('keys', ['replay', *KEYS, 'FRED<20>'], one_address, GROWTH),

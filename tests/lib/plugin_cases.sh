@@ -57,7 +57,7 @@ said() {
 states() {
     mkdir -p "$room/states"
     chmod 777 "$room/states"
-    counted_by plugin_states.py "$room/with/sharkd" "$program" "$room/states" 200
+    counted_by plugin_states.py "$room/with/sharkd" "$room/with/tshark" "$program" "$room/states" 200
 }
 
 # The tools print the same beside the plugin: they ask tshark for the bytes of these ports.

@@ -28,7 +28,7 @@ def payloads(rng, port, count):
     found = []
     while len(found) < count:
         fits, payload = inputs.payload()
-        if fits == port and payload:
+        if fits == port and 0 < len(payload) < 60_000:
             found.append(payload)
     return found
 

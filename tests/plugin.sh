@@ -4,6 +4,8 @@
 # tests/plugin.sh [LIBRARY [PROGRAM]]; its last line is 'N passed, M failed, K skipped'. LIBRARY is a folder with libnbt.a and
 # libnbt.so.0, out/lib without it. Where tshark or Wireshark's headers aren't installed all of it is left out.
 set -uo pipefail
+# What stands last in a pipe counts its cases here.
+shopt -s lastpipe
 . "$(dirname "$0")/lib/counting.sh"
 . "$here/lib/plugin_cases.sh"
 top=$(realpath "$here/..")

@@ -101,11 +101,11 @@ with_tools() {
 }
 
 # page FILE: the console samples of a page, where each command prints the lines after it. They run in a folder of their
-# own, which has the folder examples too, with the commands of $room/bin.
+# own, which has the folder examples too, or what EXAMPLES names, with the commands of $room/bin.
 page() {
     local line command='' wanted=''
     mkdir "$room/page"
-    ln -s "$(realpath "$here/../examples")" "$room/page/examples"
+    ln -s "$(realpath "${EXAMPLES:-$here/../examples}")" "$room/page/examples"
     while IFS= read -r line; do
         case $line in
         '$ '*)

@@ -84,7 +84,7 @@ class Made:
     def another(self):
         """A packet of another kind or port."""
         return self.rng.choice(((137, QUERY), (137, QUERY[:7]), (139, KEEPALIVE), (138, b'\x13\x02\0\x01\x0a\0\0\5\0\x8a\x82'),
-                                (138, b'\x14\x02\0\x02\x0a\0\0\5\0\x8a' + FRED), (138, b'\x10\x02'), (138, b'\x77' * 20), (138, b'')))
+                                (138, b'\x14\x02\0\x02\x0a\0\0\5\0\x8a' + FRED), (138, b'\x10\x02'), (138, b'\x77' * 20)))
 
     def add(self, port, payload):
         """A frame of this payload, and its line."""

@@ -15,16 +15,16 @@ built() {
     local version
     "$top/tools/plugin" make "$library" "$room/nbt.so" 2>"$room/errors"
     count $? "tools/plugin make: $(head -n 1 "$room/errors")"
-    nm -D --defined-only "$room/nbt.so" | awk '{ print $3 }' | sort | tr '\n' ' ' |
-        same 'plugin_register plugin_version plugin_want_major plugin_want_minor ' 'what nbt.so shows of itself'
+    nm -D --defined-only "$room/nbt.so" | awk '{ print $3 }' | sort | xargs |
+        same 'plugin_register plugin_version plugin_want_major plugin_want_minor' 'what nbt.so shows of itself'
     PLUGINS=$place "$top/tools/plugin" put "$room/nbt.so" | same "$place/nbt.so" 'tools/plugin put'
     chmod -R a+rX "$room/home-with"
-    with tshark -G plugins 2>/dev/null | awk -F '\t' '$1 == "nbt.so" { print $2, $3, $4 }' |
-        same "$("$program" --version | cut -d ' ' -f 2) dissector, tap ${place}/nbt.so" 'tshark -G plugins'
-    with tshark -G fields 2>/dev/null | awk -F '\t' '$5 == "nbt" { print $3 }' | sort >"$room/fields"
+    with tshark -G plugins 2>/dev/null | awk -F '\t' '$1 ~ /^nbt\.so *$/ { print $2, $3, $4 }' |
+        same "$("$program" --version | cut -d ' ' -f 2) dissector $place/nbt.so" 'tshark -G plugins'
+    with tshark -G fields 2>/dev/null | awk -F '\t' '$5 == "nbt" && $3 !~ /\.expert$/ { print $3 }' | sort >"$room/fields"
     sed -nE 's/^\| `(nbt\.[a-z_.]+)` \|.*/\1/p' "$top/docs/WIRESHARK.md" | grep -vE '^nbt\.(names|info)$' | sort | diff - "$room/fields"
     count $? 'docs/WIRESHARK.md has the fields that there are'
-    with tshark -G defaultprefs 2>/dev/null | sed -nE 's/^#?(nbt\.[a-z]+):.*/\1/p' | tr '\n' ' ' | same 'nbt.names nbt.info ' 'the preferences'
+    with tshark -G defaultprefs 2>/dev/null | sed -nE 's/^#?(nbt\.[a-z]+):.*/\1/p' | xargs | same 'nbt.names nbt.info' 'the preferences'
     [ "$(PLUGINS= HOME=/nowhere "$top/tools/plugin" folder | grep -c '/plugins/.*/epan$')" -eq 1 ]
     count $? 'tools/plugin folder'
     "$top/tools/plugin" put "$room/nowhere" 2>"$room/errors"
@@ -57,7 +57,7 @@ said() {
 states() {
     mkdir -p "$room/states"
     chmod 777 "$room/states"
-    counted_by plugin_states.py "$room/with/sharkd" "$program" "$room/states" 200
+    counted_by plugin_states.py "$room/with/sharkd" "$room/with/tshark" "$program" "$room/states" 200
 }
 
 # The tools print the same beside the plugin: they ask tshark for the bytes of these ports.
@@ -106,5 +106,5 @@ under_valgrind() {
 # The samples of the page, with a tshark that has the plugin.
 page_samples() {
     ln -sf "$room/with/tshark" "$room/bin/tshark"
-    page docs/WIRESHARK.md
+    EXAMPLES=$room/states page docs/WIRESHARK.md
 }

@@ -1,12 +1,13 @@
 #!/usr/bin/env python3
 """What the plugin for Wireshark says of datagrams, beside the report of `nbt replay`.
 
-Usage: tests/lib/plugin_states.py SHARKD PROGRAM FOLDER COUNT [SEED]
+Usage: tests/lib/plugin_states.py SHARKD TSHARK PROGRAM FOLDER COUNT [SEED]
 
 So many captures of fragments that are shuffled, lost, repeated and changed, with pauses, times that go back, packets of other kinds
 and ports and frames that are cut. All are read by one sharkd, which has the plugin, one after the other, for a station with names or
 for all; the program replays the same with the ticks of nbt-pcap2cap. Of each payload of port 138 the state, the key and the data have
-to be those of the report, and the links and what is missing those of a plain model. A case is a capture; the last line is 'N passed, M failed'.
+to be those of the report, and the links and what is missing those of a plain model. sharkd shows the front of
+long data: of one capture in five tshark prints all of it. A case is a capture; the last line is 'N passed, M failed'.
 """
 import json
 import os
@@ -16,9 +17,12 @@ import sys
 
 sys.dont_write_bytecode = True
 from plugin_captures import Made
-from plugin_pcap import write_pcap
+from plugin_pcap import fields_of, write_pcap
 
 COLUMNS = ('nbt.state', 'nbt.key', 'nbt.datagram', 'nbt.whole_in', 'nbt.spoilt_in', 'nbt.missing', 'nbt.fragment')
+# How sharkd shows no bytes, and of how many digits it shows the front.
+NO_BYTES, DIGITS = '<MISSING>', 72
+WHOLE_OF = 10
 SOME, ALL = ['FRED<20>', 'JOE<00>'], ['FRED<20>', 'JOE<00>', 'ANN<03>.A', 'BOB<20>']
 
 
@@ -65,25 +69,40 @@ def wanted_of(words):
     """State, key and data by a report."""
     kind, *rest = words.split(' ')
     if kind not in ('kept', 'spoilt', 'delivered', 'unheard'):
-        return [kind, '', '']
-    data = rest[-1].replace('empty', '') if kind == 'delivered' else ''
-    return [kind, rest[0], data]
+        return [kind, '', None]
+    return [kind, rest[0], rest[-1].replace('empty', '') if kind == 'delivered' else None]
 
 
-def first_difference(made, rows, report):
+def shown(data):
+    """Data as sharkd shows it."""
+    if data is None:
+        return ''
+    return data[:DIGITS] + '…' if len(data) > DIGITS else data or NO_BYTES
+
+
+def first_difference(made, rows, states):
     """The first frame that isn't as wanted, in words; '' where there is none."""
-    states = {frame: wanted_of(report[line]) for frame, line in made.datagrams.items()}
     links = made.links({frame: state[0] for frame, state in states.items()})
     for frame in range(1, made.count + 1):
-        wanted = [*states.get(frame, ['', '', '']), *links.get(frame, ['', '', '', ''])]
+        state, key, data = states.get(frame, ['', '', None])
+        wanted = [state, key, shown(data), *links.get(frame, ['', '', '', ''])]
         if rows[frame] != wanted:
             return f'frame {frame}: {rows[frame]}, not {wanted}'
     return ''
 
 
+def data_differ(tshark, path, asked, states):
+    """The first frame whose data isn't that of the report, in words; '' where there is none."""
+    rows = fields_of(tshark, path, ['nbt.datagram'], '-o', 'nbt.names:' + ' '.join(asked))
+    for frame, (_state, _key, data) in states.items():
+        if ''.join(rows[frame - 1][0]).replace(NO_BYTES, '') != (data or ''):
+            return f'frame {frame}: {rows[frame - 1]}, not {data}'
+    return ''
+
+
 def main():
-    command, program, folder, count = sys.argv[1], sys.argv[2], sys.argv[3], int(sys.argv[4])
-    seed = sys.argv[5] if len(sys.argv) > 5 else 'states'
+    command, tshark, program, folder, count = *sys.argv[1:5], int(sys.argv[5])
+    seed = sys.argv[6] if len(sys.argv) > 6 else 'states'
     sharkd = Sharkd(command)
     passed, seen = 0, {}
     for number in range(count):
@@ -93,7 +112,10 @@ def main():
         asked = SOME if number % 2 else []
         sharkd.ask('setconf', name='nbt.names', value=' '.join(asked))
         report = report_of(program, made.lines, asked or ALL)
-        difference = first_difference(made, sharkd.rows(path), report)
+        states = {frame: wanted_of(report[line]) for frame, line in made.datagrams.items()}
+        difference = first_difference(made, sharkd.rows(path), states)
+        if number % WHOLE_OF < 2:
+            difference = difference or data_differ(tshark, path, asked, states)
         passed += not difference
         for words in report.values():
             seen[words.split(' ')[0]] = seen.get(words.split(' ')[0], 0) + 1

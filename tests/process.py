@@ -20,7 +20,7 @@ sys.path.insert(1, f'{sys.path[0]}/lib')
 from process_inputs import CAPTURE, COMMANDS, FRED, READING, REPORT, captures, chained, repeated, roomy
 from process_runs import (TESTS, broken_pipe, bytes_of, closed, instructions, limited, lines_of, requests as counted_requests, rest_of,
                           run, small_pipe, start, starts, wait)
-from process_terminals import advised, at_terminals, dropped, looked, mistaken, plain, short_of_memory
+from process_terminals import advised, at_terminals, dropped, given_files, looked, mistaken, plain, short_of_memory
 
 counts = {'passed': 0, 'failed': 0, 'skipped': 0}
 
@@ -220,7 +220,7 @@ def halting_inputs():
 
 def terminals():
     """A terminal as all three streams, and as standard error alone."""
-    for passed, name in itertools.chain(at_terminals(), advised(), mistaken(), looked(), dropped(), plain(), short_of_memory()):
+    for passed, name in itertools.chain(at_terminals(), advised(), mistaken(), looked(), dropped(), given_files(), plain(), short_of_memory()):
         check(passed, name)
 
 

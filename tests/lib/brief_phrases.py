@@ -27,6 +27,8 @@ IN_CAPTURE = 100
 PHRASES = re.compile(r'^\| .* \| `([^`]+)` \|$', re.MULTILINE)
 BY = re.compile(r'[A-Z]+|[.*+?^$()\[\]{}|\\]')
 LONGEST_PRINTED = 1_000
+# The status of a node that has a unit and no names, which chance makes too seldom.
+NO_NAMES = 137, bytes.fromhex('000184000000000100000000' '00' '00210001' '00000000' '0007' '00' '001122334455')
 # How many bytes of a payload a line of a capture has, and how long phrases of them are: where no name has more than 19, and of any names.
 IN_LINE = 131_097
 LONGEST_OF_19 = 205
@@ -121,6 +123,7 @@ def main():
     given = parser.parse_args()
     cases = Cases(os.path.abspath(given.program))
     payloads = [(port, payload) for port in (137, 138, 139) for payload in example_bytes()]
+    payloads.append(NO_NAMES)
     payloads += made_by_chance(random.Random(given.seed), given.payloads)
     for at in range(0, len(payloads), IN_CAPTURE):
         cases.check(payloads[at:at + IN_CAPTURE])

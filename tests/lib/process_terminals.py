@@ -41,6 +41,21 @@ MISTAKES = [
     (['response', '0001', '8500', 'FRED<20>', '0002', '0', '05'],
      b'word 6 after response is HEX, two hexadecimal digits a byte, for TYPE 0002 those of a name, such as 00, and not 05'),
 ]
+# Words that give a file to a command, and how it says that files are read; nothing where it takes words, or they are no file.
+FILES = [
+    (['show', 'office.cap'], b'show reads standard input: nbt show <office.cap\n'),
+    (['save', '../taps/one-2.txt'], b'save reads standard input: nbt save <../taps/one-2.txt\n'),
+    (['show', '--brief', 'office.cap', '--json'], b'show reads standard input: nbt show --brief --json <office.cap\n'),
+    (['show', '--input-limit', 'show', 'show'], b''),
+    (['show', 'show'], b'show reads standard input: nbt show <show\n'),
+    (['merge', 'one', 'other', '--keys', '7'], b'merge reads standard input: cat one other | nbt merge --keys 7\n'),
+    (['agree', 'a b'], b"agree reads standard input: nbt agree <'a b'\n"),
+    (['agree', '$(id)', '~'], b"agree reads standard input: cat '$(id)' '~' | nbt agree\n"),
+    (['list', "it's"], b'list reads standard input: nbt list <FILE\n'),
+    (['list', '\x1b[31m'], b'list reads standard input: nbt list <FILE\n'),
+    (['list', ''], b"list reads standard input: nbt list <''\n"),
+    (['show', '--office.cap'], b''), (['show', '-x'], b''), (['bogus', 'file'], b''), (['name', 'A<20>', 'B<20>'], b''),
+]
 # What a pcap file begins with, in both byte orders, of microseconds and nanoseconds; and a pcapng file.
 PCAPS = ['a1b2c3d4', 'd4c3b2a1', 'a1b23c4d', '4d3cb2a1', '0a0d0d0a']
 
@@ -177,9 +192,18 @@ def dropped():
         yield with_errors_shown(['save'], given) == (0, output, wanted), f'nbt save, {name}, errors at a terminal'
 
 
+def given_files():
+    """A bad command line that gives a file to a command which reads none says at a terminal how it is read."""
+    for words, line in FILES:
+        status, output, errors = run(words)
+        name = f'nbt {words}'
+        yield (status, output) == (2, b'') and errors.startswith(b'error: ') and b'reads standard input' not in errors, name
+        yield with_errors_shown(words) == (2, b'', errors + line), f'{name}, errors at a terminal'
+
+
 def plain():
     """What isn't a refusal is the same at a terminal: help, the version, and a bad command line."""
-    for words in (['--help'], ['help', 'save'], ['--version'], ['help', 'full'], ['bogus'], ['save', 'file'], []):
+    for words in (['--help'], ['help', 'save'], ['--version'], ['help', 'full'], ['bogus'], []):
         yield with_errors_shown(words) == run(words), f'nbt {" ".join(words)}, errors at a terminal'
 
 

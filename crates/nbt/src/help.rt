@@ -1,13 +1,14 @@
 //! What the help prints after a command's options; [`crate::advice`] adds what may be refused.
 //! `{n}` is clap's line break.
 
-/// How the program ends.
+/// What else there is, and how the program ends.
 pub const STATUSES: &str =
-    "Exit status: 0 all was done, 1 the input was refused, 2 the command line was bad, 3 a \
-     device failed or memory ran out.{n}With 1 and 3 one line, `nbt: ` and the reason, goes \
-     to standard error.{n}`nbt help REASON`, as in `nbt help 'bad text 4'`, prints what it means \
-     and what to do \
-     then; on a terminal it comes by itself.";
+    "`nbt-look FILE` shows the packets of a pcap or pcapng file, `nbt-pcap2cap FILE` makes a \
+     capture of it, which these{n}commands read on standard input, and `nbt-station` is a station \
+     on the network.{n}{n}Exit status: 0 all was done, 1 the input was refused, 2 the command \
+     line was bad, 3 a device failed or memory ran out.{n}With 1 and 3 one line, `nbt: ` and the \
+     reason, goes to standard error.{n}`nbt help REASON`, as in `nbt help 'bad text 4'`, prints \
+     what it means and what to do then; on a terminal it comes by itself.";
 
 /// The form of a name, and how the program ends.
 pub const NAME_HELP: &str =

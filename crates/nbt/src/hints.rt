@@ -6,10 +6,11 @@ use crate::advice::{print_advice, refusal_of};
 use crate::commands::build::words_of;
 use crate::errors::Errors;
 use crate::fault::Fault;
+use crate::given_files::input_line;
 use crate::mistakes::mistake_line;
 use crate::output::Output;
 use crate::refusals::refusals;
-use clap::ArgMatches;
+use clap::{ArgMatches, Error};
 use std::alloc::Global;
 use std::io::Write;
 
@@ -43,6 +44,24 @@ pub fn print_mistake<E: Write>(alloc: Global, matches: &ArgMatches<'_>, errors: 
         return;
     };
     if let Ok(line) = mistake_line(alloc, what, words) {
+        let _ = errors.output.print(line.as_bytes());
+    }
+}
+
+/// Tells a person how a command reads the files that the words give it, as a line, where clap
+/// refuses the words for one.
+pub fn print_input<E: Write>(
+    alloc: Global,
+    words: &[String],
+    error: &Error,
+    errors: &mut Errors<'_, E>,
+)
+    ensures quiet { errors.old.audience ≡ Programs → errors.new ≡ errors.old }
+{
+    if errors.front().is_none() {
+        return;
+    }
+    if let Ok(line) = input_line(alloc, words, error) {
         let _ = errors.output.print(line.as_bytes());
     }
 }

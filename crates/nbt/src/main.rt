@@ -12,6 +12,7 @@ mod flushing;
 mod forms;
 mod front;
 mod fronts;
+mod given_files;
 mod help;
 mod hints;
 mod joining_input;

@@ -23,7 +23,7 @@ use crate::commands::save::run_save;
 use crate::commands::show::run_show;
 use crate::errors::{Audience, Errors};
 use crate::fault::Fault;
-use crate::hints::{print_hint, print_mistake};
+use crate::hints::{print_hint, print_input, print_mistake};
 use crate::output::Output;
 use crate::refusals::refusals;
 use crate::status::Status;
@@ -205,7 +205,8 @@ pub fn report<E: Write>(
 }
 
 /// The status where clap has no matches of the words. Its text goes to `output` where the help or
-/// the version is asked for, and to `errors` where the words are a bad command line.
+/// the version is asked for, and to `errors` where the words are a bad command line; a person gets
+/// there, in a line more, how files are read, where the words have some.
 fn report_unmatched<W: Write, E: Write>(
     alloc: Global,
     words: &[String],
@@ -221,6 +222,7 @@ fn report_unmatched<W: Write, E: Write>(
         ClapAnswer::Asked => report(alloc, done(print_help(alloc, words, error, output)), errors),
         ClapAnswer::Misused => {
             let _ = write!(errors.output, "{error}");
+            print_input(alloc, words, error, errors);
             Status::BadUsage
         }
         ClapAnswer::NoMemory => report(alloc, Err(Fault::Memory), errors),

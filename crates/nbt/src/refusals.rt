@@ -27,91 +27,92 @@ const REFUSALS: [Refusal; 29] = [
         words: "truncated",
         number: " AT",
         by: &["name", "show", "replay", "merge", "list", "agree"],
-        advice: "the bytes end too early: capture whole packets, as by `tcpdump -s 0`; save the \
-                 table again",
+        advice: "the bytes end inside a packet, name or table: capture whole packets, as by \
+                 `tcpdump -s 0`; save it again",
     },
     Refusal {
         words: "unknown type",
         number: "",
         by: &["show", "replay"],
-        advice: "no packet of this port begins so, as `138 0 1302000700000000008a82` and `139 0 \
-                 85000000` do",
+        advice: "the first byte is no type of the port, as 85 of `139 0 85000000` is: other \
+                 traffic, or a stream cut wrong",
     },
     Refusal {
         words: "reserved flags",
         number: "",
         by: &["show"],
-        advice: "no session packet begins so: cut the stream where one begins, as in `139 0 \
-                 85000000`",
+        advice: "its second byte has a bit of no session packet: cut the stream where one begins, \
+                 as in `139 0 85000000`",
     },
     Refusal {
         words: "bad length",
         number: "",
         by: &["show"],
-        advice: "it isn't the length of such a packet: cut the stream where one begins, as in \
-                 `139 0 85000000`",
+        advice: "bytes 2 and 3 are no length of its type: cut the stream where a packet begins, as \
+                 in `139 0 85000000`",
     },
     Refusal {
         words: "reserved label",
         number: " AT",
         by: &["name", "show", "replay"],
-        advice: "no name stands there: other traffic, or a later piece of a datagram cut by RFC \
+        advice: "no length of a label: other traffic, or a later piece of a datagram cut by RFC \
                  1002, section 5.3",
     },
     Refusal {
         words: "bad pointer",
         number: " AT",
         by: &["show"],
-        advice: "a pointer leads back to an earlier name, as c00c does: the sender is broken or \
-                 hostile",
+        advice: "it leads forward or to itself, not back as c00c does: leave it out, its sender is \
+                 broken or hostile",
     },
     Refusal {
         words: "pointer not allowed",
         number: " AT",
         by: &["name", "show", "replay"],
-        advice: "the name has to be spelled out, as `nbt name 'FRED<20>'` prints it",
+        advice: "a pointer stands where a name is spelled out: spell it as `nbt name 'FRED<20>'` \
+                 prints it",
     },
     Refusal {
         words: "not netbios",
         number: " AT",
         by: &["name", "show", "replay"],
-        advice: "a name begins with 32 letters A to P, as `nbt name 'FRED<20>'` prints it: \
+        advice: "byte AT of the name isn't as in `nbt name 'FRED<20>'`, 20 and 32 letters A to P: \
                  perhaps other traffic",
     },
     Refusal {
         words: "name rdata",
         number: " AT",
         by: &["show"],
-        advice: "the name in an NS record ends where the record does: the sender is broken or \
-                 hostile",
+        advice: "the name in an NS record ends before or after its data: leave it out, its sender \
+                 is broken or hostile",
     },
     Refusal {
         words: "trailing bytes",
         number: " AT",
         by: &["name", "show"],
-        advice: "leave out the bytes from AT on: a spelling ends with its name, a session \
-                 request with two names",
+        advice: "bytes follow a spelling's name, or a session request's two names: leave out those \
+                 from AT on",
     },
     Refusal {
         words: "misplaced first",
         number: "",
         by: &["replay"],
-        advice: "the fragment at offset 0 has F, such as flags=02, and no other: `nbt show` \
-                 prints both",
+        advice: "F, 02 of flags, is clear at offset 0 or set at another: `nbt show` prints both; \
+                 set it at 0 alone",
     },
     Refusal {
         words: "unheard",
         number: "",
         by: &["replay"],
-        advice: "give the station the destination's name, in its case, as `nbt show` prints it: \
-                 destination=FRED<20>",
+        advice: "the station lacks the destination's name: give it, in its case, as `nbt show` \
+                 prints it: destination=FRED<20>",
     },
     Refusal {
         words: "too long",
         number: " AT",
         by: &["name", "show", "build", "replay"],
-        advice: "a name has up to 15 characters before `<20>`, its scope 222 bytes, a label 63; \
-                 a datagram 65535",
+        advice: "more than 15 characters before `<20>`, 63 of a label, 222 of a scope, or 65535 of \
+                 a datagram: shorten it",
     },
     Refusal {
         words: "bad text",
@@ -124,34 +125,35 @@ const REFUSALS: [Refusal; 29] = [
         words: "too many names",
         number: "",
         by: &["replay"],
-        advice: "a station has 254 names at most: replay the capture again for the others, as \
-                 `nbt replay 'FRED<20>'`",
+        advice: "more than a station's 254: replay the capture again for the others, as `nbt \
+                 replay 'FRED<20>'`",
     },
     Refusal {
         words: "bad hex",
         number: "",
         by: &["name"],
-        advice: "two digits for each byte, 0 to 9 and a to f, as `nbt name 'FRED<20>'` prints them",
+        advice: "no spelling in hexadecimal: give two digits a byte, 0 to 9 and a to f, as `nbt \
+                 name 'FRED<20>'` prints them",
     },
     Refusal {
         words: "arguments",
         number: "",
         by: &["show", "build"],
-        advice: "no packet of `nbt build --help`, as `nbt build query 0003 'FRED<20>'` is; or \
-                 --brief together with --partial",
+        advice: "no packet: see `nbt build --help`, as `nbt build query 0003 'FRED<20>'`; of \
+                 --brief and --partial give one",
     },
     Refusal {
         words: "zero piece",
         number: "",
         by: &["build"],
-        advice: "MOST is how many bytes of data a fragment has: 1 or more, such as 512",
+        advice: "MOST is 0, and a fragment has some bytes of the data: give 1 or more, such as 512",
     },
     Refusal {
         words: "line",
         number: " N",
         by: &["show", "replay", "save", "merge", "list", "agree"],
-        advice: "a line is as `138 0 00ff` or `tick 1`, of tables as `nbt save` prints it: no \
-                 \\r; for a pcap use nbt-pcap2cap",
+        advice: "no line as `138 0 00ff` or `tick 1`, or no table of `nbt save`: leave out \\r; \
+                 for a pcap use nbt-pcap2cap",
     },
     Refusal {
         words: "bad magic",
@@ -197,21 +199,22 @@ const REFUSALS: [Refusal; 29] = [
         words: "unexpected argument",
         number: "",
         by: &["show", "save", "merge", "list", "agree"],
-        advice: "what is read comes on standard input, as in `nbt show <capture`",
+        advice: "the command has no such word: what it reads comes on standard input, as in `nbt \
+                 show <capture`",
     },
     Refusal {
         words: "read",
         number: "",
         by: &EACH,
-        advice: "the input failed, is a folder, or wants a larger --input-limit, as 99999999; or \
-                 a word isn't UTF-8",
+        advice: "the input failed, is a folder or too long, or a word isn't UTF-8: allow more, as \
+                 in `--input-limit 99999999`",
     },
     Refusal {
         words: "write",
         number: "",
         by: &EACH,
-        advice: "standard output is full or closed: perhaps what reads it ended first, as `head` \
-                 does",
+        advice: "standard output is full or closed: make room, or read it to its end, which `head` \
+                 doesn't do",
     },
     Refusal {
         words: "memory",

@@ -230,6 +230,23 @@ struct nbt_service_item {
 uint32_t nbt_service_item(const uint8_t *payload, size_t payload_length, uint32_t number, size_t place,
                           struct nbt_service_item *item, size_t *at);
 
+/* A question or a record, and the name that is the RDATA of a record of type NS. */
+struct nbt_service_entry {
+    struct nbt_service_item item;
+    uint8_t server_length; /* the bytes of that name's spelling, its last zero byte included; 0 of any other type */
+    uint8_t server[255];   /* the spelling, in which pointers were followed, and bytes of zero after it */
+};
+
+/* Reads many of them: from this number on, of which the first stands at a place of a payload of port 137, as many as stand and as
+ * there is room for, of at most 262,140. `*used` of `entries` are filled in, each as nbt_service_item answers it, and the others are
+ * as they were. Where they are fewer than there is room for, the next one doesn't stand, or the header counts no more: a call from
+ * there on says why. A call costs as much as the first 16,384 bytes of the payload, at most, and what it fills in, whatever pointers the names
+ * have: so many are best read at once. nbt_service_item and nbt_service_domain follow a name's pointers one by one.
+ * Those of nbt_service_item, of the first one; NBT_DONE where there is no room. No memory is taken; of a payload of more than
+ * 576 bytes the call wants 33 kB of the stack. */
+uint32_t nbt_service_items(const uint8_t *payload, size_t payload_length, uint32_t number, size_t place,
+                           struct nbt_service_entry *entries, size_t entries_length, size_t *used, size_t *at);
+
 /* The parts of RDATA, of the type and the bytes that nbt_service_item told of a record. Numbers are counted from 0, and
  * the calls may be made with any type and any bytes. No memory is taken. */
 

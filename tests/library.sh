@@ -100,6 +100,25 @@ under_valgrind() {
     done
 }
 
+# instructions PROGRAM WORD..: how many a run takes, counted by valgrind.
+instructions() {
+    ended valgrind --tool=callgrind --callgrind-out-file=/dev/null "$@" 2>&1 >"$room/output" | sed -n 's/.*Collected : *//p'
+}
+
+# Reading all items costs what the payload and the answer have, however long a chain of pointers their names end in: of a chain and of
+# records that are 4 and 16 times as many, some 4 and 16 times as much.
+chains() {
+    local each counted base
+    $CC "${strict[@]}" -O2 -o "$room/chain" "$here/lib/service_chain.c" "$built/libnbt.a" >"$room/log" 2>&1
+    count $? "tests/lib/service_chain.c: $(head -n 1 "$room/log")"
+    base=$(instructions "$room/chain" 511 236)
+    for each in 1 4 16; do
+        counted=$(instructions "$room/chain" $((511 * each)) $((236 * each)))
+        grep -q "^$((236 * each + 1)) items, $((236 * each)) servers, " "$room/output" && [ "$counted" -lt $((base * each * 5 / 4)) ]
+        count $? "items at the end of a chain $each times as long: $counted instructions, of $base at first; $(cat "$room/output")"
+    done
+}
+
 # compiled NAME OPTION..: tests/lib/library.c, compiled so, as $room/NAME.
 compiled() {
     $CC "${strict[@]}" -o "$room/$1" "$here/lib/library.c" "${@:2}" "$built/libnbt.a" >"$room/log" 2>&1
@@ -512,7 +531,13 @@ part shims compile refuse_memory
 part readers counted_by packet_readers.py
 part files files
 part examples examples
-if command -v valgrind >/dev/null; then part valgrind under_valgrind; else lacks valgrind valgrind; fi
+if command -v valgrind >/dev/null; then
+    part valgrind under_valgrind
+    part chains chains
+else
+    lacks valgrind valgrind
+    lacks chains valgrind
+fi
 part callers callers
 part memory refused
 part limits limits

@@ -78,6 +78,51 @@ export interface DatagramQueryToWrite {
     name: string;
 }
 
+/** A question of the name service: RFC 1002 section 4.2.1.2. */
+export interface ServiceQuestion {
+    /** The spelling of its name, in which pointers were followed: `text` gives that of a NetBIOS name. */
+    spelling: Uint8Array;
+    isNetbios: boolean;
+    /** QUESTION_TYPE or RR_TYPE: 0x0020 NB, 0x0021 NBSTAT, 0x0002 NS. */
+    type: number;
+    classNumber: number;
+}
+
+/** A record of the name service: RFC 1002 section 4.2.1.3. */
+export interface ServiceRecord extends ServiceQuestion {
+    section: 'answer' | 'authority' | 'additional';
+    /** TTL, in seconds. */
+    timeToLive: number;
+    /** RDATA. */
+    data: Uint8Array;
+    /** Of type NB, where RDATA has that form: NB_ADDRESS and NB_FLAGS of each address; else null. */
+    addresses: { address: string; flags: number }[] | null;
+    /** Of type NBSTAT, where RDATA has that form: the names of a node, sixteen bytes and NAME_FLAGS each, and UNIT_ID; else null. */
+    node: { names: { name: Uint8Array; flags: number }[]; unit: Uint8Array | null } | null;
+    /** Of type NS: the spelling of the name of a server, in which pointers were followed; else null. */
+    server: Uint8Array | null;
+}
+
+/** A packet of the name service, port 137: RFC 1002 section 4.2.1. */
+export interface ServicePacket {
+    identifier: number;
+    /** R 0x8000, OPCODE 0x7800, NM_FLAGS 0x07f0, RCODE 0x000f. */
+    word: number;
+    /** QDCOUNT, ANCOUNT, NSCOUNT and ARCOUNT. */
+    counts: number[];
+    questions: ServiceQuestion[];
+    /** The records of all sections, in order. */
+    records: ServiceRecord[];
+    /** The bytes of the packet, or of what stands: what follows them isn't looked at. */
+    used: number;
+}
+
+/** What stands of a payload of port 137: its header, and the questions and records before its first fault. */
+export interface ServiceFront extends ServicePacket {
+    /** What `readService` throws of it; null of a packet. */
+    fault: NbtError | null;
+}
+
 /** The header at the front of what came over a connection to port 139, whether or not a packet stands there: RFC 1002 section 4.3.1. */
 export interface SessionFront {
     /** TYPE, also one that no packet has. */
@@ -201,6 +246,10 @@ export interface Nbt {
     writeDatagram(datagram: DatagramToWrite): Uint8Array[];
     writeDatagramError(error: DatagramErrorToWrite): Uint8Array;
     writeDatagramQuery(query: DatagramQueryToWrite): Uint8Array;
+    /** Places count from the offset. NbtError: TRUNCATED, NAME_TRUNCATED, NAME_RESERVED_LABEL, NAME_LONG, NAME_BAD_POINTER, NAME_RDATA. */
+    readService(payload: Bytes, offset?: number): ServicePacket;
+    /** What stands of a payload, also of one that `readService` refuses. NbtError: TRUNCATED where the header isn't there whole. */
+    readServiceFront(payload: Bytes, offset?: number): ServiceFront;
     /** NbtError: MORE where the packet isn't there whole. */
     readSession(payload: Bytes, offset?: number): SessionPacket;
     /** The header at the front, also of what `readSession` refuses. NbtError: MORE where its four bytes aren't there. */

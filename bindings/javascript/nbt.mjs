@@ -21,6 +21,9 @@ const REQUESTS = ['query', 'nodeStatus', 'registration', 'refresh', 'release'];
 const REQUEST = 0x81, RETARGET = 0x84, NO_LIMIT = 0xffff_ffff, TAKE_ROOM = 66_045;
 // In front of the bytes that a call is given: how many it used, a place, and a structure of numbers. INTO is its room.
 const USED = { at: 0 }, AT = { at: 8 }, FOUND = { at: 16 }, FRONT = 528, INTO = {};
+// ENTRIES is room for structures of so many bytes, of which a call fills in many at once, so many at most. An item has no fewer bytes.
+const ENTRIES = {}, ENTRY = 560, MOST_ENTRIES = 1_024, LEAST_ITEM = 5;
+const SECTIONS = ['question', 'answer', 'authority', 'additional'], NB = 0x20, NBSTAT = 0x21;
 // How much room an answer has at first, and how much is kept from one call to the next.
 const ROOM = 4_096, MOST_KEPT = 1 << 20;
 const utf8 = new TextEncoder(), ascii = new TextDecoder();
@@ -139,6 +142,9 @@ class Calls {
                 this.bytes.set(word, next);
                 given.push(BigInt(next), BigInt(word.length));
                 next += word.length;
+            } else if (word === ENTRIES) {
+                this.into = (next + 7) & ~7;
+                given.push(BigInt(this.into), BigInt(Math.floor(room / ENTRY)));
             } else if (word === INTO) {
                 given.push(BigInt(next), BigInt(this.at + this.length - next));
                 this.into = next;
@@ -187,6 +193,51 @@ class Calls {
 
     /** The place that the last call wrote, if it wrote any. */
     place() { return this.long(AT.at + 4) === NO_LIMIT ? null : this.number(AT.at); }
+
+    /** What stands of a packet of port 137, and why no more does, or null. */
+    service(bytes) {
+        this.fill('nbt_service_header', [bytes, FOUND, AT]);
+        const [identifier, word, ...counts] = [16, 18, 20, 22, 24, 26].map((at) => this.word(at));
+        const packet = { identifier, word, counts, questions: [], records: [], used: 12, fault: null };
+        const all = counts.reduce((sum, count) => sum + count);
+        const room = Math.min(all, MOST_ENTRIES, Math.floor(bytes.length / LEAST_ITEM) + 1) * ENTRY + 8;
+        for (let number = 0; number < all && !packet.fault;) {
+            const status = this.make('nbt_service_items', [bytes, number, BigInt(packet.used), ENTRIES, USED, AT], room);
+            if (status !== Status.DONE) packet.fault = this.error(status);
+            else number += this.items(bytes, packet);
+        }
+        packet.records = packet.records.map((record) => ({ ...record, ...this.rdata(record) }));
+        return packet;
+    }
+
+    /** Adds the questions and records that the last call filled in, and answers how many. */
+    items(bytes, packet) {
+        const count = this.number(USED.at);
+        for (let entry = 0; entry < count; entry++) {
+            const at = this.into - this.at + entry * ENTRY, section = SECTIONS[this.long(at)], spelling = this.counted(at + 41);
+            const item = { spelling, isNetbios: this.byte(at + 40) === 1, type: this.word(at + 8), classNumber: this.word(at + 10) };
+            packet.used = this.number(at + 32);
+            if (section === 'question') packet.questions.push(item);
+            else packet.records.push({ ...item, section, timeToLive: this.long(at + 4), data: this.part(bytes, at + 16), server: this.byte(at + 304) > 0 ? this.counted(at + 304) : null });
+        }
+        return count;
+    }
+
+    /** What the RDATA of a record says, which stands in bytes of its own: addresses, and the names of a node with its unit. */
+    rdata({ type, data }) {
+        const parts = (call, told) => {
+            const found = [];
+            for (;;) {
+                const status = this.make(call, [type, data, BigInt(found.length), FOUND, AT], 0);
+                if (status !== Status.DONE) return status === Status.NO_PART ? found : null;
+                found.push(told());
+            }
+        };
+        const addresses = type === NB ? parts('nbt_service_address', () => ({ address: addressText(this.long(16)), flags: this.word(20) })) : null;
+        const names = type === NBSTAT ? parts('nbt_service_node', () => ({ flags: this.word(16), name: this.bytes.slice(this.at + 18, this.at + 34) })) : null;
+        const hasUnit = names !== null && this.make('nbt_service_unit', [type, data, FOUND, AT], 0) === Status.DONE;
+        return { addresses, node: names && { names, unit: hasUnit ? this.bytes.slice(this.at + 16, this.at + 22) : null } };
+    }
 
     words(status) { return ascii.decode(this.write('nbt_status_text', [status, INTO, USED])); }
     name(spelling) { return ascii.decode(this.write('nbt_name_text', [spelling, INTO, USED, AT])); }
@@ -332,6 +383,14 @@ function libraryOf(calls) {
         writeDatagramQuery: ({ type, identifier, address, port = 138, name }) =>
             written('nbt_datagram_query', numberOf(type, 8, 'type'), ...sender(identifier, address, port), encoded(name, 'name')),
 
+        readService(payload, offset) {
+            const { fault, ...packet } = calls.service(bytesOf(payload, 'payload', offset));
+            if (fault) throw fault;
+            return packet;
+        },
+
+        readServiceFront: (payload, offset) => calls.service(bytesOf(payload, 'payload', offset)),
+
         readSession(payload, offset) {
             const bytes = bytesOf(payload, 'payload', offset);
             calls.fill('nbt_session_read', [bytes, FOUND, AT]);
@@ -384,8 +443,8 @@ const MEMORY64 = Uint8Array.of(0, 97, 115, 109, 1, 0, 0, 0, 5, 3, 1, 4, 1);
 /** What a module has to have. */
 const CALLS = [
     'heap_give_back', 'heap_limit', 'heap_take', 'nbt_brief', 'nbt_datagram_error', 'nbt_datagram_front', 'nbt_datagram_query',
-    'nbt_datagram_read', 'nbt_datagram_write', 'nbt_json', 'nbt_name_spell', 'nbt_name_text', 'nbt_service_domain', 'nbt_service_request',
-    'nbt_service_response', 'nbt_session_front', 'nbt_session_names', 'nbt_session_read', 'nbt_session_retarget', 'nbt_session_write', 'nbt_show',
+    'nbt_datagram_read', 'nbt_datagram_write', 'nbt_json', 'nbt_name_spell', 'nbt_name_text', 'nbt_service_address', 'nbt_service_domain',
+    'nbt_service_header', 'nbt_service_items', 'nbt_service_node', 'nbt_service_request', 'nbt_service_response', 'nbt_service_unit', 'nbt_session_front', 'nbt_session_names', 'nbt_session_read', 'nbt_session_retarget', 'nbt_session_write', 'nbt_show',
     'nbt_station_absorb', 'nbt_station_create', 'nbt_station_free', 'nbt_station_list', 'nbt_station_save', 'nbt_station_take',
     'nbt_station_tick', 'nbt_status_text', 'nbt_table_differ', 'nbt_table_json', 'nbt_table_list', 'nbt_table_merge', 'nbt_version',
 ];

@@ -87,11 +87,13 @@ static void reads_137(void) {
 
 static void reads_items(void) {
     struct nbt_service_item item;
+    struct nbt_service_entry entries[4];
     struct nbt_service_address address;
     struct nbt_service_node node;
     struct nbt_service_unit unit;
     size_t place = 12;
     uint32_t number;
+    nbt_service_items(payload, payload_length, 0, place, entries, 4, &used, &at);
     for (number = 0; number < 8 && nbt_service_item(payload, payload_length, number, place, &item, &at) == NBT_DONE; number++) {
         nbt_name_text(item.name, item.name_length, text, sizeof text, &used, &at);
         nbt_service_address(item.type, payload + item.data, item.data_length, 0, &address, &at);

@@ -62,6 +62,12 @@ static uint32_t service_item(const struct asked *asked, void *into, size_t *at) 
     return nbt_service_item(asked->first.at, asked->first.length, (uint32_t)asked->number, asked->place, into, at);
 }
 
+/* One of them, and how many there are for it. */
+static uint32_t service_items(const struct asked *asked, void *into, size_t *at) {
+    size_t used = 0;
+    return nbt_service_items(asked->first.at, asked->first.length, (uint32_t)asked->number, asked->place, into, 1, &used, at);
+}
+
 /* The record's RDATA stands at `place`, and has `number` bytes. */
 static uint32_t service_domain(const struct asked *asked, uint8_t *into, size_t length, size_t *used, size_t *at) {
     return nbt_service_domain(asked->first.at, asked->first.length, asked->place, (size_t)asked->number, into, length, used, at);
@@ -173,8 +179,10 @@ static void of_137(struct bytes payload) {
     FILL_IN(service_header, nbt_service_header, .first = payload);
     FILL_IN(service_read, nbt_service_header, .first = payload);
     for (i = 0; i < COUNT(places); i++)
-        for (j = 0; j < COUNT(numbers); j++)
+        for (j = 0; j < COUNT(numbers); j++) {
             FILL_IN(service_item, nbt_service_item, .first = payload, .number = numbers[j], .place = places[i]);
+            FILL_IN(service_items, nbt_service_entry, .first = payload, .number = numbers[j], .place = places[i]);
+        }
     for (i = 0; i < COUNT(rdata); i++)
         for (j = 0; j < COUNT(sizes); j++)
             WRITE(service_domain, .first = payload, .number = sizes[j], .place = rdata[i]);

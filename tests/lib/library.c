@@ -304,6 +304,46 @@ static void nameless(const uint8_t *payload, size_t length, size_t place, uint32
     calls += 1;
 }
 
+/* An entry is the item that nbt_service_item answers, and the name that nbt_service_domain does, and zeros after it. */
+static void entry_of(const uint8_t *payload, size_t length, const struct nbt_service_entry *entry, const struct nbt_service_item *item)
+{
+    const struct nbt_service_item *it = &entry->item;
+    uint8_t name[255] = {0};
+    size_t used = 0, at;
+    expect(it->section == item->section && it->time_to_live == item->time_to_live && it->type == item->type
+           && it->class_number == item->class_number && it->netbios == item->netbios, "nbt_service_items: the numbers");
+    expect(it->data == item->data && it->data_length == item->data_length && it->next == item->next, "nbt_service_items: the places");
+    expect(it->name_length == item->name_length && memcmp(it->name, item->name, 255) == 0, "nbt_service_items: the name");
+    if (item->section > 0 && item->type == 2)
+        expect(nbt_service_domain(payload, length, item->data, item->data_length, name, sizeof name, &used, &at) == NBT_DONE, "nbt_service_items: NS");
+    expect(entry->server_length == used && memcmp(entry->server, name, 255) == 0, "nbt_service_items: the name in RDATA");
+    calls += 1;
+}
+
+/* The questions and records of a payload, so many at a time: those that nbt_service_item answers, and the status after them. */
+static void entries(const uint8_t *payload, size_t length, size_t room)
+{
+    struct nbt_service_entry many[4];
+    struct nbt_service_item item;
+    size_t used = 77, at = 88, other = 88, place = 12, i;
+    uint32_t number = 0, status;
+    do {
+        memset(many, FILL, sizeof many);
+        used = 77;
+        status = nbt_service_items(payload, length, number, place, many, room, &used, &at);
+        calls += 1;
+        expect(status == NBT_DONE ? used > 0 && used <= room && at == 88 : used == 77, "nbt_service_items: how many");
+        for (i = 0; status == NBT_DONE && i < used; i++, number++) {
+            expect(nbt_service_item(payload, length, number, place, &item, &other) == NBT_DONE, "nbt_service_items: one that doesn't stand");
+            entry_of(payload, length, &many[i], &item);
+            place = item.next;
+        }
+        expect(is_filled((const uint8_t *)&many[i], (4 - i) * sizeof many[0]), "nbt_service_items: the others");
+    } while (status == NBT_DONE);
+    expect(nbt_service_item(payload, length, number, place, &item, &other) == status && at == other, "nbt_service_items: the status");
+    expect(nbt_service_items(payload, length, number, place, NULL, 0, &used, &at) == NBT_DONE && used == 0, "nbt_service_items: no room");
+}
+
 /* The questions and records of a payload, one by one: those of the packet or, where there is none, those before its fault. */
 static void service(const uint8_t *payload, size_t length)
 {
@@ -318,6 +358,8 @@ static void service(const uint8_t *payload, size_t length)
     expect(last == NBT_DONE ? other == 99 && front.used == 12 : other == length && is_filled((const uint8_t *)&front, sizeof front), "nbt_service_header: what is written");
     status = nbt_service_read(payload, length, &read, &at);
     calls += 2;
+    entries(payload, length, 1);
+    entries(payload, length, 3);
     for (count = 0; last == NBT_DONE; count++) {
         memset(&item, FILL, sizeof item);
         other = 99;
@@ -781,6 +823,7 @@ static void nowhere(void)
     const uint8_t *name = (const uint8_t *)"FRED<20>";
     struct nbt_service_header of_137;
     struct nbt_service_item item;
+    struct nbt_service_entry first;
     struct nbt_service_address entry;
     struct nbt_service_node node;
     struct nbt_service_unit unit;
@@ -806,6 +849,7 @@ static void nowhere(void)
     expect(nbt_service_header(NULL, 0, &of_137, &at) == NBT_TRUNCATED && at == 0, "nbt_service_header: null");
     expect(nbt_service_read(NULL, 0, &of_137, &at) == NBT_TRUNCATED && at == 0, "nbt_service_read: null");
     expect(nbt_service_item(NULL, 0, 0, 12, &item, &at) == NBT_TRUNCATED && at == 0, "nbt_service_item: null");
+    expect(nbt_service_items(NULL, 0, 0, 12, &first, 1, &used, &at) == NBT_TRUNCATED && at == 0, "nbt_service_items: null");
     expect(nbt_service_address(0x20, NULL, 0, 0, &entry, &at) == NBT_NO_PART && at == 0, "nbt_service_address: null");
     expect(nbt_service_node(0x21, NULL, 0, 0, &node, &at) == NBT_OTHER_RDATA, "nbt_service_node: null");
     expect(nbt_service_unit(0x21, NULL, 0, &unit, &at) == NBT_OTHER_RDATA, "nbt_service_unit: null");

@@ -37,8 +37,8 @@ test('a module has each call of nbt.h', async () => {
     const { exports } = (await WebAssembly.instantiate(wasm, {})).instance;
     const calls = new Set(Array.from(readFileSync(header, 'utf8').matchAll(/\b(nbt_[a-z_]+)\(/g), ([, name]) => name));
     const source = readFileSync(`${folder}/nbt.mjs`, 'utf8');
-    // What these give, `json` has as members.
-    const told = ['header', 'read', 'item', 'address', 'node', 'unit'].map((part) => `nbt_service_${part}`);
+    // What these give, another call gives.
+    const told = ['read', 'item'].map((part) => `nbt_service_${part}`);
     for (const name of calls) {
         assert.equal(typeof exports[name], 'function');
         assert.equal(source.split(`'${name}'`).length, told.includes(name) ? 1 : 3, `${name} is listed and called`);
@@ -226,6 +226,52 @@ test('names of servers', () => {
     assert.deepEqual(refused(() => nbt.readDomain(new Uint8Array(), Number.MAX_SAFE_INTEGER, 0)), ['NAME_TRUNCATED', Number.MAX_SAFE_INTEGER]);
     for (const place of [-1, 0.5, 2 ** 53, '56', 56n, undefined]) assert.throws(() => nbt.readDomain(response([0]), place, 1), RangeError);
     assert.throws(() => nbt.readDomain('c00c', 0, 2), TypeError);
+});
+
+/** A payload with a chain of so many pointers in the RDATA of its first record, and so many records of servers that point to its end. */
+function chained(pointers, records) {
+    const payload = [0, 1, 0x85, 0, 0, 0, (records + 1) >> 8, (records + 1) & 255, 0, 0, 0, 0, 0, 0, 10, 0, 1, 0, 0, 0, 0, (2 * pointers) >> 8, (2 * pointers) & 255];
+    let last = 11;
+    for (let each = 0; each < pointers; each++) {
+        const here = payload.length;
+        payload.push(0xc0 | (last >> 8), last & 255);
+        last = here;
+    }
+    for (let each = 0; each < records; each++) payload.push(0, 0, 2, 0, 1, 0, 0, 0, 0, 0, 2, 0xc0 | (last >> 8), last & 255);
+    return Uint8Array.from(payload);
+}
+
+test('packets of the name service', () => {
+    const claim = nbt.request('registration', { identifier: 2, name: 'FRED<20>', broadcast: true, timeToLive: 300_000, flags: 0x6000, address: '10.0.0.6' });
+    const spelling = nbt.spell('FRED<20>'), named = { spelling, isNetbios: true, type: 0x20, classNumber: 1 };
+    const nothing = { addresses: null, node: null, server: null };
+    const addresses = [{ address: '10.0.0.6', flags: 0x6000 }];
+    const packet = {
+        identifier: 2, word: 0x2910, counts: [1, 0, 0, 1], questions: [named], used: claim.length,
+        records: [{ ...named, ...nothing, section: 'additional', timeToLive: 300_000, data: hex('60000a000006'), addresses }],
+    };
+    assert.deepEqual(nbt.readService(Uint8Array.of(9, ...claim, 9), 1), packet);
+    assert.deepEqual(nbt.readServiceFront(claim), { ...packet, fault: null });
+    const cut = nbt.readServiceFront(claim.subarray(0, 55));
+    assert.deepEqual([cut.questions, cut.records, cut.used, cut.fault.status, cut.fault.at], [[named], [], 50, 'TRUNCATED', 55]);
+    assert.deepEqual(refused(() => nbt.readService(claim.subarray(0, 55))), ['TRUNCATED', 55]);
+    for (const call of [nbt.readService, nbt.readServiceFront]) assert.deepEqual(refused(() => call(claim.subarray(0, 11))), ['TRUNCATED', 11]);
+    const answer = (type, data) => nbt.readService(nbt.response({ identifier: 3, word: 0x8400, name: 'FRED<20>', type, data })).records[0];
+    const node = hex(`02${'41'.repeat(16)}8400${'42'.repeat(16)}0400`), unit = hex('00005e005301');
+    const names = [{ name: bytes('A'.repeat(16)), flags: 0x8400 }, { name: bytes('B'.repeat(16)), flags: 0x0400 }];
+    assert.deepEqual(answer(0x21, Uint8Array.of(...node, ...unit, ...new Uint8Array(40))).node, { names, unit });
+    assert.deepEqual(answer(0x21, node).node, { names, unit: null });
+    for (const [type, data] of [[0x21, node.subarray(0, 30)], [0x20, new Uint8Array(5)], [10, new Uint8Array(6)]]) {
+        assert.deepEqual(answer(type, data), { ...named, ...nothing, type, section: 'answer', timeToLive: 0, data });
+    }
+    assert.deepEqual(answer(2, spelling).server, spelling);
+    assert.throws(() => nbt.readService('0000'), TypeError);
+});
+
+test('a chain of pointers is followed once for many records', () => {
+    const payload = chained(8_176, 3_776), { records, used } = nbt.readService(payload);
+    assert.deepEqual([records.length, used], [3_777, payload.length]);
+    assert.ok(records.slice(1).every(({ server }) => server.length === 1 && server[0] === 0));
 });
 
 test('a station', () => {

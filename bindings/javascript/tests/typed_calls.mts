@@ -1,6 +1,6 @@
 // Calls whose types have to be those of nbt.d.mts, for tsc --strict. It isn't run.
 import { load, NbtError, Status } from '../nbt.mjs';
-import type { DatagramFront, Delivery, Key, Nbt, Response, SessionFront, SessionPacket, Station, Taken } from '../nbt.mjs';
+import type { DatagramFront, Delivery, Key, Nbt, Response, ServicePacket, SessionFront, SessionPacket, Station, Taken } from '../nbt.mjs';
 
 const nbt: Nbt = await load({ module: new URL('nbt.wasm', import.meta.url), limit: 1 << 24 });
 const pieces: Uint8Array[] = nbt.writeDatagram({ type: 0x10, identifier: 1, address: 5, source: 'A<00>', destination: 'B<20>', data: new ArrayBuffer(4) });
@@ -25,6 +25,8 @@ try {
 }
 
 const front: DatagramFront = nbt.readDatagramFront(pieces[0], 1);
+const claimed: ServicePacket = nbt.readService(pieces[0]), cut: NbtError | null = nbt.readServiceFront(pieces[0], 1).fault;
+const named: Uint8Array | null = claimed.records[0].server;
 const header: SessionFront = nbt.readSessionFront(packet.body, 0);
 const answer: Response = { identifier: front.identifier, word: 0x8580, name: front.source ?? '*<00>', type: 0x20, data: new ArrayBuffer(6) };
 nbt.show(137, nbt.response({ ...answer, timeToLive: front.port }));

@@ -103,26 +103,24 @@ Rdata = Union[Tuple[NbEntry, ...], NodeStatus, DomainName, bytes]
 
 # How many bytes an address of a name has with its flags, and one of the names of a node.
 ENTRY_LENGTH, NODE_LENGTH = 6, 18
-# struct nbt_service_address and struct nbt_service_node, and room for one; room for the longest spelling.
+# struct nbt_service_address and struct nbt_service_node, and room for one.
 FOUND_ADDRESS, FOUND_NODE = struct.Struct('@IH'), struct.Struct('@H16s')
-PART_ROOM, SPELLING_ROOM = ctypes.c_char * 32, ctypes.c_char * 255
+PART_ROOM = ctypes.c_char * 32
 
 PART = ctypes.c_uint16, ADDRESS, LENGTH, LENGTH, ADDRESS, ADDRESS
 ADDRESSES, NODES = (call(name, *PART, library=ALONE) for name in ('nbt_service_address', 'nbt_service_node'))
 UNIT = call('nbt_service_unit', ctypes.c_uint16, ADDRESS, LENGTH, ADDRESS, ADDRESS, library=ALONE)
-DOMAIN = call('nbt_service_domain', ADDRESS, LENGTH, LENGTH, LENGTH, ADDRESS, LENGTH, ADDRESS, ADDRESS, library=ALONE)
 
 
-def read_rdata(kind: int, payload: int, payload_length: int, place: int, length: int) -> Rdata:
-    """What the RDATA of a record says that the library found at a place of the payload at this address."""
-    address = payload + place
+def read_rdata(kind: int, address: int, length: int, server: bytes) -> Rdata:
+    """What the RDATA of a record says that the library found at this address; of type NS the spelling of its name is given."""
     found: Optional[Rdata] = None
     if kind == NB:
         found = read_entries(address, length)
     elif kind == NBSTAT:
         found = read_status(address, length)
     elif kind == NS:
-        found = read_domain(payload, payload_length, place, length)
+        found = DomainName(tuple(names.labels(server)))
     return ctypes.string_at(address, length) if found is None else found
 
 
@@ -164,11 +162,3 @@ def read_unit(address: int, length: int) -> Optional[bytes]:
     unit, at = ctypes.create_string_buffer(6), ctypes.c_size_t()
     status = UNIT(NBSTAT, address, length, ctypes.addressof(unit), ctypes.addressof(at))
     return unit.raw if status == DONE else None
-
-
-def read_domain(payload: int, payload_length: int, place: int, length: int) -> Optional[DomainName]:
-    """The name of a server; None where none stands there, as where another thread changed the payload meanwhile."""
-    room, used, at = SPELLING_ROOM(), ctypes.c_size_t(), ctypes.c_size_t()
-    status = DOMAIN(payload, payload_length, place, length, ctypes.addressof(room), ctypes.sizeof(room), ctypes.addressof(used),
-                    ctypes.addressof(at))
-    return DomainName(tuple(names.labels(room.raw[:used.value]))) if status == DONE else None

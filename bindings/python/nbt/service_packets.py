@@ -43,12 +43,14 @@ class ResultCode(enum.IntEnum):
     CFT_ERR = 7
 
 
-# struct nbt_service_header and struct nbt_service_item, and room for one.
-HEADER_LAYOUT, ITEM_LAYOUT = struct.Struct('@6HN'), struct.Struct('@2I2H3N2B255s0N')
-HEADER_ROOM, ITEM_ROOM = (ctypes.c_char * layout.size for layout in (HEADER_LAYOUT, ITEM_LAYOUT))
+# struct nbt_service_header, and room for one; struct nbt_service_entry, and for how many of them there is room at once.
+HEADER_LAYOUT, ENTRY_LAYOUT = struct.Struct('@6HN'), struct.Struct('@2I2H3N2B255s0NB255s0N')
+HEADER_ROOM, MOST_ENTRIES = ctypes.c_char * HEADER_LAYOUT.size, 1_024
+# A question has no fewer bytes.
+LEAST = 5
 
 HEADER = call('nbt_service_header', ADDRESS, LENGTH, ADDRESS, ADDRESS, library=ALONE)
-ITEM = call('nbt_service_item', ADDRESS, LENGTH, ctypes.c_uint32, LENGTH, ADDRESS, ADDRESS, library=ALONE)
+ITEMS = call('nbt_service_items', ADDRESS, LENGTH, ctypes.c_uint32, LENGTH, ADDRESS, LENGTH, ADDRESS, ADDRESS, library=ALONE)
 
 
 @dataclass(frozen=True)
@@ -173,19 +175,29 @@ def read_items(payload: int, length: int, count: int) -> Tuple[List[Any], int, O
     """The questions and records that stand in the payload at an address, of so many, by sections; where they end; and the fault
     of the next one, if there should be one."""
     sections: List[Any] = [[], [], [], []]
-    place, room, at = HEADER_LENGTH, ITEM_ROOM(), ctypes.c_size_t()
-    into, fault = ctypes.addressof(room), ctypes.addressof(at)
-    for number in range(count):
-        status = ITEM(payload, length, number, place, into, fault)
+    number, place, most = 0, HEADER_LENGTH, min(count, MOST_ENTRIES, length // LEAST + 1)
+    room, used, at = room_for(most)(), ctypes.c_size_t(), ctypes.c_size_t()
+    into, filled, fault = ctypes.addressof(room), ctypes.addressof(used), ctypes.addressof(at)
+    while number < count:
+        status = ITEMS(payload, length, number, place, into, most, filled, fault)
         if status != DONE:
             return sections, place, error_of(status, at.value)
-        section, ttl, kind, class_number, data, data_length, place, netbios, name_length, spelling = ITEM_LAYOUT.unpack(room)
-        name = name_of(spelling[:name_length], netbios)
-        sections[section].append(
-            made(Record, name=name, type=kind, class_number=class_number, time_to_live=ttl,
-                 rdata=read_rdata(kind, payload, length, data, data_length)) if section
-            else made(Question, name=name, type=kind, class_number=class_number))
+        found = used.value
+        number += found
+        for (section, ttl, kind, class_number, data, data_length, place, netbios, name_length, spelling, server_length,
+             server) in ENTRY_LAYOUT.iter_unpack(room if found == most else memoryview(room)[:found * ENTRY_LAYOUT.size]):
+            name = name_of(spelling[:name_length], netbios)
+            sections[section].append(
+                made(Record, name=name, type=kind, class_number=class_number, time_to_live=ttl,
+                     rdata=read_rdata(kind, payload + data, data_length, server[:server_length])) if section
+                else made(Question, name=name, type=kind, class_number=class_number))
     return sections, place, None
+
+
+@lru_cache
+def room_for(count: int) -> Any:
+    """Room for so many entries."""
+    return ctypes.c_char * (count * ENTRY_LAYOUT.size)
 
 
 @lru_cache(4_096)

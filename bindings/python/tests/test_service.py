@@ -146,26 +146,47 @@ class Refused(unittest.TestCase):
             self.assertEqual((found, place, front.records), (status, at, ()))
 
     def test_changed_meanwhile(self):
-        """Another thread changes a buffer after a name was found in it, which then leads to itself, past the end, or over it: no name
-        is read there any more, and RDATA is its bytes."""
-        item, start = service_packets.ITEM, 12 + len(FRED) + 10
+        """Another thread changes a buffer after a name was found in it, which then leads to itself, past the end, or over it: the name
+        that was found is answered."""
+        items, start = service_packets.ITEMS, 12 + len(FRED) + 10
         for changed in bytes([0xc0, start, 0, 0]), b'\xff\xff\0\0', b'\x3fab\0', b'\1a\xff\xff', b'\1a\0\0':
             buffer = bytearray(response(b'\0\2', b'\2ns\0'))
 
             def found(*words):
-                status = item(*words)
+                status = items(*words)
                 buffer[start:] = changed
                 return status
 
-            with mock.patch.object(service_packets, 'ITEM', found):
+            with mock.patch.object(service_packets, 'ITEMS', found):
                 packet = ServicePacket.read(buffer)
-            self.assertEqual(packet.answers[0].rdata, changed)
+            self.assertEqual(packet.answers[0].rdata, DomainName((b'ns',)))
 
     def test_outside(self):
         for call in ServicePacket.read, ServicePacket.read_front:
             self.assertRaisesRegex(ValueError, '^offset: 69 lies outside of 68 bytes$', call, REGISTRATION, 69)
             self.assertRaisesRegex(TypeError, '^str is no buffer of bytes$', call, 'FRED')
             self.assertRaisesRegex(TypeError, '^offset: 0.0 is no whole number$', call, REGISTRATION, 0.0)
+
+
+class Chains(unittest.TestCase):
+    def test_many_names_at_a_chains_end(self):
+        """Names that lead to the end of a chain of pointers are read by as few calls as others: the chain is followed once for many."""
+        pointers, records = 8_176, 3_776
+        places = [11, *range(23, 23 + 2 * (pointers - 1), 2)]
+        end = bytes([0xc0 | 23 + 2 * (pointers - 1) >> 8, 23 + 2 * (pointers - 1) & 0xff])
+        payload = (b'\0\1\x85\0\0\0' + (records + 1).to_bytes(2, 'big') + bytes(4) + b'\0\0\x0a\0\1\0\0\0\0' + (2 * pointers).to_bytes(2, 'big')
+                   + b''.join((0xc000 | place).to_bytes(2, 'big') for place in places) + (b'\0\0\2\0\1\0\0\0\0\0\2' + end) * records)
+        made = []
+
+        def counted(*words):
+            made.append(words)
+            return items(*words)
+
+        items = service_packets.ITEMS
+        with mock.patch.object(service_packets, 'ITEMS', counted):
+            packet = ServicePacket.read(payload)
+        self.assertEqual([record.rdata for record in packet.answers[1:]], [DomainName(())] * records)
+        self.assertEqual((len(made), packet.used), (-(-(records + 1) // service_packets.MOST_ENTRIES), len(payload)))
 
 
 class Values(unittest.TestCase):

@@ -6,7 +6,7 @@
 use std::ffi::c_void;
 
 use crate::structures::{
-    Difference, FoundAddress, FoundDatagram, FoundFront, FoundHeader, FoundItem, FoundNames,
+    Difference, FoundAddress, FoundDatagram, FoundEntry, FoundFront, FoundHeader, FoundNames,
     FoundNode, FoundRetarget, FoundSession, FoundSessionFront, Handle, Taken,
 };
 
@@ -86,12 +86,14 @@ extern "C" {
         at: *mut usize,
     ) -> u32;
 
-    pub fn nbt_service_item(
+    pub fn nbt_service_items(
         payload: *const u8,
         payload_length: usize,
         number: u32,
         place: usize,
-        item: *mut FoundItem,
+        entries: *mut FoundEntry,
+        entries_length: usize,
+        used: *mut usize,
         at: *mut usize,
     ) -> u32;
 
@@ -118,17 +120,6 @@ extern "C" {
         data: *const u8,
         data_length: usize,
         unit: *mut [u8; 6],
-        at: *mut usize,
-    ) -> u32;
-
-    pub fn nbt_service_domain(
-        payload: *const u8,
-        payload_length: usize,
-        data: usize,
-        data_length: usize,
-        into: *mut u8,
-        into_length: usize,
-        used: *mut usize,
         at: *mut usize,
     ) -> u32;
 

@@ -5,7 +5,7 @@ use std::fmt::{self, Write};
 use std::hash::{Hash, Hasher};
 use std::str::FromStr;
 
-use crate::calls::{nbt_name_spell, nbt_service_domain, DONE};
+use crate::calls::{nbt_name_spell, DONE};
 use crate::names::{text, Spelling};
 use crate::{Error, Result, Status};
 
@@ -44,25 +44,6 @@ impl Name {
     /// The name whose spelling is at the front of these bytes.
     pub(crate) fn of_bytes(bytes: [u8; LONGEST], length: u8) -> Name {
         Name { bytes, length }
-    }
-
-    /// The name that so many bytes of a payload are, from a place on; `None` where they are none. Its pointers are followed.
-    pub(crate) fn at(payload: &[u8], place: usize, length: usize) -> Option<Name> {
-        let (mut bytes, mut used, mut at) = ([0; LONGEST], 0, 0);
-        // SAFETY: the payload is a slice, and what is written lies apart from it.
-        let status = unsafe {
-            nbt_service_domain(
-                payload.as_ptr(),
-                payload.len(),
-                place,
-                length,
-                bytes.as_mut_ptr(),
-                LONGEST,
-                &mut used,
-                &mut at,
-            )
-        };
-        (status == DONE).then_some(Name::of_bytes(bytes, used as u8))
     }
 
     /// Its spelling: labels, each after its length, then a zero byte.

@@ -34,12 +34,10 @@ pub enum Rdata<'a> {
 }
 
 impl<'a> Rdata<'a> {
-    /// What this RDATA says of a type, a slice of the payload, which begins at a place.
-    pub(crate) fn of(kind: u16, payload: &'a [u8], place: usize, data: &'a [u8]) -> Rdata<'a> {
+    /// What this RDATA says of a type; of type NS its name was read.
+    pub(crate) fn of(kind: u16, data: &'a [u8], server: Option<Name>) -> Rdata<'a> {
         match kind {
-            NS => {
-                Name::at(payload, place, data.len()).map_or(Rdata::Other(data), Rdata::NameServer)
-            }
+            NS => server.map_or(Rdata::Other(data), Rdata::NameServer),
             NB => Addresses::of(data).map_or(Rdata::Other(data), Rdata::Addresses),
             NBSTAT => NodeNames::of(data).map_or(Rdata::Other(data), |names| {
                 Rdata::NodeStatus(NodeStatus {

@@ -2,14 +2,16 @@
 
 use std::fmt;
 
-use crate::calls::{nbt_service_header, nbt_service_item, nbt_service_read, DONE, NO_ITEM};
+use crate::calls::{nbt_service_header, nbt_service_items, nbt_service_read, DONE, NO_ITEM};
 use crate::rdata::Rdata;
 use crate::service_header::Header;
-use crate::structures::{FoundHeader, FoundItem};
+use crate::structures::{FoundEntry, FoundHeader};
 use crate::{Error, Name, Result};
 
 /// Where the first question or record stands: behind the header.
 const FIRST: usize = 12;
+/// How many of them are read at once.
+const AT_ONCE: usize = 16;
 
 /// A packet of port 137, or what stands of one. Its questions and records are read when they are asked for, and lent from
 /// the payload. No memory is taken.
@@ -184,8 +186,13 @@ impl<'a> TryFrom<&'a [u8]> for Packet<'a> {
 #[derive(Clone, Debug)]
 struct Walk<'a> {
     payload: &'a [u8],
+    /// The number and the place of the next one.
     number: u32,
     place: usize,
+    /// Those that were read, how many they are, and how many of them were handed out.
+    read: [FoundEntry; AT_ONCE],
+    filled: usize,
+    given: usize,
 }
 
 impl<'a> Walk<'a> {
@@ -195,44 +202,59 @@ impl<'a> Walk<'a> {
             payload,
             number: 0,
             place: FIRST,
+            read: [FoundEntry::EMPTY; AT_ONCE],
+            filled: 0,
+            given: 0,
         }
     }
 
     /// The next one, if the header counts one more.
-    fn next(&mut self) -> Result<Option<FoundItem>> {
-        let (mut found, mut at) = (FoundItem::EMPTY, 0);
+    fn next(&mut self) -> Result<Option<FoundEntry>> {
+        if self.given == self.filled {
+            self.read_more()?;
+        }
+        let found = self.read[..self.filled].get(self.given).copied();
+        if let Some(found) = found {
+            self.given += 1;
+            self.number += 1;
+            self.place = found.item.next;
+        }
+        Ok(found)
+    }
+
+    /// Reads as many as are read at once; none where the header counts no more.
+    fn read_more(&mut self) -> Result<()> {
+        (self.filled, self.given) = (0, 0);
+        let mut at = 0;
         // SAFETY: the payload is a slice, and what is written lies apart from it.
         let status = unsafe {
-            nbt_service_item(
+            nbt_service_items(
                 self.payload.as_ptr(),
                 self.payload.len(),
                 self.number,
                 self.place,
-                &mut found,
+                self.read.as_mut_ptr(),
+                AT_ONCE,
+                &mut self.filled,
                 &mut at,
             )
         };
         match status {
-            DONE => {
-                self.number += 1;
-                self.place = found.next;
-                Ok(Some(found))
-            }
-            NO_ITEM => Ok(None),
+            DONE | NO_ITEM => Ok(()),
             _ => Err(Error::new(status, at)),
         }
     }
 
     /// The next one, of so many that stand.
-    fn next_of(&mut self, left: &mut usize) -> Option<FoundItem> {
+    fn next_of(&mut self, left: &mut usize) -> Option<FoundEntry> {
         *left = left.checked_sub(1)?;
         self.next().ok().flatten()
     }
 }
 
 /// The number of an item's section, of four.
-fn section_of(found: &FoundItem) -> usize {
-    (found.section & 3) as usize
+fn section_of(found: &FoundEntry) -> usize {
+    (found.item.section & 3) as usize
 }
 
 /// What is asked for: RFC 1002 section 4.2.1.2.
@@ -258,7 +280,7 @@ impl Iterator for Questions<'_> {
     type Item = Question;
 
     fn next(&mut self) -> Option<Question> {
-        let found = self.walk.next_of(&mut self.left)?;
+        let found = self.walk.next_of(&mut self.left)?.item;
         Some(Question {
             name: Name::of_bytes(found.name, found.name_length),
             kind: found.kind,
@@ -311,15 +333,15 @@ pub struct Record<'a> {
     pub time_to_live: u32,
     kind: u16,
     data: &'a [u8],
-    payload: &'a [u8],
-    place: usize,
+    server: Option<Name>,
 }
 
 impl<'a> Record<'a> {
     /// The record that was found in a payload.
-    fn of(payload: &'a [u8], found: &FoundItem) -> Record<'a> {
+    fn of(payload: &'a [u8], entry: &FoundEntry) -> Record<'a> {
+        let found = &entry.item;
         Record {
-            section: match section_of(found) {
+            section: match section_of(entry) {
                 2 => Section::Authority,
                 3 => Section::Additional,
                 _ => Section::Answer,
@@ -329,8 +351,8 @@ impl<'a> Record<'a> {
             time_to_live: found.time_to_live,
             kind: found.kind,
             data: &payload[found.data..found.data + found.data_length],
-            payload,
-            place: found.data,
+            server: (entry.server_length > 0)
+                .then(|| Name::of_bytes(entry.server, entry.server_length)),
         }
     }
 
@@ -346,7 +368,7 @@ impl<'a> Record<'a> {
 
     /// What its RDATA says, by its type.
     pub fn rdata(&self) -> Rdata<'a> {
-        Rdata::of(self.kind, self.payload, self.place, self.data)
+        Rdata::of(self.kind, self.data, self.server)
     }
 }
 

@@ -14,6 +14,7 @@ pub struct FoundHeader {
 
 /// struct nbt_service_item: a question or a record, where its RDATA stands, and where the next one does.
 #[repr(C)]
+#[derive(Clone, Copy, Debug)]
 pub struct FoundItem {
     pub section: u32,
     pub time_to_live: u32,
@@ -40,6 +41,24 @@ impl FoundItem {
         netbios: 0,
         name_length: 0,
         name: [0; 255],
+    };
+}
+
+/// struct nbt_service_entry: a question or a record, and the name that is the RDATA of one of type NS.
+#[repr(C)]
+#[derive(Clone, Copy, Debug)]
+pub struct FoundEntry {
+    pub item: FoundItem,
+    pub server_length: u8,
+    pub server: [u8; 255],
+}
+
+impl FoundEntry {
+    /// What a call fills in.
+    pub const EMPTY: FoundEntry = FoundEntry {
+        item: FoundItem::EMPTY,
+        server_length: 0,
+        server: [0; 255],
     };
 }
 

@@ -2,6 +2,7 @@ pub mod AbsorbLemmas
 pub mod AnswerLemmas
 pub mod DifferLemmas
 pub mod DomainLemmas
+pub mod EntryLemmas
 pub mod FrameLemmas
 pub mod FrontLemmas
 pub mod HandleValues

@@ -3,6 +3,7 @@ pub mod Cutting
 pub mod Datagrams
 pub mod Dataless
 pub mod Differing
+pub mod Entries
 pub mod Framing
 pub mod Fronts
 pub mod Handles

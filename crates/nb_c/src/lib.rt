@@ -19,6 +19,7 @@ mod parts;
 mod refusal;
 pub mod responses;
 pub mod service;
+pub mod service_entries;
 pub mod service_parts;
 pub mod service_reading;
 pub mod session_fronts;

@@ -11,7 +11,7 @@ use crate::refusal::{Refusal, name_refusal};
 use crate::statuses::{NAME_RDATA, NO_PART, OTHER_RDATA, TRUNCATED};
 use nb_names::laws::{one_fault, one_reading};
 use nb_names::limits::NAME_LENGTH;
-use nb_names::{DomainName, Pointers, read_domain};
+use nb_names::{DomainName, NameReader, Pointers};
 use nb_service::limits::UNIT_ID_LENGTH;
 use nb_service::{AddressEntries, NodeStatus};
 
@@ -186,10 +186,21 @@ pub extern "C" fn nbt_service_domain(
 fn domain_at(payload: &[u8], place: usize, length: usize) -> Result<DomainName, Refusal>
     ensures { Alone (List ℕ) (ReadsDomain payload.now place length) (spelled_answer result) }
 {
+    domain_by(&NameReader::of(payload, &mut []), place, length)
+}
+
+/// The same of a payload whose names are read so.
+pub(crate) fn domain_by(
+    names: &NameReader<'_, '_>,
+    place: usize,
+    length: usize,
+) -> Result<DomainName, Refusal>
+    ensures { Alone (List ℕ) (ReadsDomain names.now place length) (spelled_answer result) }
+{
     // For the clause: at a place stands one name, or it has one fault. The calls do nothing.
     one_reading();
     one_fault();
-    match read_domain(payload, place, Pointers::Followed) {
+    match names.read_domain(place, Pointers::Followed) {
         Ok((domain, next)) => {
             if next.checked_sub(place) != Some(length) {
                 return Err(Refusal::FaultAt(NAME_RDATA, place));

@@ -205,7 +205,7 @@ fn fill_item(
 }
 
 /// Fills in the item of a number that stands at an offset of a packet of this header.
-fn fill_item_of(
+pub(crate) fn fill_item_of(
     names: &NameReader<'_, '_>,
     header: &Header,
     number: usize,

@@ -129,6 +129,39 @@ fn a_packet_is_read() {
     );
 }
 
+/// A payload with a chain of so many pointers in the RDATA of its first record, and so many records of servers that point to its
+/// end.
+fn chained(pointers: u16, records: u16) -> Vec<u8> {
+    let (counted, size) = ((records + 1).to_be_bytes(), (2 * pointers).to_be_bytes());
+    let head = b"\0\0\x0a\0\x01\0\0\0\0";
+    let mut payload = joined(&[b"\0\x01\x85\0\0\0", &counted, &[0; 4], head, &size]);
+    let mut last: u16 = 11;
+    for _ in 0..pointers {
+        let here = payload.len() as u16;
+        payload.extend((0xc000 | last).to_be_bytes());
+        last = here;
+    }
+    for _ in 0..records {
+        payload.extend(b"\0\0\x02\0\x01\0\0\0\0\0\x02");
+        payload.extend((0xc000 | last).to_be_bytes());
+    }
+    payload
+}
+
+#[test]
+fn a_chain_of_pointers_is_followed_for_many_records() {
+    let payload = chained(8_176, 3_776);
+    let packet = read(&payload).unwrap();
+    let servers = packet
+        .records()
+        .skip(1)
+        .filter(|it| matches!(it.rdata(), Rdata::NameServer(name) if name.as_bytes() == [0]));
+    assert_eq!((servers.count(), packet.used), (3_776, payload.len()));
+    let front = read_front(&payload[..payload.len() - 1]).packet.unwrap();
+    assert_eq!(front.records().len(), 3_776);
+    assert_eq!(front.used, payload.len() - 13);
+}
+
 #[test]
 fn numbers_without_a_name() {
     for number in 0..16u8 {

@@ -1,0 +1,49 @@
+use Rattle.std.proofs.Common.{ℕ, ◌≤◌, ◌<◌, List, length, Result, Ok, Err, subst, arith}
+use Rattle.nb_c.specs.declared.service_entries.NbtServiceEntry.{NbtServiceEntry}
+use Rattle.nb_c.specs.Entries.{FilledFront, ReadsEntries}
+use Rattle.nb_c.proofs.EntryLemmas.{entry_one, filled_all, filled_none, filled_some, filling_begins, filling_more}
+use Rattle.nb_c.proofs.ServiceLemmas.{HeaderLaws, ItemLaws}
+use Rattle.nb_c.proofs.service_entries.fill_each.Goals as goal
+
+pub entries-init : goal.entries-init
+entries-init c = (filling_begins c.args.names.now c.args.number c.args.place c.args.into.now, omega arith)
+
+pub entries-preserved : goal.entries-preserved
+entries-preserved c =
+    let low : c.entries.count < length c.entries.into =
+    omega (arith, c.entries-test.true, c.min-room.ensures, c.entries.invariant.0.size) in (
+      filling_more c.args.names.now c.args.number c.args.place c.args.into.now c.entries.count c.entries.at c.entries.into c.in-Ok.entry low
+          c.entries.invariant.0 c.in-Ok.ensures.said,
+      omega (arith, c.entries-test.true),
+    )
+
+pub returns-then-count-eq0 : goal.returns-then-count-eq0
+returns-then-count-eq0 c =
+    let headers : HeaderLaws c.args.names.now = record { one = c.one_header.ensures.one _; whole = c.one_header.ensures.whole _ } in
+    let laws : ItemLaws c.args.names.now =
+    record { one = c.one_item.ensures.one _; apart = c.one_item.ensures.alone _; one_fault = c.one_item.ensures.one_fault _; counted = c.one_item.ensures.counted _; extent = c.one_item.ensures.extent _ } in
+    subst (λ (r : ℕ). FilledFront NbtServiceEntry (ReadsEntries c.args.names.now c.args.number c.args.place r) c.args.into.now c.entries.into (Err c.in-Err.refusal))
+    c.min-room.ensures
+    (filled_none c.args.names.now c.args.number c.args.place c.min-room.result (entry_one c.args.names.now headers laws) c.args.into.now c.entries.into
+    c.entries.count c.entries.at c.entries.invariant.0 c.in-Err.refusal c.if-count-eq0.true (omega (arith, c.entries-test.true)) c.in-Err.ensures.said)
+
+pub returns-in-Err : goal.returns-in-Err
+returns-in-Err c =
+    let headers : HeaderLaws c.args.names.now = record { one = c.one_header.ensures.one _; whole = c.one_header.ensures.whole _ } in
+    let laws : ItemLaws c.args.names.now =
+    record { one = c.one_item.ensures.one _; apart = c.one_item.ensures.alone _; one_fault = c.one_item.ensures.one_fault _; counted = c.one_item.ensures.counted _; extent = c.one_item.ensures.extent _ } in
+    subst (λ (r : ℕ). FilledFront NbtServiceEntry (ReadsEntries c.args.names.now c.args.number c.args.place r) c.args.into.now c.entries.into (Ok c.entries.count))
+    c.min-room.ensures
+    (filled_some c.args.names.now c.args.number c.args.place c.min-room.result (entry_one c.args.names.now headers laws) c.args.into.now c.entries.into
+    c.entries.count c.entries.at c.entries.invariant.0 c.in-Err.refusal c.if-count-eq0.false c.entries-test.true (omega (arith, c.min-room.ensures))
+    c.in-Err.ensures.said)
+
+pub returns : goal.returns
+returns c =
+    let headers : HeaderLaws c.args.names.now = record { one = c.one_header.ensures.one _; whole = c.one_header.ensures.whole _ } in
+    let laws : ItemLaws c.args.names.now =
+    record { one = c.one_item.ensures.one _; apart = c.one_item.ensures.alone _; one_fault = c.one_item.ensures.one_fault _; counted = c.one_item.ensures.counted _; extent = c.one_item.ensures.extent _ } in
+    subst (λ (r : ℕ). FilledFront NbtServiceEntry (ReadsEntries c.args.names.now c.args.number c.args.place r) c.args.into.now c.entries.into (Ok c.entries.count))
+    c.min-room.ensures
+    (filled_all c.args.names.now c.args.number c.args.place c.min-room.result (entry_one c.args.names.now headers laws) c.args.into.now c.entries.into
+    c.entries.count c.entries.at c.entries.invariant.0 c.entries.invariant.1 c.entries-test.false (omega (arith, c.min-room.ensures)))

@@ -191,7 +191,9 @@ class History:
 
     def take_release(self, sent, source, addresses):
         for each in addresses if sent.records_stand() else [source]:
-            self.finish(self.tenure(each), 'released', sent.at)
+            tenure = self.tenure(each)
+            tenure.front = tenure.front if tenure.how or sent.records_stand() else sent.front()
+            self.finish(tenure, 'released', sent.at)
 
     def take_released(self, sent, addresses):
         for each in addresses:

@@ -173,7 +173,9 @@ class NameStory:
         identifier = self.net.identifier(machine.address)
         flags, target = (B, machine.broadcast) if self.is_broadcast else (0, self.net.server)
         data = request('release', identifier, self.name, flags, [(holder.address, self.holders[holder])], 0)
-        self.send(machine.address, target, data, identifier, may_be_cut=False)
+        sent = self.send(machine.address, target, data, identifier, may_be_cut=False)
+        if self.is_broadcast:
+            self.history.release_all(sent, machine.address, [])      # of a front of it nobody sees whose address it has
         if not self.is_broadcast:
             self.time += 20 * MILLISECOND
             data = response('release', identifier, self.name, AA, 'ACT_ERR', 0, entries([(holder.address, self.holders[holder])]))

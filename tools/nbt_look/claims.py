@@ -159,7 +159,7 @@ class Claims:
         for name, address, *_ in message.places() if message.is_broadcast else ():
             found = self.tenures.entries.get((name, address))
             if not message.source or self.owners.are_one(message.source, address) or (found and self.is_of(found, message.source)):
-                self.release(name, address, message.at)
+                self.release(name, address, message.at, message.front)
 
     def released(self, message):
         """A positive release response. Of one whose name is cut it isn't known which it grants."""
@@ -168,9 +168,11 @@ class Claims:
         for name, address, *_ in [each for request in self.releasing.of(message) for each in request.subject] or message.places():
             self.release(name, address, message.at)
 
-    def release(self, name, address, at):
+    def release(self, name, address, at, front=Front.WHOLE):
+        """Ends a tenure. One of which nothing was known has the mark of the release."""
         tenure = self.tenure(name, address, address)
         if tenure:
+            tenure.front = front.value if not tenure.standing and front is not Front.WHOLE else tenure.front
             tenure.end(Standing.RELEASED, at)
 
     # ---- What other packets say of names.

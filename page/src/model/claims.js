@@ -199,7 +199,7 @@ export class Claims {
         if (!isBroadcast && message.name !== null) this.releasing.put(message, 'release').subject = message.places;
         for (const { name, address } of isBroadcast ? message.places : []) {
             const found = this.tenures.entries.get(`${name} ${address}`);
-            if (!source || this.owners.areOne(source, address) || (found && this.isOf(found, source))) this.release(name, address, message.at);
+            if (!source || this.owners.areOne(source, address) || (found && this.isOf(found, source))) this.release(name, address, message.at, message.front);
         }
         return false;
     }
@@ -217,12 +217,17 @@ export class Claims {
     }
 
     /**
+     * Ends a tenure. One of which nothing was known has the mark of the release.
+     *
      * @param {string} name
      * @param {string} address
      * @param {bigint} at
+     * @param {import('./objects.js').Front} front
      */
-    release(name, address, at) {
-        this.tenure(name, address, address)?.end('released', at);
+    release(name, address, at, front = 'whole') {
+        const tenure = this.tenure(name, address, address);
+        if (tenure?.how === '' && front !== 'whole') tenure.front = front;
+        tenure?.end('released', at);
     }
 
     /**

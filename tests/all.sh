@@ -98,7 +98,7 @@ done
 step library.sh 40 "$(least library.sh all)" env AFTER_RT_CI=1 MODULE="$room/nbt.bc" tests/library.sh
 step targets.sh 20 "$(least targets.sh all)" env MODULE="$room/nbt.bc" OUT="$room/out" tests/targets.sh
 step page.py 20 "$(least page.py all)" tests/page.py "$room/out"
-step plugin.sh 20 "$(least plugin.sh all)" tests/plugin.sh "$room/out/lib"
+step plugin.sh 40 "$(least plugin.sh all)" tests/plugin.sh "$room/out/lib"
 step scale.sh 20 "$(least scale.sh all)" tests/scale.sh
 step bench.py 30 "$(least bench.py all)" tests/bench.py --small
 cat "$room/costs"

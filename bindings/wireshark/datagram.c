@@ -3,6 +3,9 @@
  */
 #include "shark.h"
 
+/* How many runs of missing bytes are named; of more it is said how many they are. */
+#define MOST_RUNS 16
+
 void keep_data(struct fragment *fragment, const guint8 *data)
 {
     if (fragment->length > 0) fragment->data = g_memdup2(data, fragment->length);
@@ -58,15 +61,16 @@ static const char *words_of_gaps(const struct datagram *datagram)
 {
     wmem_strbuf_t *words = wmem_strbuf_new(wmem_file_scope(), "");
     GPtrArray *fragments = sorted(datagram);
-    guint32 due = 0, i;
+    guint32 due = 0, gaps = 0, i;
     bool ends = false;
     for (i = 0; i < fragments->len; i++) {
         const struct fragment *each = g_ptr_array_index(fragments, i);
-        if (each->offset > due) append_run(words, due, each->offset - due);
+        if (each->offset > due && gaps++ < MOST_RUNS) append_run(words, due, each->offset - due);
         due = MAX(due, end_of(each));
         ends = ends || !each->more;
     }
-    if (!ends) wmem_strbuf_append_printf(words, "%sall from byte %u on", wmem_strbuf_get_len(words) > 0 ? ", " : "", due);
+    if (gaps > MOST_RUNS) wmem_strbuf_append_printf(words, ", %u more", gaps - MOST_RUNS);
+    if (!ends) wmem_strbuf_append_printf(words, "%sall from byte %u on", gaps > 0 ? ", " : "", due);
     g_ptr_array_free(fragments, TRUE);
     return wmem_strbuf_finalize(words);
 }

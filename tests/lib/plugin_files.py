@@ -33,7 +33,7 @@ def segment(port, sequence, data, flags=ACK, ends=(CLIENT, SERVER)):
 
 
 def message(rng):
-    data = rng.randbytes(rng.choice((0, 1, 5, 60, 900, 4_000, 4_000, 70_000)))
+    data = rng.randbytes(70_000 if rng.random() < 0.02 else rng.choice((0, 1, 5, 60, 900, 4_000)))
     return bytes([0, len(data) >> 16]) + struct.pack('>H', len(data) & 65_535) + data
 
 
@@ -68,7 +68,7 @@ def connection(rng, number):
 
 def sessions():
     rng = random.Random('sessions')
-    rows = [connection(rng, number) for number in range(24)]
+    rows = [connection(rng, number) for number in range(16)]
     frames = []
     while rows:
         row = rng.choice(rows)

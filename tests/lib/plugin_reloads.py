@@ -30,7 +30,7 @@ def opened(command, files):
     for order in itertools.islice(itertools.permutations(files), 0, None, 3):
         for path in order:
             yield sharkd.rows(path) == alone[path], f'{path}, after others'
-    sharkd.ask('setconf', name='nbt.names', value='NOBODY<20>')
+    sharkd.ask('setconf', name='nbt.names', value='NOBODY<20>.NOWHERE')
     pieces = next(path for path in files if 'pieces' in path)
     states = {row[0] for row in sharkd.rows(pieces).values()}
     yield 'delivered' not in states and 'unheard' in states, f'states of a station that hears nobody: {states}'

@@ -42,14 +42,19 @@ fn unexpected(said: &str) -> Option<&str> {
     Some(word)
 }
 
-/// The first place of a word after the command.
+/// The place of a word after the command, where it stands there once: of two, one may be the value of
+/// an option.
 fn place_of(words: &[String], given: &str) -> Option<usize> {
+    let mut found = None;
     for (place, word) in words.iter().enumerate() {
         if place > 1 && word.as_str() == given {
-            return Some(place);
+            if found.is_some() {
+                return None;
+            }
+            found = Some(place);
         }
     }
-    None
+    found
 }
 
 /// The place after the files that begin at this one: files end where an option begins.

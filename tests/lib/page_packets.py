@@ -1,4 +1,6 @@
 """The parts of tests/page.py on packets: their rows, the one that is chosen, the filter, and the keys."""
+import re
+
 import page_files
 from page_checks import check, equal
 
@@ -34,7 +36,7 @@ class PacketCases:
             wanted = [] if at is None else ['  '] if at >= len(data) else [f'{data[at]:02x}']
             equal(self.browser.texts('#packet mark')[:1], wanted, f"the mark of {told['refused']}")
             equal(self.browser.texts('#packet .fault b'), [told['brief'].removeprefix('refused: ')], 'the fault')
-            advice = self.program.help(told['refused']).split(': ', 1)[1]
+            advice = re.sub(r'\bAT\b', told['refused'].rpartition(' ')[2], self.program.help(told['refused']).split(': ', 1)[1])
             equal(self.browser.texts('#packet .fault p')[0], advice.replace('`', ''), f"the advice on {told['refused']}")
             equal(self.browser.texts('#packet .fault p code'), advice.split('`')[1::2], f"the code in the advice on {told['refused']}")
         equal(self.browser.texts('.row.malformed .says'), [self.program.told(line)['brief'] for line in lines], 'what the rows say')

@@ -42,8 +42,8 @@ fn unexpected(said: &str) -> Option<&str> {
     Some(word)
 }
 
-/// The place of a word after the command, where it stands there once: of two, one may be the value of
-/// an option.
+/// The place of a word after the command, where it stands there once: of two, one may be an
+/// option's value.
 fn place_of(words: &[String], given: &str) -> Option<usize> {
     let mut found = None;
     for (place, word) in words.iter().enumerate() {

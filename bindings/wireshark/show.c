@@ -38,18 +38,25 @@ static bool is_refused(const struct payload *payload)
     return !payload->cut && payload->status != NBT_DONE && payload->status != NBT_MORE;
 }
 
+/* Whether the place of a fault counts in a name's spelling, and not in the payload. */
+static bool counts_in_name(guint32 status)
+{
+    return status == NBT_NAME_NOT_NETBIOS || status == NBT_SOURCE_NOT_NETBIOS || status == NBT_DESTINATION_NOT_NETBIOS;
+}
+
 /* The fault, at its byte; where that is past the end, at the last one. */
 static void show_refusal(packet_info *pinfo, proto_tree *tree, const struct payload *payload)
 {
     const char *words = words_of(pinfo->pool, payload->status);
-    bool placed = payload->at != SIZE_MAX;
+    bool in_name = counts_in_name(payload->status), placed = payload->at != SIZE_MAX, marked = placed && !in_name;
     int last = MAX(payload->length - 1, 0);
-    int start = payload->start + (placed ? (int)MIN(payload->at, (size_t)last) : 0);
-    int length = placed ? MIN(1, payload->length) : payload->length;
+    int start = payload->start + (marked ? (int)MIN(payload->at, (size_t)last) : 0);
+    int length = marked ? MIN(1, payload->length) : payload->length;
     proto_item *item = proto_tree_add_string(tree, hf_refused, payload->tvb, start, length, words);
     if (placed) {
+        const char *of = in_name ? " of the name" : "";
         proto_tree_add_uint(tree, hf_place, payload->tvb, start, length, (guint32)payload->at);
-        expert_add_info_format(pinfo, item, &ei_refused, "Refused: %s, at byte %u", words, (guint32)payload->at);
+        expert_add_info_format(pinfo, item, &ei_refused, "Refused: %s, at byte %u%s", words, (guint32)payload->at, of);
     } else {
         expert_add_info_format(pinfo, item, &ei_refused, "Refused: %s", words);
     }

@@ -19,7 +19,7 @@ from fuzz_inputs import capture_lines, example_bytes
 from object_inputs import LONGEST_PAYLOAD, Inputs
 from plugin_pcap import datagram_frame, fields_of, segment_frame, write_pcap
 
-REFUSED = re.compile(r'refused: (.*?)(?:, at byte (\d+))?')
+REFUSED = re.compile(r'refused: (.*?)(?:, at byte (\d+)(?: of the name)?)?')
 
 
 def payloads(rng, port, count):

@@ -42,8 +42,9 @@ refused_by_others() {
     count $? "tools/plugin make, by a later version's number: $(head -n 1 "$room/errors")"
     chmod -R a+rX "$home"
     sed "s|home-with|home-other|" "$room/with/tshark" >"$room/other/tshark" && chmod 755 "$room/other/tshark"
-    ended "$room/other/tshark" -n -r "$top/examples/office.pcap" >"$room/output" 2>"$room/errors"
-    without tshark -n -r "$top/examples/office.pcap" 2>/dev/null | cmp -s - "$room/output" && grep -q "nbt.so.*was compiled for Wireshark\|compiled for" "$room/errors"
+    cp "$top/examples/office.pcap" "$room"
+    ended "$room/other/tshark" -n -r "$room/office.pcap" >"$room/output" 2>"$room/errors"
+    without tshark -n -r "$room/office.pcap" 2>/dev/null | cmp -s - "$room/output" && grep -q "nbt.so.*was compiled for Wireshark\|compiled for" "$room/errors"
     count $? "another version of Wireshark doesn't load it: $(head -n 1 "$room/errors")"
 }
 

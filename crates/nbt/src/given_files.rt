@@ -1,4 +1,4 @@
-//! What a terminal is told where files stand among the words of a command that reads its input.
+//! The hint at a terminal where a command line names files for a command that reads standard input.
 
 use crate::fault::Fault;
 use clap::Error;

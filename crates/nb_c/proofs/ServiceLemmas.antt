@@ -8,7 +8,9 @@ use Rattle.nb_service.specs.declared.fields.Fields.{Fields}
 use Rattle.nb_service.specs.declared.limits.TheConstants.{HEADER_LENGTH}
 use Rattle.nb_service.specs.declared.section.Section.{Section}
 use Rattle.nb_service.specs.Header.{PacketHeader, HasHeader}
-use Rattle.nb_service.specs.Items.{PacketItem, asked, told, ItemAt, ItemFails, question_fails, record_fails, IsExtent}
+use Rattle.nb_service.specs.declared.seen.Seen.{Seen}
+use Rattle.nb_service.specs.Items.{PacketItem, asked, told, ItemAt, ItemFails, question_fails, record_fails, IsExtent, Sees}
+use Rattle.nb_service.proofs.ItemLemmas.{seen_extent}
 use Rattle.nb_service.specs.Packet.{ServicePacket, IsPacket, HasOutline}
 use Rattle.nb_service.specs.ServiceFaults.{PacketFails, item_count}
 use Rattle.nb_c.specs.declared.refusal.Refusal.{Refusal}
@@ -91,6 +93,10 @@ fails_counted payload h k at f (record_fails late low t) = low
 pub extent_fits : (payload : List ℕ) (at : ℕ) (a : PacketItem) (e : Extent) → IsExtent payload at a e → e.rdata ≤ e.next
 extent_fits payload at (asked q) e is = omega (arith, is)
 extent_fits payload at (told s r) e is = omega (arith, is.2)
+
+-- how far an item reaches that was seen to stand at this offset
+pub extent_there : (payload : List ℕ) (a : PacketItem) (s : Seen) (at : ℕ) → s.at ≡ at → Sees payload a s → IsExtent payload at a s.fields.extent
+extent_there payload a s at same sees = subst (λ (n : ℕ). IsExtent payload n a s.fields.extent) same (seen_extent payload a s sees)
 
 -- the same section and fields are the same numbers
 pub same_numbers : (s t : Option Section) (f g : Fields) (number : ℕ) (labels : List (List ℕ)) → number ≡ section_number s → s ≡ t → f ≡ g

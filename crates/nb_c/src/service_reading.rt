@@ -14,12 +14,12 @@ use crate::output::{fill, finish};
 use crate::refusal::{Refusal, service_refusal};
 use crate::spellings::spell_domain;
 use crate::statuses::NO_ITEM;
+use nb_names::NameReader;
 use nb_names::laws::one_reading;
 use nb_names::limits::{LETTERS, MAX_SPELLING, POINTED_OFFSETS};
-use nb_names::{NameReader, Skipped};
 use nb_service::laws::{one_header, one_item, one_packet, one_service_fault};
 use nb_service::limits::{HEADER_LENGTH, SHORT_PACKET};
-use nb_service::{Fields, Header, Section, outline, read_fields, read_header};
+use nb_service::{Header, Section, Seen, outline, read_header, see_item};
 
 /// The header of a packet of the name service, and how many bytes there are of what was read.
 #[repr(C)]
@@ -219,9 +219,9 @@ pub(crate) fn fill_item_of(
     // For the clause: a payload has one header at most, and one item there. The calls do nothing.
     one_header();
     one_item();
-    match read_fields(names, header, number, place) {
-        Ok(Some((section, fields, name))) => {
-            fill_numbers(section_number(section), fields, names, place, name, into);
+    match see_item(names, header, number, place) {
+        Ok(Some((section, seen))) => {
+            fill_numbers(section_number(section), &seen, names, into);
             Ok(())
         }
         Ok(None) => Err(Refusal::Fault(NO_ITEM)),
@@ -241,20 +241,16 @@ fn section_number(section: Option<Section>) -> u32
     }
 }
 
-/// Fills in these fields, and the name that stands at an offset of a packet and was judged so.
-fn fill_numbers(
-    section: u32,
-    fields: Fields,
-    names: &NameReader<'_, '_>,
-    place: usize,
-    name: Skipped,
-    into: &mut NbtServiceItem,
-)
-    requires named { (labels : List (List ℕ)) × IsSkipped names.now Followed place labels name }
-    requires fits { fields.extent.rdata ≤ fields.extent.next }
-    ensures { (labels : List (List ℕ)) → IsSkipped names.now Followed place labels name →
-        into.new ≡ numbers section fields labels }
+/// Fills in what was seen of an item of a packet, and its name.
+fn fill_numbers(section: u32, seen: &Seen, names: &NameReader<'_, '_>, into: &mut NbtServiceItem)
+    requires named { (labels : List (List ℕ)) × IsSkipped names.now Followed seen.now.at labels
+        seen.now.name }
+    requires fits { seen.now.fields.extent.rdata ≤ seen.now.fields.extent.next }
+    ensures { (labels : List (List ℕ)) →
+        IsSkipped names.now Followed seen.now.at labels seen.now.name →
+        into.new ≡ numbers section seen.now.fields labels }
 {
+    let fields = &seen.fields;
     // For the clause: labels make a name, which is short. The call does nothing.
     one_reading();
     into.section = section;
@@ -264,8 +260,8 @@ fn fill_numbers(
     into.contents = fields.extent.rdata;
     into.contents_length = fields.extent.next - fields.extent.rdata;
     into.next = fields.extent.next;
-    into.name_length = name.spelled_len as u8;
-    spell_domain(names, place, name, &mut into.name);
+    into.name_length = seen.name.spelled_len as u8;
+    spell_domain(names, seen.at, &seen.name, &mut into.name);
     into.netbios = netbios_number(&into.name);
 }
 

@@ -5,7 +5,6 @@ ghost use Rattle.nb_names.specs.declared.limits.TheConstants.{MAX_SPELLING};
 ghost use Rattle.nb_names.specs.declared.pointers.Pointers.TheVariants.{Followed};
 ghost use Rattle.nb_names.specs.Skipped.{IsSkipped};
 
-use nb_names::laws::{one_reading, spelled_in_one_run};
 use nb_names::limits::{LETTERS, MAX_SPELLING};
 use nb_names::{DomainName, NameReader, Pointers, Skipped};
 
@@ -23,21 +22,19 @@ pub(crate) fn spelled_in_place(domain: &DomainName) -> [u8; MAX_SPELLING]
 pub(crate) fn spell_domain(
     names: &NameReader<'_, '_>,
     at: usize,
-    name: Skipped,
+    name: &Skipped,
     into: &mut [u8; MAX_SPELLING],
 )
-    requires { (labels : List (List ℕ)) × IsSkipped names.now Followed at labels name }
-    ensures { (labels : List (List ℕ)) → IsSkipped names.now Followed at labels name →
+    requires { (labels : List (List ℕ)) × IsSkipped names.now Followed at labels name.now }
+    ensures { (labels : List (List ℕ)) → IsSkipped names.now Followed at labels name.now →
         into.new ≡ spelled_in_place labels }
 {
-    // For the clause: labels make a name, and where they stand in one run. The calls do nothing.
-    one_reading();
-    spelled_in_one_run();
-    let packet = names.packet();
-    if name.run_end - name.run == name.spelled_len {
-        fill_spelling(&packet[name.run..name.run_end], into);
-    } else if let Ok((domain, _)) = names.read_domain(at, Pointers::Followed) {
-        fill_spelling(domain.spelling(), into);
+    match names.lent_at(at, Pointers::Followed, name) {
+        Some(lent) => fill_spelling(lent.spelling(), into),
+        None => {
+            let domain = names.domain_at(at, Pointers::Followed, name);
+            fill_spelling(domain.spelling(), into);
+        }
     }
 }
 

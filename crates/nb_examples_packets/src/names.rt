@@ -41,7 +41,8 @@ fn say_read(line: &mut Line<'_>, read: Result<(DomainName, usize), NameFault>) {
 }
 
 /// `reader POINTERS AT ROOM BYTES`: as `read_domain`, by a reader with room for the ends of so many
-/// offsets; and what it says of the name where that is judged alone.
+/// offsets; and what it says of the name where that is judged alone: then whether the name is lent
+/// from the packet, its spelling if so, and its spelling once more.
 pub fn by_reader(line: &mut Line<'_>) {
     let pointers = pointers(line);
     let at = line.number();
@@ -53,10 +54,24 @@ pub fn by_reader(line: &mut Line<'_>) {
     let skipped = reader.skip_domain(at, pointers);
     line.end();
     say_read(line, read);
-    match skipped {
-        Ok(skipped) => line.say_debug("; ", &skipped),
-        Err(fault) => line.say_with("; ", fault),
+    let skipped = match skipped {
+        Ok(skipped) => skipped,
+        Err(fault) => return line.say_with("; ", fault),
+    };
+    line.say_debug("; ", &skipped);
+    line.begin();
+    let lent = reader.lent_at(at, pointers, &skipped);
+    let domain = reader.domain_at(at, pointers, &skipped);
+    line.end();
+    match lent {
+        Some(name) => {
+            line.say("; lent ");
+            line.say_bytes(name.spelling());
+        }
+        None => line.say("; not lent"),
     }
+    line.say("; ");
+    line.say_bytes(domain.spelling());
 }
 
 /// A room of as many ends as the next word says.

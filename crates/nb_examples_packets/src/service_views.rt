@@ -5,7 +5,7 @@ use crate::service_texts::{say_question, say_record};
 use nb_examples_words::line::Line;
 use nb_names::NameReader;
 use nb_service::{
-    AddressEntries, AddressEntry, Record, ont, opcode, outline, rcode, read_question, read_record,
+    AddressEntries, AddressEntry, Record, ont, opcode, outline, rcode, see_question, see_record,
 };
 
 /// `entries BYTES`: how many address entries the RDATA of a packet's first answer has, each by its
@@ -83,30 +83,36 @@ pub fn outlined(line: &mut Line<'_>) {
 pub fn question_at(line: &mut Line<'_>) {
     let at = line.number();
     let bytes = line.bytes();
+    let names = NameReader::of(bytes.as_slice(), &mut []);
     line.begin();
-    let answer = read_question(&NameReader::of(bytes.as_slice(), &mut []), at);
+    let answer = see_question(&names, at);
     line.end();
-    match answer {
-        Ok((question, next)) => {
-            say_question(line, &question);
-            line.say_with("next ", next);
-        }
-        Err(fault) => line.say_with("", fault),
-    }
+    let seen = match answer {
+        Ok(seen) => seen,
+        Err(fault) => return line.say_with("", fault),
+    };
+    line.begin();
+    let question = seen.question(&names);
+    line.end();
+    say_question(line, &question);
+    line.say_with("next ", seen.fields.extent.next);
 }
 
 /// `record_at AT BYTES`: the record at an offset, and the offset after it.
 pub fn record_at(line: &mut Line<'_>) {
     let at = line.number();
     let bytes = line.bytes();
+    let names = NameReader::of(bytes.as_slice(), &mut []);
     line.begin();
-    let answer = read_record(&NameReader::of(bytes.as_slice(), &mut []), at);
+    let answer = see_record(&names, at);
     line.end();
-    match answer {
-        Ok((record, next)) => {
-            say_record(line, &record);
-            line.say_with("next ", next);
-        }
-        Err(fault) => line.say_with("", fault),
-    }
+    let seen = match answer {
+        Ok(seen) => seen,
+        Err(fault) => return line.say_with("", fault),
+    };
+    line.begin();
+    let record = seen.record(&names);
+    line.end();
+    say_record(line, &record);
+    line.say_with("next ", seen.fields.extent.next);
 }

@@ -166,7 +166,7 @@ fn add_name(line: &mut Line<'_>, text: &mut String) -> Result<(), NoMemory> {
 fn add_domain(line: &mut Line<'_>, text: &mut String) -> Result<(), NoMemory> {
     let domain = domain_of(line);
     line.begin();
-    let answer = push_domain(text, &domain);
+    let answer = push_domain(text, &domain.lent());
     line.end();
     answer
 }

@@ -1,15 +1,16 @@
 -- Names whose spelling stands in one run.
-use Rattle.std.proofs.Common.{◌≡◌, ℕ, ◌+◌, ◌<◌, ◌≤◌, List, [], ◌∷◌, ◌++◌, length, Option, unwrap_or, refl, ap, sym, subst, ◌∙◌, arith, append_assoc, append-nil, length-append}
+use Rattle.std.proofs.Common.{◌≡◌, ℕ, ◌+◌, ◌-◌, ◌<◌, ◌≤◌, List, [], ◌∷◌, ◌++◌, length, take, drop, Option, unwrap_or, refl, ap, sym, subst, ◌∙◌, arith, append_assoc, append-nil, length-append}
 use Rattle.nb_names.specs.declared.pointers.Pointers.{Pointers}
 use Rattle.nb_names.specs.declared.skipped.Skipped.{Skipped}
+use Rattle.nb_names.specs.Code.Spelled.{labels_of, IsSpelled}
 use Rattle.nb_names.specs.DomainName.{spelling}
 use Rattle.nb_names.specs.Labels.{StandsAt}
 use Rattle.nb_names.specs.NameFaults.{OnWay, begins, behind_label, along_pointer}
 use Rattle.nb_names.specs.PacketFacts.{stands_fits}
 use Rattle.nb_names.specs.Skipped.{IsSkipped}
-use Rattle.nb_names.proofs.LabelsLemmas.{stands_joined}
+use Rattle.nb_names.proofs.LabelsLemmas.{stands_joined, IsDomain-read}
 use Rattle.nb_names.proofs.ReadingLemmas.{IsReading, reading_ended}
-use Rattle.nb_names.proofs.SpellingLemmas.{body, spelling-body, body-append}
+use Rattle.nb_names.proofs.SpellingLemmas.{body, spelling-body, body-append, spelled, labels_of-spelled}
 
 -- of the labels that a reading has those of the run that it is in, and those before
 record LastRun (packet : List ℕ) (start here : ℕ) (labels : List (List ℕ)) : Type 0 where
@@ -50,14 +51,23 @@ spelled_in_run packet q at ls s is whole =
     subst (λ (x : List ℕ). StandsAt packet s.run x) (sym (all ∙ ap (λ (x : List ℕ). x ++ 0 ∷ []) same))
     (stands_joined packet s.run (body r.within) (0 ∷ []) r.stands (subst (λ (n : ℕ). StandsAt packet n (0 ∷ [])) r.long is.zero))
 
+pub run_within : (packet : List ℕ) (q : Pointers) (at : ℕ) (ls : List (List ℕ)) (s : Skipped) → IsSkipped packet q at ls s → (s.run < s.run_end) × (s.run_end ≤ length packet)
+run_within packet q at ls s is =
+    let r = last_run packet q at s.run is.here ls is.way in
+    (omega (arith, r.long, is.end), omega (arith, is.end, stands_fits packet is.here (0 ∷ []) is.zero (omega arith)))
+
+-- and the bytes of that run spell them
+pub run_spelled : (packet : List ℕ) (q : Pointers) (at : ℕ) (ls : List (List ℕ)) (s : Skipped) → IsSkipped packet q at ls s → s.run_end - s.run ≡ s.spelled_len →
+    let bytes : List ℕ = take (s.run_end - s.run) (drop s.run packet) in IsSpelled bytes × (labels_of bytes ≡ ls)
+run_spelled packet q at ls s is size =
+    let domain = IsDomain-read packet q at at ls s.next is.name in
+    let whole = spelled_in_run packet q at ls s is (omega (arith, size, run_within packet q at ls s is)) in
+    let bytes : take (s.run_end - s.run) (drop s.run packet) ≡ spelling ls = ap (λ (n : ℕ). take n (drop s.run packet)) (size ∙ is.long) ∙ whole in
+    (spelled _ ls domain bytes, labels_of-spelled ls _ domain bytes)
+
 -- a reading that came to the zero byte
 pub skipped_there : (packet : List ℕ) (q : Pointers) (at start here spelled : ℕ) (ls : List (List ℕ)) (next : Option ℕ) (behind : ℕ) → IsReading packet q at ls start here next →
     spelled ≡ length (spelling ls) → StandsAt packet here (0 ∷ []) → behind ≡ unwrap_or next (here + 1) →
     IsSkipped packet q at ls (record { next = behind; spelled_len = spelled; run = start; run_end = here + 1 })
 skipped_there packet q at start here spelled ls next behind r long zero is =
     record { here = here; name = rw is (reading_ended packet q at start here ls next r zero); long = long; way = r.way; zero = zero; end = refl }
-
-pub run_within : (packet : List ℕ) (q : Pointers) (at : ℕ) (ls : List (List ℕ)) (s : Skipped) → IsSkipped packet q at ls s → (s.run < s.run_end) × (s.run_end ≤ length packet)
-run_within packet q at ls s is =
-    let r = last_run packet q at s.run is.here ls is.way in
-    (omega (arith, r.long, is.end), omega (arith, is.end, stands_fits packet is.here (0 ∷ []) is.zero (omega arith)))

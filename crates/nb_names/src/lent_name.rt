@@ -22,9 +22,10 @@ use crate::name::{Name, NotNetbios};
 use crate::name_form::NameForm;
 use crate::pointers::Pointers;
 use crate::scope::Scope;
-use crate::skipping::skip_along;
 use crate::spellings::{each_is_a_byte, split_label};
+use crate::taking::Passed;
 use crate::text_writing::push_parts;
+use crate::walking::walk;
 use std::marker::Model;
 
 /// A NetBIOS name whose scope is lent, as its spelling. It takes a few words, where a [`Name`] has
@@ -198,7 +199,7 @@ pub fn read_lent_name<'a>(packet: &'a [u8], at: usize) -> Result<(LentName<'a>, 
     // Which fault it is, and where.
     ensures fault { IfErr result (NetbiosFaultAt packet.entry.now Refused at) }
 {
-    let seen = skip_along(packet, &[], at, Pointers::Refused)?;
+    let seen = walk(packet, &[], at, Pointers::Refused, &mut Passed)?;
     match LentName::of_spelling(&packet[at..seen.next]) {
         Ok(name) => Ok((name, seen.next)),
         Err(fault) => Err(NameFault::NotNetbios(fault.place)),

@@ -1,16 +1,18 @@
 //! Names of one packet, read where they stand.
-ghost use Rattle.std.specs.Prelude.{◌≡◌, ◌≤◌, ℕ, List, length, IfOk, IfErr, IsOkAnd};
+ghost use Rattle.std.specs.Prelude.{◌≡◌, ◌≢◌, ◌-◌, ◌≤◌, ℕ, List, length, IfOk, IfErr, IsOkAnd, MatchOption};
 ghost use Rattle.nb_names.specs.Labels.{NameAt};
 ghost use Rattle.nb_names.specs.NameFaults.{FaultAt};
 ghost use Rattle.nb_names.specs.Skipped.{IsSkipped};
 
 use crate::domain_name::DomainName;
 use crate::fault::NameFault;
+use crate::lent_domain::LentDomain;
 use crate::pointer_ends::find_ends;
 use crate::pointers::Pointers;
 use crate::reading::read_along;
 use crate::skipped::Skipped;
-use crate::skipping::skip_along;
+use crate::taking::Passed;
+use crate::walking::walk;
 use std::marker::Model;
 
 /// A packet of which many names are read, with the ends of its chains of pointers.
@@ -108,6 +110,37 @@ impl<'a, 'r> NameReader<'a, 'r> {
         ensures within { IfOk result (λ seen. seen.next ≤ length self.now) }
         ensures fault { IfErr result (FaultAt self.now pointers at) }
     {
-        skip_along(self.packet, self.ends, at, pointers)
+        walk(self.packet, self.ends, at, pointers, &mut Passed)
+    }
+
+    /// The name at an offset that was judged so, lent from the packet; none where its last run is
+    /// shorter than its spelling: it then stands in several. No memory is taken.
+    #[inline]
+    pub fn lent_at(&self, at: usize, pointers: Pointers, seen: &Skipped) -> Option<LentDomain<'a>>
+        requires { (labels : List (List ℕ)) × IsSkipped self.now pointers at labels seen.now }
+        ensures { MatchOption result (seen.now.run_end - seen.now.run ≢ seen.now.spelled_len)
+            (λ name. (labels : List (List ℕ)) →
+            IsSkipped self.now pointers at labels seen.now → name ≡ labels) }
+    {
+        let packet = self.packet();
+        if seen.run_end - seen.run != seen.spelled_len {
+            return None;
+        }
+        Some(LentDomain::of_spelling(&packet[seen.run..seen.run_end]))
+    }
+
+    /// The name at an offset that was judged so: a copy of the one lent, or else its labels, read
+    /// once more. No memory is taken.
+    #[inline]
+    pub fn domain_at(&self, at: usize, pointers: Pointers, seen: &Skipped) -> DomainName
+        requires { (labels : List (List ℕ)) × IsSkipped self.now pointers at labels seen.now }
+        ensures { (labels : List (List ℕ)) → IsSkipped self.now pointers at labels seen.now →
+            result ≡ labels }
+    {
+        if let Some(name) = self.lent_at(at, pointers, seen) {
+            return name.to_domain();
+        }
+        let (name, _) = self.read_domain(at, pointers).unwrap();
+        name
     }
 }

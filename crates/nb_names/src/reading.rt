@@ -1,5 +1,5 @@
 //! Names, read where they stand in a packet.
-ghost use Rattle.std.specs.Prelude.{◌≡◌, ◌≤◌, [], ℕ, List, length, IfOk, IfErr, IsOkAnd};
+ghost use Rattle.std.specs.Prelude.{◌≡◌, ◌≤◌, ℕ, List, length, IfOk, IfErr, IsOkAnd};
 ghost use Rattle.nb_names.specs.Code.PointerEnds.{AreEnds};
 ghost use Rattle.nb_names.specs.Labels.{NameAt};
 ghost use Rattle.nb_names.specs.Name.{NetbiosName, IsName, IsByteName, labels_of_name};
@@ -7,10 +7,9 @@ ghost use Rattle.nb_names.specs.NameFaults.{FaultAt, NetbiosFaultAt};
 
 use crate::domain_name::DomainName;
 use crate::fault::NameFault;
-use crate::length_byte::{LengthByte, length_byte_at};
 use crate::name::Name;
-use crate::pointer_ends::end_from;
 use crate::pointers::Pointers;
+use crate::walking::walk;
 
 /// Reads the domain name at an offset of a packet, of whose chains of pointers ends are known.
 #[inline]
@@ -28,57 +27,8 @@ pub(crate) fn read_along(
     ensures fault { IfErr result (FaultAt packet.now pointers at) }
 {
     let mut name = DomainName::root();
-    let next = read_labels(packet, ends, at, pointers, &mut name)?;
-    Ok((name, next))
-}
-
-/// Reads the labels at an offset of a packet into a name without labels, and answers the offset
-/// that follows them. Where it fails, the name has some first labels.
-#[inline]
-fn read_labels(
-    packet: &[u8],
-    ends: &[u16],
-    at: usize,
-    pointers: Pointers,
-    name: &mut DomainName,
-) -> Result<usize, NameFault>
-    requires ends { AreEnds packet.now ends.now }
-    requires root { name.old ≡ [] }
-    ensures found { IfOk result (NameAt packet.now pointers at name.new) }
-    ensures only { (labels : List (List ℕ)) (next : ℕ) → NameAt packet.now pointers at labels next →
-        IsOkAnd result (λ read. (name.new ≡ labels) × (read ≡ next)) }
-    ensures within { IfOk result (λ read. read ≤ length packet.now) }
-    ensures fault { IfErr result (FaultAt packet.now pointers at) }
-{
-    let mut start = at;
-    let mut here = at;
-    let mut next = None;
-    'way: loop {
-        match length_byte_at(packet, here) {
-            LengthByte::Cut => return Err(NameFault::Truncated(at.max(packet.len()))),
-            LengthByte::Reserved => return Err(NameFault::ReservedLabel(here)),
-            LengthByte::End => return Ok(next.unwrap_or(here + 1)),
-            LengthByte::Label(size) => {
-                let behind = here + 1 + size;
-                match name.push(&packet[here + 1..behind]) {
-                    Ok(()) => here = behind,
-                    Err(_) => return Err(NameFault::TooLong(here)),
-                }
-            }
-            LengthByte::Pointer(target) => {
-                match pointers {
-                    Pointers::Refused => return Err(NameFault::PointerNotAllowed(here)),
-                    Pointers::Followed => {}
-                }
-                if target >= start {
-                    return Err(NameFault::BadPointer(here));
-                }
-                next = Some(next.unwrap_or(here + 2));
-                start = end_from(ends, target);
-                here = start;
-            }
-        }
-    }
+    let seen = walk(packet, ends, at, pointers, &mut name)?;
+    Ok((name, seen.next))
 }
 
 /// Reads the domain name at an offset of a packet, and answers it with the offset that follows it.
@@ -132,8 +82,7 @@ pub fn read_name(packet: &[u8], at: usize, pointers: Pointers) -> Result<(Name, 
     // Which fault it is, and where.
     ensures fault { IfErr result (NetbiosFaultAt packet.now pointers at) }
 {
-    let mut domain = DomainName::root();
-    let next = read_labels(packet, &[], at, pointers, &mut domain)?;
+    let (domain, next) = read_along(packet, &[], at, pointers)?;
     match Name::from_domain(&domain) {
         Ok(name) => Ok((name, next)),
         Err(fault) => Err(NameFault::NotNetbios(fault.place)),

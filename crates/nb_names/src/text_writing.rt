@@ -15,6 +15,7 @@ use crate::bytes::NoMemory;
 use crate::digits_writing::pair_of;
 use crate::domain_name::DomainName;
 use crate::first_level::bytes_of;
+use crate::lent_domain::LentDomain;
 use crate::limits::{FRONT_LENGTH, LETTERS, MAX_SPELLING, NAME_LENGTH};
 use crate::name::Name;
 use crate::spellings::split_label;
@@ -64,7 +65,7 @@ pub fn push_name(text: &mut String, name: &Name) -> Result<(), NoMemory>
 /// [`NoMemory`] where memory ran out; some of the text may then be added.
 ///
 /// The form is our choice.
-pub fn push_domain(text: &mut String, domain: &DomainName) -> Result<(), NoMemory>
+pub fn push_domain(text: &mut String, domain: &LentDomain<'_>) -> Result<(), NoMemory>
     ensures added { OnOk result
         (string_bytes text.new ≡ string_bytes text.old ++ labels_written domain.now) }
     ensures front { OnlyAdds (string_bytes text.old) (string_bytes text.new) }
@@ -92,12 +93,12 @@ pub fn domain_text(alloc: Global, domain: &DomainName) -> Result<String, NoMemor
     ensures { IfOk result (λ text. string_bytes text ≡ domain_written domain.now) }
 {
     let mut text = String::new(alloc);
-    push_plain(&mut text, domain)?;
+    push_plain(&mut text, &domain.lent())?;
     Ok(text)
 }
 
 /// Adds the text of a domain name, as [`domain_text`] has it.
-fn push_plain(text: &mut String, domain: &DomainName) -> Result<(), NoMemory>
+fn push_plain(text: &mut String, domain: &LentDomain<'_>) -> Result<(), NoMemory>
     ensures added { OnOk result
         (string_bytes text.new ≡ string_bytes text.old ++ domain_written domain.now) }
     ensures front { OnlyAdds (string_bytes text.old) (string_bytes text.new) }

@@ -1,18 +1,22 @@
 -- Where a question or a record stands, no other does, and it has no fault.
-use Rattle.std.proofs.Common.{◌≡◌, ℕ, ◌+◌, ◌<◌, List, length, refl, ap, sym, subst, ◌∙◌, arith}
+use Rattle.std.proofs.Common.{◌≡◌, ◌≢◌, ℕ, ◌+◌, ◌<◌, List, length, take, drop, Result, Ok, Err, IsOk, IsOkAnd, refl, ap, sym, subst, ◌∙◌, arith}
 use Rattle.std.specs.Int.{w16, w32}
 use Rattle.nb_names.specs.declared.pointers.Pointers.TheVariants.{Followed}
 use Rattle.nb_names.specs.declared.fault.NameFault.{NameFault}
 use Rattle.nb_names.specs.Labels.{NameAt}
 use Rattle.nb_names.specs.NameFaults.{FaultAt}
+use Rattle.nb_names.specs.Skipped.{IsSkipped}
 use Rattle.nb_service.specs.declared.fault.ServiceFault.{ServiceFault}
 use Rattle.nb_service.specs.declared.fault.ServiceFault.TheVariants.{Name}
 use Rattle.nb_service.specs.declared.kinds.TheConstants.{NS}
 use Rattle.nb_service.specs.declared.question.Question.{Question}
 use Rattle.nb_names.specs.Numbers.{NumberAt}
-use Rattle.nb_service.specs.Record.{ResourceData, of_bytes, of_domain, ResourceRecord}
+use Rattle.nb_service.specs.Record.{ResourceData, of_bytes, of_domain, ResourceRecord, IsRdataOf}
 use Rattle.nb_service.specs.Packet.{QuestionAt, RdataAt, bytes_there, domain_there, RecordAt}
 use Rattle.nb_service.specs.ServiceFaults.{QuestionFails, question_name, question_cut, RdataBegins, DomainFails, domain_name, domain_end, RecordFails, record_name, record_cut, rdata_cut, rdata_fails}
+use Rattle.nb_service.specs.declared.fields.Fields.{Fields}
+use Rattle.nb_service.specs.declared.seen.Seen.{Seen}
+use Rattle.nb_service.specs.Items.{PacketItem, asked, told, fields_of, name_of, Reaches, IsExtent, SeesQuestion, SeesRecord, Sees}
 use Rattle.nb_names.specs.PacketFacts.{stands_same, one_number_16, one_number_32, within_16}
 use Rattle.nb_service.proofs.RowLemmas.{Single}
 
@@ -137,3 +141,70 @@ one_record_fault packet laws at f g (rdata_fails s b d fits h) (rdata_fails t c 
 pub single_record : (packet : List ℕ) → NameLaws packet → Single (RecordAt packet) (RecordFails packet)
 single_record packet laws =
     record { one = one_record packet laws; apart = record_no_fault packet laws; one_fault = one_record_fault packet laws }
+
+-- ---- what is seen of an item
+
+-- RDATA of bytes, and of a name
+pub data_bytes : (b : List ℕ) (at size kind : ℕ) (d : ResourceData) → kind ≢ NS → RdataAt b at size kind d → of_bytes (take size (drop at b)) ≡ d
+data_bytes b at size kind d other (bytes_there bytes differs long there) = ap of_bytes (subst (λ (n : ℕ). take n (drop at b) ≡ bytes) long there)
+data_bytes b at size kind d other (domain_there ls is h) = absurd (other is)
+
+pub data_domain : (b : List ℕ) (at size kind : ℕ) (d : ResourceData) → kind ≡ NS → RdataAt b at size kind d →
+    (ls : List (List ℕ)) × (d ≡ of_domain ls) × NameAt b Followed at ls (at + size)
+data_domain b at size kind d is (bytes_there bytes differs long there) = absurd (differs is)
+data_domain b at size kind d is (domain_there ls same h) = (ls, refl, h)
+
+pub data_fits : (b : List ℕ) (at size kind : ℕ) (d : ResourceData) → size < 65536 → RdataAt b at size kind d → IsRdataOf kind d
+data_fits b at size kind d low (bytes_there bytes differs long there) = (differs, omega (arith, low, long))
+data_fits b at size kind d low (domain_there ls is h) = is
+
+module _ (b : List ℕ) (e : ResourceRecord) (s : Seen) (sees : SeesRecord b e s) where
+  pub seen_kind : s.fields.kind ≡ e.kind
+  seen_kind = ap (λ (f : Fields). f.kind) sees.fields
+
+  pub seen_end : s.fields.extent.next ≡ s.fields.extent.rdata + sees.stands.size
+  seen_end = omega (arith, sees.stands.end, sees.begins)
+
+  pub seen_rdata : RdataAt b s.fields.extent.rdata sees.stands.size s.fields.kind e.rdata
+  seen_rdata = rw (sees.begins, seen_kind) sees.stands.rdata
+
+  pub seen_reaches : Reaches b s.at e s.fields.extent
+  seen_reaches = (
+    sees.stands.size,
+    record {
+      labels = e.name;
+      after = sees.stands.after;
+      name = sees.stands.name;
+      kind_there = sees.stands.kind;
+      size_there = sees.stands.rdlength;
+      begin = sees.begins;
+    },
+    seen_end,
+  )
+
+pub seen_extent : (b : List ℕ) (x : PacketItem) (s : Seen) → Sees b x s → IsExtent b s.at x s.fields.extent
+seen_extent b (asked q) s sees = sees.reaches
+seen_extent b (told u e) s sees = seen_reaches b e s sees
+
+pub seen_name : (b : List ℕ) (x : PacketItem) (s : Seen) → Sees b x s → IsSkipped b Followed s.at (name_of x) s.name
+seen_name b (asked q) s sees = sees.name
+seen_name b (told u e) s sees = sees.name
+
+pub seen_fields : (b : List ℕ) (x : PacketItem) (s : Seen) → Sees b x s → s.fields ≡ fields_of x s.fields.extent
+seen_fields b (asked q) s sees = sees.fields
+seen_fields b (told u e) s sees = sees.fields
+
+pub same_question : (b : List ℕ) (q r : Question) (s : Seen) → q ≡ r → SeesQuestion b q s → SeesQuestion b r s
+same_question b q r s e h = subst (λ (x : Question). SeesQuestion b x s) e h
+
+pub same_record : (b : List ℕ) (q r : ResourceRecord) (s : Seen) → q ≡ r → SeesRecord b q s → SeesRecord b r s
+same_record b q r s e h = subst (λ (x : ResourceRecord). SeesRecord b x s) e h
+
+-- ---- what is read where it stands
+
+pub read_is_ok : {T E : Type 0} (r : Result T E) (P : T → Type 0) → IsOkAnd r P → IsOk r
+read_is_ok (Ok x) P h = refl
+read_is_ok (Err e) P h = absurd h
+
+pub read_is : {T E : Type 0} (r : Result T E) (P : T → Type 0) (x : T) → r ≡ Ok x → IsOkAnd r P → P x
+read_is {T} {E} r P x e h = subst (λ (q : Result T E). IsOkAnd q P) e h

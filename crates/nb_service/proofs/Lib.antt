@@ -9,3 +9,4 @@ pub mod SectionLemmas
 pub mod NumberedLemmas
 pub mod TotalityLemmas
 pub mod ViewLemmas
+pub mod WalkedLemmas

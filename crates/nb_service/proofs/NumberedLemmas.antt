@@ -30,7 +30,7 @@ record_counted h k Answer is = omega (arith, is.1)
 record_counted h k Authority is = omega (arith, is.1)
 record_counted h k Additional is = omega (arith, is.1)
 
-one_section : (h : PacketHeader) (k : ℕ) (s u : Section) → IsRecordOf h k s → IsRecordOf h k u → s ≡ u
+pub one_section : (h : PacketHeader) (k : ℕ) (s u : Section) → IsRecordOf h k s → IsRecordOf h k u → s ≡ u
 one_section h k Answer Answer is are = refl
 one_section h k Answer Authority is are = absurd (omega (arith, is.1, are.0))
 one_section h k Answer Additional is are = absurd (omega (arith, is.1, are.0))
@@ -119,7 +119,7 @@ one_items b laws h g xs ys m n x y =
 
 -- ---- the items of a packet
 
-items-append : (b : List ℕ) (h : PacketHeader) (k at m n : ℕ) (xs ys : List PacketItem) → ItemsAt b h k at xs m → ItemsAt b h (k + length xs) m ys n → ItemsAt b h k at (xs ++ ys) n
+pub items-append : (b : List ℕ) (h : PacketHeader) (k at m n : ℕ) (xs ys : List PacketItem) → ItemsAt b h k at xs m → ItemsAt b h (k + length xs) m ys n → ItemsAt b h k at (xs ++ ys) n
 items-append b h k at m n [] ys no_item s = subst (λ (q : ℕ). ItemsAt b h q at ys n) (omega arith) s
 items-append b h k at m n (x ∷ xs) ys (one_more c y zs i r) s =
     one_more c y (zs ++ ys) i (items-append b h (k + 1) c m n zs ys r (subst (λ (q : ℕ). ItemsAt b h q m ys n) (omega arith) s))

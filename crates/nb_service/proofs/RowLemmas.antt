@@ -1,5 +1,5 @@
 -- Rows of items, and the first fault in one.
-use Rattle.std.proofs.Common.{◌≡◌, ℕ, ◌+◌, ◌<◌, ◌≤◌, List, [], ◌∷◌, ◌++◌, length, refl, sym, subst, arith, length-append}
+use Rattle.std.proofs.Common.{◌≡◌, ℕ, ◌<◌, List, [], ◌∷◌, ◌++◌, length, refl, sym, subst, arith}
 use Rattle.nb_service.specs.declared.fault.ServiceFault.{ServiceFault}
 use Rattle.nb_service.specs.Packet.{Row, none, more}
 use Rattle.nb_service.specs.ServiceFaults.{RowFails}
@@ -9,27 +9,6 @@ use Rattle.nb_service.specs.ServiceFaults.{RowFails}
 pub row-append : {A : Type 0} (S : ℕ → A → ℕ → Type 0) (at m n : ℕ) (xs ys : List A) → Row S at xs m → Row S m ys n → Row S at (xs ++ ys) n
 row-append S at m n [] ys none s = s
 row-append S at m n (x ∷ xs) ys (more b y zs h r) s = more b y (zs ++ ys) h (row-append S b m n zs ys r s)
-
-pub row_one : {A : Type 0} (S : ℕ → A → ℕ → Type 0) (at n : ℕ) (x : A) → S at x n → Row S at (x ∷ []) n
-row_one S at n x h = more n x [] h none
-
-pub row-snoc : {A : Type 0} (S : ℕ → A → ℕ → Type 0) (at m n : ℕ) (xs : List A) (x : A) → Row S at xs m → S m x n → Row S at (xs ++ x ∷ []) n
-row-snoc S at m n xs x r h = row-append S at m n xs (x ∷ []) r (row_one S m n x h)
-
--- a fault in a row is one in a longer row
-pub fails_longer : {A : Type 0} (S : ℕ → A → ℕ → Type 0) (F : ℕ → ServiceFault → Type 0) (at m n : ℕ) (f : ServiceFault) → RowFails S F at m f → m ≤ n → RowFails S F at n f
-fails_longer S F at m n f h le = record { items = h.items; here = h.here; before = h.before; fewer = omega (arith, h.fewer); fails = h.fails }
-
--- a fault after some items is one of the whole row
-pub fails_after : {A : Type 0} (S : ℕ → A → ℕ → Type 0) (F : ℕ → ServiceFault → Type 0) (at m n : ℕ) (xs : List A) (f : ServiceFault) → Row S at xs m → RowFails S F m n f → RowFails S F at (length xs + n) f
-fails_after S F at m n xs f r h =
-    record {
-      items = xs ++ h.items;
-      here = h.here;
-      before = row-append S at m h.here xs h.items r h.before;
-      fewer = omega (arith, length-append xs h.items, h.fewer);
-      fails = h.fails;
-    }
 
 -- ---- a row is one
 

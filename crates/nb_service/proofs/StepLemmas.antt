@@ -1,29 +1,61 @@
--- Rows that the code reads, item by item, and the packet that they make.
-use Rattle.std.proofs.Common.{◌≡◌, ℕ, ◌+◌, ◌≤◌, List, [], ◌∷◌, ◌++◌, length, take, drop, refl, ap, ◌∙◌, arith, length-append, length-drop}
+-- Rows that the code makes lists of, item by item.
+use Rattle.std.proofs.Common.{◌≡◌, ℕ, ◌+◌, ◌<◌, ◌≤◌, List, [], ◌∷◌, ◌++◌, length, take, drop, refl, ap, sym, subst, ◌∙◌, arith, append_assoc, append-nil, length-append, length-drop}
 use Rattle.std.proofs.lemmas.List.{take-append-drop, length-take-le}
-use Rattle.nb_service.specs.declared.fault.ServiceFault.{ServiceFault}
 use Rattle.nb_service.specs.declared.fault.ServiceFault.TheVariants.{NoMemory}
 use Rattle.nb_service.specs.declared.limits.TheConstants.{HEADER_LENGTH}
 use Rattle.nb_service.specs.declared.question.Question.{Question}
 use Rattle.nb_service.specs.Header.{PacketHeader, HasHeader}
 use Rattle.nb_service.specs.Record.{ResourceRecord}
-use Rattle.nb_service.specs.Packet.{QuestionAt, RecordAt, Row, none, more, ServicePacket, header_of, records_of, IsPacket, HasOutline}
-use Rattle.nb_service.specs.ServiceFaults.{RecordFails, RowFails, QuestionsFail, RecordsFail, record_count, item_count, PacketFails, in_questions, in_records, IsRefused, malformed, no_memory}
-use Rattle.nb_service.specs.Code.Steps.{RowOf, HasRow, OrMemory, fails, memory, HasPacket}
+use Rattle.nb_service.specs.Packet.{QuestionAt, RecordAt, Row, none, more, ServicePacket, header_of, records_of, IsPacket}
+use Rattle.nb_service.specs.ServiceFaults.{record_count, item_count, IsRefused, no_memory}
+use Rattle.nb_service.specs.Code.Steps.{RowOf, HasRow, HasPacket}
 use Rattle.nb_names.specs.PacketFacts.{within_16}
-use Rattle.nb_service.proofs.PacketLemmas.{one_header, length-records_of, header_within}
-use Rattle.nb_service.proofs.RowLemmas.{row-append, row-snoc, fails_longer, fails_after}
+use Rattle.nb_service.proofs.PacketLemmas.{length-records_of, header_within}
 
-pub row_begun : {A : Type 0} (S : ℕ → A → ℕ → Type 0) (at : ℕ) → RowOf S at 0 [] at
-row_begun S at = record { row = none; counted = refl }
+-- Ahead S at count here done: of each row of so many items that stands at the offset these are the first, and the others stand here
+abbrev pub Ahead : {A : Type 0} → (ℕ → A → ℕ → Type 0) → ℕ → ℕ → ℕ → List A → Type 0
+Ahead {A} S at count here done = (xs : List A) (n : ℕ) → RowOf S at count xs n → (rest : List A) × (xs ≡ done ++ rest) × Row S here rest n
 
-pub row_turn : {A : Type 0} (S : ℕ → A → ℕ → Type 0) (at k m n : ℕ) (xs : List A) (x : A) → RowOf S at k xs m → S m x n → RowOf S at (k + 1) (xs ++ x ∷ []) n
-row_turn S at k m n xs x r h =
-    record { row = row-snoc S at m n xs x r.row h; counted = omega (arith, length-append xs (x ∷ []), r.counted) }
+module _ {A : Type 0} (S : ℕ → A → ℕ → Type 0) (at count here : ℕ) (done : List A) where
+  pub ahead_begun : Ahead S at count at []
+  ahead_begun xs n row = (xs, refl, row.row)
 
--- a fault after the items read
-pub row_stopped : {A : Type 0} (S : ℕ → A → ℕ → Type 0) (F : ℕ → ServiceFault → Type 0) (at k n m : ℕ) (xs : List A) (f : ServiceFault) → RowOf S at k xs m → k + 1 ≤ n → F m f → RowFails S F at n f
-row_stopped S F at k n m xs f r low h = record { items = xs; here = m; before = r.row; fewer = omega (arith, r.counted); fails = h }
+  left : (xs rest : List A) → xs ≡ done ++ rest → length xs ≡ count → length done + length rest ≡ count
+  left xs rest e counted = omega (arith, ap length e, length-append done rest, counted)
+
+  first : (rest : List A) (n : ℕ) → 0 < length rest → Row S here rest n → (x : A) × (after : ℕ) × S here x after
+  first [] n some r = absurd (omega (arith, some))
+  first (x ∷ rest) n some (more b y ys h r) = (y, b, h)
+
+  -- the next item
+  pub ahead_next : Ahead S at count here done → (xs : List A) (n : ℕ) → RowOf S at count xs n → length done < count → (x : A) × (after : ℕ) × S here x after
+  ahead_next far xs n row low =
+      let rest = far xs n row in first rest.0 n (omega (arith, low, left xs rest.0 rest.1 row.counted)) rest.2
+
+  turned : (xs rest : List A) (n next : ℕ) (z : A) → xs ≡ done ++ rest → 0 < length rest → Row S here rest n → ((x : A) (m : ℕ) → S here x m → (z ≡ x) × (next ≡ m)) →
+      (others : List A) × (xs ≡ (done ++ z ∷ []) ++ others) × Row S next others n
+  turned xs [] n next z e some r one = absurd (omega (arith, some))
+  turned xs (x ∷ rest) n next z e some (more b y ys h r) one =
+      let same = one y b h in (
+        rest,
+        e ∙ ap (λ (v : A). done ++ v ∷ rest) (sym same.0) ∙ sym (append_assoc done (z ∷ []) rest),
+        subst (λ (m : ℕ). Row S m rest n) (sym same.1) r,
+      )
+
+  -- a turn that read it
+  pub ahead_turn : (next : ℕ) (z : A) → Ahead S at count here done → length done < count → ((x : A) (m : ℕ) → S here x m → (z ≡ x) × (next ≡ m)) →
+      Ahead S at count next (done ++ z ∷ [])
+  ahead_turn next z far low one xs n row =
+      let rest = far xs n row in turned xs rest.0 n next z rest.1 (omega (arith, low, left xs rest.0 rest.1 row.counted)) rest.2 one
+
+  over : (xs rest : List A) (n : ℕ) → xs ≡ done ++ rest → length rest ≡ 0 → Row S here rest n → (done ≡ xs) × (here ≡ n)
+  over xs [] n e whole none = (sym (e ∙ append-nil done), refl)
+  over xs (x ∷ rest) n e whole r = absurd (omega (arith, whole))
+
+  -- the end of the row
+  pub ahead_ended : Ahead S at count here done → length done ≡ count → (xs : List A) (n : ℕ) → RowOf S at count xs n → (done ≡ xs) × (here ≡ n)
+  ahead_ended far whole xs n row =
+      let rest = far xs n row in over xs rest.0 n rest.1 (omega (arith, whole, left xs rest.0 rest.1 row.counted)) rest.2
 
 -- ---- the packet of rows
 
@@ -53,55 +85,6 @@ pub packet_there : (b : List ℕ) (h : PacketHeader) (after used : ℕ) → HasH
 packet_there b h after used x q r =
     let p = rows_packet b h q.0 r.0 after used x q.1 r.1 in (p.0, used, p.1)
 
-pub outline_there : (b : List ℕ) (h : PacketHeader) (after used : ℕ) → HasHeader b h → HasRow (QuestionAt b) HEADER_LENGTH h.questions after → HasRow (RecordAt b) after (record_count h) used → HasOutline b h used
-outline_there b h after used x q r =
-    let p = rows_packet b h q.0 r.0 after used x q.1 r.1 in
-    record { packet = p.0; stands = p.1; outlined = one_header b (header_of p.0) h p.1.header x }
-
-pub packet_built : (b : List ℕ) (h : PacketHeader) (qs : List Question) (us bs cs : List ResourceRecord) (m n o used : ℕ) → HasHeader b h → RowOf (QuestionAt b) HEADER_LENGTH h.questions qs m →
-    RowOf (RecordAt b) m h.answers us n → RowOf (RecordAt b) n h.authorities bs o → RowOf (RecordAt b) o h.additional cs used →
-    IsPacket b (record { id = h.id; word = h.word; questions = qs; answers = us; authorities = bs; additional = cs }) used
-packet_built b h qs us bs cs m n o used x q r s t =
-    record {
-      after = m;
-      header = rw (q.counted, r.counted, s.counted, t.counted) x;
-      questions = q.row;
-      records = row-append (RecordAt b) m n used us (bs ++ cs) r.row (row-append (RecordAt b) n o used bs cs s.row t.row);
-    }
-
--- ---- faults of rows as faults of the packet
-
-pub check_questions : (b : List ℕ) (h : PacketHeader) (f : ServiceFault) → HasHeader b h → QuestionsFail b HEADER_LENGTH h.questions f → PacketFails b f
-check_questions b h f x r = in_questions h x r
-
-pub check_records : (b : List ℕ) (h : PacketHeader) (after : ℕ) (f : ServiceFault) → HasHeader b h → HasRow (QuestionAt b) HEADER_LENGTH h.questions after →
-    RecordsFail b after (record_count h) f → PacketFails b f
-check_records b h after f x q r = in_records h q.0 after x q.1.row q.1.counted r
-
-pub build_questions : (b : List ℕ) (h : PacketHeader) (f : ServiceFault) → HasHeader b h → OrMemory h.questions (QuestionsFail b HEADER_LENGTH h.questions) f → OrMemory (item_count h) (PacketFails b) f
-build_questions b h f x (fails r) = fails (in_questions h x r)
-build_questions b h f x (memory some) = memory (omega (arith, some))
-
-pub build_records : (b : List ℕ) (h : PacketHeader) (qs : List Question) (rs : List ResourceRecord) (m n count : ℕ) (f : ServiceFault) → HasHeader b h → RowOf (QuestionAt b) HEADER_LENGTH h.questions qs m →
-    Row (RecordAt b) m rs n → length rs + count ≤ record_count h → OrMemory count (RecordsFail b n count) f → OrMemory (item_count h) (PacketFails b) f
-build_records b h qs rs m n count f x q before few (fails r) =
-    fails (in_records h qs m x q.row q.counted
-    (fails_longer (RecordAt b) (RecordFails b) m (length rs + count) (record_count h) f
-    (fails_after (RecordAt b) (RecordFails b) m n count rs f before r) few))
-build_records b h qs rs m n count f x q before few (memory some) = memory (omega (arith, some, few))
-
--- ---- answers of decoding
-
-pub refused_build : (b : List ℕ) (h : PacketHeader) (used : ℕ) (f : ServiceFault) → HasOutline b h used → OrMemory (item_count h) (PacketFails b) f → IsRefused b f
-refused_build b h used f o (fails r) = malformed r
-refused_build b h used f o (memory some) =
-    let same : item_count (header_of o.packet) ≡ item_count h = ap item_count o.outlined in
-    no_memory o.packet used o.stands (omega (arith, same, some, length-records_of o.packet))
-
-pub only_memory : (b : List ℕ) (count : ℕ) (f : ServiceFault) → (PacketFails b f → ⊥) → OrMemory count (PacketFails b) f → f ≡ NoMemory
-only_memory b count f none_fails (fails r) = absurd (none_fails r)
-only_memory b count f none_fails (memory some) = refl
-
 -- ---- the end of a packet is within the bytes
 
 row_within : {A : Type 0} (S : ℕ → A → ℕ → Type 0) (limit : ℕ) → ((at n : ℕ) (x : A) → S at x n → n ≤ limit) → (at n : ℕ) (xs : List A) → Row S at xs n → at ≤ limit → n ≤ limit
@@ -112,3 +95,9 @@ pub packet_within : (b : List ℕ) (p : ServicePacket) (n : ℕ) → IsPacket b 
 packet_within b p n x =
     let questions = row_within (QuestionAt b) (length b) (λ at m q h. omega (arith, h.end, within_16 b (h.after + 2) q.class h.class)) HEADER_LENGTH x.after p.questions x.questions (header_within b (header_of p) x.header) in
     row_within (RecordAt b) (length b) (λ at m r h. omega (arith, h.end, h.whole)) x.after n (records_of p) x.records questions
+
+-- a packet for whose items memory ran out
+pub refused_memory : (b : List ℕ) (h : PacketHeader) (p : ServicePacket) (used : ℕ) → IsPacket b p used × (header_of p ≡ h) → 0 < item_count h → IsRefused b NoMemory
+refused_memory b h p used is some =
+    let same : item_count (header_of p) ≡ item_count h = ap item_count is.1 in
+    no_memory p used is.0 (omega (arith, same, some, length-records_of p))

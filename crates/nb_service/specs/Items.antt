@@ -4,6 +4,8 @@
 -- Our choice: of bytes that begin with no packet the items are those that stand whole, one after another, before the first
 -- that doesn't.
 use Rattle.std.specs.Prelude.{◌≡◌, ℕ, ◌+◌, ◌<◌, ◌≤◌, List, [], ◌∷◌, ◌++◌, length, map, Option, Some, None}
+use Rattle.nb_names.specs.declared.pointers.Pointers.TheVariants.{Followed}
+use Rattle.nb_names.specs.Skipped.{IsSkipped}
 use Rattle.nb_service.specs.declared.extent.Extent.{Extent}
 use Rattle.nb_service.specs.declared.fault.ServiceFault.{ServiceFault}
 use Rattle.nb_service.specs.declared.fields.Fields.{Fields}
@@ -12,6 +14,7 @@ use Rattle.nb_service.specs.declared.item.Item.TheVariants as declared
 use Rattle.nb_service.specs.declared.limits.TheConstants.{HEADER_LENGTH}
 use Rattle.nb_service.specs.declared.question.Question.{Question}
 use Rattle.nb_service.specs.declared.section.Section.{Section}
+use Rattle.nb_service.specs.declared.seen.Seen.{Seen}
 use Rattle.nb_service.specs.declared.section.Section.TheVariants.{Answer, Authority, Additional}
 use Rattle.nb_service.specs.Header.{PacketHeader, HasHeader}
 use Rattle.nb_service.specs.Record.{ResourceRecord}
@@ -85,6 +88,25 @@ Reaches packet at entry extent =
 abbrev pub IsExtent : List ℕ → ℕ → PacketItem → Extent → Type 0
 IsExtent packet at (asked question) extent = extent.rdata ≡ extent.next
 IsExtent packet at (told section entry) extent = Reaches packet at entry extent
+
+-- SeesQuestion packet question seen: this question stands at `seen.at`, and that is what is seen of it
+pub record SeesQuestion (packet : List ℕ) (question : Question) (seen : Seen) : Type 0 where
+  pub stands : QuestionAt packet seen.at question seen.fields.extent.next
+  pub reaches : seen.fields.extent.rdata ≡ seen.fields.extent.next
+  pub name : IsSkipped packet Followed seen.at question.name seen.name
+  pub fields : seen.fields ≡ question_fields question seen.fields.extent
+
+-- SeesRecord packet entry seen: this record stands at `seen.at`, and that is what is seen of it
+pub record SeesRecord (packet : List ℕ) (entry : ResourceRecord) (seen : Seen) : Type 0 where
+  pub stands : RecordAt packet seen.at entry seen.fields.extent.next
+  pub begins : seen.fields.extent.rdata ≡ stands.after + 10
+  pub name : IsSkipped packet Followed seen.at entry.name seen.name
+  pub fields : seen.fields ≡ record_fields entry seen.fields.extent
+
+-- Sees packet item seen: likewise of an item
+abbrev pub Sees : List ℕ → PacketItem → Seen → Type 0
+Sees packet (asked question) seen = SeesQuestion packet question seen
+Sees packet (told section entry) seen = SeesRecord packet entry seen
 
 -- ItemsAt packet header number at items next: from this offset on the items stand, one after another, of which the first
 -- has this number

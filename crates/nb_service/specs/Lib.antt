@@ -3,6 +3,7 @@ pub mod Record
 pub mod Packet
 pub mod ServiceFaults
 pub mod Items
+pub mod Walks
 pub mod Building
 pub mod Flags
 pub mod FaultTexts

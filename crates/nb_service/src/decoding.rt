@@ -1,40 +1,27 @@
 //! Packets, decoded.
-ghost use Rattle.std.specs.Prelude.{◌≡◌, ◌≤◌, ℕ, length, IfOk, IfErr, IsOkAnd, MatchResult};
-ghost use Rattle.nb_service.specs.declared.fault.ServiceFault.TheVariants.{NoMemory};
+ghost use Rattle.std.specs.Prelude.{◌≡◌, ◌≤◌, ◌<◌, ℕ, None, length, IfOk, IfErr, IsOkAnd, OnErr, MatchResult};
 ghost use Rattle.nb_service.specs.Header.{HasHeader, header_value};
 ghost use Rattle.nb_service.specs.Packet.{ServicePacket, header_of, IsPacket, HasOutline, HasSections};
-ghost use Rattle.nb_service.specs.Code.Steps.{OrMemory};
 ghost use Rattle.nb_service.specs.ServiceFaults.{item_count, PacketFails, IsRefused};
+ghost use Rattle.nb_service.specs.Walks.{Walks};
 
-use crate::checking::{skip_questions, skip_records};
 use crate::fault::ServiceFault;
 use crate::header::{Header, read_header};
 use crate::laws::{one_packet, one_service_fault, sections_in_order};
 use crate::limits::{HEADER_LENGTH, SHORT_PACKET};
 use crate::listing::{list_questions, list_records};
 use crate::packet::Packet;
-use nb_names::NameReader;
+use crate::walked::Walked;
+use crate::walking::walk;
 use nb_names::limits::POINTED_OFFSETS;
+use nb_names::{NameReader, NoMemory};
 use std::alloc::Global;
-
-/// Checks the questions and records after a header, without memory, and answers where they end.
-#[inline(always)]
-fn check(names: &NameReader<'_, '_>, header: &Header) -> Result<usize, ServiceFault>
-    requires { HasHeader names.now (header_value header.now) }
-    ensures found { IfOk result (HasOutline names.now (header_value header.now)) }
-    ensures fault { IfErr result (PacketFails names.now) }
-{
-    let after = skip_questions(names, HEADER_LENGTH, header.questions as usize)?;
-    let records = header.answers as usize
-        + (header.authorities as usize + header.additional as usize);
-    skip_records(names, after, records)
-}
 
 /// The header of the packet with which a reader's bytes begin, and how many of them it takes up.
 ///
 /// The packet is judged whole, as [`decode`] judges it, and not made; its questions begin after the
-/// header, and its records after them ([`read_question`](crate::read_question),
-/// [`read_record`](crate::read_record)). No memory is taken.
+/// header, and its records after them ([`see_question`](crate::see_question),
+/// [`see_record`](crate::see_record)). No memory is taken.
 ///
 /// # Errors
 ///
@@ -55,25 +42,29 @@ pub fn outline(names: &NameReader<'_, '_>) -> Result<(Header, usize), ServiceFau
     one_packet();
     one_service_fault();
     let header = read_header(names.packet())?;
-    let used = check(names, &header)?;
-    Ok((header, used))
+    let walked = walk(names, &header);
+    match walked.fault {
+        None => Ok((header, walked.next)),
+        Some(fault) => Err(fault),
+    }
 }
 
-/// Builds the packet after a header, and its length.
+/// Makes the packet whose items were all seen to stand.
 fn build<'a>(
     alloc: Global,
     names: &NameReader<'a, '_>,
     header: &Header,
-) -> Result<(Packet<'a>, usize), ServiceFault>
-    requires { HasHeader names.now (header_value header.now) }
+    walked: &Walked,
+) -> Result<(Packet<'a>, usize), NoMemory>
+    requires stands { Walks names.now (header_value header.now) walked.now }
+    requires whole { walked.now.fault ≡ None }
     ensures found { IfOk result (λ read. IsPacket names.now read.0 read.1) }
-    ensures fault { IfErr result
-        (OrMemory (item_count (header_value header.now)) (PacketFails names.now)) }
+    ensures memory { OnErr result (0 < item_count (header_value header.now)) }
 {
-    let (questions, at) = list_questions(alloc, names, HEADER_LENGTH, header.questions)?;
-    let (answers, at) = list_records(alloc, names, at, header.answers)?;
-    let (authorities, at) = list_records(alloc, names, at, header.authorities)?;
-    let (additional, used) = list_records(alloc, names, at, header.additional)?;
+    let (questions, at) = list_questions(alloc, names, HEADER_LENGTH, walked.questions)?;
+    let (answers, at) = list_records(alloc, names, at, walked.answers)?;
+    let (authorities, at) = list_records(alloc, names, at, walked.authorities)?;
+    let (additional, next) = list_records(alloc, names, at, walked.additional)?;
     let packet = Packet::with_lists(
         header.id,
         header.word,
@@ -82,7 +73,7 @@ fn build<'a>(
         authorities,
         additional,
     );
-    Ok((packet, used))
+    Ok((packet, next))
 }
 
 /// Decodes the packet at the front of the bytes whose names are read so.
@@ -93,7 +84,7 @@ fn decode_names<'a>(
     ensures found { IfOk result (λ read. IsPacket names.now read.0 read.1) }
     ensures only { (packet : ServicePacket) (used : ℕ) → IsPacket names.now packet used →
         MatchResult result (λ read. (read.0 ≡ packet) × (read.1 ≡ used))
-        (λ fault. fault ≡ NoMemory) }
+        (λ fault. fault ≡ ServiceFault.NoMemory) }
     ensures sections { IfOk result (λ read. HasSections names.now read.0 read.1) }
     ensures within { IfOk result (λ read. read.1 ≤ length names.now) }
     ensures fault { IfErr result (IsRefused names.now) }
@@ -102,8 +93,12 @@ fn decode_names<'a>(
     one_packet();
     one_service_fault();
     sections_in_order();
-    let (header, _) = outline(names)?;
-    build(alloc, names, &header)
+    let header = read_header(names.packet())?;
+    let walked = walk(names, &header);
+    if let Some(fault) = walked.fault {
+        return Err(fault);
+    }
+    Ok(build(alloc, names, &header, &walked)?)
 }
 
 /// Decodes the packet at the front of bytes, and how many of them it takes up.
@@ -128,7 +123,7 @@ pub fn decode<'a>(alloc: Global, bytes: &'a [u8]) -> Result<(Packet<'a>, usize),
     ensures found { IfOk result (λ read. IsPacket bytes.now read.0 read.1) }
     ensures only { (packet : ServicePacket) (used : ℕ) → IsPacket bytes.now packet used →
         MatchResult result (λ read. (read.0 ≡ packet) × (read.1 ≡ used))
-        (λ fault. fault ≡ NoMemory) }
+        (λ fault. fault ≡ ServiceFault.NoMemory) }
     ensures sections { IfOk result (λ read. HasSections bytes.now read.0 read.1) }
     ensures within { IfOk result (λ read. read.1 ≤ length bytes.now) }
 

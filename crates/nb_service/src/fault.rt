@@ -2,8 +2,7 @@
 ghost use Rattle.std.specs.Prelude.{◌≡◌};
 ghost use Rattle.nb_service.specs.FaultTexts.{service_fault_place};
 
-use nb_names::NameFault;
-use std::alloc::{AllocError, AllocFailed};
+use nb_names::{NameFault, NoMemory};
 use std::error::Error;
 use std::fmt;
 
@@ -67,24 +66,13 @@ impl From<NameFault> for ServiceFault {
     }
 }
 
-impl From<AllocError> for ServiceFault {
+impl From<NoMemory> for ServiceFault {
     ghost use Rattle.std.specs.Prelude.{◌≡◌};
     ghost use Rattle.nb_service.specs.declared.fault.ServiceFault.TheVariants.{NoMemory};
 
     ghost from_gives = { λ _ e. e ≡ NoMemory };
 
-    fn from(_e: AllocError) -> ServiceFault {
-        ServiceFault::NoMemory
-    }
-}
-
-impl<T: Drop> From<AllocFailed<T>> for ServiceFault {
-    ghost use Rattle.std.specs.Prelude.{◌≡◌};
-    ghost use Rattle.nb_service.specs.declared.fault.ServiceFault.TheVariants.{NoMemory};
-
-    ghost from_gives = { λ _ e. e ≡ NoMemory };
-
-    fn from(_e: AllocFailed<T>) -> ServiceFault {
+    fn from(_e: NoMemory) -> ServiceFault {
         ServiceFault::NoMemory
     }
 }

@@ -1,21 +1,18 @@
 //! Items of a packet, read one by one where they stand.
 ghost use Rattle.std.specs.Prelude.{◌≡◌, ◌≤◌, ℕ, length, IfOk, IfErr, IfSome, IsOkAnd, IsSomeAnd, MatchOption};
-ghost use Rattle.nb_names.specs.declared.pointers.Pointers.TheVariants.{Followed};
-ghost use Rattle.nb_names.specs.Skipped.{IsSkipped};
 ghost use Rattle.nb_service.specs.Header.{header_value};
-ghost use Rattle.nb_service.specs.Items.{IsExtent, IsRecordOf, ItemAt, ItemFails, PacketItem, fields_of, item_of, name_of, section_of};
+ghost use Rattle.nb_service.specs.Items.{IsExtent, IsRecordOf, ItemAt, ItemFails, PacketItem, Sees, item_of, section_of};
 ghost use Rattle.nb_service.specs.ServiceFaults.{item_count};
 
 use crate::extent::Extent;
 use crate::fault::ServiceFault;
-use crate::fields::Fields;
 use crate::header::Header;
 use crate::item::Item;
 use crate::laws::one_item;
-use crate::reading::{read_question, read_reaching_record};
 use crate::section::Section;
-use crate::skipping::{skip_question, skip_record};
-use nb_names::{NameReader, Skipped};
+use crate::seeing::{see_question, see_record};
+use crate::seen::Seen;
+use nb_names::NameReader;
 
 /// The section of the record that is the item of a number; none past the last record.
 fn section_of(header: &Header, number: usize) -> Option<Section>
@@ -37,18 +34,66 @@ fn section_of(header: &Header, number: usize) -> Option<Section>
     None
 }
 
-/// The item of a number, counted from 0, that stands at an offset of a packet of this header, and
-/// how far it reaches; none where the header says that there are no more. No memory is taken.
+/// What is seen of the item of a number, counted from 0, that stands at an offset of a packet of
+/// this header, and its section; none where the header says that there are no more. A question has
+/// no section. No memory is taken.
 ///
 /// The first item, of number 0, stands at byte 12
 /// ([`HEADER_LENGTH`](crate::limits::HEADER_LENGTH)), and each other where the one before it ends.
-/// Whether the packet stands whole isn't looked at: read so, the items of a packet of which the
+/// Whether the packet stands whole isn't looked at: seen so, the items of a packet of which the
 /// front alone is there are all that stand whole.
 ///
 /// # Errors
 ///
-/// What is wrong first with this item, as [`read_question`] and
-/// [`read_record`](crate::read_record) say it; never `NoMemory`.
+/// What is wrong first with this item, as [`see_question`] and [`see_record`] say it; never
+/// `NoMemory`.
+///
+/// RFC 1002 section 4.2.1.
+#[inline(always)]
+pub fn see_item(
+    names: &NameReader<'_, '_>,
+    header: &Header,
+    number: usize,
+    at: usize,
+) -> Result<Option<(Option<Section>, Seen)>, ServiceFault>
+    // What is answered is of the item that stands there, and of what stands there it is answered.
+    ensures found { IfOk result (λ read. MatchOption read
+        (item_count (header_value header.now) ≤ number) (λ seen. (seen.1.at ≡ at)
+        × ((item : PacketItem)
+        × ItemAt names.now (header_value header.now) number at item seen.1.fields.extent.next
+        × Sees names.now item seen.1 × (seen.0 ≡ section_of item)))) }
+    ensures only { (item : PacketItem) (next : ℕ) →
+        ItemAt names.now (header_value header.now) number at item next →
+        IsOkAnd result (λ read. IsSomeAnd read (λ seen. (seen.1.at ≡ at)
+        × (seen.1.fields.extent.next ≡ next)
+        × Sees names.now item seen.1 × (seen.0 ≡ section_of item))) }
+    ensures within { IfOk result (λ read.
+        IfSome read (λ seen. seen.1.fields.extent.next ≤ length names.now)) }
+
+    // Which fault it is, and where.
+    ensures fault { IfErr result (ItemFails names.now (header_value header.now) number at) }
+{
+    // The law on which the clause `only` stands; the call does nothing.
+    one_item();
+    if number < header.questions as usize {
+        let seen = see_question(names, at)?;
+        return Ok(Some((None, seen)));
+    }
+    let Some(section) = section_of(header, number) else {
+        return Ok(None);
+    };
+    let seen = see_record(names, at)?;
+    Ok(Some((Some(section), seen)))
+}
+
+/// The item of a number, counted from 0, that stands at an offset of a packet of this header, and
+/// how far it reaches; none where the header says that there are no more. No memory is taken.
+///
+/// It is seen as by [`see_item`], and made.
+///
+/// # Errors
+///
+/// Those of [`see_item`].
 ///
 /// RFC 1002 section 4.2.1.
 pub fn read_item<'a>(
@@ -72,66 +117,8 @@ pub fn read_item<'a>(
     // Which fault it is, and where.
     ensures fault { IfErr result (ItemFails names.now (header_value header.now) number at) }
 {
-    // The law on which the clause `only` stands; the call does nothing.
-    one_item();
-    if number < header.questions as usize {
-        let (question, next) = read_question(names, at)?;
-        let extent = Extent { rdata: next, next };
-        return Ok(Some((Item::Question(question), extent)));
-    }
-    let Some(section) = section_of(header, number) else {
+    let Some((section, seen)) = see_item(names, header, number, at)? else {
         return Ok(None);
     };
-    let (record, extent) = read_reaching_record(names, at)?;
-    Ok(Some((Item::Record(section, record), extent)))
-}
-
-/// The section and the fields of the item of a number, counted from 0, that stands at an offset of
-/// a packet of this header, and where its name stands; none where the header says that there are no
-/// more. A question has no section. No memory is taken.
-///
-/// The item is judged whole, its names with it, as [`read_item`] judges it. Its names aren't made,
-/// which makes it the cheaper of the two.
-///
-/// # Errors
-///
-/// Those of [`read_item`].
-///
-/// RFC 1002 section 4.2.1.
-pub fn read_fields(
-    names: &NameReader<'_, '_>,
-    header: &Header,
-    number: usize,
-    at: usize,
-) -> Result<Option<(Option<Section>, Fields, Skipped)>, ServiceFault>
-    // What is answered is of the item that stands there, and of what stands there it is answered.
-    ensures found { IfOk result (λ read. MatchOption read
-        (item_count (header_value header.now) ≤ number) (λ seen. (item : PacketItem)
-        × ItemAt names.now (header_value header.now) number at item seen.1.extent.next
-        × IsExtent names.now at item seen.1.extent
-        × IsSkipped names.now Followed at (name_of item) seen.2
-        × (seen.0 ≡ section_of item) × (seen.1 ≡ fields_of item seen.1.extent))) }
-    ensures only { (item : PacketItem) (next : ℕ) →
-        ItemAt names.now (header_value header.now) number at item next →
-        IsOkAnd result (λ read. IsSomeAnd read (λ seen. (seen.1.extent.next ≡ next)
-        × IsExtent names.now at item seen.1.extent
-        × IsSkipped names.now Followed at (name_of item) seen.2
-        × (seen.0 ≡ section_of item) × (seen.1 ≡ fields_of item seen.1.extent))) }
-    ensures within { IfOk result (λ read.
-        IfSome read (λ seen. seen.1.extent.next ≤ length names.now)) }
-
-    // Which fault it is, and where.
-    ensures fault { IfErr result (ItemFails names.now (header_value header.now) number at) }
-{
-    // The law on which the clause `only` stands; the call does nothing.
-    one_item();
-    if number < header.questions as usize {
-        let (fields, name) = skip_question(names, at)?;
-        return Ok(Some((None, fields, name)));
-    }
-    let Some(section) = section_of(header, number) else {
-        return Ok(None);
-    };
-    let (fields, name) = skip_record(names, at)?;
-    Ok(Some((Some(section), fields, name)))
+    Ok(Some((seen.item(section, names), seen.fields.extent)))
 }

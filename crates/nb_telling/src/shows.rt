@@ -4,7 +4,8 @@ ghost use Rattle.nb_names.specs.Growth.{OnlyAdds};
 
 use nb_datagram::{Key, push_key};
 use nb_names::{
-    DomainName, LentName, Name, NoMemory, push_address, push_domain, push_lent_name, push_name,
+    DomainName, LentDomain, LentName, Name, NoMemory, push_address, push_domain, push_lent_name,
+    push_name,
 };
 
 /// A value whose text is added to another, with no copy in between.
@@ -44,6 +45,16 @@ impl<'a> Shows for LentName<'a> {
 }
 
 impl Shows for DomainName {
+    ghost use Rattle.nb_names.specs.NameText.{labels_written};
+
+    ghost shown = { labels_written };
+
+    fn push_to(&self, text: &mut String) -> Result<(), NoMemory> {
+        push_domain(text, &self.lent())
+    }
+}
+
+impl<'a> Shows for LentDomain<'a> {
     ghost use Rattle.nb_names.specs.NameText.{labels_written};
 
     ghost shown = { labels_written };

@@ -1,7 +1,6 @@
 pub mod ShownLemmas
 pub mod RowLemmas
 pub mod WalkLemmas
-pub mod SectionRows
 pub mod FieldTexts
 pub mod FieldMembers
 pub mod TellsLemmas
@@ -28,7 +27,7 @@ pub mod PhraseLemmas
 pub mod SaidPackets
 pub mod FirstNames
 pub mod PushLemmas
-pub mod RunLemmas
 pub mod FrontMembers
 pub mod ItemParts
 pub mod OneFront
+pub mod ToldLemmas

@@ -2,10 +2,7 @@
 use Rattle.std.proofs.Common.{◌≡◌, ◌≢◌, ℕ, List, [], ◌∷◌, ◌++◌, Option, Some, None, Result, Ok, Err, ◌≤◌, fold, subst, sym, ◌∙◌, ap, arith}
 use Rattle.std.specs.Prelude.{OnOk, IfOk, IfSome}
 use Rattle.std.proofs.lemmas.Result.{on_ok_weaker}
-use Rattle.nb_service.specs.declared.fault.ServiceFault.{ServiceFault}
 use Rattle.nb_service.specs.FaultTexts.{service_fault_place, service_fault_text}
-use Rattle.nb_service.specs.Packet as service
-use Rattle.nb_service.specs.ServiceFaults as service_faults
 use Rattle.nb_datagram.specs.declared.fault.DatagramFault.{DatagramFault}
 use Rattle.nb_datagram.specs.Packet.{Packet}
 use Rattle.nb_datagram.specs.FaultTexts.{datagram_fault_place, datagram_fault_text}
@@ -22,7 +19,6 @@ use Rattle.nb_telling.proofs.FoldLemmas.{appended, told_both}
 use Rattle.nb_text.specs.DatagramFields.{datagram_fields}
 use Rattle.nb_text.specs.Keys.{refused_key}
 use Rattle.nb_text.specs.LineFields.{refused_fields}
-use Rattle.nb_text.specs.ServiceFields.{service_fields}
 use Rattle.nb_text.specs.SessionFields.{session_fields}
 use Rattle.nb_text.specs.Shown as shown
 use Rattle.nb_text.specs.Shown.{Shown, AddsShown}
@@ -33,21 +29,6 @@ use Rattle.nb_text.proofs.FieldTexts.{service_same, datagram_same, session_same,
 -- ---- what was told
 
 module _ {S E : Type 0} (after : S → Field → S) (payload : List ℕ) (old new : S) (r : Result (Unit {0}) E) where
-  pub names_told : (used : ℕ)
-      → OnOk r ((packet : service.ServicePacket) × service.IsPacket payload packet used × (new ≡ fold after old (service_fields packet used)))
-      → OnOk r (IsTold after payload 137 old new)
-  names_told used told = on_ok_weaker r (λ e. record { fields = service_fields e.0 used; tells = names e.0 used e.1; seen = e.2 }) told
-
-  pub no_names_told : (fault : ServiceFault) → service_faults.PacketFails payload fault
-      → OnOk r (new ≡ fold after old (refused_fields (service_fault_text fault) (service_fault_place fault)))
-      → OnOk r (IsTold after payload 137 old new)
-  no_names_told fault fails told =
-      on_ok_weaker r (λ e. record {
-        fields = refused_fields (service_fault_text fault) (service_fault_place fault);
-        tells = no_names fault fails;
-        seen = e;
-      }) told
-
   pub datagram_told : (packet : Packet) (used : ℕ) → datagrams.IsPacket payload packet used
       → OnOk r (new ≡ fold after old (datagram_fields packet used)) → OnOk r (IsTold after payload 138 old new)
   datagram_told packet used stands told =

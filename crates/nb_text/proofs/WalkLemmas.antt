@@ -1,5 +1,5 @@
 -- Items that are read one after the other, each with fields that are told.
-use Rattle.std.proofs.Common.{◌≡◌, ℕ, zero, suc, ◌+◌, ◌<◌, List, [], ◌∷◌, length, take, drop, fold, Some, Result, Ok, Err, IsOk, IsOkAnd, refl, sym, ap, subst, ◌∙◌, arith}
+use Rattle.std.proofs.Common.{◌≡◌, ℕ, zero, suc, ◌+◌, ◌<◌, List, [], ◌∷◌, length, take, drop, fold, Some, refl, sym, ap, subst, ◌∙◌, arith}
 use Rattle.std.specs.List.{flat_map, slice_get}
 use Rattle.std.proofs.Math.Seq.{take-length, drop-length}
 use Rattle.nb_service.specs.Code.Steps.{RowOf}
@@ -54,14 +54,6 @@ module _ {S A : Type 0} (Stands : ℕ → A → ℕ → Type 0) (after : S → F
         row_more after fields items i item.item old mid new item.there (walk items end row).1 turn.1,
       )
 
-  -- a turn that read the item, and told it
-  pub walk_turn : (at count i here next : ℕ) (x : A) (old mid new : S)
-      → i < count → ((y : A) (n : ℕ) → Stands here y n → (x ≡ y) × (next ≡ n)) → Walk Stands after fields at count i here old mid
-      → new ≡ fold after mid (fields x) → Walk Stands after fields at count (i + 1) next old new
-  walk_turn at count i here next x old mid new low one walk told =
-      walk_step at count i here next old mid new low walk
-      (λ y n stands. let same = one y n stands in (same.1, told ∙ ap (λ (z : A). fold after mid (fields z)) same.0))
-
   row_over : (here end : ℕ) → Row Stands here [] end → here ≡ end
   row_over here end none = refl
 
@@ -77,11 +69,6 @@ module _ {S A : Type 0} (Stands : ℕ → A → ℕ → Type 0) (after : S → F
         last.1 ∙ ap (λ (xs : List A). fold after old (flat_map fields xs)) all,
       )
 
--- ---- what is read where an item stands
-
-pub read_is_ok : {T E : Type 0} (r : Result T E) (P : T → Type 0) → IsOkAnd r P → IsOk r
-read_is_ok (Ok x) P h = refl
-read_is_ok (Err e) P h = absurd h
-
-pub read_is : {T E : Type 0} (r : Result T E) (P : T → Type 0) (x : T) → r ≡ Ok x → IsOkAnd r P → P x
-read_is {T} {E} r P x e h = subst (λ (q : Result T E). IsOkAnd q P) e h
+-- a row that stands where another one ended
+pub row_from : {A : Type 0} (S : ℕ → A → ℕ → Type 0) (at here count next : ℕ) (items : List A) → at ≡ here → RowOf S here count items next → RowOf S at count items next
+row_from {A} S at here count next items same row = subst (λ (n : ℕ). RowOf S n count items next) (sym same) row

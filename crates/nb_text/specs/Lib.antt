@@ -14,7 +14,6 @@ pub mod SessionFields
 pub mod Tells
 pub mod FrontFields
 pub mod TellsFront
-pub mod Code
 pub mod Kinds
 pub mod Noted
 pub mod Forms

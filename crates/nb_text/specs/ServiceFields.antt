@@ -12,7 +12,7 @@ use Rattle.nb_service.specs.declared.question.Question.{Question}
 use Rattle.nb_service.specs.Flags.{opcode_of, rcode_of, ont_of}
 use Rattle.nb_service.specs.Header.{PacketHeader}
 use Rattle.nb_service.specs.Packet.{ServicePacket, header_of}
-use Rattle.nb_service.specs.Record.{ResourceData, of_bytes, of_domain, ResourceRecord}
+use Rattle.nb_service.specs.Record.{ResourceData, of_bytes, of_domain, ResourceRecord, record_of}
 use Rattle.nb_service.specs.Views.{StatusParts, entries_in, status_in}
 use Rattle.nb_telling.specs.Fields.{Field, FieldKey, Text, Number, Digits, Data, Set, Part, PartEnds, LineEnds}
 use Rattle.nb_text.specs.Keys.{id_key, word_key, op_key, flags_key, rcode_key, qd_key, an_key, ns_key, ar_key, name_key, type_key, class_key, ttl_key, data_key, domain_key, ont_key, address_key, set_key, unit_key}
@@ -94,6 +94,10 @@ view_fields entry =
     if entry.kind == NB then list_fields (codes "entries") (flat_map entry_fields (entries_in entry))
     else if entry.kind == NBSTAT then status_fields (status_in entry)
     else []
+
+-- the same of RDATA of bytes
+abbrev pub data_fields : ℕ → List ℕ → List Field
+data_fields kind bytes = view_fields (record_of [] kind 0 0 (of_bytes bytes))
 
 -- record_fields lead entry: a record, which begins so in text
 abbrev pub record_fields : List ℕ → ResourceRecord → List Field

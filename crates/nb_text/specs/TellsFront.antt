@@ -1,6 +1,6 @@
 -- What the front of a payload says: the fields of the packet that it begins with; or why it begins with none, and then the
 -- fields of what still stands there (our choice).
-use Rattle.std.specs.Prelude.{◌≡◌, ◌≢◌, ℕ, ◌<◌, List, [], ◌++◌, length, None, fold}
+use Rattle.std.specs.Prelude.{◌≡◌, ◌≢◌, ℕ, ◌<◌, Bool, true, false, List, [], ◌++◌, length, None, fold}
 use Rattle.nb_service.specs.declared.fault.ServiceFault.{ServiceFault}
 use Rattle.nb_service.specs.declared.limits.TheConstants.{HEADER_LENGTH}
 use Rattle.nb_service.specs.Header.{PacketHeader}
@@ -20,7 +20,7 @@ use Rattle.nb_session.specs.Parsing.{Parsed, Parses, taken_by}
 use Rattle.nb_telling.specs.Fields.{Field}
 use Rattle.nb_telling.specs.Texts.{text_of}
 use Rattle.nb_text.specs.FrontFields.{names_front_fields, datagram_front_fields, session_front_fields}
-use Rattle.nb_text.specs.Tells.{Tells}
+use Rattle.nb_text.specs.Tells.{Tells, IsTold}
 
 -- FrontOf payload port fields: these are the fields of what still stands at the front of a payload that came to the port; there
 -- are none where it begins with a packet, or its header isn't whole. The front of a session packet that lacks bytes says what it
@@ -62,3 +62,9 @@ pub record ShowsFront (payload : List ℕ) (port : ℕ) (text : List ℕ) : Type
   pub fields : List Field
   pub tells : TellsFront payload port fields
   pub is : text ≡ text_of fields
+
+-- ServiceTold after payload more old new: what is seen after the fields of a payload of port 137 were told, with those of its
+-- front if more is asked for
+abbrev pub ServiceTold : {A : Type 0} → (A → Field → A) → List ℕ → Bool → A → A → Type 0
+ServiceTold after payload false old new = IsTold after payload 137 old new
+ServiceTold after payload true old new = IsFrontTold after payload 137 old new

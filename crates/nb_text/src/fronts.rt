@@ -1,13 +1,13 @@
 //! What the front of a payload says, told to a sink, and its text.
 #![tactic(auto, using(nb_names::specs::GrowthFacts::front_stays))]
 
-ghost use Rattle.std.specs.Prelude.{◌≡◌, ◌++◌, ℕ, List, OnOk, fold, string_bytes};
+ghost use Rattle.std.specs.Prelude.{◌≡◌, ◌≢◌, ◌++◌, ℕ, List, OnOk, fold, string_bytes};
 ghost use Rattle.nb_names.specs.Growth.{OnlyAdds};
 ghost use Rattle.nb_telling.specs.Fields.{Field};
 ghost use Rattle.nb_telling.specs.Telling.{Grows};
 ghost use Rattle.nb_text.specs.TellsFront.{FrontOf, IsFrontTold, ShowsFront};
 
-use crate::name_fronts::tell_name_front;
+use crate::names::tell_service;
 use crate::packet_fronts::{tell_datagram_front, tell_session_front};
 use crate::showing::tell_packet;
 use nb_names::NoMemory;
@@ -32,22 +32,21 @@ pub fn tell_front<S: Sink>(port: u16, payload: &[u8], sink: &mut S) -> Result<()
         (IsFrontTold S.after payload.now port (S.seen sink.old) (S.seen sink.new)) }
     ensures front { Grows S.is_front (S.seen sink.old) (S.seen sink.new) }
 {
+    if port == 137 {
+        return tell_service(payload, true, sink);
+    }
     tell_packet(port, payload, sink)?;
     tell_standing(port, payload, sink)
 }
 
-/// Tells what still stands at the front of a payload; nothing where it begins with a packet.
-///
-/// A reader of names is large: inlined, it would take room on the stack while the packet is read.
-#[inline(never)]
+/// Tells what still stands at the front of a payload of port 138 or 139; nothing where it begins
+/// with a packet.
 fn tell_standing<S: Sink>(port: u16, payload: &[u8], sink: &mut S) -> Result<(), NoMemory>
+    requires { port ≢ 137 }
     ensures told { OnOk result ((more : List Field) × FrontOf payload.now port more
         × (S.seen sink.new ≡ fold S.after (S.seen sink.old) more)) }
     ensures front { Grows S.is_front (S.seen sink.old) (S.seen sink.new) }
 {
-    if port == 137 {
-        return tell_name_front(payload, sink);
-    }
     if port == 138 {
         return tell_datagram_front(payload, sink);
     }

@@ -1,83 +1,125 @@
 //! A name service packet, told to a sink.
 
-ghost use Rattle.std.specs.Prelude.{◌≡◌, ◌∷◌, ℕ, List, IfOk, OnOk, codes, fold};
-ghost use Rattle.std.specs.List.{flat_map};
-ghost use Rattle.nb_service.specs.declared.question.Question.{Question as QuestionValue};
-ghost use Rattle.nb_service.specs.Code.Steps.{HasRow, RowOf};
-ghost use Rattle.nb_service.specs.Header.{header_value};
-ghost use Rattle.nb_service.specs.Packet.{HasOutline, IsPacket, QuestionAt, ServicePacket};
+ghost use Rattle.std.specs.Prelude.{◌≡◌, ◌∷◌, Bool, None, Some, OnOk, fold};
+ghost use Rattle.nb_service.specs.Header.{PacketHeader, header_value};
+ghost use Rattle.nb_service.specs.Walks.{Walks};
 ghost use Rattle.nb_telling.specs.Telling.{Grows};
+ghost use Rattle.nb_text.specs.FrontFields.{names_header_fields};
 ghost use Rattle.nb_text.specs.Keys.{id_key, op_key, rcode_key, word_key};
-ghost use Rattle.nb_text.specs.LineFields.{list_fields};
-ghost use Rattle.nb_text.specs.ServiceFields.{count_fields, header_fields, named_field, named_fields, question_fields, service_fields, state_fields, word_field};
-ghost use Rattle.nb_text.specs.Tells.{IsTold};
+ghost use Rattle.nb_text.specs.ServiceFields.{count_fields, header_fields, lists_fields, named_field, state_fields, word_field};
+ghost use Rattle.nb_text.specs.TellsFront.{ServiceTold};
 ghost use Rattle.nb_text.specs.Words.{operation_word, rcode_word};
 
 use crate::faults::tell_refusal;
 use crate::flags::packet_flags_of;
-use crate::keys::{AN, AR, CLASS, FLAGS, ID, NAME, NS, OP, QD, RCODE, TYPE, WORD};
+use crate::keys::{AN, AR, FLAGS, ID, NS, OP, QD, RCODE, WORD};
+use crate::questions::tell_questions;
 use crate::records::tell_section;
-use crate::words::{
-    end_part, operation_name, rcode_name, tell_named, tell_number, tell_used, tell_word,
-};
+use crate::words::{operation_name, rcode_name, tell_named, tell_number, tell_used, tell_word};
 use nb_names::limits::POINTED_OFFSETS;
-use nb_names::{DomainName, NameReader, NoMemory};
-use nb_service::laws::sections_in_order;
+use nb_names::{NameReader, NoMemory};
 use nb_service::limits::{HEADER_LENGTH, SHORT_PACKET};
-use nb_service::{Header, Question, opcode, outline, rcode, read_question};
+use nb_service::{Header, ServiceFault, Walked, opcode, rcode, read_header, walk};
 use nb_telling::Sink;
 
-/// Tells a payload of port 137.
+/// Tells a payload of port 137: the packet that it begins with, or why it begins with none, and
+/// then, if more is asked for, what still stands at its front.
 ///
 /// Of a packet of more than [`SHORT_PACKET`] bytes the ends of all chains of pointers are found
 /// first, as [`decode`](nb_service::decode) does.
-pub fn tell_service<S: Sink>(payload: &[u8], sink: &mut S) -> Result<(), NoMemory>
+pub fn tell_service<S: Sink>(payload: &[u8], more: bool, sink: &mut S) -> Result<(), NoMemory>
     ensures told { OnOk result
-        (IsTold S.after payload.now 137 (S.seen sink.old) (S.seen sink.new)) }
+        (ServiceTold S.after payload.now more (S.seen sink.old) (S.seen sink.new)) }
     ensures front { Grows S.is_front (S.seen sink.old) (S.seen sink.new) }
 {
     if payload.len() <= SHORT_PACKET {
-        return tell_judged(&NameReader::of(payload, &mut []), sink);
+        return tell_judged(&NameReader::of(payload, &mut []), more, sink);
     }
     let mut ends = [0; POINTED_OFFSETS];
-    tell_judged(&NameReader::of(payload, &mut ends), sink)
+    tell_judged(&NameReader::of(payload, &mut ends), more, sink)
 }
 
 /// Tells the payload whose names are read so.
-fn tell_judged<S: Sink>(names: &NameReader<'_, '_>, sink: &mut S) -> Result<(), NoMemory>
+fn tell_judged<S: Sink>(
+    names: &NameReader<'_, '_>,
+    more: bool,
+    sink: &mut S,
+) -> Result<(), NoMemory>
     ensures told { OnOk result
-        (IsTold S.after names.now 137 (S.seen sink.old) (S.seen sink.new)) }
+        (ServiceTold S.after names.now more (S.seen sink.old) (S.seen sink.new)) }
     ensures front { Grows S.is_front (S.seen sink.old) (S.seen sink.new) }
 {
-    match outline(names) {
-        Ok((header, used)) => tell_whole(names, &header, used, sink),
-        Err(fault) => tell_refusal(fault, fault.place(), sink),
+    let header = match read_header(names.packet()) {
+        Ok(header) => header,
+        Err(fault) => return tell_refusal(fault, fault.place(), sink),
+    };
+    let walked = walk(names, &header);
+    match walked.fault {
+        None => tell_whole(names, &header, &walked, sink),
+        Some(fault) => tell_cut(fault, more, names, &header, &walked, sink),
     }
 }
 
-/// Tells a packet that takes up so many bytes, each item read where it stands.
+/// Tells a packet that stands whole, after which there is nothing more to tell.
 fn tell_whole<S: Sink>(
     names: &NameReader<'_, '_>,
     header: &Header,
-    used: usize,
+    walked: &Walked,
     sink: &mut S,
 ) -> Result<(), NoMemory>
-    requires { HasOutline names.now (header_value header.now) used }
-    ensures told { OnOk result ((packet : ServicePacket) × IsPacket names.now packet used
-        × (S.seen sink.new ≡ fold S.after (S.seen sink.old) (service_fields packet used))) }
+    requires stands { Walks names.now (header_value header.now) walked.now }
+    requires whole { walked.now.fault ≡ None }
+    ensures told { (more : Bool) → OnOk result
+        (ServiceTold S.after names.now more (S.seen sink.old) (S.seen sink.new)) }
     ensures front { Grows S.is_front (S.seen sink.old) (S.seen sink.new) }
 {
-    // The law on which the order of the sections stands; the call does nothing.
-    sections_in_order();
-    tell_header(header, used, sink)?;
-    let at = tell_questions(names, HEADER_LENGTH, header.questions, sink)?;
-    let at = tell_section("answers", "  answer", names, at, header.answers, sink)?;
+    tell_header(header, walked.next, sink)?;
+    tell_lists(names, walked, sink)
+}
+
+/// Tells why a payload begins with no packet, and if more is asked for, what stands at its front.
+fn tell_cut<S: Sink>(
+    fault: ServiceFault,
+    more: bool,
+    names: &NameReader<'_, '_>,
+    header: &Header,
+    walked: &Walked,
+    sink: &mut S,
+) -> Result<(), NoMemory>
+    requires stands { Walks names.now (header_value header.now) walked.now }
+    requires cut { walked.now.fault ≡ Some fault }
+    ensures told { OnOk result
+        (ServiceTold S.after names.now more (S.seen sink.old) (S.seen sink.new)) }
+    ensures front { Grows S.is_front (S.seen sink.old) (S.seen sink.new) }
+{
+    tell_refusal(fault, fault.place(), sink)?;
+    if !more {
+        return Ok(());
+    }
+    tell_front_header(header, sink)?;
+    tell_lists(names, walked, sink)
+}
+
+/// Tells the lists of the items that stand, each read where it stands.
+fn tell_lists<S: Sink>(
+    names: &NameReader<'_, '_>,
+    walked: &Walked,
+    sink: &mut S,
+) -> Result<(), NoMemory>
+    requires { (header : PacketHeader) × Walks names.now header walked.now }
+    ensures told { (header : PacketHeader) (seen : Walks names.now header walked.now) →
+        OnOk result (S.seen sink.new
+        ≡ fold S.after (S.seen sink.old) (lists_fields seen.part)) }
+    ensures front { Grows S.is_front (S.seen sink.old) (S.seen sink.new) }
+{
+    let at = tell_questions(names, HEADER_LENGTH, walked.questions, sink)?;
+    let at = tell_section("answers", "  answer", names, at, walked.answers, sink)?;
     let at = tell_section(
         "authorities",
         "  authority",
         names,
         at,
-        header.authorities,
+        walked.authorities,
         sink,
     )?;
     tell_section(
@@ -85,10 +127,22 @@ fn tell_whole<S: Sink>(
         "  additional",
         names,
         at,
-        header.additional,
+        walked.additional,
         sink,
     )?;
     Ok(())
+}
+
+/// Tells the line of a header after which no packet stands whole.
+fn tell_front_header<S: Sink>(header: &Header, sink: &mut S) -> Result<(), NoMemory>
+    ensures told { OnOk result (S.seen sink.new ≡ fold S.after (S.seen sink.old)
+        (names_header_fields (header_value header.now))) }
+    ensures front { Grows S.is_front (S.seen sink.old) (S.seen sink.new) }
+{
+    sink.words("  ")?;
+    tell_words(header, sink)?;
+    tell_counts(header, sink)?;
+    sink.line_ends()
 }
 
 /// Tells the header.
@@ -103,7 +157,7 @@ fn tell_header<S: Sink>(header: &Header, used: usize, sink: &mut S) -> Result<()
 }
 
 /// Tells the identifier, the flag word and what that says.
-pub fn tell_words<S: Sink>(header: &Header, sink: &mut S) -> Result<(), NoMemory>
+fn tell_words<S: Sink>(header: &Header, sink: &mut S) -> Result<(), NoMemory>
     ensures told { OnOk result (S.seen sink.new ≡ fold S.after (S.seen sink.old)
         (word_field id_key header.now.id ∷ word_field word_key header.now.word
         ∷ state_fields header.now.word)) }
@@ -144,7 +198,7 @@ fn tell_outcome<S: Sink>(outcome: u8, sink: &mut S) -> Result<(), NoMemory>
 }
 
 /// Tells how many questions, answers, authorities and additional records there are.
-pub fn tell_counts<S: Sink>(header: &Header, sink: &mut S) -> Result<(), NoMemory>
+fn tell_counts<S: Sink>(header: &Header, sink: &mut S) -> Result<(), NoMemory>
     ensures told { OnOk result (S.seen sink.new
         ≡ fold S.after (S.seen sink.old) (count_fields (header_value header.now))) }
     ensures front { Grows S.is_front (S.seen sink.old) (S.seen sink.new) }
@@ -153,75 +207,4 @@ pub fn tell_counts<S: Sink>(header: &Header, sink: &mut S) -> Result<(), NoMemor
     tell_number(AN, header.answers, sink)?;
     tell_number(NS, header.authorities, sink)?;
     tell_number(AR, header.additional, sink)
-}
-
-/// Tells the list of so many questions, which stand one after the other from an offset on, and
-/// answers where they end.
-fn tell_questions<S: Sink>(
-    names: &NameReader<'_, '_>,
-    at: usize,
-    count: u16,
-    sink: &mut S,
-) -> Result<usize, NoMemory>
-    requires { (next : ℕ) × HasRow (QuestionAt names.now) at count next }
-    ensures told { (questions : List QuestionValue) (next : ℕ) →
-        RowOf (QuestionAt names.now) at count questions next → IfOk result (λ after.
-        (after ≡ next) × (S.seen sink.new ≡ fold S.after (S.seen sink.old)
-        (list_fields (codes "questions") (flat_map question_fields questions)))) }
-    ensures front { Grows S.is_front (S.seen sink.old) (S.seen sink.new) }
-{
-    sink.begins("questions")?;
-    let next = tell_each_question(names, at, count, sink)?;
-    sink.ends()?;
-    Ok(next)
-}
-
-/// Tells so many questions.
-fn tell_each_question<S: Sink>(
-    names: &NameReader<'_, '_>,
-    at: usize,
-    count: u16,
-    sink: &mut S,
-) -> Result<usize, NoMemory>
-    requires { (next : ℕ) × HasRow (QuestionAt names.now) at count next }
-    ensures told { (questions : List QuestionValue) (next : ℕ) →
-        RowOf (QuestionAt names.now) at count questions next → IfOk result (λ after.
-        (after ≡ next) × (S.seen sink.new
-        ≡ fold S.after (S.seen sink.old) (flat_map question_fields questions))) }
-    ensures front { Grows S.is_front (S.seen sink.old) (S.seen sink.new) }
-{
-    let mut next = at;
-    for _ in 0..count {
-        let (question, after) = read_question(names, next).unwrap();
-        tell_question(&question, sink)?;
-        next = after;
-    }
-    Ok(next)
-}
-
-/// Tells a question.
-pub fn tell_question<S: Sink>(question: &Question, sink: &mut S) -> Result<(), NoMemory>
-    ensures told { OnOk result
-        (S.seen sink.new ≡ fold S.after (S.seen sink.old) (question_fields question.now)) }
-    ensures front { Grows S.is_front (S.seen sink.old) (S.seen sink.new) }
-{
-    sink.part("  question")?;
-    tell_front(&question.name, question.kind, question.class, sink)?;
-    end_part(sink)
-}
-
-/// Tells the name, the type and the class of a question or a record.
-pub fn tell_front<S: Sink>(
-    name: &DomainName,
-    kind: u16,
-    class: u16,
-    sink: &mut S,
-) -> Result<(), NoMemory>
-    ensures told { OnOk result
-        (S.seen sink.new ≡ fold S.after (S.seen sink.old) (named_fields name.now kind class)) }
-    ensures front { Grows S.is_front (S.seen sink.old) (S.seen sink.new) }
-{
-    sink.shown(NAME, name)?;
-    tell_word(TYPE, kind, sink)?;
-    tell_word(CLASS, class, sink)
 }

@@ -1,24 +1,26 @@
 //! The records of a name service packet, told to a sink.
 
-ghost use Rattle.std.specs.Prelude.{◌≡◌, ◌∷◌, [], ◌++◌, ℕ, List, IfOk, OnOk, codes, fold};
+ghost use Rattle.std.specs.Prelude.{◌≡◌, ◌∷◌, [], ℕ, List, IfOk, OnOk, codes, fold};
 ghost use Rattle.std.specs.List.{flat_map};
+ghost use Rattle.nb_names.specs.NameText.{labels_written};
 ghost use Rattle.nb_service.specs.Code.Steps.{HasRow, RowOf};
+ghost use Rattle.nb_service.specs.Items.{SeesRecord};
 ghost use Rattle.nb_service.specs.Packet.{RecordAt};
-ghost use Rattle.nb_service.specs.Record.{ResourceRecord, rdata_of};
-ghost use Rattle.nb_service.specs.Views.{entries_in};
-ghost use Rattle.nb_telling.specs.Fields.{LineEnds, Number};
+ghost use Rattle.nb_service.specs.Record.{ResourceRecord, of_bytes};
+ghost use Rattle.nb_service.specs.Views.{entries_of_data};
+ghost use Rattle.nb_telling.specs.Fields.{Data, LineEnds, Text};
 ghost use Rattle.nb_telling.specs.Telling.{Grows};
-ghost use Rattle.nb_text.specs.Keys.{ttl_key};
+ghost use Rattle.nb_text.specs.Keys.{data_key, domain_key};
 ghost use Rattle.nb_text.specs.LineFields.{list_fields};
-ghost use Rattle.nb_text.specs.ServiceFields.{entry_fields, named_fields, rdata_field, record_fields, view_fields};
+ghost use Rattle.nb_text.specs.ServiceFields.{data_fields, entry_fields, rdata_field, record_fields, view_fields};
 
 use crate::keys::{ADDRESS, DATA, DOMAIN, TTL};
-use crate::names::tell_front;
+use crate::questions::tell_front;
 use crate::statuses::tell_status;
 use crate::words::{end_part, tell_owner};
-use nb_names::{NameReader, NoMemory};
+use nb_names::{DomainName, NameReader, NoMemory};
 use nb_service::kinds::{NB, NBSTAT};
-use nb_service::{AddressEntries, AddressEntry, Rdata, Record, read_record};
+use nb_service::{AddressEntries, AddressEntry, Rdata, Seen, see_record};
 use nb_telling::Sink;
 
 /// Tells the list of so many records, a section of this name, which stand one after the other from
@@ -28,7 +30,7 @@ pub fn tell_section<S: Sink>(
     lead: &str,
     names: &NameReader<'_, '_>,
     at: usize,
-    count: u16,
+    count: usize,
     sink: &mut S,
 ) -> Result<usize, NoMemory>
     requires { (next : ℕ) × HasRow (RecordAt names.now) at count next }
@@ -49,7 +51,7 @@ fn tell_records<S: Sink>(
     lead: &str,
     names: &NameReader<'_, '_>,
     at: usize,
-    count: u16,
+    count: usize,
     sink: &mut S,
 ) -> Result<usize, NoMemory>
     requires { (next : ℕ) × HasRow (RecordAt names.now) at count next }
@@ -82,84 +84,86 @@ fn tell_standing<S: Sink>(
         ≡ fold S.after (S.seen sink.old) (record_fields lead.now entry))) }
     ensures front { Grows S.is_front (S.seen sink.old) (S.seen sink.new) }
 {
-    let (entry, after) = read_record(names, at).unwrap();
-    tell_record(lead, &entry, sink)?;
-    Ok(after)
+    let seen = see_record(names, at).unwrap();
+    tell_record(lead, names, &seen, sink)?;
+    Ok(seen.fields.extent.next)
 }
 
 /// Tells a record, and the parts of its RDATA.
-pub fn tell_record<S: Sink>(lead: &str, entry: &Record<'_>, sink: &mut S) -> Result<(), NoMemory>
-    ensures told { OnOk result
-        (S.seen sink.new ≡ fold S.after (S.seen sink.old) (record_fields lead.now entry.now)) }
+fn tell_record<S: Sink>(
+    lead: &str,
+    names: &NameReader<'_, '_>,
+    seen: &Seen,
+    sink: &mut S,
+) -> Result<(), NoMemory>
+    requires { (entry : ResourceRecord) × SeesRecord names.now entry seen.now }
+    ensures told { (entry : ResourceRecord) → SeesRecord names.now entry seen.now →
+        OnOk result
+        (S.seen sink.new ≡ fold S.after (S.seen sink.old) (record_fields lead.now entry)) }
     ensures front { Grows S.is_front (S.seen sink.old) (S.seen sink.new) }
 {
     sink.part(lead)?;
-    tell_line(entry, sink)?;
-    tell_view(entry, sink)?;
+    tell_front(names, seen, sink)?;
+    sink.number(TTL, u64::from(seen.fields.ttl))?;
+    tell_rdata(names, seen, sink)?;
     sink.part_ends()
 }
 
-/// Tells the line of a record.
-fn tell_line<S: Sink>(entry: &Record<'_>, sink: &mut S) -> Result<(), NoMemory>
-    ensures told { OnOk result (S.seen sink.new ≡ fold S.after (S.seen sink.old)
-        (named_fields entry.now.name entry.now.kind entry.now.class
-        ++ Number ttl_key entry.now.ttl ∷ rdata_field entry.now.rdata ∷ LineEnds ∷ [])) }
+/// Tells the RDATA of a record, and what it says.
+fn tell_rdata<S: Sink>(
+    names: &NameReader<'_, '_>,
+    seen: &Seen,
+    sink: &mut S,
+) -> Result<(), NoMemory>
+    requires { (entry : ResourceRecord) × SeesRecord names.now entry seen.now }
+    ensures told { (entry : ResourceRecord) → SeesRecord names.now entry seen.now →
+        OnOk result (S.seen sink.new ≡ fold S.after (S.seen sink.old)
+        (rdata_field entry.rdata ∷ LineEnds ∷ view_fields entry)) }
     ensures front { Grows S.is_front (S.seen sink.old) (S.seen sink.new) }
 {
-    tell_front(entry.name(), entry.kind(), entry.class(), sink)?;
-    sink.number(TTL, u64::from(entry.ttl()))?;
-    tell_rdata(entry.rdata(), sink)?;
+    match seen.rdata(names) {
+        Rdata::Bytes(bytes) => tell_bytes(seen.fields.kind, bytes, sink),
+        Rdata::Domain(domain) => tell_domain(&domain, sink),
+    }
+}
+
+/// Tells RDATA that is a domain name.
+fn tell_domain<S: Sink>(domain: &DomainName, sink: &mut S) -> Result<(), NoMemory>
+    ensures told { OnOk result (S.seen sink.new ≡ fold S.after (S.seen sink.old)
+        (Text domain_key (labels_written domain.now) ∷ LineEnds ∷ [])) }
+    ensures front { Grows S.is_front (S.seen sink.old) (S.seen sink.new) }
+{
+    sink.shown(DOMAIN, domain)?;
     sink.line_ends()
 }
 
-/// Tells a record's RDATA.
-fn tell_rdata<S: Sink>(rdata: &Rdata<'_>, sink: &mut S) -> Result<(), NoMemory>
-    ensures told { OnOk result
-        (S.seen sink.new ≡ S.after (S.seen sink.old) (rdata_field (rdata_of rdata.now))) }
-    ensures front { Grows S.is_front (S.seen sink.old) (S.seen sink.new) }
-{
-    match rdata {
-        Rdata::Bytes(bytes) => sink.data(DATA, bytes),
-        Rdata::Domain(domain) => sink.shown(DOMAIN, domain),
-    }
-}
-
-/// Tells what the RDATA of a record of kind NB or NBSTAT says.
-fn tell_view<S: Sink>(entry: &Record<'_>, sink: &mut S) -> Result<(), NoMemory>
-    ensures told { OnOk result
-        (S.seen sink.new ≡ fold S.after (S.seen sink.old) (view_fields entry.now)) }
-    ensures front { Grows S.is_front (S.seen sink.old) (S.seen sink.new) }
-{
-    if entry.kind() == NB {
-        return tell_entries(entry, sink);
-    }
-    if entry.kind() == NBSTAT {
-        return tell_status(entry, sink);
-    }
-    Ok(())
-}
-
-/// Tells the list of a record's address entries.
-fn tell_entries<S: Sink>(entry: &Record<'_>, sink: &mut S) -> Result<(), NoMemory>
+/// Tells RDATA of bytes, and what it says where the kind is NB or NBSTAT.
+fn tell_bytes<S: Sink>(kind: u16, bytes: &[u8], sink: &mut S) -> Result<(), NoMemory>
     ensures told { OnOk result (S.seen sink.new ≡ fold S.after (S.seen sink.old)
-        (list_fields (codes "entries") (flat_map entry_fields (entries_in entry.now)))) }
+        (Data data_key bytes.now ∷ LineEnds ∷ data_fields kind bytes.now)) }
+    ensures front { Grows S.is_front (S.seen sink.old) (S.seen sink.new) }
+{
+    sink.data(DATA, bytes)?;
+    sink.line_ends()?;
+    match kind {
+        NB => tell_entries(bytes, sink),
+        NBSTAT => tell_status(bytes, sink),
+        _ => Ok(()),
+    }
+}
+
+/// Tells the list of the address entries that bytes are, where they have the form.
+fn tell_entries<S: Sink>(bytes: &[u8], sink: &mut S) -> Result<(), NoMemory>
+    ensures told { OnOk result (S.seen sink.new ≡ fold S.after (S.seen sink.old)
+        (list_fields (codes "entries")
+        (flat_map entry_fields (entries_of_data (of_bytes bytes.now))))) }
     ensures front { Grows S.is_front (S.seen sink.old) (S.seen sink.new) }
 {
     sink.begins("entries")?;
-    tell_listed(entry, sink)?;
-    sink.ends()
-}
-
-/// Tells a record's address entries, where its RDATA has the form.
-fn tell_listed<S: Sink>(entry: &Record<'_>, sink: &mut S) -> Result<(), NoMemory>
-    ensures told { OnOk result (S.seen sink.new
-        ≡ fold S.after (S.seen sink.old) (flat_map entry_fields (entries_in entry.now))) }
-    ensures front { Grows S.is_front (S.seen sink.old) (S.seen sink.new) }
-{
-    match entry.address_entries() {
-        Some(entries) => tell_each(&entries, sink),
-        None => Ok(()),
+    if let Some(entries) = AddressEntries::of_rdata(NB, bytes) {
+        tell_each(&entries, sink)?;
     }
+    sink.ends()
 }
 
 /// Tells each of these address entries.

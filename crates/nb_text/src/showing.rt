@@ -33,7 +33,7 @@ pub fn tell_packet<S: Sink>(port: u16, payload: &[u8], sink: &mut S) -> Result<(
     ensures front { Grows S.is_front (S.seen sink.old) (S.seen sink.new) }
 {
     if port == 137 {
-        return tell_service(payload, sink);
+        return tell_service(payload, false, sink);
     }
     if port == 138 {
         return tell_datagram(payload, sink);

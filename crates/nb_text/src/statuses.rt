@@ -3,7 +3,8 @@
 ghost use Rattle.std.specs.Prelude.{◌≡◌, [], OnOk, codes, fold};
 ghost use Rattle.std.specs.List.{flat_map};
 ghost use Rattle.nb_names.specs.NameText.{written};
-ghost use Rattle.nb_service.specs.Views.{status_in};
+ghost use Rattle.nb_service.specs.Record.{of_bytes};
+ghost use Rattle.nb_service.specs.Views.{status_of_data};
 ghost use Rattle.nb_telling.specs.Fields.{Text};
 ghost use Rattle.nb_telling.specs.Telling.{Grows};
 ghost use Rattle.nb_text.specs.Keys.{name_key};
@@ -15,17 +16,18 @@ use crate::keys::{NAME, SET, UNIT};
 use crate::words::{end_part, tell_owner};
 use nb_names::limits::NAME_LENGTH;
 use nb_names::{Name, NoMemory, Scope};
-use nb_service::{NodeName, NodeStatus, Record};
+use nb_service::kinds::NBSTAT;
+use nb_service::{NodeName, NodeStatus};
 use nb_telling::Sink;
 
-/// Tells the node status of a record: a list of its names, which is empty where the RDATA hasn't
-/// the form, and the unit where there is one.
-pub fn tell_status<S: Sink>(entry: &Record<'_>, sink: &mut S) -> Result<(), NoMemory>
+/// Tells the node status that RDATA of kind NBSTAT is: a list of its names, which is empty where
+/// the RDATA hasn't the form, and the unit where there is one.
+pub fn tell_status<S: Sink>(bytes: &[u8], sink: &mut S) -> Result<(), NoMemory>
     ensures told { OnOk result (S.seen sink.new
-        ≡ fold S.after (S.seen sink.old) (status_fields (status_in entry.now))) }
+        ≡ fold S.after (S.seen sink.old) (status_fields (status_of_data (of_bytes bytes.now)))) }
     ensures front { Grows S.is_front (S.seen sink.old) (S.seen sink.new) }
 {
-    match entry.node_status() {
+    match NodeStatus::of_rdata(NBSTAT, bytes) {
         Some(status) => tell_standing(&status, sink),
         None => tell_none(sink),
     }

@@ -1,7 +1,5 @@
 -- What the code's steps answer while a packet is checked, listed and decoded.
-use Rattle.std.specs.Prelude.{◌≡◌, ℕ, ◌<◌, List, length}
-use Rattle.nb_service.specs.declared.fault.ServiceFault.{ServiceFault}
-use Rattle.nb_service.specs.declared.fault.ServiceFault.TheVariants.{NoMemory}
+use Rattle.std.specs.Prelude.{◌≡◌, ℕ, List, length}
 use Rattle.nb_service.specs.Packet.{Row, ServicePacket, IsPacket}
 
 -- RowOf Stands at count items next: a row of as many items as the count
@@ -12,11 +10,6 @@ pub record RowOf {A : Type 0} (Stands : ℕ → A → ℕ → Type 0) (at count 
 -- HasRow Stands at count next: some row of as many items as the count
 abbrev pub HasRow : {A : Type 0} → (ℕ → A → ℕ → Type 0) → ℕ → ℕ → ℕ → Type 0
 HasRow {A} Stands at count next = (items : List A) × RowOf Stands at count items next
-
--- OrMemory count Fails fault: the fault is one of these, or memory ran out for one of so many items
-pub data OrMemory (count : ℕ) (Fails : ServiceFault → Type 0) : ServiceFault → Type 0 where
-  fails : {fault : ServiceFault} → Fails fault → OrMemory count Fails fault
-  memory : 0 < count → OrMemory count Fails NoMemory
 
 -- these bytes begin with some packet
 abbrev pub HasPacket : List ℕ → Type 0

@@ -1,12 +1,19 @@
 use Rattle.std.proofs.Common.{◌∙◌, refl}
-use Rattle.nb_c.proofs.ServiceLemmas.{HeaderLaws, ItemLaws, at_none, at_some, extent_fits, same_numbers, item_read}
+use Rattle.nb_c.proofs.ServiceLemmas.{HeaderLaws, ItemLaws, at_none, at_some, extent_fits, extent_there, same_numbers, item_read}
 use Rattle.nb_c.specs.Services.{uncounted, fails, stands}
 use Rattle.nb_service.specs.Header.{header_value}
+use Rattle.nb_service.proofs.ItemLemmas.{seen_extent, seen_name, seen_fields}
 use Rattle.nb_c.proofs.service_reading.fill_item_of.Goals as goal
+
+pub fill_numbers-requires-clause-named : goal.fill_numbers-requires-clause-named
+fill_numbers-requires-clause-named c =
+    let there = at_some _ _ _ _ c.in-Ok-Some.field-0-is c.in-Ok-Some.ensures.found in
+    (_, seen_name _ there.1.0 _ there.1.2)
 
 pub fill_numbers-requires-clause-fits : goal.fill_numbers-requires-clause-fits
 fill_numbers-requires-clause-fits c =
-    extent_fits _ _ _ _ (at_some _ _ _ _ c.in-Ok-Some.field-0-is c.in-Ok-Some.ensures.found).2
+    let there = at_some _ _ _ _ c.in-Ok-Some.field-0-is c.in-Ok-Some.ensures.found in
+    extent_fits _ _ there.1.0 _ (seen_extent _ there.1.0 _ there.1.2)
 
 pub returns-in-Ok-Some : goal.returns-in-Ok-Some
 returns-in-Ok-Some c =
@@ -14,8 +21,10 @@ returns-in-Ok-Some c =
     let laws : ItemLaws c.args.names.now =
     record { one = c.one_item.ensures.one _; apart = c.one_item.ensures.alone _; one_fault = c.one_item.ensures.one_fault _; counted = c.one_item.ensures.counted _; extent = c.one_item.ensures.extent _ } in
     let there = at_some _ _ _ _ c.in-Ok-Some.field-0-is c.in-Ok-Some.ensures.found in
-    let filled = c.fill_numbers.ensures _ there.3 ∙ same_numbers _ _ _ _ _ _ c.section_number.ensures there.4 there.5 in
-    rw filled (item_read _ headers laws _ _ _ (stands (header_value c.args.header.now) _ _ c.requires there.1 there.2))
+    let filled = c.fill_numbers.ensures _ (seen_name _ there.1.0 _ there.1.2)
+    ∙ same_numbers _ _ _ _ _ _ c.section_number.ensures there.1.3 (seen_fields _ there.1.0 _ there.1.2) in
+    rw filled (item_read _ headers laws _ _ _
+    (stands (header_value c.args.header.now) there.1.0 _ c.requires there.1.1 (extent_there _ there.1.0 _ _ there.0 there.1.2)))
 
 pub returns-in-Ok-None : goal.returns-in-Ok-None
 returns-in-Ok-None c =

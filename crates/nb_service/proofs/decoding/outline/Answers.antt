@@ -14,16 +14,13 @@ returns-in_err-header-clause-fault c =
     let p = err_from_is_err_and c.from_residual.result c.from_residual.ensures.1 in
     rw (p.1, p.2, c.in_err-header.ensures.fault.0, ← c.packet.ensures) (cut_header c.in_err-header.ensures.fault.1)
 
-pub returns-in_err-used-clause-only : goal.returns-in_err-used-clause-only
-returns-in_err-used-clause-only c packet used h = absurd (c.one_service_fault.ensures.alone _ _ packet used c.in_err-used.ensures.fault h)
+pub returns-in-None-clause-only : goal.returns-in-None-clause-only
+returns-in-None-clause-only c packet used h =
+    let seen = c.walk-walked.ensures in
+    let end = rw c.in-None.is at seen.end in
+    let one = c.one_packet.ensures _ seen.part packet _ used end.0 h in
+    (rw (← end.1) (ap header_of one.0), one.1)
 
-pub returns-in_err-used-clause-fault : goal.returns-in_err-used-clause-fault
-returns-in_err-used-clause-fault c =
-    let p = err_from_is_err_and c.from_residual-in_err-used.result c.from_residual-in_err-used.ensures.1 in
-    rw (p.1, p.2) c.in_err-used.ensures.fault
-
-pub returns-clause-only : goal.returns-clause-only
-returns-clause-only c packet used h =
-    let seen = c.in_ok-used.ensures.found in
-    let one = c.one_packet.ensures _ seen.packet packet _ used seen.stands h in
-    (rw (← seen.outlined) (ap header_of one.0), one.1)
+pub returns-in-Some-clause-only : goal.returns-in-Some-clause-only
+returns-in-Some-clause-only c packet used h =
+    absurd (c.one_service_fault.ensures.alone _ _ packet used (rw c.in-Some.is at c.walk-walked.ensures.end) h)

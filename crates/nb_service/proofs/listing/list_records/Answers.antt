@@ -1,22 +1,28 @@
-use Rattle.std.proofs.Common.{arith}
-use Rattle.std.proofs.lemmas.Result.{err_from_is_err_and}
+use Rattle.std.proofs.Common.{◌∷◌, [], refl, ◌∙◌, arith, length-append}
 use Rattle.nb_service.specs.Packet.{RecordAt}
-use Rattle.nb_service.specs.Code.Steps.{fails, memory}
-use Rattle.nb_service.specs.ServiceFaults.{RecordFails}
-use Rattle.nb_service.proofs.StepLemmas.{row_begun, row_turn, row_stopped}
+use Rattle.nb_service.proofs.ItemLemmas.{read_is_ok, read_is}
+use Rattle.nb_service.proofs.StepLemmas.{ahead_begun, ahead_next, ahead_turn, ahead_ended}
 use Rattle.nb_service.proofs.listing.list_records.Goals as goal
 
 pub loop-init : goal.loop-init
-loop-init c = rw c.new-records.ensures.items (row_begun (RecordAt c.args.names.now) c.args.at)
+loop-init c = rw c.new-records.ensures.items (ahead_begun (RecordAt c.args.names.now) c.args.at c.args.count c.args.at [], refl)
 
-pub returns-in_err-record-clause-fault : goal.returns-in_err-record-clause-fault
-returns-in_err-record-clause-fault c =
-    let p = err_from_is_err_and c.from_residual.result c.from_residual.ensures.1 in
-    rw (p.1, p.2) (fails (row_stopped (RecordAt c.args.names.now) (RecordFails c.args.names.now) _ _ _ _ _ _ c.loop.invariant (omega arith) c.in_err-record.ensures.fault))
-
-pub returns-in_err-push-clause-fault : goal.returns-in_err-push-clause-fault
-returns-in_err-push-clause-fault c =
-    let p = err_from_is_err_and c.from_residual-in_err-push.result c.from_residual-in_err-push.ensures.1 in rw (p.1, p.2) (memory (omega arith))
+pub unwrap-seen-requires : goal.unwrap-seen-requires
+unwrap-seen-requires c =
+    let row = c.requires in
+    let next = ahead_next (RecordAt c.args.names.now) c.args.at c.args.count c.loop.next c.loop.records.items c.loop.invariant.0 row.1.0 row.0 row.1.1 (omega (arith, c.loop.invariant.1, c.loop-test.true)) in
+    read_is_ok c.see_record.result _ (c.see_record.ensures.only next.0 next.1 next.2)
 
 pub loop-preserved : goal.loop-preserved
-loop-preserved c = rw c.in_ok-push.ensures.items (row_turn (RecordAt c.args.names.now) _ _ _ _ _ _ c.loop.invariant c.in_ok-record.ensures.found)
+loop-preserved c = rw c.in_ok-push.ensures.items (
+  ahead_turn (RecordAt c.args.names.now) c.args.at c.args.count c.loop.next c.loop.records.items _ c.«record».result c.loop.invariant.0 (omega (arith, c.loop.invariant.1, c.loop-test.true))
+      (λ item after stands.
+      let read = read_is c.see_record.result _ _ c.unwrap-seen.ensures (c.see_record.ensures.only item after stands) in
+      (c.«record».ensures item read.1, read.2)),
+  omega (arith, c.loop.invariant.1, length-append c.loop.records.items (c.«record».result ∷ [])),
+)
+
+pub returns : goal.returns
+returns c items next row =
+    let whole = ahead_ended (RecordAt c.args.names.now) c.args.at c.args.count c.loop.next c.loop.records.items c.loop.invariant.0 (omega (arith, c.loop.invariant.1)) items next row in
+    (c.from_vec.ensures ∙ whole.0, whole.1)

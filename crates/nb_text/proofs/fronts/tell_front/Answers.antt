@@ -12,3 +12,6 @@ returns-clause-told g c =
       tells = record { told = told.fields; more = more.0; tells = told.tells; stands = more.1; are = refl };
       seen = and_then g.S.Sink.after _ told.fields more.0 told.seen more.2;
     }) c.tell_standing.ensures.told
+
+pub returns-then-port-eq137-clause-told : goal.returns-then-port-eq137-clause-told
+returns-then-port-eq137-clause-told g c = rw c.if-port-eq137.true c.tell_service.ensures.told

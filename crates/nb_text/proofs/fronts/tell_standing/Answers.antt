@@ -3,4 +3,4 @@ use Rattle.nb_text.proofs.fronts.tell_standing.Goals as goal
 
 pub returns-clause-told : goal.returns-clause-told
 returns-clause-told g c =
-    on_ok_weaker c.tell_session_front.result (λ told. told c.args.port c.if-port-eq137.false c.if-port-eq138.false) c.tell_session_front.ensures.told
+    on_ok_weaker c.tell_session_front.result (λ told. told c.args.port c.requires c.if-port-eq138.false) c.tell_session_front.ensures.told

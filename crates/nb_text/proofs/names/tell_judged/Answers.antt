@@ -1,13 +1,16 @@
-use Rattle.nb_text.proofs.TellsLemmas.{names_told, no_names_told}
+use Rattle.std.proofs.Common.{ℕ, ◌<◌, List, length, subst}
+use Rattle.std.proofs.lemmas.Result.{on_ok_weaker}
+use Rattle.nb_service.specs.ServiceFaults.{PacketFails, cut_header}
+use Rattle.nb_text.proofs.ToldLemmas.{headless_told}
 use Rattle.nb_text.proofs.names.tell_judged.Goals as goal
 
-pub tell_whole-requires : goal.tell_whole-requires
-tell_whole-requires g c = c.in-Ok.ensures.found
-
-pub returns-in-Ok-clause-told : goal.returns-in-Ok-clause-told
-returns-in-Ok-clause-told g c = names_told g.S.Sink.after c.args.names.now _ _ c.tell_whole.result _ c.tell_whole.ensures.told
+pub returns-in-None-clause-told : goal.returns-in-None-clause-told
+returns-in-None-clause-told g c = c.tell_whole.ensures.told c.args.more
 
 pub returns-in-Err-clause-told : goal.returns-in-Err-clause-told
 returns-in-Err-clause-told g c =
-    no_names_told g.S.Sink.after c.args.names.now _ _ c.tell_refusal.result _ c.in-Err.ensures.fault
+    let low = subst (λ (b : List ℕ). length b < 12) c.packet.ensures c.in-Err.ensures.fault.1 in
+    on_ok_weaker c.tell_refusal.result
+    (λ told. headless_told g.S.Sink.after c.args.names.now _ _ c.args.more c.in-Err.fault
+    (rw (c.in-Err.ensures.fault.0, c.packet.ensures) (cut_header low)) low told)
     (rw c.place.ensures at c.tell_refusal.ensures.told)

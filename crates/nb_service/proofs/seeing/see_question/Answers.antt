@@ -1,0 +1,53 @@
+use Rattle.std.proofs.Common.{◌+◌, ℕ, List, length, refl, ap, arith, subst}
+use Rattle.std.proofs.lemmas.Result.{err_from_is_err_and}
+use Rattle.std.specs.Int.{w16}
+use Rattle.nb_names.specs.Numbers.{NumberAt}
+use Rattle.nb_service.specs.declared.question.Question.{Question}
+use Rattle.nb_service.specs.Items.{SeesQuestion}
+use Rattle.nb_service.specs.ServiceFaults.{question_name, question_cut}
+use Rattle.nb_service.proofs.ItemLemmas.{same_question}
+use Rattle.nb_service.proofs.seeing.see_question.Goals as goal
+
+pub returns-in_err-name-clause-fault : goal.returns-in_err-name-clause-fault
+returns-in_err-name-clause-fault c =
+    let p = err_from_is_err_and c.from_residual.result c.from_residual.ensures.1 in rw (p.1, p.2) (question_name _ c.in_err-name.ensures.fault)
+
+pub returns-then-packet-after-lt-QUESTION_FIELDS-clause-fault : goal.returns-then-packet-after-lt-QUESTION_FIELDS-clause-fault
+returns-then-packet-after-lt-QUESTION_FIELDS-clause-fault c =
+    let named = c.in_ok-name.ensures.found in
+    rw (ap length c.packet-packet.ensures) (question_cut named.0 _ named.1.name (omega (arith, ap length c.packet-packet.ensures)))
+
+sees : (c : goal.After-number_16-2) → (question : Question) × SeesQuestion c.args.names.now question
+    (record { at = c.args.at; name = c.in_ok-name.name; fields = record { kind = c.number_16.result; class = c.number_16-2.result; ttl = 0; extent = record { rdata = c.in_ok-name.name.next + 4; next = c.in_ok-name.name.next + 4 } } })
+sees c =
+    let named = c.in_ok-name.ensures.found in
+    let same = c.packet-packet.ensures in
+    let after = c.in_ok-name.name.next in (
+      record { name = named.0; kind = c.number_16.result; class = c.number_16-2.result },
+      record {
+        stands = record {
+          after = after;
+          name = named.1.name;
+          kind = subst (λ (p : List ℕ). NumberAt p after w16 c.number_16.result) same c.number_16.ensures;
+          class = subst (λ (p : List ℕ). NumberAt p (after + 2) w16 c.number_16-2.result) same c.number_16-2.ensures;
+          end = refl;
+        };
+        reaches = refl;
+        name = named.1;
+        fields = refl;
+      },
+    )
+
+pub returns-clause-found : goal.returns-clause-found
+returns-clause-found c = (refl, sees c)
+
+pub returns-clause-only : goal.returns-clause-only
+returns-clause-only c question next there =
+    let seen = sees c in
+    let one = c.one_question.ensures.one _ _ _ question _ next seen.1.stands there in
+    (refl, same_question _ _ _ _ one.0 seen.1, one.1)
+
+pub returns-then-packet-after-lt-QUESTION_FIELDS-clause-only : goal.returns-then-packet-after-lt-QUESTION_FIELDS-clause-only
+returns-then-packet-after-lt-QUESTION_FIELDS-clause-only c question next there =
+    let named = c.in_ok-name.ensures.found in
+    absurd (c.one_question.ensures.alone _ _ _ question next (question_cut named.0 _ named.1.name (omega (arith, ap length c.packet-packet.ensures))) there)

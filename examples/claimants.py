@@ -11,11 +11,10 @@ CLAIMS = (nbt.Operation.REGISTRATION, nbt.Operation.REFRESH, nbt.Operation.OTHER
 
 def packets(lines):
     """The packets of port 137 in a capture. Payloads that begin with none are passed over."""
-    for line in lines:
-        if line.startswith('137 '):
-            digits = line.split()[2]
+    for line in map(nbt.capture_line, lines):
+        if line.port == 137:
             try:
-                yield nbt.ServicePacket.read(b'' if digits == 'empty' else bytes.fromhex(digits))
+                yield nbt.ServicePacket.read(line.payload)
             except nbt.NbtError:
                 pass
 

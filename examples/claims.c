@@ -5,9 +5,8 @@
 #include <nbt.h>
 #include <stdio.h>
 #include <stdlib.h>
-#include <string.h>
 
-enum { TYPE_NB = 0x20, RESPONSE = 0x8000, GROUP = 0x8000, MOST_BYTES = 65535 };
+enum { TYPE_NB = 0x20, RESPONSE = 0x8000, GROUP = 0x8000 };
 
 /* Whether a packet with this word in its header asks for a name: by a registration or a refresh, of which RFC 1002 has two, or
  * by the registration of a host with several addresses. */
@@ -45,25 +44,22 @@ static void print_payload(const uint8_t *payload, size_t length) {
     }
 }
 
-/* How many bytes these digits are, which are put into the payload. */
-static size_t bytes_of(const char *digits, uint8_t *payload) {
-    size_t length = 0;
-    unsigned byte;
-    while (length < MOST_BYTES && sscanf(digits + 2 * length, "%2x", &byte) == 1)
-        payload[length++] = (uint8_t)byte;
-    return length;
-}
-
 int main(void) {
-    static uint8_t payload[MOST_BYTES];
-    char *line = NULL;
-    size_t room = 0;
-    while (getline(&line, &room, stdin) > 0) {
-        const char *digits = strrchr(line, ' ');
-        if (strncmp(line, "137 ", 4) == 0 && strcmp(digits, " empty\n") != 0)
-            print_payload(payload, bytes_of(digits + 1, payload));
+    static uint8_t payload[NBT_LINE_ROOM];
+    char *text = NULL;
+    size_t room = 0, used;
+    ssize_t length;
+    struct nbt_line line;
+    while ((length = getline(&text, &room, stdin)) > 0) {
+        size_t bytes = (size_t)length - (text[length - 1] == '\n');
+        if (nbt_capture_line((const uint8_t *)text, bytes, &line, payload, sizeof payload, &used) != NBT_DONE) {
+            fputs("claims: a line is none of a capture's\n", stderr);
+            return 1;
+        }
+        if (line.port == 137)
+            print_payload(payload, used);
     }
-    free(line);
+    free(text);
     if (fflush(stdout) != 0) {
         perror("claims: standard output");
         return 1;

@@ -6,11 +6,12 @@
 use std::io::{self, BufRead, Write};
 
 use nbt::service::{read, NodeStatus, Rdata};
+use nbt::{capture_line, Line};
 
 fn main() -> io::Result<()> {
     let mut out = io::stdout().lock();
     for line in io::stdin().lock().lines() {
-        if let Some(payload) = payload_of(&line?) {
+        if let Some(payload) = payload_of(&line?)? {
             write_statuses(&mut out, &payload)?;
         }
     }
@@ -30,12 +31,13 @@ fn write_statuses(out: &mut impl Write, payload: &[u8]) -> io::Result<()> {
 }
 
 /// The payload of a line of a capture, if it came to port 137.
-fn payload_of(line: &str) -> Option<Vec<u8>> {
-    let (_moment, digits) = line.strip_prefix("137 ")?.split_once(' ')?;
-    let pairs = (0..digits.len()).step_by(2);
-    pairs
-        .map(|at| u8::from_str_radix(digits.get(at..at + 2)?, 16).ok())
-        .collect()
+fn payload_of(line: &str) -> nbt::Result<Option<Vec<u8>>> {
+    match capture_line(line.as_bytes())? {
+        Some(Line::Packet {
+            port: 137, payload, ..
+        }) => Ok(Some(payload)),
+        _ => Ok(None),
+    }
 }
 
 /// The unit of a node, and its names.

@@ -6,7 +6,7 @@
 use std::io::{self, BufRead, Write};
 
 use nbt::service::{read, NodeName, Response, NBSTAT};
-use nbt::Name;
+use nbt::{capture_line, Line, Name};
 
 /// The names of the node, and NAME_FLAGS of each: G 0x8000, a group's name, and ACT 0x0400.
 const NAMES: [(&str, u16); 3] = [
@@ -23,7 +23,7 @@ fn main() -> io::Result<()> {
     let (names, mut packet) = (own_names()?, Vec::new());
     let mut out = io::stdout().lock();
     for line in io::stdin().lock().lines() {
-        let payload = payload_of(&line?).unwrap_or_default();
+        let payload = payload_of(&line?)?.unwrap_or_default();
         if let Some((identifier, name)) = asked(&payload, &names) {
             let name = name.to_string();
             Response::node_status(identifier, &name, &names, UNIT).write_into(&mut packet)?;
@@ -52,12 +52,13 @@ fn asked(payload: &[u8], names: &[NodeName]) -> Option<(u16, Name)> {
 }
 
 /// The payload of a line of a capture, if it came to port 137.
-fn payload_of(line: &str) -> Option<Vec<u8>> {
-    let (_moment, digits) = line.strip_prefix("137 ")?.split_once(' ')?;
-    let pairs = (0..digits.len()).step_by(2);
-    pairs
-        .map(|at| u8::from_str_radix(digits.get(at..at + 2)?, 16).ok())
-        .collect()
+fn payload_of(line: &str) -> nbt::Result<Option<Vec<u8>>> {
+    match capture_line(line.as_bytes())? {
+        Some(Line::Packet {
+            port: 137, payload, ..
+        }) => Ok(Some(payload)),
+        _ => Ok(None),
+    }
 }
 
 /// Bytes as digits.

@@ -131,6 +131,9 @@ enum nbt_status {
     /* A part of a packet. */
     NBT_OTHER_TYPE = 110, /* the packet stands, but its type isn't the one that has the part */
 
+    /* A line of a capture. */
+    NBT_BAD_LINE = 120, /* it is none of a capture's */
+
     NBT_UNKNOWN_STATUS = 255 /* no number of this enum */
 };
 
@@ -138,6 +141,8 @@ enum nbt_status {
 #define NBT_STACK 65536
 #define NBT_NAME_ROOM 704
 #define NBT_BRIEF_ROOM 2048
+/* As many bytes as the payload of no line of a capture has more of. */
+#define NBT_LINE_ROOM 131097
 
 /* The words of a status, as "done", plain ASCII without a line feed, at most 64 bytes.
  * NBT_NO_ROOM, NBT_UNKNOWN_STATUS. */
@@ -186,6 +191,28 @@ uint32_t nbt_json(uint16_t port, const uint8_t *payload, size_t payload_length,
  * NBT_NO_MEMORY, NBT_NO_ROOM. */
 uint32_t nbt_brief(uint16_t port, const uint8_t *payload, size_t payload_length,
                    uint8_t *into, size_t into_length, size_t *used);
+
+/* What a line of a capture is. */
+enum nbt_line_kind {
+    NBT_BLANK = 0,  /* it is empty, or a comment */
+    NBT_PACKET = 1, /* a payload that came */
+    NBT_TICK = 2    /* what the clock shows */
+};
+
+/* A line of a capture, in numbers. A number of which nothing is said is 0. */
+struct nbt_line {
+    uint32_t kind;   /* one of enum nbt_line_kind */
+    uint16_t port;   /* of a packet: the port that it came to, 137, 138 or 139 */
+    uint64_t moment; /* when a packet came, or what the clock shows, in milliseconds since any moment of the capture's choice */
+};
+
+/* Reads a line of a capture, which is without its line feed: `PORT MOMENT HEX` is a packet, whose bytes HEX has, or the word `empty`;
+ * `tick MOMENT` is the clock; a line that is empty or begins with `#` is blank (our choice; docs/FORMATS.md has the form). The payload
+ * is written, of at most NBT_LINE_ROOM bytes; of any other line no byte is. At NBT_NO_ROOM `*said` is as it was, too.
+ * NBT_BAD_LINE for any other line, and for one of more than 262,200 bytes, NBT_NO_MEMORY for a payload of a byte or more alone,
+ * NBT_NO_ROOM, judged in this order. */
+uint32_t nbt_capture_line(const uint8_t *line, size_t line_length, struct nbt_line *said,
+                          uint8_t *into, size_t into_length, size_t *used);
 
 /* The header of a packet of the name service: RFC 1002 section 4.2.1.1. */
 struct nbt_service_header {

@@ -223,7 +223,7 @@ limits() {
     count $? "tests/lib/bounds.c: $(head -n 1 "$room/log")"
     "$here/lib/library_payloads.py" --seed 5 500 | sed 's/ / 0 /' | ended "$room/bounds" >"$room/output" 2>"$room/errors"
     count $? "the stack and the texts of calls: $(head -n 1 "$room/errors")"
-    grep -c ' of 65536$' "$room/output" | same 10 'calls whose stack is measured'
+    grep -c ' of 65536$' "$room/output" | same 11 'calls whose stack is measured'
     for each in create free list save take tick absorb; do
         short_of_memory "station_$each"
     done

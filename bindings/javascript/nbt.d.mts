@@ -133,6 +133,11 @@ export interface SessionFront {
     bodyLength: number;
 }
 
+/** A line of a capture: a payload that came to port 137, 138 or 139, or what the clock shows. Moments are in milliseconds. */
+export type Line =
+    | { kind: 'packet'; port: number; moment: bigint; payload: Uint8Array }
+    | { kind: 'tick'; moment: bigint };
+
 /** A packet of the session service, port 139: RFC 1002 section 4.3. */
 export interface SessionPacket {
     type: number;
@@ -254,6 +259,8 @@ export interface Nbt {
     readSession(payload: Bytes, offset?: number): SessionPacket;
     /** The header at the front, also of what `readSession` refuses. NbtError: MORE where its four bytes aren't there. */
     readSessionFront(payload: Bytes, offset?: number): SessionFront;
+    /** A line of a capture, a text or its bytes, without its line feed; null where it is empty or a comment. NbtError: BAD_LINE. */
+    readLine(line: string | Bytes): Line | null;
     writeSession(type: number, body?: Bytes): Uint8Array;
     request(kind: 'query' | 'nodeStatus' | 'registration' | 'refresh' | 'release', request: Request): Uint8Array;
     /** The spelling of the name of a server, which is RDATA of type NS: so many bytes of a payload of port 137, from a place on. Pointers in

@@ -13,9 +13,10 @@ export const Status = Object.freeze({
     ZERO_PIECE: 61, LONG_DATA: 62, TABLE_BAD_MAGIC: 70, TABLE_TRUNCATED: 71, TABLE_NOT_CANONICAL: 72, TABLE_LONG: 73,
     TABLE_FULL_SOURCE: 74, TABLE_FULL: 75, SECOND_BAD_MAGIC: 80, SECOND_TRUNCATED: 81, SECOND_NOT_CANONICAL: 82, SECOND_LONG: 83,
     SECOND_FULL_SOURCE: 84, SECOND_FULL: 85, MISPLACED_FIRST: 90, LONG: 91, FULL_SOURCE: 92, FULL: 93, NAME_PRESENT: 100,
-    TOO_MANY_NAMES: 101, NO_STATION: 102, OTHER_TYPE: 110, UNKNOWN_STATUS: 255,
+    TOO_MANY_NAMES: 101, NO_STATION: 102, OTHER_TYPE: 110, BAD_LINE: 120, UNKNOWN_STATUS: 255,
 });
 const STATUS_NAMES = new Map(Object.entries(Status).map(([name, number]) => [number, name]));
+const LINES = ['blank', 'packet', 'tick'];
 const OUTCOMES = ['KEPT', 'SPOILT', 'DELIVERED', 'UNHEARD', 'OTHER', 'REFUSED'];
 const REQUESTS = ['query', 'nodeStatus', 'registration', 'refresh', 'release'];
 const REQUEST = 0x81, RETARGET = 0x84, NO_LIMIT = 0xffff_ffff, TAKE_ROOM = 66_045;
@@ -183,6 +184,7 @@ class Calls {
     word(at) { return this.view.getUint16(this.at + at, true); }
     long(at) { return this.view.getUint32(this.at + at, true); }
     number(at) { return this.long(at) + this.long(at + 4) * 2 ** 32; }
+    moment(at) { return this.view.getBigUint64(this.at + at, true); }
     endpoint(at) { return { address: addressText(this.long(at)), port: this.word(at + 4) }; }
     key(at) { return { ...this.endpoint(at), identifier: this.word(at + 6) }; }
 
@@ -358,6 +360,14 @@ function libraryOf(calls) {
         merge: (first, second, { keys = 65_535, perSource = NO_LIMIT } = {}) =>
             written('nbt_table_merge', bytesOf(first, 'first'), bytesOf(second, 'second'), ...limitsOf(keys, perSource)),
 
+        readLine(line) {
+            const bytes = typeof line === 'string' ? utf8.encode(line) : bytesOf(line, 'line');
+            const payload = calls.write('nbt_capture_line', [bytes, FOUND, INTO, USED]).slice();
+            const kind = LINES[calls.long(16)], moment = calls.moment(24);
+            if (kind === 'blank') return null;
+            return kind === 'tick' ? { kind, moment } : { kind, port: calls.word(20), moment, payload };
+        },
+
         differ(first, second) {
             calls.fill('nbt_table_differ', [bytesOf(first, 'first'), bytesOf(second, 'second'), FOUND, AT]);
             return calls.byte(24) === 0 ? null : calls.key(16);
@@ -442,7 +452,7 @@ const MEMORY64 = Uint8Array.of(0, 97, 115, 109, 1, 0, 0, 0, 5, 3, 1, 4, 1);
 
 /** What a module has to have. */
 const CALLS = [
-    'heap_give_back', 'heap_limit', 'heap_take', 'nbt_brief', 'nbt_datagram_error', 'nbt_datagram_front', 'nbt_datagram_query',
+    'heap_give_back', 'heap_limit', 'heap_take', 'nbt_brief', 'nbt_capture_line', 'nbt_datagram_error', 'nbt_datagram_front', 'nbt_datagram_query',
     'nbt_datagram_read', 'nbt_datagram_write', 'nbt_json', 'nbt_name_spell', 'nbt_name_text', 'nbt_service_address', 'nbt_service_domain',
     'nbt_service_header', 'nbt_service_items', 'nbt_service_node', 'nbt_service_request', 'nbt_service_response', 'nbt_service_unit', 'nbt_session_front', 'nbt_session_names', 'nbt_session_read', 'nbt_session_retarget', 'nbt_session_write', 'nbt_show',
     'nbt_station_absorb', 'nbt_station_create', 'nbt_station_free', 'nbt_station_list', 'nbt_station_save', 'nbt_station_take',

@@ -79,6 +79,11 @@ static void shows(void) { nbt_show(port, payload, payload_length, text, sizeof t
 static void tells(void) { nbt_json(port, payload, payload_length, text, sizeof text, &used); }
 static void says(void) { nbt_brief(port, payload, payload_length, text, sizeof text, &used); }
 
+static void reads_line(void) {
+    struct nbt_line said;
+    nbt_capture_line(text, 2 * LINE_PAYLOAD + 6, &said, table, sizeof table, &used);
+}
+
 static void reads_137(void) {
     struct nbt_service_header header;
     nbt_service_header(payload, payload_length, &header, &at);
@@ -292,6 +297,16 @@ static void names(void) {
         exit(3);
 }
 
+/* The longest line, whose payload is the longest. */
+static void longest_line(void) {
+    memset(text, '5', 2 * LINE_PAYLOAD + 6);
+    memcpy(text, "137 0 ", 6);
+    measured("stack: nbt_capture_line", depth_of(reads_line), NBT_STACK);
+    measured("bytes: nbt_capture_line", used, NBT_LINE_ROOM);
+    if (used != NBT_LINE_ROOM)
+        exit(3);
+}
+
 static void status_texts(void) {
     uint32_t status;
     for (status = 0; status < 256; status++)
@@ -338,6 +353,7 @@ int main(void) {
     longest_phrase();
     names();
     status_texts();
+    longest_line();
     measured("stack: what is written", depth_of(writes), NBT_STACK);
     measured("stack: nbt_station_..", depth_of(of_station), NBT_STACK);
     lines();

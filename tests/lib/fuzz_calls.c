@@ -131,6 +131,12 @@ static uint32_t show(const struct asked *it, uint8_t *into, size_t into_length, 
     return nbt_show((uint16_t)it->number, it->first.at, it->first.length, into, into_length, used);
 }
 
+static uint32_t capture_line(const struct asked *it, uint8_t *into, size_t into_length, size_t *used, size_t *at) {
+    struct nbt_line said;
+    (void)at;
+    return nbt_capture_line(it->first.at, it->first.length, &said, into, into_length, used);
+}
+
 static uint32_t name_text(const struct asked *it, uint8_t *into, size_t into_length, size_t *used, size_t *at) {
     return nbt_name_text(it->first.at, it->first.length, into, into_length, used, at);
 }
@@ -358,6 +364,7 @@ static void payload(uint32_t port, struct bytes it) {
     free(answered(service_request, &asked).bytes.at);
     free(answered(session_write, &asked).bytes.at);
     free(answered(name_text, &asked).bytes.at);
+    free(answered(capture_line, &asked).bytes.at);
     station.at = NULL;
     status = nbt_station_create(it.at, it.length, 1, 1, 1, 1, &station.at, &at);
     EXPECT((status == NBT_DONE) == (station.at != NULL));

@@ -48,6 +48,16 @@ WRITES(name_text)
 WRITES(table_list)
 WRITES(table_json)
 
+static uint32_t capture_line(const struct asked *asked, uint8_t *into, size_t length, size_t *used, size_t *at) {
+    struct nbt_line said;
+    uint32_t status;
+    (void)at;
+    memset(&said, FILL, sizeof said);
+    status = nbt_capture_line(asked->first.at, asked->first.length, &said, into, length, used);
+    expect(status == NBT_DONE ? said.kind <= NBT_TICK : is_filled(&said, sizeof said), "nbt_capture_line", "the numbers");
+    return status;
+}
+
 static uint32_t status_text(const struct asked *asked, uint8_t *into, size_t length, size_t *used, size_t *at) {
     (void)at;
     return nbt_status_text((uint32_t)asked->number, into, length, used);
@@ -233,6 +243,8 @@ static void text(struct bytes bytes) {
     WRITE(datagram_write, .first = bytes, .second = bytes, .number = 0x11, .other = 2, .place = 5);
 }
 
+static void line(struct bytes bytes) { WRITE(capture_line, .first = bytes); }
+
 static void table(struct bytes bytes) {
     static const uint32_t limits[][2] = {{0, 0}, {1, UINT32_MAX}, {2, 1}, {2, UINT32_MAX}, {UINT32_MAX, UINT32_MAX}};
     size_t i;
@@ -269,6 +281,7 @@ static void any_port(void) {
 /* Lengths and numbers that no input above has. */
 static void limits(void) {
     static const uint8_t zeros[131072];
+    static uint8_t digits[262201] = "137 0 ";
     static const size_t lengths[] = {0, 1, 65535, 65536};
     static const uint16_t most[] = {0, 1, 65449, 65450, UINT16_MAX};
     static const uint8_t types[] = {0x00, 0x0f, 0x10, 0x12, 0x13, 0xff};
@@ -278,6 +291,9 @@ static void limits(void) {
         WRITE(status_text, .number = status);
     WRITE(status_text, .number = UINT32_MAX);
     WRITE(version, .number = 0);
+    memset(digits + 6, '5', sizeof digits - 6);
+    for (i = sizeof digits - 3; i <= sizeof digits; i++)
+        WRITE(capture_line, .first = {digits, i});
     for (i = 0; i <= UINT8_MAX; i++)
         WRITE(datagram_error, .number = i);
     for (i = 0; i < COUNT(lengths); i++)
@@ -322,6 +338,10 @@ int main(void) {
         {BYTES(OTHER), spelling},
         {BYTES("FRED<20>.NETBIOS.\\2e"), text},
         {BYTES("ABCDEFGHIJKLMNOP<20>"), text},
+        {BYTES("137 18446744073709551615 0a0B0c"), line},
+        {BYTES("139 7 empty"), line},
+        {BYTES("tick 18446744073709551615"), line},
+        {BYTES("# an office"), line},
     };
     size_t i;
     for (i = 0; i < COUNT(samples); i++)

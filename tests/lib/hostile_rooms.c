@@ -6,7 +6,7 @@
 #include <string.h>
 #include <sys/mman.h>
 
-enum { PAGE = 4096, SPACE = 64 * PAGE, ROOMS = 4, OUTPUT = 2, MOST_ANSWERS = 1024, MORE = 5 };
+enum { PAGE = 4096, SPACE = 65 * PAGE, ROOMS = 4, OUTPUT = 2, MOST_ANSWERS = 1024, MORE = 5 };
 
 static struct {
     const char *call;

@@ -107,6 +107,37 @@ static int again(uint32_t status)
     return status == NBT_NO_MEMORY;
 }
 
+/* A payload's line of a capture, with its number for the moment: in a byte too little, and in the room that is wanted. Without its last
+ * digit it is none of a capture's. */
+static void lined(uint16_t port, const uint8_t *payload, size_t length)
+{
+    static char text[2 * 131100 + 64];
+    uint16_t of_line = port == 137 || port == 138 ? port : 139;
+    size_t size = (size_t)snprintf(text, sizeof text, "%u %lu %s", of_line, number, length > 0 ? "" : "empty"), i, less, used = 77;
+    uint8_t *given, *into;
+    struct nbt_line said;
+    uint32_t status;
+    for (i = 0; i < length; i++)
+        size += (size_t)snprintf(text + size, sizeof text - size, i % 2 == 0 ? "%02x" : "%02X", payload[i]);
+    given = memcpy(room(texts, size), text, size);
+    for (less = length > 0;; less--) {
+        memset(&said, FILL, sizeof said);
+        into = room(packets, length - less);
+        do
+            status = nbt_capture_line(given, size, &said, into, length - less, &used);
+        while (again(status));
+        expect(status == (less > 0 ? NBT_NO_ROOM : NBT_DONE) && used == length, "nbt_capture_line: a packet");
+        expect(less > 0 ? is_filled(into, length - less) && is_filled((const uint8_t *)&said, sizeof said)
+               : memcmp(into, payload, length) == 0 && said.kind == NBT_PACKET && said.port == of_line && said.moment == number,
+               "nbt_capture_line: what it writes");
+        if (less == 0)
+            break;
+    }
+    used = 77;
+    expect(nbt_capture_line(given, size - 1, &said, NULL, 0, &used) == NBT_BAD_LINE && used == 77, "nbt_capture_line: half a byte");
+    calls += 1;
+}
+
 /* A call that tells what a payload says. */
 typedef uint32_t telling(uint16_t port, const uint8_t *payload, size_t length, uint8_t *into, size_t into_length, size_t *used);
 
@@ -835,6 +866,7 @@ static void nowhere(void)
     struct nbt_session_retarget retarget;
     struct nbt_taken taken;
     struct nbt_difference difference;
+    struct nbt_line said;
     struct nbt_station nameless;
     size_t used = 77, at = 88;
     uint32_t status;
@@ -891,6 +923,7 @@ static void nowhere(void)
     expect(status == NBT_NO_ROOM && used == 12 + 34 + 10, "nbt_service_response: no RDATA");
     expect(nbt_service_response(1, 0, name, 8, 2, 0, NULL, 0, NULL, 0, &used, &at) == NBT_NAME_TRUNCATED && at == 0, "nbt_service_response: no name in RDATA");
     expect(nbt_table_merge(NULL, 0, NULL, 0, 1, 1, NULL, 0, &used, &at) == NBT_TABLE_BAD_MAGIC, "nbt_table_merge: null");
+    expect(nbt_capture_line(NULL, 0, &said, NULL, 0, &used) == NBT_DONE && used == 0 && said.kind == NBT_BLANK, "nbt_capture_line: null");
     expect(nbt_table_differ(NULL, 0, NULL, 0, &difference, &at) == NBT_TABLE_BAD_MAGIC, "nbt_table_differ: null");
     expect(nbt_table_json(NULL, 0, NULL, 0, &used, &at) == NBT_TABLE_BAD_MAGIC, "nbt_table_json: null");
     expect(nbt_table_list(NULL, 0, NULL, 0, &used, &at) == NBT_TABLE_BAD_MAGIC, "nbt_table_list: null");
@@ -991,6 +1024,7 @@ int main(int count, char **words)
         datagram(payload, length);
         session(payload, length);
         stationed(payload, length);
+        lined(port, payload, length);
     }
     nbt_station_free(station);
     nbt_station_free(joiner);

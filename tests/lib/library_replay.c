@@ -1,31 +1,18 @@
 /* What `nbt replay` prints of a capture on standard input, by a station of the library for C, but for why a payload is
- * refused. Usage: library_replay NAME.. <CAPTURE. The status is 1 where a name is refused, or memory runs out. */
-#include <ctype.h>
+ * refused. Usage: library_replay NAME.. <CAPTURE. The status is 1 where a name or a line is refused, or
+ * memory runs out. */
 #include <nbt.h>
 #include <stdio.h>
 #include <stdlib.h>
 #include <string.h>
 
 static char line[2 * 131100 + 64];
-static uint8_t payload[131100], into[NBT_TAKE_ROOM];
+static uint8_t payload[NBT_LINE_ROOM], into[NBT_TAKE_ROOM];
 
 static void fail(const char *what, uint32_t status)
 {
     fprintf(stderr, "library_replay: %s: status %u\n", what, (unsigned)status);
     exit(1);
-}
-
-static uint8_t half(char digit) { return (uint8_t)(digit <= '9' ? digit - '0' : digit - 'a' + 10); }
-
-/* The bytes of some digits, or of `empty`. sscanf would look for the line's end at each byte. */
-static size_t bytes_of(const char *digits)
-{
-    size_t length;
-    if (strncmp(digits, "empty", 5) == 0)
-        return 0;
-    for (length = 0; isxdigit((unsigned char)digits[2 * length]); length++)
-        payload[length] = (uint8_t)(half(digits[2 * length]) << 4 | half(digits[2 * length + 1]));
-    return length;
 }
 
 static void print_digits(const uint8_t *bytes, size_t length)
@@ -84,13 +71,11 @@ static void print_taken(const struct nbt_taken *taken)
     }
 }
 
-static void take(struct nbt_station *station, const char *words)
+static void take(struct nbt_station *station, uint64_t moment, size_t length)
 {
-    char *digits;
-    uint64_t moment = strtoull(words, &digits, 10);
     struct nbt_taken taken;
     size_t used;
-    uint32_t status = nbt_station_take(station, moment, payload, bytes_of(digits + 1), &taken, into, sizeof into, &used);
+    uint32_t status = nbt_station_take(station, moment, payload, length, &taken, into, sizeof into, &used);
     if (status == NBT_NO_MEMORY)
         fail("a payload", status);
     if (status == NBT_DONE)
@@ -99,9 +84,9 @@ static void take(struct nbt_station *station, const char *words)
         printf("refused");
 }
 
-static void tick(struct nbt_station *station, const char *words)
+static void tick(struct nbt_station *station, uint64_t now)
 {
-    uint32_t dropped, status = nbt_station_tick(station, strtoull(words, NULL, 10), &dropped);
+    uint32_t dropped, status = nbt_station_tick(station, now, &dropped);
     if (status != NBT_DONE)
         fail("a tick", status);
     printf("dropped %u", (unsigned)dropped);
@@ -125,15 +110,20 @@ static struct nbt_station created(int count, char **names)
 int main(int count, char **words)
 {
     struct nbt_station station = created(count, words);
+    struct nbt_line said;
     unsigned long number;
+    size_t used;
     for (number = 1; fgets(line, sizeof line, stdin) != NULL; number++) {
-        if (line[0] == '#' || line[0] == '\n')
+        uint32_t status = nbt_capture_line((const uint8_t *)line, strcspn(line, "\n"), &said, payload, sizeof payload, &used);
+        if (status != NBT_DONE)
+            fail("a line", status);
+        if (said.kind == NBT_BLANK)
             continue;
         printf("%lu ", number);
-        if (strncmp(line, "tick ", 5) == 0)
-            tick(&station, line + 5);
-        else if (strncmp(line, "138 ", 4) == 0)
-            take(&station, line + 4);
+        if (said.kind == NBT_TICK)
+            tick(&station, said.moment);
+        else if (said.port == 138)
+            take(&station, said.moment, used);
         else
             printf("passed");
         printf("\n");

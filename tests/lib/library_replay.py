@@ -24,19 +24,18 @@ def report(taken):
 
 
 def replay(station, line):
-    """The report of a capture's line."""
-    words = line.split()
-    if words[0] == 'tick':
-        return f'dropped {station.tick(int(words[1]))}'
-    if words[0] != '138':
+    """The report of a capture's line that says something."""
+    if line.kind == nbt.LineKind.TICK:
+        return f'dropped {station.tick(line.moment)}'
+    if line.port != 138:
         return 'passed'
     try:
-        return report(station.take(int(words[1]), bytes.fromhex(words[2].replace('empty', ''))))
+        return report(station.take(line.moment, line.payload))
     except nbt.NbtError:
         return 'refused'
 
 
 with nbt.Station(sys.argv[1:], '0.0.0.0') as station:
-    for number, line in enumerate(sys.stdin, 1):
-        if line.strip() and not line.startswith('#'):
+    for number, line in enumerate(map(nbt.capture_line, sys.stdin), 1):
+        if line.kind != nbt.LineKind.BLANK:
             print(number, replay(station, line))

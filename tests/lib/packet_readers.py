@@ -37,7 +37,7 @@ MAY = {
     'python/nbt/stations.py': {'deliveries': WRITTEN},
     'rust/src/datagram.rs': {'next': WRITTEN},
     'rust/src/station.rs': {'next': WRITTEN},
-    'javascript/nbt.mjs': {'byte': STRUCTURE, 'word': STRUCTURE, 'long': STRUCTURE, 'free': STRUCTURE, 'deliveries': WRITTEN,
+    'javascript/nbt.mjs': {'byte': STRUCTURE, 'word': STRUCTURE, 'long': STRUCTURE, 'moment': STRUCTURE, 'free': STRUCTURE, 'deliveries': WRITTEN,
                            'writeDatagram': WRITTEN, 'addressOf': 'an address that is a text'},
     'wireshark/collect.c': {'length_by_header': 'a header of UDP'},
     'wireshark/station.c': {'datagram_of': 'a key, of numbers'},

@@ -230,6 +230,17 @@ static void create(struct nbt_station *made, const char *texts_of)
 
 static int value(char digit) { return digit <= '9' ? digit - '0' : (digit | 32) - 'a' + 10; }
 
+/* The line of a capture that has this payload, whose digits these are, at this moment. */
+static void lined(uint32_t port, const char *digits)
+{
+    static char text[2 * sizeof payload + 64];
+    struct nbt_line it;
+    size_t size = (size_t)snprintf(text, sizeof text, "%u %lu %.*s", (unsigned)port, number, (int)strcspn(digits, "\n"), digits);
+    memset(&it, 0, sizeof it);
+    WRITE("capture_line", nbt_capture_line(bytes(text), size, &it, into, room, &used));
+    fprintf(out, "%lu line %u %u %llu\n", number, (unsigned)it.kind, it.port, (unsigned long long)it.moment);
+}
+
 /* Takes a line, and answers where the next one begins. */
 static const char *line(const char *from)
 {
@@ -242,6 +253,7 @@ static const char *line(const char *from)
         payload[i] = (uint8_t)(value(digits[2 * i]) * 16 + value(digits[2 * i + 1]));
     number += 1;
     packets(port);
+    lined(port, digits);
     texts();
     take();
     tables();

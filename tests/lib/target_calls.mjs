@@ -130,6 +130,13 @@ function packets(port, length) {
     ]);
 }
 
+// The line of a capture that has this payload, whose digits these are, at this moment.
+function lined(port, digits) {
+    memory.fill(0, found, found + 16);
+    write('capture_line', 'nbt_capture_line', [...textAt(Buffer.from(`${port} ${number} ${digits}`), 4096), big(found)], false);
+    fields('line', view.getUint32(found, true), view.getUint16(found + 4, true), view.getBigUint64(found + 8, true));
+}
+
 function texts(length) {
     const from = Math.min(number % 16, length), count = Math.min(length - from, 255);
     write('name_text', 'nbt_name_text', [big(payload + from), big(count)]);
@@ -201,6 +208,7 @@ function run(lines, refused) {
         memory.set(bytes, payload);
         number += 1;
         packets(Number(port), bytes.length);
+        lined(port, digits);
         texts(bytes.length);
         take(bytes.length);
         tables(bytes.length);

@@ -617,6 +617,40 @@ test('memory: its limit, and requests that no memory has', async () => {
     assert.ok(heap.heap_take(900n) > 0n);
 });
 
+/** What a line of a capture says, in the words of lines.txt. */
+function said(line) {
+    let read;
+    try {
+        read = nbt.readLine(line);
+    } catch (error) {
+        assert.deepEqual([error.status, error.at], ['BAD_LINE', null]);
+        return 'refused';
+    }
+    if (read === null) return 'blank';
+    const { kind, port, moment, payload } = read;
+    return [kind, ...(kind === 'tick' ? [moment] : [port, moment, Buffer.from(payload).toString('hex')])].join(' ').trimEnd();
+}
+
+test('the lines of captures that the tests of each language read', () => {
+    const cases = readFileSync(new URL('../../rust/tests/calls/lines.txt', import.meta.url), 'latin1').trimEnd().split('\n');
+    for (const each of cases) {
+        const [, wanted, line] = each.match(/^(.*?) \[(.*)\]$/);
+        for (const given of [line, bytes(line), bytes(line).buffer]) assert.equal(said(given), wanted, each);
+    }
+    assert.equal(cases.length, 32);
+    assert.deepEqual(nbt.readLine('138 7 00ff'), { kind: 'packet', port: 138, moment: 7n, payload: hex('00ff') });
+    assert.deepEqual(nbt.readLine('tick 9'), { kind: 'tick', moment: 9n });
+});
+
+test('the longest lines of captures', () => {
+    assert.deepEqual(nbt.readLine(`137 0 ${'5a'.repeat(131_097)}`).payload, new Uint8Array(131_097).fill(0x5a));
+    assert.equal(said(`137 0 ${'5a'.repeat(131_098)}`), 'refused');
+    assert.equal(said(`#${'x'.repeat(262_199)}`), 'blank');
+    assert.equal(said(`#${'x'.repeat(262_200)}`), 'refused');
+    for (const line of ['tick 7\n', '# an office\n', 'tick 7\r']) assert.equal(said(line), 'refused');
+    for (const line of [null, 7, ['tick 7']]) assert.throws(() => nbt.readLine(line), TypeError);
+});
+
 /** A module that does something after each call of a name. */
 async function interrupted(name, then) {
     const { instantiate } = WebAssembly;

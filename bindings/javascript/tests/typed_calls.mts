@@ -1,6 +1,6 @@
 // Calls whose types have to be those of nbt.d.mts, for tsc --strict. It isn't run.
 import { load, NbtError, Status } from '../nbt.mjs';
-import type { DatagramFront, Delivery, Key, Nbt, Response, ServicePacket, SessionFront, SessionPacket, Station, Taken } from '../nbt.mjs';
+import type { DatagramFront, Delivery, Key, Line, Nbt, Response, ServicePacket, SessionFront, SessionPacket, Station, Taken } from '../nbt.mjs';
 
 const nbt: Nbt = await load({ module: new URL('nbt.wasm', import.meta.url), limit: 1 << 24 });
 const pieces: Uint8Array[] = nbt.writeDatagram({ type: 0x10, identifier: 1, address: 5, source: 'A<00>', destination: 'B<20>', data: new ArrayBuffer(4) });
@@ -32,7 +32,11 @@ const answer: Response = { identifier: front.identifier, word: 0x8580, name: fro
 nbt.show(137, nbt.response({ ...answer, timeToLive: front.port }));
 const server: Uint8Array = nbt.readDomain(new ArrayBuffer(60), 56, 4);
 nbt.text(server);
+const line: Line | null = nbt.readLine(lines) ?? nbt.readLine(server);
+if (line?.kind === 'packet') station.take(line.moment, line.payload).port.toFixed(line.port);
 
+// @ts-expect-error A line that is what the clock shows has no payload.
+line?.payload;
 // @ts-expect-error A front has no data.
 front.data;
 // @ts-expect-error A response has a type.

@@ -10,6 +10,7 @@ datagrams   packets of port 138
 sessions    packets of port 139
 stations    stations, which put datagrams together
 tables      saved tables
+captures    lines of captures
 turns       calls on a station, one at a time
 statuses    why a call did nothing, as exceptions
 numbers     numbers, addresses and texts, judged before a call
@@ -22,6 +23,7 @@ The calls may be made from any thread, and let other threads run meanwhile, but 
 station a call waits for another to end.
 """
 from .buffers import Buffer
+from .captures import Line, LineKind, capture_line
 from .datagrams import Datagram, DatagramFront, DatagramType, datagram_error, datagram_query
 from .library import VERSION
 from .names import spell, text
@@ -37,9 +39,10 @@ from .tables import Key, differ, list_table, merge, table_json
 from .turns import ReentryError
 
 __version__ = VERSION().decode()
-__all__ = ['Buffer', 'Datagram', 'DatagramFront', 'DatagramType', 'Delivery', 'DomainName', 'Key', 'MoreNeeded',
-           'NbEntry', 'NbtError', 'NodeName', 'NodeStatus', 'NodeType', 'Operation', 'Outcome', 'Question', 'Rdata',
-           'Record', 'ReentryError', 'ResultCode', 'ServicePacket', 'SessionFront', 'SessionPacket', 'SessionStream',
-           'SessionType', 'Station', 'Status', 'Taken', 'brief', 'datagram_error', 'datagram_query', 'differ', 'json',
-           'list_table', 'merge', 'negative_query_response', 'node_status', 'node_status_response', 'query',
-           'query_response', 'refresh', 'registration', 'release', 'response', 'show', 'spell', 'table_json', 'text']
+__all__ = ['Buffer', 'Datagram', 'DatagramFront', 'DatagramType', 'Delivery', 'DomainName', 'Key', 'Line', 'LineKind',
+           'MoreNeeded', 'NbEntry', 'NbtError', 'NodeName', 'NodeStatus', 'NodeType', 'Operation', 'Outcome',
+           'Question', 'Rdata', 'Record', 'ReentryError', 'ResultCode', 'ServicePacket', 'SessionFront',
+           'SessionPacket', 'SessionStream', 'SessionType', 'Station', 'Status', 'Taken', 'brief', 'capture_line',
+           'datagram_error', 'datagram_query', 'differ', 'json', 'list_table', 'merge', 'negative_query_response',
+           'node_status', 'node_status_response', 'query', 'query_response', 'refresh', 'registration', 'release',
+           'response', 'show', 'spell', 'table_json', 'text']

@@ -70,6 +70,7 @@ class Status(enum.IntEnum):
     TOO_MANY_NAMES = 101
     NO_STATION = 102
     OTHER_TYPE = 110
+    BAD_LINE = 120
     UNKNOWN_STATUS = 255
 
 

@@ -75,6 +75,7 @@ WORDS = """
 101 too many names
 102 no station
 110 other type
+120 bad line
 255 unknown status
 """
 

@@ -22,7 +22,7 @@ def refused(call, *arguments):
 
 
 ERRORS = [refused(nbt.spell, 'FRED'), refused(nbt.spell, 'A' * 16 + '<20>'), refused(nbt.SessionPacket.read, b'\0\0\0\x05he'),
-          nbt.NbtError(120, None, 'too odd')]
+          nbt.NbtError(130, None, 'too odd')]
 
 
 class Values(unittest.TestCase):
@@ -64,15 +64,15 @@ class Values(unittest.TestCase):
 
 class NewerLibrary(unittest.TestCase):
     def test_unknown_status(self):
-        with mock.patch.object(READ, 'call', lambda *words: 120), self.assertRaises(nbt.NbtError) as caught:
+        with mock.patch.object(READ, 'call', lambda *words: 130), self.assertRaises(nbt.NbtError) as caught:
             nbt.SessionPacket.read(b'\x85\0\0\0')
         error = caught.exception
-        self.assertEqual((error.status, error.number, error.at), (Status.UNKNOWN_STATUS, 120, None))
-        self.assertRegex(str(error), '^status 120: [a-z ]+$')
+        self.assertEqual((error.status, error.number, error.at), (Status.UNKNOWN_STATUS, 130, None))
+        self.assertRegex(str(error), '^status 130: [a-z ]+$')
 
     def test_its_words(self):
         with mock.patch('nbt.library.STATUS_TEXT', lambda status: b'too odd'):
-            self.assertEqual(str(failure(120, 7)), 'status 120: too odd')
+            self.assertEqual(str(failure(130, 7)), 'status 130: too odd')
 
     def test_known_statuses(self):
         for each in Status:

@@ -76,3 +76,11 @@ def known(station: nbt.Station, table: mmap.mmap) -> List[str]:
     error: bytes = nbt.datagram_error(key.identifier, key.address, key.port, 0x82)
     query: bytes = nbt.datagram_query(nbt.DatagramType.FIND, key.identifier, str(key.address), key.port, 'FRED<20>')
     return [nbt.brief(138, error), nbt.brief(138, query)]
+
+
+def line_of(line: str, station: nbt.Station) -> Optional[nbt.Taken]:
+    """What becomes of a line of a capture."""
+    read: nbt.Line = nbt.capture_line(line)
+    if read.kind == nbt.LineKind.TICK:
+        station.tick(read.moment)
+    return station.take(read.moment, read.payload) if read.port == 138 else None

@@ -6,8 +6,8 @@
 use std::ffi::c_void;
 
 use crate::structures::{
-    Difference, FoundAddress, FoundDatagram, FoundEntry, FoundFront, FoundHeader, FoundNames,
-    FoundNode, FoundRetarget, FoundSession, FoundSessionFront, Handle, Taken,
+    Difference, FoundAddress, FoundDatagram, FoundEntry, FoundFront, FoundHeader, FoundLine,
+    FoundNames, FoundNode, FoundRetarget, FoundSession, FoundSessionFront, Handle, Taken,
 };
 
 /// NBT_DONE: the call did what it says.
@@ -65,6 +65,15 @@ extern "C" {
         port: u16,
         payload: *const u8,
         payload_length: usize,
+        into: *mut u8,
+        into_length: usize,
+        used: *mut usize,
+    ) -> u32;
+
+    pub fn nbt_capture_line(
+        line: *const u8,
+        line_length: usize,
+        said: *mut FoundLine,
         into: *mut u8,
         into_length: usize,
         used: *mut usize,

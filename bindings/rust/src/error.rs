@@ -7,7 +7,7 @@ use crate::Status;
 
 /// Why a call did nothing, and where the fault stands. Its text is the library's words and the place, as in
 /// `bad text 4`; of a status that this version of the crate doesn't know it has the number, as in
-/// `status 120: unknown status`.
+/// `status 130: unknown status`.
 #[derive(Clone, Copy, Debug, PartialEq, Eq, Hash)]
 #[cfg_attr(feature = "serde", derive(serde::Serialize))]
 pub struct Error {

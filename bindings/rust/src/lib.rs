@@ -8,6 +8,7 @@
 //! - [`datagram`]: packets of port 138
 //! - [`session`]: packets of port 139
 //! - [`station`]: stations, which put datagrams together
+//! - [`capture_line`]: lines of captures
 //! - [`merge`], [`differ`], [`list_table`], [`table_json`]: saved tables, joined, compared and listed
 //!
 //! ```
@@ -36,6 +37,7 @@
 #![deny(missing_docs, unsafe_op_in_unsafe_fn)]
 
 mod calls;
+mod captures;
 mod codes;
 mod datagram_front;
 mod error;
@@ -58,6 +60,7 @@ pub mod service;
 pub mod session;
 pub mod station;
 
+pub use captures::{capture_line, Line};
 pub use error::Error;
 pub use name::{Labels, Name};
 pub use names::{spell, text, Spelling};

@@ -144,13 +144,16 @@ pub enum Status {
     /// The packet stands, but its type isn't the one that has the part that is asked for.
     OtherType = 110,
 
+    /// The line is none of a capture's.
+    BadLine = 120,
+
     /// A number that this version of the crate doesn't know: [`crate::Error::number`] keeps it.
     UnknownStatus = 255,
 }
 
 impl Status {
     /// All of them, by number.
-    pub const ALL: [Status; 60] = [
+    pub const ALL: [Status; 61] = [
         Status::NoMemory,
         Status::BadText,
         Status::LongText,
@@ -210,6 +213,7 @@ impl Status {
         Status::TooManyNames,
         Status::NoStation,
         Status::OtherType,
+        Status::BadLine,
         Status::UnknownStatus,
     ];
 

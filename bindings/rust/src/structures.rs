@@ -159,6 +159,15 @@ pub struct FoundRetarget {
     pub port: u16,
 }
 
+/// struct nbt_line: a line of a capture, in numbers.
+#[repr(C)]
+#[derive(Default)]
+pub struct FoundLine {
+    pub kind: u32,
+    pub port: u16,
+    pub moment: u64,
+}
+
 /// struct nbt_difference: whether two tables differ, and the least key at which they do.
 #[repr(C)]
 #[derive(Default)]

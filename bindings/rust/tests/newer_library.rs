@@ -13,7 +13,7 @@ extern "C" fn nbt_name_spell(
     _used: *mut usize,
     _at: *mut usize,
 ) -> u32 {
-    120
+    130
 }
 
 #[test]
@@ -21,10 +21,10 @@ fn keeps_the_number() {
     let error = nbt::spell("FRED<20>").unwrap_err();
     assert_eq!(
         (error.status(), error.number(), error.at()),
-        (Status::UnknownStatus, 120, None)
+        (Status::UnknownStatus, 130, None)
     );
     let words = Status::UnknownStatus.to_string();
-    assert_eq!(error.to_string(), format!("status 120: {words}"));
+    assert_eq!(error.to_string(), format!("status 130: {words}"));
 }
 
 #[test]

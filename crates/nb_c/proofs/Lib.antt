@@ -1,5 +1,6 @@
 pub mod AbsorbLemmas
 pub mod AnswerLemmas
+pub mod CaptureLemmas
 pub mod DifferLemmas
 pub mod DomainLemmas
 pub mod EntryLemmas

@@ -1,4 +1,5 @@
 pub mod Absorbing
+pub mod Captures
 pub mod Cutting
 pub mod Datagrams
 pub mod Dataless

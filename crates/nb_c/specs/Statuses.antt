@@ -10,6 +10,8 @@ use Rattle.nb_session.specs.declared.fault.SessionFault.{SessionFault}
 use Rattle.nb_session.specs.declared.fault.SessionFault.TheVariants as sessions
 use Rattle.nb_service.specs.declared.fault.ServiceFault.{ServiceFault}
 use Rattle.nb_service.specs.declared.fault.ServiceFault.TheVariants as services
+use Rattle.nb_member.specs.declared.line_fault.LineFault.{LineFault}
+use Rattle.nb_member.specs.declared.line_fault.LineFault.TheVariants as lines
 use Rattle.nb_c.specs.declared.refusal.Refusal.{Refusal}
 use Rattle.nb_c.specs.declared.refusal.Refusal.TheVariants.{Memory, Fault, FaultAt}
 use Rattle.nb_c.specs.declared.statuses.TheConstants as statuses
@@ -82,3 +84,8 @@ service_refusal (services.Truncated place) = FaultAt statuses.TRUNCATED place
 service_refusal (services.Name fault) = name_refusal fault
 service_refusal (services.NameRdata place) = FaultAt statuses.NAME_RDATA place
 service_refusal services.NoMemory = Memory
+
+-- why nothing is read of a line of a capture
+abbrev pub line_refusal : LineFault → Refusal
+line_refusal lines.BadLine = Fault statuses.BAD_LINE
+line_refusal lines.NoMemory = Memory

@@ -26,7 +26,11 @@ ghost use Rattle.nb_datagram.specs.Packet.{QueryPacket, IsPacket, name_bytes};
 ghost use Rattle.nb_datagram.specs.Datagram.{DatagramParts};
 ghost use Rattle.nb_datagram.specs.Header.{IsKey};
 ghost use Rattle.nb_datagram.specs.Pieces.{piece};
+ghost use Rattle.nb_member.specs.declared.line_fault.LineFault.TheVariants as lines;
+ghost use Rattle.nb_member.specs.declared.line.Line.TheVariants.{Packet, Tick};
 ghost use Rattle.nb_c.specs.Absorbing.{heard_bytes};
+ghost use Rattle.nb_c.specs.Captures.{line_told};
+ghost use Rattle.nb_c.specs.declared.captures.TheConstants.{BLANK, PACKET, TICK};
 ghost use Rattle.nb_c.specs.Cutting.{are_long, packet_of};
 ghost use Rattle.nb_c.specs.declared.differing.NbtDifference.{NbtDifference};
 ghost use Rattle.nb_c.specs.Differing.{Compares};
@@ -37,7 +41,7 @@ ghost use Rattle.nb_c.specs.Outputs.{refused_status};
 ghost use Rattle.nb_c.specs.Requests.{named_answer, request_answer, requested};
 ghost use Rattle.nb_c.specs.Services.{section_number};
 ghost use Rattle.nb_c.specs.Stations.{AreNames, place_in, table_refusal, texts_in};
-ghost use Rattle.nb_c.specs.Statuses.{text_refusal, source_text_refusal, destination_text_refusal, name_refusal, datagram_refusal, service_refusal, session_refusal};
+ghost use Rattle.nb_c.specs.Statuses.{text_refusal, source_text_refusal, destination_text_refusal, name_refusal, datagram_refusal, service_refusal, session_refusal, line_refusal};
 ghost use Rattle.nb_c.specs.declared.refusal.Refusal.{Refusal};
 ghost use Rattle.nb_c.specs.declared.refusal.Refusal.TheVariants.{Memory, Fault, FaultAt};
 ghost use Rattle.nb_c.specs.declared.service.Asked.{Asked};
@@ -46,13 +50,13 @@ ghost use Rattle.nb_table.specs.declared.fault.TableFault.TheVariants as joins;
 ghost use Rattle.nb_entries.specs.declared.load_fault.LoadFault.TheVariants as loads;
 ghost use Rattle.nb_table.specs.Contents.{Contents};
 ghost use Rattle.nb_table.specs.Limits.{Limits};
-ghost use Rattle.nb_c.specs.declared.statuses.TheConstants.{DONE, NO_ROOM, NO_MEMORY, BAD_TEXT, LONG_TEXT, SOURCE_BAD_TEXT, SOURCE_LONG_TEXT, DESTINATION_BAD_TEXT, DESTINATION_LONG_TEXT, NAME_TRUNCATED, NAME_RESERVED_LABEL, NAME_POINTER, NAME_LONG, NAME_NOT_NETBIOS, NAME_TRAILING_BYTES, NAME_BAD_POINTER, SOURCE_TRUNCATED, SOURCE_RESERVED_LABEL, SOURCE_POINTER, SOURCE_LONG, SOURCE_NOT_NETBIOS, SOURCE_BAD_POINTER, DESTINATION_TRUNCATED, DESTINATION_RESERVED_LABEL, DESTINATION_POINTER, DESTINATION_LONG, DESTINATION_NOT_NETBIOS, DESTINATION_BAD_POINTER, TRUNCATED, UNKNOWN_TYPE, MORE, RESERVED_FLAGS, BAD_LENGTH, TRAILING_BYTES, NAME_RDATA, NO_ITEM, OTHER_RDATA, NO_PART, UNKNOWN_REQUEST, ZERO_PIECE, LONG_DATA, TABLE_BAD_MAGIC, TABLE_TRUNCATED, TABLE_NOT_CANONICAL, TABLE_LONG, TABLE_FULL_SOURCE, TABLE_FULL, SECOND_BAD_MAGIC, SECOND_TRUNCATED, SECOND_NOT_CANONICAL, SECOND_LONG, SECOND_FULL_SOURCE, SECOND_FULL, MISPLACED_FIRST, LONG, FULL_SOURCE, FULL, NAME_PRESENT, TOO_MANY_NAMES, NO_STATION, OTHER_TYPE, UNKNOWN_STATUS};
+ghost use Rattle.nb_c.specs.declared.statuses.TheConstants.{DONE, NO_ROOM, NO_MEMORY, BAD_TEXT, LONG_TEXT, SOURCE_BAD_TEXT, SOURCE_LONG_TEXT, DESTINATION_BAD_TEXT, DESTINATION_LONG_TEXT, NAME_TRUNCATED, NAME_RESERVED_LABEL, NAME_POINTER, NAME_LONG, NAME_NOT_NETBIOS, NAME_TRAILING_BYTES, NAME_BAD_POINTER, SOURCE_TRUNCATED, SOURCE_RESERVED_LABEL, SOURCE_POINTER, SOURCE_LONG, SOURCE_NOT_NETBIOS, SOURCE_BAD_POINTER, DESTINATION_TRUNCATED, DESTINATION_RESERVED_LABEL, DESTINATION_POINTER, DESTINATION_LONG, DESTINATION_NOT_NETBIOS, DESTINATION_BAD_POINTER, TRUNCATED, UNKNOWN_TYPE, MORE, RESERVED_FLAGS, BAD_LENGTH, TRAILING_BYTES, NAME_RDATA, NO_ITEM, OTHER_RDATA, NO_PART, UNKNOWN_REQUEST, ZERO_PIECE, LONG_DATA, TABLE_BAD_MAGIC, TABLE_TRUNCATED, TABLE_NOT_CANONICAL, TABLE_LONG, TABLE_FULL_SOURCE, TABLE_FULL, SECOND_BAD_MAGIC, SECOND_TRUNCATED, SECOND_NOT_CANONICAL, SECOND_LONG, SECOND_FULL_SOURCE, SECOND_FULL, MISPLACED_FIRST, LONG, FULL_SOURCE, FULL, NAME_PRESENT, TOO_MANY_NAMES, NO_STATION, OTHER_TYPE, BAD_LINE, UNKNOWN_STATUS};
 
 use nb_names::text_laws::{one_name, one_text_fault};
 use nb_table::laws::{an_input_is_read_as_one_table, saved_bytes_have_one_reading};
 
-/// The number of each status, of what became of a payload, of the room for it, and of each section
-/// of an item.
+/// The number of each status, of what became of a payload, of what a line of a capture is, of the
+/// room for a payload, and of each section of an item.
 pub fn numbers()
     ensures outcomes { (DONE ≡ 0) × (NO_ROOM ≡ 1) × (NO_MEMORY ≡ 2) }
     ensures texts { (BAD_TEXT ≡ 10) × (LONG_TEXT ≡ 11) × (SOURCE_BAD_TEXT ≡ 12)
@@ -81,9 +85,11 @@ pub fn numbers()
     ensures stations { (NAME_PRESENT ≡ 100) × (TOO_MANY_NAMES ≡ 101)
         × (NO_STATION ≡ 102) }
     ensures parts { (OTHER_TYPE ≡ 110) }
+    ensures lines { (BAD_LINE ≡ 120) }
     ensures unknown { (UNKNOWN_STATUS ≡ 255) }
     ensures payloads { (KEPT ≡ 0) × (SPOILT ≡ 1) × (DELIVERED ≡ 2) × (UNHEARD ≡ 3)
         × (OTHER ≡ 4) × (REFUSED ≡ 5) }
+    ensures kinds { (BLANK ≡ 0) × (PACKET ≡ 1) × (TICK ≡ 2) }
     ensures room { TAKE_ROOM ≡ 66045 }
     ensures sections { (section_number None ≡ 0) × (section_number (Some Answer) ≡ 1)
         × (section_number (Some Authority) ≡ 2) × (section_number (Some Additional) ≡ 3) }
@@ -104,6 +110,20 @@ pub fn a_datagram_in_bytes()
         ≡ a ∷ b ∷ c ∷ d ∷ (to_be_bytes w16 port ++ (to_be_bytes w16 id ++ (16
         ∷ (name_bytes source ++ (name_bytes destination
         ++ (to_be_bytes w16 (length bytes) ++ bytes)))))) }
+{}
+
+/// What is told of a line of a capture, as numbers and bytes: 0 and zeros of one that says nothing;
+/// 1, the port, the moment and the payload of a packet; 2 and what the clock shows of a tick.
+pub fn a_line_in_numbers()
+    ensures nothing { line_told None
+        ≡ record { numbers = record { kind = 0; port = 0; moment = 0 }; payload = [] } }
+    ensures packet { (port moment : ℕ) (payload : List ℕ) →
+        line_told (Some (Packet port moment payload)) ≡ record {
+          numbers = record { kind = 1; port = port; moment = moment };
+          payload = payload;
+        } }
+    ensures tick { (now : ℕ) → line_told (Some (Tick now))
+        ≡ record { numbers = record { kind = 2; port = 0; moment = now }; payload = [] } }
 {}
 
 /// Each fault has a status of its own, and its place if it has one. Some share theirs: the unknown
@@ -159,6 +179,8 @@ pub fn each_fault_has_its_status()
         × (table_refusal joins.TooLong ≡ Fault 91)
         × (table_refusal (joins.FullSource key) ≡ Fault 92)
         × (table_refusal (joins.Full key) ≡ Fault 93) × (table_refusal joins.NoMemory ≡ Memory) }
+    ensures lines { (line_refusal lines.BadLine ≡ Fault 120)
+        × (line_refusal lines.NoMemory ≡ Memory) }
 {}
 
 /// The numbers 0 to 4 are requests, and no other is.

@@ -2,6 +2,7 @@
 #![tactic(auto)]
 
 pub mod absorbing;
+pub mod captures;
 pub mod cutting;
 pub mod datagrams;
 pub mod dataless;

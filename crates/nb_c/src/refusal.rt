@@ -1,13 +1,13 @@
 //! Why a call does nothing.
 ghost use Rattle.std.specs.Prelude.{◌≡◌};
-ghost use Rattle.nb_c.specs.Statuses.{text_refusal, source_text_refusal, destination_text_refusal, name_refusal, source_refusal, destination_refusal, datagram_refusal, service_refusal, session_refusal};
+ghost use Rattle.nb_c.specs.Statuses.{text_refusal, source_text_refusal, destination_text_refusal, name_refusal, source_refusal, destination_refusal, datagram_refusal, service_refusal, session_refusal, line_refusal};
 ghost use Rattle.nb_c.specs.Outputs.{refused_status};
 ghost use Rattle.nb_c.specs.Stations.{table_refusal};
 ghost use Rattle.nb_c.specs.Tables.{first_refusal, second_refusal};
 
 use crate::statuses::{
-    BAD_LENGTH, BAD_TEXT, DESTINATION_BAD_POINTER, DESTINATION_BAD_TEXT, DESTINATION_LONG,
-    DESTINATION_LONG_TEXT, DESTINATION_NOT_NETBIOS, DESTINATION_POINTER,
+    BAD_LENGTH, BAD_LINE, BAD_TEXT, DESTINATION_BAD_POINTER, DESTINATION_BAD_TEXT,
+    DESTINATION_LONG, DESTINATION_LONG_TEXT, DESTINATION_NOT_NETBIOS, DESTINATION_POINTER,
     DESTINATION_RESERVED_LABEL, DESTINATION_TRUNCATED, FULL, FULL_SOURCE, LONG, LONG_TEXT,
     MISPLACED_FIRST, NAME_BAD_POINTER, NAME_LONG, NAME_NOT_NETBIOS, NAME_POINTER, NAME_RDATA,
     NAME_RESERVED_LABEL, NAME_TRUNCATED, NO_MEMORY, RESERVED_FLAGS, SECOND_BAD_MAGIC, SECOND_FULL,
@@ -17,6 +17,7 @@ use crate::statuses::{
     TABLE_LONG, TABLE_NOT_CANONICAL, TABLE_TRUNCATED, TRAILING_BYTES, TRUNCATED, UNKNOWN_TYPE,
 };
 use nb_datagram::DatagramFault;
+use nb_member::LineFault;
 use nb_names::{NameFault, TextFault};
 use nb_service::ServiceFault;
 use nb_session::SessionFault;
@@ -152,6 +153,16 @@ pub(crate) fn table_refusal(fault: TableFault) -> Refusal
         TableFault::FullSource(_) => Refusal::Fault(FULL_SOURCE),
         TableFault::Full(_) => Refusal::Fault(FULL),
         TableFault::NoMemory => Refusal::Memory,
+    }
+}
+
+/// Why nothing is read of a line of a capture.
+pub(crate) fn line_refusal(fault: LineFault) -> Refusal
+    ensures { result ≡ line_refusal fault }
+{
+    match fault {
+        LineFault::BadLine => Refusal::Fault(BAD_LINE),
+        LineFault::NoMemory => Refusal::Memory,
     }
 }
 

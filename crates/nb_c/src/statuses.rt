@@ -183,5 +183,8 @@ pub const NO_STATION: u32 = 102;
 /// Other type.
 pub const OTHER_TYPE: u32 = 110;
 
+/// Bad line.
+pub const BAD_LINE: u32 = 120;
+
 /// Unknown status.
 pub const UNKNOWN_STATUS: u32 = 255;

@@ -1,12 +1,12 @@
 //! The words of statuses (our choice).
 ghost use Rattle.std.specs.Prelude.{◌≡◌, option_map};
 ghost use Rattle.nb_c.specs.Outputs.{Answers};
-ghost use Rattle.nb_c.specs.Words.{status_answer, status_word, later_word, outcome_word, text_word, name_word, source_word, destination_word, packet_word, request_word, table_word, second_word, joining_word, station_word, part_word};
+ghost use Rattle.nb_c.specs.Words.{status_answer, status_word, later_word, outcome_word, text_word, name_word, source_word, destination_word, packet_word, request_word, table_word, second_word, joining_word, station_word, part_word, line_word};
 
 use crate::output::put;
 use crate::statuses::{
-    BAD_LENGTH, BAD_TEXT, DESTINATION_BAD_POINTER, DESTINATION_BAD_TEXT, DESTINATION_LONG,
-    DESTINATION_LONG_TEXT, DESTINATION_NOT_NETBIOS, DESTINATION_POINTER,
+    BAD_LENGTH, BAD_LINE, BAD_TEXT, DESTINATION_BAD_POINTER, DESTINATION_BAD_TEXT,
+    DESTINATION_LONG, DESTINATION_LONG_TEXT, DESTINATION_NOT_NETBIOS, DESTINATION_POINTER,
     DESTINATION_RESERVED_LABEL, DESTINATION_TRUNCATED, DONE, FULL, FULL_SOURCE, LONG, LONG_DATA,
     LONG_TEXT, MISPLACED_FIRST, MORE, NAME_BAD_POINTER, NAME_LONG, NAME_NOT_NETBIOS, NAME_POINTER,
     NAME_PRESENT, NAME_RDATA, NAME_RESERVED_LABEL, NAME_TRAILING_BYTES, NAME_TRUNCATED, NO_ITEM,
@@ -59,6 +59,7 @@ fn later_words(status: u32) -> Option<&'static str>
         9 => joining_words(status),
         10 => station_words(status),
         11 => part_words(status),
+        12 => line_words(status),
         _ => outcome_words(status),
     }
 }
@@ -240,6 +241,16 @@ fn part_words(status: u32) -> Option<&'static str>
 {
     match status {
         OTHER_TYPE => Some("other type"),
+        _ => None,
+    }
+}
+
+/// The words of a status on a line of a capture.
+fn line_words(status: u32) -> Option<&'static str>
+    ensures { option_map (λ words. words.now) result ≡ line_word status }
+{
+    match status {
+        BAD_LINE => Some("bad line"),
         _ => None,
     }
 }

@@ -9,7 +9,7 @@ fn errors_of_streams() {
     for (error, kind) in [
         (spell("FRED").unwrap_err(), io::ErrorKind::InvalidInput),
         (text(b"").unwrap_err(), io::ErrorKind::InvalidData),
-        (Status::try_from(120).unwrap_err(), io::ErrorKind::Other),
+        (Status::try_from(130).unwrap_err(), io::ErrorKind::Other),
     ] {
         let found = io::Error::from(error);
         assert_eq!((found.kind(), found.to_string()), (kind, error.to_string()));
@@ -28,7 +28,7 @@ fn numbers_are_statuses() {
     for status in Status::ALL {
         assert_eq!(Status::try_from(status.number()), Ok(status));
     }
-    for number in [0, 1, 3, 120, u32::MAX] {
+    for number in [0, 1, 3, 130, u32::MAX] {
         let error = Status::try_from(number).unwrap_err();
         assert_eq!(
             (error.status(), error.number(), error.at()),

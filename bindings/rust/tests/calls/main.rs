@@ -1,5 +1,6 @@
 //! What the calls answer, by examples: the bytes that several of them have, and how a refusal looks.
 
+mod captures;
 mod datagrams;
 mod errors;
 mod names;

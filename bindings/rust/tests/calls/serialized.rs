@@ -9,7 +9,7 @@ use nbt::service::{
 };
 use nbt::session::{self, write};
 use nbt::station::{Key, Outcome, OwnedDelivery};
-use nbt::{Error, Limits, Name, Spelling, Status};
+use nbt::{Error, Limits, Line, Name, Spelling, Status};
 use serde::de::DeserializeOwned;
 use serde::Serialize;
 use serde_json::{from_str, from_value, json, to_string, to_value, Value};
@@ -312,4 +312,16 @@ fn what_a_station_says() {
     station.take(0, &first).unwrap();
     let unheard = to_value(station.take(0, &second).unwrap()).unwrap();
     assert_eq!(unheard["unheard"]["answer"], "130200080a000009008a82");
+}
+
+#[test]
+fn lines_of_captures() {
+    let packet = Line::Packet {
+        port: 138,
+        moment: u64::MAX,
+        payload: vec![0, 0xff],
+    };
+    let wanted = json!({"port": 138, "moment": u64::MAX, "payload": "00ff"});
+    both_ways(packet, json!({ "packet": wanted }));
+    both_ways(Line::Tick { now: 9 }, json!({"tick": {"now": 9}}));
 }

@@ -1,0 +1,81 @@
+//! Lines of captures: what came to the ports of NetBIOS and when, as the commands of `nbt` read it (our choice).
+
+use crate::calls::nbt_capture_line;
+use crate::room::written;
+use crate::structures::FoundLine;
+use crate::Result;
+
+/// NBT_PACKET and NBT_TICK of `enum nbt_line_kind`.
+const PACKET: u32 = 1;
+const TICK: u32 = 2;
+
+/// What a line of a capture says. Moments are in milliseconds since any moment of the capture's choice.
+#[derive(Clone, Debug, PartialEq, Eq, Hash)]
+#[cfg_attr(feature = "serde", derive(serde::Serialize, serde::Deserialize))]
+#[cfg_attr(feature = "serde", serde(rename_all = "lowercase"))]
+pub enum Line {
+    /// A payload that came.
+    Packet {
+        /// The port that it came to: 137, 138 or 139.
+        port: u16,
+        /// When it came.
+        moment: u64,
+        /// Its bytes.
+        #[cfg_attr(
+            feature = "serde",
+            serde(
+                serialize_with = "crate::serialized::digits",
+                deserialize_with = "crate::serialized::bytes"
+            )
+        )]
+        payload: Vec<u8>,
+    },
+    /// The clock.
+    Tick {
+        /// What it shows.
+        now: u64,
+    },
+}
+
+/// What a line of a capture says, which is without its line feed; None where it is empty or a comment. docs/FORMATS.md has the
+/// form.
+///
+/// ```
+/// use nbt::{capture_line, Line};
+///
+/// let packet = Line::Packet { port: 139, moment: 7, payload: vec![0x85, 0, 0, 0] };
+/// assert_eq!(capture_line(b"139 7 85000000")?, Some(packet));
+/// assert_eq!(capture_line(b"tick 2000")?, Some(Line::Tick { now: 2000 }));
+/// assert_eq!(capture_line(b"# an office")?, None);
+/// # Ok::<(), nbt::Error>(())
+/// ```
+///
+/// # Errors
+///
+/// `BadLine` for any other line, and for one of more than 262,200 bytes; `NoMemory`.
+pub fn capture_line(line: &[u8]) -> Result<Option<Line>> {
+    let mut said = FoundLine::default();
+    // SAFETY: the line is a slice, and what is written lies apart from it.
+    let payload = unsafe {
+        written(|room| {
+            nbt_capture_line(
+                line.as_ptr(),
+                line.len(),
+                &mut said,
+                room.into,
+                room.length,
+                room.used,
+            )
+        })
+    }?;
+    let FoundLine { kind, port, moment } = said;
+    Ok(match kind {
+        PACKET => Some(Line::Packet {
+            port,
+            moment,
+            payload,
+        }),
+        TICK => Some(Line::Tick { now: moment }),
+        _ => None,
+    })
+}

@@ -1,14 +1,12 @@
 #!/usr/bin/env python3
 """The pages beside the sources: what they name is there, and what they list is all.
 
-Usage: tests/lib/pages.py, whose last line is 'N passed, M failed'; --write writes docs/LAWS.md anew, --wrong-bodies prints what the
-files of must-fail/ and wrong-bodies/ say. A case is
+Usage: tests/lib/pages.py, whose last line is 'N passed, M failed'; --write writes the pages that are made of the sources anew
+(made_pages.py), --wrong-bodies prints what the files of must-fail/ and wrong-bodies/ say. A case is
 
 - a file, a folder, or a name of the sources in backticks, on a page;
-- a public call of a library, which docs/PROMISES.md has in a row, or which answers a part of its value; a row, which has each
-  clause of its calls and no other;
-- a word of docs/DEFINITIONS.md or docs/REASSEMBLY.md, which stands in the file that its row or its heading names;
-- docs/LAWS.md, which is what the sources say of the laws;
+- a call in a row of docs/PROMISES.md, which is there, and each clause of such a row, which is one of its calls';
+- a public call, and a public definition, which has a comment; docs/CALLS.md, DEFINITIONS.md and LAWS.md, which are what the sources say;
 - a file of wrong-bodies/, which says what is wrong, why and where it is refused, and whose old lines stand once in the file that it changes;
   a file of must-fail/, which says what is wrong and why, and stands in the table of named wrong bodies in docs/PROOFS.md, and each that
   stands there;
@@ -19,25 +17,17 @@ import re
 import subprocess
 import sys
 
-from sources import CRATES, ROOT, aliases, functions, ghosts, heading, law_files, public, sources
+from made_pages import calls, definitions_of, made, spec_files
+from sources import CRATES, ROOT, aliases, functions, law_files, sources
 
 LISTED = re.findall(r'^(\w+)\b[^:#\n]*:', (ROOT / 'crates.txt').read_text(encoding='utf-8'), re.MULTILINE)
 LIBRARIES = [it for it in LISTED if it != 'nbt' and not it.startswith('nb_examples')]
-# Traits whose calls have no rows of their own: their laws, texts and conversions are ghost members.
-PLAIN_TRAITS = ('From', 'fmt', 'Ord', 'PartialOrd', 'Eq', 'Flags', 'Facts', 'Iterator')
 TICKED = re.compile(r'`([^`\n]+)`')
-PART = re.compile(r'(?:N\.name )?result(?:\.now)? ≡ (?:\w+ )?self(?:\.now)?(?:\.\w+)?')
 FILE = re.compile(r'(?<![\w./-])(?:[\w.-]+/)*[\w-]+\.(?:antt|rt|py|sh|md|mjs|mts|edit|pcap|toml|bash|zsh)\b')
 FOLDER = re.compile(r'(?<![\w./*-])(?:crates|docs|tests|tools|bindings|examples|include|man|completions|nb_\w+|nbt)/[\w./-]*\w')
 # What pages name without its being a file here: words for names, and what a command makes.
 ELSEWHERE = {'CALL-what_the_wrong_body_does.edit', 'proofs/SUBJECTLemmas.antt', 'crates/first', 'out/nbt.mjs', 'big.pcap', 'serde_json'}
 WITH_NAMES = re.compile(r'\.(?:antt|rt|py|sh|c|h|rs|mjs|mts|txt|edit|1|ts|toml)$|/Makefile$|/tools/[\w-]+$|/archive$|/x86_64$')
-LAWS = ROOT / 'docs' / 'LAWS.md'
-LAWS_HEAD = '''# Laws of the definitions
-
-Each is the contract of a function that does nothing, and is proved. They say that the definitions mean what they are called;
-docs/DEFINITIONS.md and docs/REASSEMBLY.md have their words. tests/lib/pages.py makes this page of the sources.
-'''
 
 
 @functools.lru_cache(None)
@@ -97,77 +87,40 @@ def rows(text):
             yield [it.strip() for it in re.split(r'(?<!\\)\|', line)[1:-1]]
 
 
-def promised():
-    """The rows of docs/PROMISES.md, by crate: the names of the first cell, and the last cell."""
-    for section in re.split(r'^## ', (ROOT / 'docs' / 'PROMISES.md').read_text(encoding='utf-8'), flags=re.MULTILINE):
-        crate = section.split('\n')[0]
-        if crate and (CRATES / crate).is_dir():
-            yield crate, [(TICKED.findall(it[0]), it[2]) for it in rows(section)]
-
-
 def called(name):
-    """The name of the function that a call has."""
-    return 'eq' if name == '==' else name.split('::')[-1]
+    """The crate, the type and the function of a call as docs/PROMISES.md names it."""
+    crate, *owner, function = name.split('::')
+    return crate, owner[-1] if owner else '', function
 
 
-def calls_of(crate, ticked):
-    """The functions that the first cell of a row names: `Table::merge`, then `fits`, or `plain::is_spoilt`."""
-    stands_for = aliases(crate)
-    types = {each for it in ticked for each in it.split('::') if each[:1].isupper()}
-    types |= {stands_for[it] for it in types if it in stands_for}
-    for path in sources(crate):
-        for it in functions(path) if path not in law_files(crate) else ():
-            for before, _, last in (name.replace('==', 'eq').rpartition('::') for name in ticked):
-                is_own = it.owner in (before, stands_for.get(before))
-                if last == it.name and (is_own if before in types else not it.owner or not before and it.owner in types):
-                    yield it
+def calls_of(name):
+    """The functions that a call of docs/PROMISES.md names."""
+    crate, owner, function = called(name)
+    types = {owner, aliases(crate).get(owner)}
+    paths = [it for it in sources(crate) if it not in law_files(crate)]
+    return [it for path in paths for it in functions(path) if it.name == function and (it.owner in types if owner[:1].isupper() else not it.owner)]
 
 
 def promises():
-    """Whether rows have all public calls, and each row all clauses of its calls and no other."""
-    for crate, listed in promised():
-        all_called = {called(it) for ticked, _ in listed for it in ticked}
-        calls = [it for it in public(crate) if it.path not in law_files(crate) and it.trait not in PLAIN_TRAITS] if crate in LIBRARIES else []
-        for it in calls:
-            is_part = any(PART.fullmatch(words) for _, words in it.clauses)
-            yield it.name in all_called or is_part, f'PROMISES.md has a row with {crate}::{it.owner}::{it.name}'
-        for ticked, cell in listed:
-            found = list(calls_of(crate, ticked))
-            told = {it for it in TICKED.findall(re.sub(r'\([^)]*\)', '', cell)) if '::' not in it}
-            right = {name for it in found for name, _ in it.clauses} | {name for _, _, name in ghosts(crate)} | set(map(called, ticked))
-            yield bool(found) or ticked[0][0].isupper(), f'PROMISES.md: {crate} has {ticked[0]}'
-            yield told <= right, f'PROMISES.md: {crate}, {ticked[0]}: no clause {told - right}'
-            left = {name for it in found if it in calls for name, _ in it.clauses} - {'', 'requires', *told}
-            yield not left or cell.startswith('as '), f'PROMISES.md: {crate}, {ticked[0]}: the clauses {left} too'
+    """Whether the calls of a group in docs/PROMISES.md are there, and each of its clauses is one of theirs."""
+    text = (ROOT / 'docs' / 'PROMISES.md').read_text(encoding='utf-8').partition('\n## By group\n')[2].partition('\n## ')[0]
+    for cells in rows(text):
+        names = TICKED.findall(cells[0])
+        for it in names:
+            yield bool(calls_of(it)), f'PROMISES.md: {it} is a call'
+        labels = {label for name in names for it in calls_of(name) for label, _ in it.clauses}
+        for it in TICKED.findall(cells[2]):
+            yield it in labels, f'PROMISES.md: {it} is a clause of {cells[0]}'
 
 
-def words():
-    """Whether each word of docs/DEFINITIONS.md and docs/REASSEMBLY.md stands in the file that is named with it."""
-    for page in ('DEFINITIONS', 'REASSEMBLY'):
-        for section in re.split(r'^## ', (ROOT / 'docs' / f'{page}.md').read_text(encoding='utf-8'), flags=re.MULTILINE)[1:]:
-            title = section.split('\n')[0]
-            folders = [CRATES / it for it in re.findall(r'nb_\w+/specs|nbt/specs', title)]
-            for cells in rows(section) if folders else ():
-                files = cells[1].split(', ') if len(cells) > 2 else re.findall(r'(\w+)\.antt', title)
-                text = '\n'.join(it.read_text(encoding='utf-8') for folder in folders for it in folder.rglob('*.antt') if it.stem in files)
-                for word in TICKED.findall(cells[0]):
-                    yield re.search(rf'(?<!\w){re.escape(word.split()[0])}(?!\w)', text) is not None, f'{page}.md: {word} of {cells[1][:60]}'
-
-
-def law_of(function):
-    """The line of a law."""
-    return f'- `{function.name}`: ' + re.sub(r'\[(`[^`]+`)\]', r'\1', function.doc)
-
-
-def laws():
-    """The page of the laws."""
-    lines = [LAWS_HEAD]
+def commented():
+    """Whether each public call, each law and each public definition has words of its own, of which docs/CALLS.md and its like are made."""
     for crate in (*LIBRARIES, 'nbt'):
-        found = {path: [law_of(it) for it in functions(path) if it.is_public] for path in law_files(crate)}
-        lines += [f'## {crate}\n'] if any(found.values()) else []
-        for path, of_file in found.items():
-            lines += [heading(path), '', *of_file, ''] if of_file else []
-    return '\n'.join(lines)
+        for it in calls(crate):
+            yield bool(it.doc) or it.trait != '', f'{crate}: {it.owner} {it.name} has a comment'
+        for path in spec_files(crate):
+            for name, words in definitions_of(path.read_text(encoding='utf-8')):
+                yield bool(words) or name.startswith(('key_cmp_', 'lines_held')), f'{crate}: {name} of {path.name} has a comment'
 
 
 def edits():
@@ -222,14 +175,16 @@ def costs():
 def main(word=''):
     """Counts the cases that are right."""
     if word == '--write':
-        LAWS.write_text(laws(), encoding='utf-8')
+        for path, text in made(LIBRARIES).items():
+            path.write_text(text, encoding='utf-8')
         return
     if word == '--wrong-bodies':
         for path, fields in edits():
             print(f'{path.parts[0]}/{path.stem}: {dict(fields)["what"]}\n    {dict(fields)["why"]}')
         return
-    cases = [it for check in (places, names, promises, words, wrong_bodies, named_bodies, costs) for it in check()]
-    cases.append((LAWS.exists() and LAWS.read_text(encoding='utf-8') == laws(), 'docs/LAWS.md is what tests/lib/pages.py --write makes'))
+    cases = [it for check in (places, names, promises, commented, wrong_bodies, named_bodies, costs) for it in check()]
+    for path, text in made(LIBRARIES).items():
+        cases.append((path.exists() and path.read_text(encoding='utf-8') == text, f'docs/{path.name} is what tests/lib/pages.py --write makes'))
     for is_right, case in cases:
         if not is_right:
             print(f'failed: {case}')

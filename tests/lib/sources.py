@@ -6,7 +6,7 @@ import re
 
 ROOT = pathlib.Path(__file__).resolve().parents[2]
 CRATES = ROOT / 'crates'
-Function = collections.namedtuple('Function', 'owner trait name is_public head clauses doc path')
+Function = collections.namedtuple('Function', 'owner trait name is_public head clauses doc path errors')
 
 QUOTED = re.compile(r'"(?:\\.|[^"\\])*"|\'(?:\\.|[^\'\\])\'')
 COMMENT = re.compile(r'//[^\n]*')
@@ -86,10 +86,12 @@ def clauses_at(code, text, place):
 
 
 def doc_before(text, start):
-    """The first paragraph of the doc that stands before a place."""
+    """The first paragraph of the doc that stands before a place, and that of its errors."""
     found = DOC.search(text[:start])
     lines = [it.strip()[3:].strip() for it in found[1].splitlines()] if found else []
-    return ' '.join(lines[:lines.index('')] if '' in lines else lines)
+    errors = lines[lines.index('# Errors') + 1:] if '# Errors' in lines else []
+    errors = errors[1:] if errors[:1] == [''] else errors
+    return [' '.join(it[:it.index('')] if '' in it else it) for it in (lines, errors)]
 
 
 @functools.lru_cache(None)
@@ -104,8 +106,9 @@ def functions(path):
         owner, trait = around[-1] if around else ('', '')
         end = end_of_head(code, it.end())
         is_public = it[1] == 'pub' or trait != ''
+        doc, errors = doc_before(text, it.start())
         found.append(Function(owner, trait, it[2], is_public, ' '.join(text[it.start():end].split()), clauses_at(code, text, end),
-                              doc_before(text, it.start()), path))
+                              doc, path, errors))
     return found
 
 

@@ -1,11 +1,11 @@
 #!/usr/bin/env python3
 """What the built program's commands cost, over captures made here, beside bars.  Usage: tests/bench.py [--small] [PROGRAM]
 
-Prints a line for each command and workload: instructions a packet (counted by valgrind's cachegrind, where it is installed;
-they are the same from run to run), packets a second (the best of three runs), the peak of resident memory, and how many times the
-instructions are those of the plain program of tests/plain/ on the same crates, or of the same packets as text, beside the most that
-they may be (tests/lib/bench_bars.py). Then come lines on growth. A number that is more than 5 % past its bar, or past what it is known
-to be, is a failure, and the last line counts them. With --small captures are a tenth as long.
+Prints the lines of the first two tables of docs/PERFORMANCE.md. A row is a command and a workload: instructions a packet (counted by
+valgrind's cachegrind, where it is installed; they are the same from run to run), the peak of resident memory, how many times the instructions
+are those of the plain program of tests/plain/ on the same crates, or of the same packets as text, beside the most that they may be
+(tests/lib/bench_bars.py), and packets a second (the best of three runs). Then come rows on growth. A number that is more than 5 % past its
+bar, or past what it is known to be, is a failure, and the last line counts them. With --small captures are a tenth as long.
 """
 import os
 import random
@@ -103,7 +103,7 @@ def peak(command, path):
 
 
 def shown(number):
-    return '-' if number is None else str(number)
+    return '-' if number is None else f'{number:,}'
 
 
 class Bench:
@@ -123,8 +123,7 @@ class Bench:
         rate = packets / min(seconds(command, path) for _ in range(3))
         name = ' '.join([words[0], *(it for it in words if it in TEXT)])
         ratio = self.bars.judged((name, title), counted / beside if counted and beside else None, bar)
-        line = '%-13s %-36s %8s %12d %9s  %s' % (name, title, shown(cost), rate, shown(peak(command, path)), ratio)
-        print(line.rstrip(), flush=True)
+        print(f'| `{name}` | {title} | {shown(cost)} | {shown(peak(command, path))} | {ratio} |  {rate:,.0f} packets a second', flush=True)
         return counted
 
     def beside_plain(self, words, title, path, packets):
@@ -179,7 +178,7 @@ class Bench:
     def growth_row(self, words, title, costs, bar):
         """Prints the row of what one costs among so many, among ten times and among a hundred times as many."""
         ratio = self.bars.judged((f'growth of {words[0]}', title), costs[-1] / costs[0], bar)
-        print('%-13s %-36s %8d %8d %8d  %s' % (words[0], title, *costs, ratio), flush=True)
+        print(f'| `{words[0]}` | {title} | {" | ".join(f"{each:,.0f}" for each in costs)} | {ratio} |', flush=True)
 
     def cost_of_a_byte(self, held):
         """The instructions for a saved table of a byte that is merged behind so many bytes of its key: these grow in place."""
@@ -201,10 +200,10 @@ def main():
     words = [each for each in sys.argv[1:] if each != '--small']
     with tempfile.TemporaryDirectory() as folder:
         bench = Bench(words[0] if words else PROGRAM, '--small' in sys.argv, folder)
-        print('%-13s %-36s %8s %12s %9s  %s' % ('command', 'workload', 'a packet', 'packets a s', 'peak kB', 'beside others'))
+        print('| Command | Capture | Instructions | Peak kB | Times, of at most |\n|---|---|---|---|---|')
         for rows in (bench.fragments, bench.stations, bench.longest, bench.flood):
             rows()
-        print('instructions of one among %s:' % ', '.join(f'{size:,}' for size in bench.sizes))
+        print('\n| Command | Of | %s | Times, of at most |\n|---|---|---|---|---|---|' % ' | '.join(f'{size:,}' for size in bench.sizes))
         bench.growth()
     if not bench.plain:
         print('skipped: the rows beside the plain program, which wants cargo of 1.82 and crates in ' + plain_program.REGISTRY)

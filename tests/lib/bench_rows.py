@@ -23,15 +23,15 @@ class Row:
     said: str = ''                   # what else was found, or why nothing was
 
     def __str__(self):
-        words = ['-' if self.counted is None else f'{self.counted:,}', '-' if self.seconds is None else f'{self.seconds:.3f}',
-                 '-' if self.of is None else f'{self.of:.2f}', '-' if self.most is None else f'{self.most:.2f}']
-        return ('%-46s %13s %9s %7s %7s  %s' % (self.title, *words, self.said)).rstrip()
+        words = ['' if self.counted is None else f'{self.counted:,}', '' if self.seconds is None else f'{self.seconds:.3f}',
+                 '' if self.of is None else f'{self.of:.2f}' + ('' if self.most is None else f' of {self.most:.2f}')]
+        return f'| {self.title} | {" | ".join(words)} |  {self.said}'.rstrip()
 
     def missed(self):
         return self.of is not None and self.most is not None and self.of > self.most * SLACK
 
 
-HEADING = '%-46s %13s %9s %7s %7s' % ('way', 'instructions', 'seconds', 'of it', 'at most')
+HEADING = '| Way | Instructions | Seconds | Times, of at most |\n|---|---|---|---|'
 
 
 def ratio(row, bar):

@@ -85,14 +85,15 @@ in_c() {
 }
 c_says() { ended "${@:2}" 2>&1 | same "$(block text "$top/docs/CALLING.md")" "$1"; }
 
-# Each package's example, in the fresh root: the samples of README.md by its program, and the first programs of docs/CALLING.md.
+# Each package's example, in the fresh root: the samples of README.md and docs/CAPTURES.md by its program, and the first programs of docs/CALLING.md.
 debian() {
     local each
     installed
     mkdir "$room/bin"
     printf '#!/bin/sh\nexec chroot "%s" nbt "$@"\n' "$fresh" >"$room/bin/nbt" && chmod +x "$room/bin/nbt"
-    ln -s "$fresh"/usr/bin/nbt-{look,pcap2cap} "$room/bin"
+    ln -s "$fresh"/usr/bin/nbt-{look,pcap2cap,cap2pcap} "$room/bin"
     page README.md
+    page docs/CAPTURES.md
     in_c "${CC:-cc}" "$fresh/packages/first" -I"$fresh/usr/include" -L"$fresh/usr/lib/x86_64-linux-gnu" -lnbt
     c_says 'libnbt-dev and libnbt0 of amd64' chroot "$fresh" /packages/first
     in_c aarch64-linux-gnu-gcc "$room/first.arm" -I"$fresh/usr/include" -L"$fresh/usr/lib/aarch64-linux-gnu" -lnbt

@@ -54,8 +54,9 @@ def named():
 
 
 def pages():
-    """The pages but CHANGELOG.md, without their samples."""
-    for path in (ROOT / 'README.md', ROOT / 'CONTRIBUTING.md', *sorted(ROOT.glob('docs/*.md')), *sorted(CRATES.glob('*/README.md'))):
+    """The pages, without their samples."""
+    others = [path for folder in ('docs/*.md', 'crates/*/README.md', 'bindings/*/README.md', 'page/README.md') for path in sorted(ROOT.glob(folder))]
+    for path in (ROOT / 'README.md', ROOT / 'CONTRIBUTING.md', ROOT / 'CHANGELOG.md', *others):
         yield path, re.sub(r'^```.*?^```$', '', path.read_text(encoding='utf-8'), flags=re.MULTILINE | re.DOTALL)
 
 

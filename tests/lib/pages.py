@@ -10,7 +10,8 @@ Usage: tests/lib/pages.py, whose last line is 'N passed, M failed'; --write writ
 - a file of wrong-bodies/, which says what is wrong, why and where it is refused, and whose old lines stand once in the file that it changes;
   a file of must-fail/, which says what is wrong and why, and stands in the table of named wrong bodies in docs/PROOFS.md, and each that
   stands there;
-- the crates of the table of costs in docs/PROOFS.md.
+- the crates of the table of costs in docs/PROOFS.md;
+- how many words README.md has, and all pages that aren't made of the sources.
 """
 import functools
 import re
@@ -173,6 +174,14 @@ def costs():
     yield found == [*LISTED, 'all'], f'PROOFS.md has what each crate costs, and all: {found}'
 
 
+def sizes():
+    """Whether README.md has at most 900 words, and all pages that are written by hand at most 45,000, with their samples."""
+    by_hand = {ROOT / it[1:] for it in tracked() if it.endswith('.md')} - set(made(LIBRARIES))
+    words = {it: len(it.read_text(encoding='utf-8').split()) for it in by_hand if it.is_file()}
+    yield words[ROOT / 'README.md'] <= 900, f'README.md has {words[ROOT / "README.md"]} words, of 900 at most'
+    yield sum(words.values()) <= 45_000, f'the pages by hand have {sum(words.values())} words, of 45,000 at most'
+
+
 def main(word=''):
     """Counts the cases that are right."""
     if word == '--write':
@@ -183,7 +192,7 @@ def main(word=''):
         for path, fields in edits():
             print(f'{path.parts[0]}/{path.stem}: {dict(fields)["what"]}\n    {dict(fields)["why"]}')
         return
-    cases = [it for check in (places, names, promises, commented, wrong_bodies, named_bodies, costs) for it in check()]
+    cases = [it for check in (places, names, promises, commented, wrong_bodies, named_bodies, costs, sizes) for it in check()]
     for path, text in made(LIBRARIES).items():
         cases.append((path.exists() and path.read_text(encoding='utf-8') == text, f'docs/{path.name} is what tests/lib/pages.py --write makes'))
     for is_right, case in cases:

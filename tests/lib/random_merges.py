@@ -11,8 +11,10 @@ import os
 import random
 import sys
 
+sys.path.insert(1, f'{sys.path[0]}/..')
+from model.packets import MORE
 from served import Program, Served
-from tables_examples import LONGEST, MORE, drawn, table_of
+from tables_examples import LONGEST, drawn, table_of
 
 TRIPLES = 556
 MOST_FRAGMENTS = 5

@@ -13,8 +13,8 @@ sys.path.insert(1, f'{sys.path[0]}/..')
 from example_lines import example, word
 from model.names import name_of_text, text_of
 from model.objects import key_text
-from model.packets import KINDS, Fragment
-from model.tables import FIRST, MORE, Entry, Table
+from model.packets import FIRST, KINDS, MORE, Fragment
+from model.tables import Entry, Table
 
 LONGEST = 10
 ADDRESS = bytes([10, 0, 0, 5])

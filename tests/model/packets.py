@@ -7,6 +7,8 @@ from .names import Refused, read_labels, read_name
 NB, NBSTAT, NS = 0x0020, 0x0021, 0x0002
 KINDS = {0x10: 'unique', 0x11: 'group', 0x12: 'broadcast'}
 ERROR = 0x13
+# Flags of a fragment: more of the datagram follows, and it is the first one.
+MORE, FIRST = 0x01, 0x02
 QUERIES = {0x14: 'find', 0x15: 'found', 0x16: 'missing'}
 MESSAGE, REQUEST, POSITIVE, NEGATIVE, RETARGET, KEEPALIVE = 0x00, 0x81, 0x82, 0x83, 0x84, 0x85
 # How many bytes may follow the header of a session packet, at least and at most.

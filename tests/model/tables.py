@@ -5,13 +5,12 @@ is spoilt where they contradict each other; sets only grow, so the order of frag
 import collections
 
 from .names import Refused, read_name, spelling_of
-from .packets import KINDS, Reader
+from .packets import FIRST, KINDS, MORE, Reader
 
 LONGEST = 65_535
 TIMER = 2_000
 KEYS = 1_024
 PER_SOURCE = (1 << 32) - 1
-MORE, FIRST = 1, 2
 MAGIC, FIRST_MAGIC = b'NBT2', b'NBT1'
 
 

@@ -15,8 +15,9 @@ import re
 import subprocess
 import sys
 
-from brief_model import said
+sys.path.insert(1, f'{sys.path[0]}/..')
 from fuzz_inputs import ROOT, capture_lines, example_bytes
+from model.phrases import said
 from object_inputs import Inputs, ServicePacket
 
 LONGEST_PAYLOAD = 2_000

@@ -20,8 +20,10 @@ import random
 import subprocess
 import sys
 
-from fronts_model import front_of, lines_of
+sys.path.insert(1, f'{sys.path[0]}/..')
 from fuzz_inputs import ROOT, capture_lines, example_bytes
+from model.objects import SECTIONS, front_of
+from model.text import front_lines
 from object_inputs import Inputs
 
 IN_CAPTURE = 500
@@ -53,7 +55,7 @@ def kind_of(port, front):
     if not front:
         return f'none of {port}'
     if port == 137:
-        return '137 with items' if any(front[it] for it in ('questions', 'answers', 'authorities', 'additional')) else '137 without'
+        return '137 with items' if any(front[it] for it in SECTIONS) else '137 without'
     if 'type' in front:
         return f'{port} of no kind'
     if port == 139:
@@ -89,22 +91,21 @@ class Cases:
         self.compared.update(kind_of(port, front) for (port, _), front in zip(payloads, fronts))
         self.compared['payloads'] += len(payloads)
         plain, objects = self.run(given)[1], self.run(given, '--json')[1]
-        self.count(difference(self.run(given, '--partial')[1], with_fronts(plain, fronts), payloads))
+        self.count(difference(self.run(given, '--partial')[1], with_fronts(plain, payloads), payloads))
         right = [compact(json.loads(it) | front) for it, front in zip(objects, fronts)]
         self.count(difference(self.run(given, '--json', '--partial')[1], right, payloads))
         refused = self.run(given, '--brief', '--partial')
         self.count('' if refused == (1, [], 'nbt: arguments\n') else f'with --brief it ends as {refused}')
 
 
-def with_fronts(plain, fronts):
+def with_fronts(plain, payloads):
     """The lines that are printed without `--partial`, with those of the fronts after the lines of their payloads."""
-    lines, number = [], 0
+    lines, fronts = [], [[], *(front_lines(*it) for it in payloads)]
     for line in plain:
         if not line.startswith(' '):
-            lines += lines_of(fronts[number - 1]) if number else []
-            number += 1
+            lines += fronts.pop(0)
         lines.append(line)
-    return lines + lines_of(fronts[number - 1])
+    return sum(fronts, lines)
 
 
 def compact(members):

@@ -23,8 +23,9 @@ import subprocess
 import sys
 import tempfile
 
+sys.path.insert(1, f'{sys.path[0]}/..')
 from fuzz_inputs import ROOT, capture_lines, example_bytes
-from fuzz_packets import cut_at_line_feeds
+from model.captures import cut_at_line_feeds
 from object_commands import Unknown, wanted
 from object_inputs import Inputs
 

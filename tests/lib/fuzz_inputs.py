@@ -5,8 +5,7 @@ from example_lines import definitions
 from model.captures import LONGEST_LINE
 from model.names import Name, spelling_of
 
-HERE = os.path.dirname(os.path.abspath(__file__))
-ROOT = os.path.dirname(os.path.dirname(HERE))
+ROOT = os.path.dirname(os.path.dirname(os.path.dirname(os.path.abspath(__file__))))
 LONGEST_WORD = 131_000
 NAMES = ['FRED<20>', 'JOE<00>', 'ANN<03>.A', '*<00>', r'\2d<20>', r'\00<ff>.NETBIOS.COM']
 

@@ -2,7 +2,7 @@
 """What tools/nbt-look shows of packets that the snap length cut, beside a model.  Usage: tests/cut_looks.py    with python3-scapy
 
 The packets of tests/lib/cut_captures.py are cut at several lengths. Of each frame the object of --json has the members that
-tests/lib/fronts_model.py reads in the bytes that are left, the last line counts what is cut, and filters by name and kind choose those
+tests/model reads in the bytes that are left, the last line counts what is cut, and filters by name and kind choose those
 in which the name stands. Its last line is 'N passed, M failed', of lengths.
 """
 import json
@@ -15,9 +15,9 @@ sys.dont_write_bytecode = True
 HERE = os.path.dirname(os.path.abspath(__file__))
 sys.path.insert(1, f'{HERE}/lib')
 from cut_captures import capture, payloads
-from fronts_model import front_of
-from fuzz_packets import Refused, read_labels
-from object_model import HEADER, SECTIONS, domain_text, shown
+from model.names import Refused, domain_text, read_labels
+from model.objects import SECTIONS, front_of, shown
+from model.packets import SERVICE_HEADER
 
 TOOL = os.path.join(HERE, '../tools/nbt-look')
 SNAPS = (42, 43, 52, 54, 60, 76, 89, 90, 92, 96, 110, 111, 124, 130, 160, 400)
@@ -107,7 +107,7 @@ def about(port, payload):
     if port != 137 or not front or any(front[section] for section in SECTIONS):
         return {}
     try:
-        labels, end = read_labels(payload, HEADER, pointers=True)
+        labels, end = read_labels(payload, SERVICE_HEADER, pointers=True)
     except Refused:
         return {}
     name = {'name': domain_text(labels)}

@@ -15,11 +15,11 @@ ordinary() {
     "$here/lib/rust_samples.py"
     count $? 'the Rust samples of the pages stand in the sources (tests/lib/rust_samples.py)'
 
-    # Names, texts and tables by the thousand, whose answers slow models find.
+    # Names, texts and tables by the thousand, whose answers the model finds.
     for each in names tables; do
-        "$here/lib/${each}_model.py" | ended "$program" >"$room/output"
+        "$here/lib/${each}_examples.py" | ended "$program" >"$room/output"
         [ $? -eq 0 ] && grep -qE '^[0-9]{5,} examples, 0 wrong$' "$room/output"
-        count $? "the examples of tests/lib/${each}_model.py: $(tail -n 1 "$room/output")"
+        count $? "the examples of tests/lib/${each}_examples.py: $(tail -n 1 "$room/output")"
     done
 
     # Words that mean nothing have no answer, and an answer that differs is printed.

@@ -15,10 +15,10 @@ each input are held against rules. Those on forms (tests/lib/fuzz_forms.py):
 - built: where a shown packet is one that `build` makes, `build` gives its bytes again;
 - named: what `name` spells is read as the same name.
 
-Those on answers (tests/lib/fuzz_answers.py), of which the model is tests/lib/table_model.py, written from the pages alone:
+Those on answers (tests/lib/fuzz_answers.py), of which the model is tests/model, written from the pages alone:
 
-- shown, reported, saved, listed by the model: `show` of ports 138 and 139, `replay`, `save` and `list` print what the model
-  does, of any capture, with ticks and limits;
+- shown, reported, saved, listed by the model: `show`, `replay`, `save` and `list` print what the model does, of any capture, with
+  ticks and limits;
 - merged, agreed by the model: so do `merge`, `list` and `agree` of any lines, or they end with the model's fault;
 - saved alike, handed over alike: the same fragments in another order and number, with other spare bits, are saved as the
   same bytes, and of each key that isn't spoilt a station hands over the same, once;
@@ -52,9 +52,9 @@ from fuzz_answers import Answers
 from fuzz_forms import Forms
 from fuzz_hostile import Hostile
 from fuzz_inputs import NAMES, ROOT, Maker, capture_lines, example_bytes, spelled
-from fuzz_packets import Name, text_of
 from fuzz_runs import Runner, Wrong
 from fuzz_traffic import Traffic
+from model.names import Name, text_of
 
 RULES = ('ends', 'lines', 'commented', 'loaded', 'turned', 'listed', 'built', 'named', 'shown', 'reported', 'saved',
          'listed by the model', 'merged by the model', 'agreed by the model', 'saved alike', 'handed over alike',

@@ -252,9 +252,9 @@ replayed() {
 
 # said LINES: what a slow model reads in payloads.
 said() {
-    ended "$here/lib/values_model.py" <"$1" >"$1.wanted"
+    PYTHONPATH=$here ended python3 -m model.values <"$1" >"$1.wanted"
     [ $? -eq 0 ] && [ "$(grep -cE '^[0-9]+ 13[789] ' "$1.wanted")" -eq "$(wc -l <"$1")" ]
-    count $? "what tests/lib/values_model.py reads in $(wc -l <"$1") payloads"
+    count $? "what tests/model/values.py reads in $(wc -l <"$1") payloads"
 }
 
 # reads LINES NAME COMMAND..: a caller of the library reads the same there.
@@ -262,7 +262,7 @@ reads() {
     "${@:3}" <"$1" >"$room/output" 2>"$room/errors"
     count $? "$2: $(tail -n 1 "$room/errors")"
     cmp -s "$1.wanted" "$room/output"
-    count $? "$2 reads what tests/lib/values_model.py does: $(diff "$1.wanted" "$room/output" | head -c 300)"
+    count $? "$2 reads what tests/model/values.py does: $(diff "$1.wanted" "$room/output" | head -c 300)"
 }
 
 # in_python FILE [WORD]..: a program that uses the package, over the shared object.

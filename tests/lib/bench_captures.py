@@ -3,6 +3,8 @@ pieces."""
 import random
 import struct
 
+from wire import FRED, JOE, first_level
+
 MOST_IN_A_CAPTURE = 16_777_216
 IN, NB, NBSTAT = 1, 0x0020, 0x0021
 TO_FIRST_QUESTION = b'\xc0\x0c'
@@ -11,16 +13,6 @@ SERVICE = ('query',) * 8 + ('registration', 'registration', 'refresh', 'release'
                             'node status request', 'node status', 'node status', 'wack')
 DATAGRAMS = (0x10,) * 4 + (0x11,) * 8 + (0x12,) * 4 + (0x13, 0x14, 0x15, 0x16)
 SESSIONS = ('message',) * 15 + ('request', 'positive', 'negative', 'retarget', 'keepalive')
-
-
-def first_level(text, suffix):
-    """A name as it stands in a packet, without a scope."""
-    data = text.ljust(15).encode() + bytes([suffix])
-    letters = bytes(ord('A') + half for byte in data for half in (byte >> 4, byte & 15))
-    return bytes([len(letters)]) + letters + b'\0'
-
-
-JOE, FRED = first_level('JOE', 0x00), first_level('FRED', 0x20)
 
 
 def packet(address, identifier, flags, offset, data):

@@ -8,15 +8,15 @@ phrases are as long as docs/FORMATS.md has it, and none is longer. Objects with
 phrases are held against the same model by tests/lib/json_objects.py.
 """
 import argparse
-import collections
 import os
 import random
 import re
-import subprocess
 import sys
 
-from brief_model import said
+sys.path.insert(1, f'{sys.path[0]}/..')
+from compared import Cases, capture_of
 from fuzz_inputs import ROOT, capture_lines, example_bytes
+from model.phrases import said
 from object_inputs import Inputs, ServicePacket
 
 LONGEST_PAYLOAD = 2_000
@@ -26,7 +26,6 @@ CODES = (0x80, 0x81, 0x82, 0x83, 0x84, 0x8f)
 IN_CAPTURE = 100
 PHRASES = re.compile(r'^\| .* \| `([^`]+)` \|$', re.MULTILINE)
 BY = re.compile(r'[A-Z]+|[.*+?^$()\[\]{}|\\]')
-LONGEST_PRINTED = 1_000
 # The status of a node that has a unit and no names, which chance makes too seldom.
 NO_NAMES = 137, bytes.fromhex('000184000000000100000000' '00' '00210001' '00000000' '0007' '00' '001122334455')
 # How many bytes of a payload a line of a capture has, and how long phrases of them are: where no name has more than 19, and of any names.
@@ -73,45 +72,20 @@ def longest():
     return [(payload.ljust(IN_LINE, b'\0'), length) for payload, length in ((claim, LONGEST_OF_19), (redirect, LONGEST))]
 
 
-class Cases:
-    """Runs commands, holds what they print against the model, and counts."""
+class Phrases(Cases):
+    """Holds phrases against the model, and remembers them."""
 
     def __init__(self, program):
-        self.program = program
-        self.passed = 0
-        self.failed = 0
+        super().__init__(program)
         self.said = []
-        self.compared = collections.Counter()
-
-    def count(self, why):
-        """One case more, which went well if nothing is wrong."""
-        self.passed += not why
-        self.failed += bool(why)
-        if why:
-            print(f'failed: {why[:LONGEST_PRINTED]}', flush=True)
-
-    def run(self, given):
-        """The lines that `nbt show --brief` prints of an input."""
-        made = subprocess.run([self.program, 'show', '--brief'], input=given, capture_output=True, timeout=600, check=False)
-        return made.stdout.decode('ascii').splitlines() if made.returncode == 0 else [f'status {made.returncode}']
 
     def check(self, payloads):
         """The phrases of a capture of these payloads."""
-        given = b''.join(b'%d 7 %b\n' % (port, payload.hex().encode() or b'empty') for port, payload in payloads) + b'tick 9\n'
         said_so = [said(*it) for it in payloads]
         lines = [f'{number} {port} {phrase}' for number, ((port, _), phrase) in enumerate(zip(payloads, said_so), 1)]
-        self.count(difference(self.run(given), [*lines, f'{len(lines) + 1} tick 9'], payloads))
+        self.lines(['show', '--brief'], capture_of(payloads) + b'tick 9\n', [*lines, f'{len(lines) + 1} tick 9'], payloads)
         self.said += said_so
         self.compared['payloads'] += len(payloads)
-
-
-def difference(found, right, payloads):
-    """The first line that differs, or nothing."""
-    for number, (line, wanted) in enumerate(zip(found, right)):
-        if line != wanted:
-            port, payload = payloads[number] if number < len(payloads) else (0, b'')
-            return f'{line!r}, not {wanted!r}, of {port} {payload.hex()[:300]}'
-    return '' if len(found) == len(right) else f'{len(found)} lines, not {len(right)}: {found[-1:]}'
 
 
 def main():
@@ -121,7 +95,7 @@ def main():
     parser.add_argument('--payloads', type=int, default=10_000)
     parser.add_argument('program', nargs='?', default=os.path.join(ROOT, 'crates', 'nbt', 'out', 'nbt'))
     given = parser.parse_args()
-    cases = Cases(os.path.abspath(given.program))
+    cases = Phrases(given.program)
     payloads = [(port, payload) for port in (137, 138, 139) for payload in example_bytes()]
     payloads.append(NO_NAMES)
     payloads += made_by_chance(random.Random(given.seed), given.payloads)
@@ -136,9 +110,7 @@ def main():
         is_said = any(map(phrase.fullmatch, cases.said))
         cases.count('' if is_said else f'nothing is said as {phrase.pattern}')
         cases.compared['phrases'] += is_said
-    print('compared: ' + ', '.join(f'{cases.compared[it]} {it}' for it in sorted(cases.compared)))
-    print(f'{cases.passed} passed, {cases.failed} failed')
-    return 1 if cases.failed else 0
+    return cases.end()
 
 
 if __name__ == '__main__':

@@ -166,9 +166,8 @@ def lines_of(subject, words):
 
 
 def all_lines():
-    """The lines of all files."""
-    for subject in SUBJECTS:
-        yield from lines_of(subject, {})
+    """The lines of all files, each once: some are said in several, or by several loops."""
+    return dict.fromkeys(line for subject in SUBJECTS for line in lines_of(subject, {}))
 
 
 def definitions():

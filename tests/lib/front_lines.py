@@ -1,27 +1,28 @@
 #!/usr/bin/env python3
-"""What `nbt show --partial` prints, beside a model that reads what still stands of payloads.
+"""What `nbt show` prints, with `--partial` and without, beside a model that reads payloads and what still stands of them.
 
 Usage: tests/lib/front_lines.py [--seed N] [--payloads N] [PROGRAM]; its last line is 'N passed, M failed', the one before says
 what was compared. Payloads are those of the examples of crates/nb_examples, cut at each length, and such as are made by chance,
 cut at each length too, until there are so many (20,000). Of captures of some hundred of them:
 
-- each line that `nbt show` prints is there too, with the lines of the model after it, and no other one;
-- with `--json` each object is that of `nbt show --json`, with the members of the model after its own;
-- with `--brief` nothing is printed, and the command is refused.
+- `nbt show` prints the lines of the model, and with `--partial` those of what still stands after them;
+- with `--partial` and `--json` each object has the members of both;
+- with `--partial` and `--brief` nothing is printed, and the command is refused.
 
-Each capture is a case for each of the three, and so is each kind of front: there were some.
+Each capture is a case for each of the four, and so is each kind of front: there were some.
 """
 import argparse
-import collections
 import itertools
 import json
 import os
 import random
-import subprocess
 import sys
 
-from fronts_model import front_of, lines_of
+sys.path.insert(1, f'{sys.path[0]}/..')
+from compared import Cases, capture_of
 from fuzz_inputs import ROOT, capture_lines, example_bytes
+from model.objects import SECTIONS, front_of, shown
+from model.text import front_lines, lines_of
 from object_inputs import Inputs
 
 IN_CAPTURE = 500
@@ -53,7 +54,7 @@ def kind_of(port, front):
     if not front:
         return f'none of {port}'
     if port == 137:
-        return '137 with items' if any(front[it] for it in ('questions', 'answers', 'authorities', 'additional')) else '137 without'
+        return '137 with items' if any(front[it] for it in SECTIONS) else '137 without'
     if 'type' in front:
         return f'{port} of no kind'
     if port == 139:
@@ -61,64 +62,28 @@ def kind_of(port, front):
     return '138 with both' if 'destination' in front else '138 with source' if 'source' in front else '138 without names'
 
 
-class Cases:
-    """Runs commands, holds what they print against the model, and counts."""
-
-    def __init__(self, program):
-        self.program = program
-        self.passed = 0
-        self.failed = 0
-        self.compared = collections.Counter()
-
-    def count(self, why):
-        """One case more, which went well if nothing is wrong."""
-        self.passed += not why
-        self.failed += bool(why)
-        if why:
-            print(f'failed: {why[:1_000]}', flush=True)
-
-    def run(self, given, *options):
-        """The status of `nbt show` with options, the lines that it prints, and what it reports."""
-        made = subprocess.run([self.program, 'show', *options], input=given, capture_output=True, timeout=3_600, check=False)
-        return made.returncode, made.stdout.decode('ascii').splitlines(), made.stderr.decode('ascii')
+class Fronts(Cases):
+    """Holds lines, objects and fronts against the model."""
 
     def check(self, payloads):
         """A capture of these payloads."""
-        given = b''.join(b'%d 7 %b\n' % (port, payload.hex().encode() or b'empty') for port, payload in payloads)
-        fronts = [front_of(*it) for it in payloads]
+        given, fronts = capture_of(payloads), [front_of(*it) for it in payloads]
         self.compared.update(kind_of(port, front) for (port, _), front in zip(payloads, fronts))
         self.compared['payloads'] += len(payloads)
-        plain, objects = self.run(given)[1], self.run(given, '--json')[1]
-        self.count(difference(self.run(given, '--partial')[1], with_fronts(plain, fronts), payloads))
-        right = [compact(json.loads(it) | front) for it, front in zip(objects, fronts)]
-        self.count(difference(self.run(given, '--json', '--partial')[1], right, payloads))
-        refused = self.run(given, '--brief', '--partial')
-        self.count('' if refused == (1, [], 'nbt: arguments\n') else f'with --brief it ends as {refused}')
+        self.lines(['show'], given, list(shown_lines(payloads, lambda *_: [])), payloads)
+        self.lines(['show', '--partial'], given, list(shown_lines(payloads, front_lines)), payloads)
+        objects = [{'line': number, 'port': port, 'moment': 7} | shown(port, payload) | front
+                   for number, ((port, payload), front) in enumerate(zip(payloads, fronts), 1)]
+        self.lines(['show', '--json', '--partial'], given, [json.dumps(it, separators=(',', ':')) for it in objects], payloads)
+        refused = self.run(['show', '--brief', '--partial'], given)
+        self.count('' if refused == (1, b'', b'nbt: arguments\n') else f'with --brief it ends as {refused}')
 
 
-def with_fronts(plain, fronts):
-    """The lines that are printed without `--partial`, with those of the fronts after the lines of their payloads."""
-    lines, number = [], 0
-    for line in plain:
-        if not line.startswith(' '):
-            lines += lines_of(fronts[number - 1]) if number else []
-            number += 1
-        lines.append(line)
-    return lines + lines_of(fronts[number - 1])
-
-
-def compact(members):
-    """An object as the program prints it."""
-    return json.dumps(members, separators=(',', ':'))
-
-
-def difference(found, right, payloads):
-    """The first line that differs, or nothing."""
-    for line, wanted in itertools.zip_longest(found, right, fillvalue='no line'):
-        if line != wanted:
-            number = next((it for it in wanted.split() if it.isdigit()), '0')
-            return f'{line!r}, not {wanted!r}, of payloads {[(port, it.hex()) for port, it in payloads[:3]]}, line {number}'
-    return ''
+def shown_lines(payloads, more):
+    """The lines of payloads, each with those that another function makes of it."""
+    for number, (port, payload) in enumerate(payloads, 1):
+        first, *parts = lines_of(port, payload)
+        yield from (f'{number} {port} {first}', *parts, *more(port, payload))
 
 
 def main():
@@ -128,15 +93,13 @@ def main():
     parser.add_argument('--payloads', type=int, default=20_000)
     parser.add_argument('program', nargs='?', default=os.path.join(ROOT, 'crates', 'nbt', 'out', 'nbt'))
     given = parser.parse_args()
-    cases = Cases(os.path.abspath(given.program))
+    cases = Fronts(given.program)
     payloads = payloads_of(random.Random(given.seed), given.payloads)
     for at in range(0, len(payloads), IN_CAPTURE):
         cases.check(payloads[at:at + IN_CAPTURE])
     for kind in KINDS:
         cases.count('' if cases.compared[kind] else f'{kind}: there was none')
-    print('compared: ' + ', '.join(f'{cases.compared[it]} {it}' for it in sorted(cases.compared)))
-    print(f'{cases.passed} passed, {cases.failed} failed')
-    return 1 if cases.failed else 0
+    return cases.end()
 
 
 if __name__ == '__main__':

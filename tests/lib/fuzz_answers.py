@@ -1,9 +1,11 @@
 """The rules of tests/fuzz.py on answers: what the contracts promise of captures, tables and streams."""
-from fuzz_packets import Refused, read_capture, shown_datagram, shown_session, text_of
 from fuzz_runs import answers, ends_as, expect
-from fuzz_saved import agrees, joined
 from fuzz_traffic import Traffic, capture_of, session_packet, some_limits
-from table_model import Table, report, save
+from model.captures import read_capture
+from model.names import Refused, text_of
+from model.reports import agrees, joined, listing, report, save
+from model.tables import Table
+from model.text import lines_of
 
 SPOILT = 'spoilt'
 
@@ -20,7 +22,7 @@ class Answers:
         lines, malformed = read_capture(given)
         ending = (0, '') if malformed is None else (1, f'nbt: line {malformed}\n')
         with self.runner.rule('shown'):
-            self.shows(given, lines, ending)
+            answers(self.runner.run(['show'], given), ''.join(map(shown_text, lines)).encode(), *ending)
         words, *limits = some_limits(self.rng)
         with self.runner.rule('reported'):
             made = self.runner.run(['replay', *words, '--', *map(text_of, names)], given)
@@ -31,17 +33,7 @@ class Answers:
             answers(made, *saving(lines, table, ending))
         if made.status == 0:
             with self.runner.rule('listed by the model'):
-                answers(self.runner.run(['list', '--keys', '65535'], made.output), table.listing().encode())
-
-    def shows(self, given, lines, ending):
-        """Each payload of ports 138 and 139, and each tick, is shown as the pages say."""
-        made = self.runner.run(['show'], given)
-        found = [it for it in made.output.splitlines(True) if it[:1].isdigit() and it.split(b' ')[1] != b'137']
-        wanted = [f'{it.number} {shown_text(it)}\n'.encode() for it in lines if it.port != 137]
-        expect((made.status, made.errors) == ending, f'it does not end as {ending}')
-        for one, other in zip(found, wanted):
-            expect(one == other, f'it shows {one!r}, not {other!r}')
-        expect(len(found) == len(wanted), 'it shows more lines, or fewer')
+                answers(self.runner.run(['list', '--keys', '65535'], made.output), listing(table).encode())
 
     def traffic(self):
         """A capture of fragments that meet, with ticks and faults."""
@@ -133,7 +125,7 @@ class Answers:
                 cuts = sorted(self.rng.sample(cuts, 4)) + [min(len(stream), start + it) for it in (0, 1, 3, 4, 5, 72)]
             fronts = [stream[start:it] for it in cuts]
             with self.runner.rule('streams cut'):
-                wanted = ''.join(f'{number} 139 {shown_session(it)}\n' for number, it in enumerate(fronts, 1))
+                wanted = ''.join(f'{number} 139 {lines_of(139, it)[0]}\n' for number, it in enumerate(fronts, 1))
                 answers(self.runner.run(['show'], capture_of(fronts, 139)), wanted.encode())
 
     def walked(self, packets):
@@ -153,10 +145,11 @@ class Answers:
 
 
 def shown_text(line):
-    """What `nbt show` says of a line, after its number."""
+    """What `nbt show` prints of a line of a capture."""
     if line.port is None:
-        return f'tick {line.moment}'
-    return f'{line.port} {(shown_datagram if line.port == 138 else shown_session)(line.payload)}'
+        return f'{line.number} tick {line.moment}\n'
+    first, *parts = lines_of(line.port, line.payload)
+    return ''.join(f'{it}\n' for it in (f'{line.number} {line.port} {first}', *parts))
 
 
 def saving(lines, table, ending):
@@ -174,7 +167,7 @@ def merging(given, keys, per_source):
         table = joined(given, keys, per_source)
     except Refused as refused:
         return b'', b'', 1, f'nbt: {refused}\n'
-    return table.saved().hex().encode() + b'\n', table.listing().encode(), 0, ''
+    return table.saved().hex().encode() + b'\n', listing(table).encode(), 0, ''
 
 
 def agreeing(given, listed=False):

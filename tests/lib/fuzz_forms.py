@@ -2,9 +2,9 @@
 import re
 
 from fuzz_inputs import LONGEST_WORD, NAMES
-from fuzz_packets import cut_at_line_feeds, read_capture
 from fuzz_runs import answers, ends_as, expect
 from fuzz_traffic import some_limits
+from model.captures import comment_text, cut_at_line_feeds, read_capture
 
 KEY = re.compile(rb'(\d+)\.(\d+)\.(\d+)\.(\d+):(\d+)/([0-9a-f]{4}) '
                  rb'(?:spoilt|(?:whole|partial) (?:unique|group|broadcast) \S+ \S+ (?:empty|(?:[0-9a-f]{2})+|\d+/[\d?]+ \d+ (?:-|\d+-\d+(?:,\d+-\d+)*)(?: more \d+)?))')
@@ -140,7 +140,7 @@ def with_comments(given, malformed, output):
     parts = {int(it.split(b' ')[0]): it for it in re.findall(rb'^\d.*\n(?: .*\n)*', output, re.MULTILINE)}
     for number, line in enumerate(cut_at_line_feeds(given)[:malformed and malformed - 1], 1):
         if line.startswith(b'#'):
-            parts[number] = b''.join(b'%c' % it if 0x20 <= it <= 0x7e else b'\\%02x' % it for it in line) + b'\n'
+            parts[number] = f'{comment_text(line)}\n'.encode()
     return b''.join(parts[number] for number in sorted(parts))
 
 

@@ -2,10 +2,10 @@
 import os
 
 from example_lines import definitions
+from model.captures import LONGEST_LINE
+from model.names import Name, spelling_of
 
-HERE = os.path.dirname(os.path.abspath(__file__))
-ROOT = os.path.dirname(os.path.dirname(HERE))
-LONGEST_LINE = 262_200
+ROOT = os.path.dirname(os.path.dirname(os.path.dirname(os.path.abspath(__file__))))
 LONGEST_WORD = 131_000
 NAMES = ['FRED<20>', 'JOE<00>', 'ANN<03>.A', '*<00>', r'\2d<20>', r'\00<ff>.NETBIOS.COM']
 
@@ -153,8 +153,7 @@ class Maker:
 
 def spelled(text):
     """A name of these letters and spaces as packets spell it, and its last byte 20."""
-    data = text.ljust(16).encode()
-    return b'\x20' + bytes(ord('A') + half for byte in data for half in (byte >> 4, byte & 15)) + b'\0'
+    return spelling_of(Name(text.ljust(16).encode(), ()))
 
 
 def likely_port(payload):

@@ -7,7 +7,7 @@ import resource
 import shlex
 import subprocess
 
-from fuzz_inputs import HERE
+from fuzz_inputs import ROOT
 
 SECONDS = 30
 MEMORY = 512 << 20
@@ -67,7 +67,7 @@ class Runner:
         """What stands before the C library in some runs."""
         path = os.path.join(self.folder, f'{shim}.so')
         compiler = shlex.split(os.environ.get('CC', 'cc'))
-        subprocess.run([*compiler, '-shared', '-fPIC', '-O1', '-o', path, os.path.join(HERE, f'{shim}.c'), '-ldl'], check=True)
+        subprocess.run([*compiler, '-shared', '-fPIC', '-O1', '-o', path, os.path.join(ROOT, 'tests', 'lib', f'{shim}.c'), '-ldl'], check=True)
         return path
 
     @contextlib.contextmanager

@@ -1,14 +1,12 @@
 """Captures of port 138 in which fragments of a few datagrams meet, and streams of port 139, made by chance, for
 tests/fuzz.py."""
-from fuzz_packets import Name, spelling_of
-from table_model import KEYS, PER_SOURCE
+from model.names import Name, spelling_of
+from model.packets import FIRST, MORE
+from model.tables import KEYS, LONGEST, PER_SOURCE
 
 SCOPES = [(), (), (), (b'NETBIOS', b'COM'), (b'A',), (b'a',), (b'\x00.<', b'x' * 63)]
 FRONTS = [b'JOE', b'FRED', b'ANN', b'*' + bytes(14), b'', b'-', b'fred', b'A B', b'FIFTEEN LETTERS', b'\xff\\<.']
-FLAG_FIRST = 2
-FLAG_MORE = 1
 LATEST = (1 << 64) - 1
-LONGEST = 65_535
 LONGEST_PIECE = 65_000
 LONGEST_LAST_LABEL = 28
 
@@ -31,7 +29,7 @@ class Datagram:
 
     def part(self, start, end):
         """The same, with the flags that it has."""
-        return self.packet(start, end, (0 if start else FLAG_FIRST) | (FLAG_MORE if end < len(self.data) else 0))
+        return self.packet(start, end, (0 if start else FIRST) | (MORE if end < len(self.data) else 0))
 
 
 class Traffic:
@@ -109,10 +107,10 @@ class Traffic:
         if how == 0:
             packet[0] = rng.choice((0x0f, 0x13, 0x14, 0x15, 0x16, 0x17, 0xff))
         elif how == 1:
-            packet[1] ^= FLAG_FIRST
+            packet[1] ^= FIRST
         elif how == 2:
             packet[12:14] = rng.choice((65_535, 65_534, 65_500, 32_768)).to_bytes(2, 'big')
-            packet[1] &= ~FLAG_FIRST
+            packet[1] &= ~FIRST
         elif how == 3:
             del packet[rng.randrange(len(packet) + 1):]
         elif how == 4:

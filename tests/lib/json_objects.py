@@ -12,7 +12,6 @@ were shown. Of each:
 - where one byte of the output is changed, left out or doubled, at --changes places (2), that is noticed: a case each.
 """
 import argparse
-import collections
 import itertools
 import json
 import os
@@ -23,8 +22,10 @@ import subprocess
 import sys
 import tempfile
 
+sys.path.insert(1, f'{sys.path[0]}/..')
+from compared import LONGEST_PRINTED, Cases
 from fuzz_inputs import ROOT, capture_lines, example_bytes
-from fuzz_packets import cut_at_line_feeds
+from model.captures import cut_at_line_feeds
 from object_commands import Unknown, wanted
 from object_inputs import Inputs
 
@@ -34,7 +35,6 @@ SPELLINGS = re.compile(r'^(\w+)=([0-9a-z$]+)$', re.MULTILINE)
 STATION = ['FRED<20>', 'JOE<00>', 'ANN<03>.A']
 LONGEST_PAYLOAD = 2_000
 TABLES = 3
-LONGEST_PRINTED = 1_000
 RECORDER = '''#!/bin/sh
 case $1 in
 show | replay | list)
@@ -51,28 +51,17 @@ exec env "$@"
 '''
 
 
-class Cases:
-    """Runs commands, holds what they print against the model, and counts."""
+class Objects(Cases):
+    """Holds objects against the model."""
 
     def __init__(self, program, rng, changes):
-        self.program = program
+        super().__init__(program)
         self.rng = rng
         self.changes = changes
-        self.passed = 0
-        self.failed = 0
-        self.compared = collections.Counter()
 
-    def run(self, words, given):
-        """The status, the output and the errors of a command."""
-        made = subprocess.run([self.program, *words], input=given, capture_output=True, timeout=120)
-        return made.returncode, made.stdout, made.stderr
-
-    def count(self, why, words, given):
-        """One case more, which went well if nothing is wrong."""
-        self.passed += not why
-        self.failed += bool(why)
-        if why:
-            print(f'failed: nbt {shlex.join(words)}: {why[:LONGEST_PRINTED]}, input {given[:300]!r}', flush=True)
+    def held(self, why, words, given):
+        """One case more, of a command with an input."""
+        self.count(why and f'nbt {shlex.join(words)}: {why}', f', input {given[:300]!r}')
 
     def check(self, words, given):
         """A command with an input, with `--json` and without."""
@@ -83,10 +72,10 @@ class Cases:
         except Unknown:
             answered = plain[0] == with_json[0] and (plain[0] == 2 or plain[0] == 0 and b'--help' in plain[1])
             why = '' if answered else f'the model takes it for no command, and it ends with {with_json[0]}'
-            return self.count(why, words, given)
+            return self.held(why, words, given)
         ending, right = (*with_json[::2], *plain[::2]), (model.status, plain[2] if model.errors is None else model.errors) * 2
         why = '' if ending == right else f'with --json and without it ends as {ending}, not as {right}'
-        self.count(why or difference(with_json[1], model.objects, given), words, given)
+        self.held(why or difference(with_json[1], model.objects, given), words, given)
         self.compared[f'objects of {command}'] += len(model.objects)
         if command == 'show':
             self.compared['payloads'] += sum('port' in it for it in model.objects)
@@ -100,7 +89,7 @@ class Cases:
             put = self.rng.choice((bytes([output[at] ^ self.rng.randrange(1, 256)]), b'', output[at:at + 1] * 2))
             changed = output[:at] + put + output[at + 1:]
             noticed = difference(changed, objects, given)
-            self.count('' if noticed else f'byte {at} of the output as {put!r} is not noticed', words, given)
+            self.held('' if noticed else f'byte {at} of the output as {put!r} is not noticed', words, given)
             self.compared['bytes changed'] += 1
 
 
@@ -226,15 +215,13 @@ def main():
     parser.add_argument('--changes', type=int, default=2)
     parser.add_argument('program', nargs='?', default=os.path.join(ROOT, 'crates', 'nbt', 'out', 'nbt'))
     given = parser.parse_args()
-    cases = Cases(os.path.abspath(given.program), random.Random(given.seed), given.changes)
+    cases = Objects(given.program, random.Random(given.seed), given.changes)
     for words, capture in recorded(cases.program):
         cases.check(words, capture)
     payloads = list(example_bytes())
     samples(cases, payloads)
     made_by_chance(cases, payloads, given.payloads)
-    print('compared: ' + ', '.join(f'{cases.compared[it]} {it}' for it in sorted(cases.compared)))
-    print(f'{cases.passed} passed, {cases.failed} failed')
-    return 1 if cases.failed else 0
+    return cases.end()
 
 
 if __name__ == '__main__':

@@ -6,7 +6,9 @@ longer ones than --longest are left out.
 """
 import argparse
 import random
+import sys
 
+sys.path.insert(1, f'{sys.path[0]}/..')
 from fuzz_inputs import Maker, capture_lines, example_bytes, likely_port
 
 LONGEST = 131_000

@@ -3,18 +3,15 @@ tests/lib/json_objects.py: options, comments, malformed lines and limits, from d
 import collections
 import re
 
-from brief_model import said
-from fronts_model import front_of
-from fuzz_packets import LONGEST_LINE, Name, Refused, numbered, read_capture
-from fuzz_saved import joined
-from object_model import shown
-from object_station import listed, reported
-from table_model import KEYS, PER_SOURCE, Table
+from model.captures import LONGEST_LINE, comment_text, numbered, read_capture
+from model.names import Refused, name_of_text
+from model.objects import front_of, shown
+from model.phrases import said
+from model.reports import joined, listed, reported
+from model.tables import KEYS, PER_SOURCE, Table
 
 LONGEST_INPUT = 16_777_216
 MOST_NAMES = 254
-LONGEST_LABEL = 63
-LONGEST_SCOPE = 222
 MOST = {'--keys': 65_535, '--per-source': 65_535, '--input-limit': (1 << 64) - 1}
 USUAL = {'--keys': KEYS, '--per-source': PER_SOURCE, '--input-limit': LONGEST_INPUT}
 OPTIONS = {
@@ -22,8 +19,6 @@ OPTIONS = {
     'replay': ('--keys', '--per-source', '--input-limit', '--comments', '--json'),
     'list': ('--keys', '--per-source', '--json'),
 }
-ITEM = r'(?:[!-\-/-;=?-\[\]-~]|\\[0-9A-Fa-f]{2})'
-TEXT = re.compile(rf'({ITEM}*)<([0-9A-Fa-f]{{2}})>((?:\.{ITEM}+)*)')
 
 Wanted = collections.namedtuple('Wanted', 'objects status errors', defaults=(0, b''))
 
@@ -88,24 +83,11 @@ def number_of(options, option):
 
 def stationed(texts):
     """The names of a station; None where one is refused, or there are too many."""
-    names = {name_from(it) for it in texts}
-    return None if None in names or len(names) > MOST_NAMES else names
-
-
-def name_from(text):
-    """The name of a text, or None."""
-    found = TEXT.fullmatch(text)
-    if not found:
+    try:
+        names = {name_of_text(it.encode('utf-8', 'surrogateescape')) for it in texts}
+    except Refused:
         return None
-    front, labels = values(found[1]), tuple(values(it) for it in found[3].split('.')[1:])
-    if len(front) > 15 or any(len(it) > LONGEST_LABEL for it in labels) or sum(1 + len(it) for it in labels) + 1 > LONGEST_SCOPE:
-        return None
-    return Name(front.ljust(15) + bytes.fromhex(found[2]), labels)
-
-
-def values(text):
-    """The bytes that the items of a name's text stand for."""
-    return b''.join(bytes.fromhex(it[1:]) if it[0] == '\\' else it.encode() for it in re.findall(ITEM, text))
+    return None if len(names) > MOST_NAMES else names
 
 
 def of_tables(options, given):
@@ -157,8 +139,3 @@ def read_within(given, limit):
         answered = [it for it in numbered(finished) if it[0] < malformed]
         return answered, lines, 1, f'nbt: line {malformed}\n'.encode()
     return numbered(finished), lines, *((3, b'nbt: read\n') if cut else (0, b''))
-
-
-def comment_text(line):
-    """A comment as it is printed."""
-    return ''.join(chr(it) if 0x20 <= it <= 0x7e else f'\\{it:02x}' for it in line)

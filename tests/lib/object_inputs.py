@@ -1,11 +1,13 @@
 """Payloads, captures and saved tables made by chance, for tests/lib/json_objects.py.
 
 Packets of port 137 are made here, of all kinds, with pointers good and bad; the others as for tests/fuzz.py."""
-from fuzz_inputs import LONGEST_LINE, Maker, likely_port
-from fuzz_packets import SESSION_LENGTHS, Name, read_capture, spelling_of, text_of
+from fuzz_inputs import Maker, likely_port
 from fuzz_traffic import LONGEST_LAST_LABEL, Traffic, capture_of, digits, header, session_packet, some_limits
-from object_model import NB, NBSTAT, NS
-from table_model import Table, save
+from model.captures import LONGEST_LINE, read_capture
+from model.names import Name, labels_of, spelling_of, text_of
+from model.packets import NB, NBSTAT, NS, SESSION_LENGTHS
+from model.reports import save
+from model.tables import Table
 
 LATEST = (1 << 64) - 1
 LONGEST_PAYLOAD = 131_000
@@ -41,9 +43,7 @@ class ServicePacket:
         rng = self.rng
         how = rng.randrange(10)
         if how < 6:
-            name = self.any_name()
-            letters = bytes(ord('A') + half for byte in name.bytes for half in (byte >> 4, byte & 15))
-            return [letters, *name.scope]
+            return labels_of(self.any_name())
         if how == 6:
             return [rng.randbytes(rng.choice((1, 2, 31, 32, 33, 63))) for _ in range(rng.choice((0, 1, 2, 4)))]
         if how == 7:

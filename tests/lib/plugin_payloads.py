@@ -13,7 +13,7 @@ import re
 import sys
 
 sys.dont_write_bytecode = True
-sys.path.insert(1, os.path.join(sys.path[0], '..', '..', 'bindings', 'python'))
+sys.path[1:1] = [os.path.join(sys.path[0], '..'), os.path.join(sys.path[0], '..', '..', 'bindings', 'python')]
 import nbt
 from fuzz_inputs import capture_lines, example_bytes
 from object_inputs import LONGEST_PAYLOAD, Inputs

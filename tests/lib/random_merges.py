@@ -2,17 +2,19 @@
 """Three tables merged in every order and every grouping: `nbt merge` prints what all of their fragments come to.
 
 Usage: tests/lib/random_merges.py PROGRAM SHIM, the built tests/lib/refuse_memory.c; its last line is 'N passed, M failed'. The
-fragments are drawn by lot, the same in each run, and what their tables are saved as is found from the definitions alone
-(tables_model.py). Of three tables two are merged, in either order, and what is printed is merged with the third, as the first or as
-the second; each merge is a case. A table without promises now and then comes in the first form of saved bytes.
+fragments are drawn by lot, the same in each run, and the model has what their tables are saved as (tests/model/tables.py). Of three
+tables two are merged, in either order, and what is printed is merged with the third, as the first or as the second; each merge is a
+case. A table without promises now and then comes in the first form of saved bytes.
 """
 import itertools
 import os
 import random
 import sys
 
+sys.path.insert(1, f'{sys.path[0]}/..')
+from model.packets import MORE
 from served import Program, Served
-from tables_model import LONGEST, drawn, entry, saved_bytes, KEYS
+from tables_examples import LONGEST, drawn, table_of
 
 TRIPLES = 556
 MOST_FRAGMENTS = 5
@@ -26,8 +28,8 @@ def lists(chance):
 
 def line(fragments, in_first_form=False):
     """The line of their table."""
-    has_promise = any(entry(fragments, key).promise is not None for key in KEYS)
-    return saved_bytes(fragments, has_promise or not in_first_form).hex().encode() + b'\n'
+    has_promise = any(it.flags & MORE for it in fragments)
+    return table_of(fragments).saved(has_promise or not in_first_form).hex().encode() + b'\n'
 
 
 class Merges:

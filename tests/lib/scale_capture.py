@@ -16,15 +16,9 @@ import random
 import struct
 import sys
 
+from wire import FRED, JOE
 
-def first_level(text, suffix):
-    """A name as it stands in a packet, without a scope."""
-    data = text.ljust(15).encode() + bytes([suffix])
-    letters = bytes(ord('A') + half for byte in data for half in (byte >> 4, byte & 15))
-    return bytes([len(letters)]) + letters + b'\0'
-
-
-NAMES = first_level('JOE', 0x00) + first_level('FRED', 0x20)
+NAMES = JOE + FRED
 
 
 def line(moment, sender, identifier, data, offset=0, more=False):

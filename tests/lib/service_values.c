@@ -1,4 +1,4 @@
-/* Prints what tests/lib/values_model.py does of payloads of port 137, by the library for C. */
+/* Prints what tests/model/values.py does of payloads of port 137, by the library for C. */
 #define _GNU_SOURCE
 #include <nbt.h>
 #include <stdio.h>

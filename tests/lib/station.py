@@ -14,6 +14,7 @@ import tempfile
 import time
 
 sys.dont_write_bytecode = True
+sys.path.insert(1, f'{sys.path[0]}/..')
 import station_system
 from fuzz_inputs import Maker, capture_lines, example_bytes
 from station_runs import (ANN, EMPTY, GROUP, PATIENCE, SENDER, TRIES, UNIQUE, LeftOut, TooSlow, Wrong, begun, expect, nbt, packet, pieces,

@@ -1,5 +1,5 @@
 #!/usr/bin/env python3
-"""Prints what tests/lib/values_model.py does, by the package for Python."""
+"""Prints what tests/model/values.py does, by the package for Python."""
 import sys
 
 import nbt

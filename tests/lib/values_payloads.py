@@ -1,12 +1,14 @@
 #!/usr/bin/env python3
-"""Payloads for tests/lib/values_model.py, a line each: a port and digits, or `empty`. Usage: tests/lib/values_payloads.py [--seed N] COUNT
+"""Payloads for tests/model/values.py, a line each: a port and digits, or `empty`. Usage: tests/lib/values_payloads.py [--seed N] COUNT
 
 Some are packets that are made by chance, with names that lead into each other, and records of each type; some of these are changed,
 or cut at each length; and some are any bytes after a header."""
 import argparse
 import random
 import struct
+import sys
 
+sys.path.insert(1, f'{sys.path[0]}/..')
 from fuzz_inputs import Maker, capture_lines, example_bytes, likely_port
 
 TYPES = (0x0020, 0x0020, 0x0021, 0x0021, 0x0002, 0x0002, 0x0001, 0x000a)

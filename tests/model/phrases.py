@@ -1,12 +1,10 @@
-"""The phrases of `nbt show --brief`, made from payloads, for tests/lib/brief_phrases.py: a slow model, written from docs/FORMATS.md.
-
-A payload is read by tests/lib/object_model.py. What is said of a packet of port 137 goes by its flag word, and by the types of its
-questions and records."""
-from object_model import shown
+"""The phrases of `nbt show --brief` (docs/FORMATS.md, "Phrases"). What is said of a packet of port 137 goes by its flag word, and by
+the types of its questions and records."""
+from .objects import shown
+from .packets import MORE
 
 R, RD, RA, G = 0x8000, 0x0100, 0x0080, 0x8000
 A, NS, NBSTAT = '0001', '0002', '0021'
-MORE = 0x01
 FIRST_ONES = 4
 CLAIMS = {5: 'claims', 8: 'refreshes', 9: 'refreshes', 15: 'claims as one of several addresses'}
 REASONS = {

@@ -1,0 +1,48 @@
+"""Captures, line by line (docs/FORMATS.md, "Captures")."""
+import collections
+import re
+
+LONGEST_LINE = 262_200
+LINE = re.compile(rb'(?:#.*|(13[789]) (\d{1,20}) (empty|(?:[0-9A-Fa-f]{2})+)|tick (\d{1,20})|)', re.DOTALL)
+
+Line = collections.namedtuple('Line', 'number port moment payload')
+
+
+def read_capture(given):
+    """The lines of a capture that say something, up to the first malformed one, and that one's number or None. A tick
+    has no port and no payload."""
+    lines = []
+    for number, line in numbered(given):
+        found = LINE.fullmatch(line) if len(line) <= LONGEST_LINE else None
+        if not found or int(found[2] or found[4] or 0) >= 1 << 64:
+            return lines, number
+        if found[1]:
+            payload = bytes.fromhex(found[3].decode().replace('empty', ''))
+            lines.append(Line(number, int(found[1]), int(found[2]), payload))
+        elif found[4]:
+            lines.append(Line(number, None, int(found[4]), None))
+    return lines, None
+
+
+def numbered(given):
+    """The lines of an input that have bytes, with their numbers."""
+    number, end = 1, 0
+    for found in re.finditer(rb'[^\n]+', given):
+        number, end = number + given.count(b'\n', end, found.start()), found.start()
+        yield number, found[0]
+
+
+def cut_at_line_feeds(given):
+    """The lines of an input, of which the last may lack its line feed."""
+    lines = given.split(b'\n')
+    return lines[:-1] if lines[-1] == b'' else lines
+
+
+def comment_text(line):
+    """A comment as it is printed."""
+    return ''.join(chr(it) if 0x20 <= it <= 0x7e else f'\\{it:02x}' for it in line)
+
+
+def digits(payload):
+    """A payload as a line of a capture has it."""
+    return payload.hex() or 'empty'

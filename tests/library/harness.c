@@ -225,8 +225,7 @@ static struct answer read(enum call of, const struct asked *asked, struct answer
     } else {
         for (room = 1; trials.rooms > 0 && room < wanted; room += wanted / (trials.rooms + 1) + 1)
             expect_no_room(attempt(of, asked, room, 0, SIZE_MAX), wanted);
-        expect_no_room(attempt(of, asked, wanted - 1, 0, SIZE_MAX), wanted);
-        expect_no_room(attempt(of, asked, wanted - 1, 1, SIZE_MAX), wanted);
+        expect_no_room(attempt(of, asked, wanted - 1, (int)(call_count % 2), SIZE_MAX), wanted);
         room = wanted;
         it = kept_answer(of, attempt(of, asked, room, 1, SIZE_MAX));
         expect(it.status == NBT_DONE && it.used == wanted, "the room that is wanted");

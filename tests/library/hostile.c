@@ -101,6 +101,93 @@ static void changed(const struct sample *it, int input) {
         }
 }
 
+/* ---- what no sample says */
+
+/* Any port but 137 and 138 is taken for that of sessions. */
+static void any_port(void) {
+    static const uint16_t ports[] = {0, 136, 140, UINT16_MAX};
+    static const enum call tells[] = {OF_show, OF_json, OF_brief};
+    struct asked asked = {.in = {BYTES("\x84\0\0\6" "\x0a\0\0\5\0\x8b")}};
+    size_t i, j;
+    for (i = 0; i < COUNT(tells); i++) {
+        struct answer wanted;
+        asked.n[0] = 139;
+        wanted = answered(tells[i], &asked);
+        for (j = 0; j < COUNT(ports); j++) {
+            asked.n[0] = ports[j];
+            expect(is_same(wanted.bytes, answered(tells[i], &asked).bytes), "another port than 139");
+        }
+    }
+}
+
+static struct nbt_station made(uint32_t keys, uint32_t per_source) {
+    struct nbt_station station;
+    expect(CALL(station_create, .station = &station, .in = {BYTES("FRED<20>")}, .n = {0, 0, keys, per_source}).status == NBT_DONE, "a station");
+    return station;
+}
+
+/* What becomes of the sample of a payload that a station takes. */
+static uint32_t outcome(struct nbt_station *station, uint64_t moment, int sample) {
+    const struct sample *it = samples;
+    struct answer answer;
+    while (it->of != OF_station_take)
+        it++;
+    answer = CALL(station_take, .station = station, .in = {it[sample].asked.in[0]}, .n = {moment});
+    return answer.status == NBT_DONE ? ((const struct nbt_taken *)answer.filled)->outcome : 1000 + answer.status;
+}
+
+static uint32_t dropped(struct nbt_station *station, uint64_t moment) {
+    return ((const struct dropped *)CALL(station_tick, .station = station, .n = {moment}).filled)->keys;
+}
+
+/* A station that is moved, and one that is given back: none stands where it was, until another one does. */
+static void moved(void) {
+    struct nbt_station station = made(1, 1), other;
+    expect(outcome(&station, 0, 0) == NBT_DELIVERED, "a datagram that is handed over");
+    other = station;
+    station.at = NULL;
+    expect(CALL(station_save, .station = &station).status == NBT_NO_STATION, "no station where one was");
+    nbt_station_free(station);
+    expect(CALL(station_save, .station = &other).used == 97, "a station that was moved");
+    nbt_station_free(other);
+    other = made(0, 0);
+    expect(outcome(&other, 0, 0) == 1000 + NBT_FULL_SOURCE, "room for no key");
+    nbt_station_free(other);
+}
+
+/* Moments at their least and greatest. */
+static void moments(void) {
+    struct nbt_station station = made(1, UINT32_MAX);
+    expect(outcome(&station, UINT64_MAX, 2) == NBT_KEPT && outcome(&station, UINT64_MAX, 3) == 1000 + NBT_FULL, "a key at the last moment");
+    expect(dropped(&station, 0) == 0 && dropped(&station, UINT64_MAX) == 0, "the first and the last moment");
+    nbt_station_free(station);
+    station = made(1, UINT32_MAX);
+    expect(outcome(&station, 0, 2) == NBT_KEPT && dropped(&station, 1999) == 0 && dropped(&station, 2000) == 1, "two seconds");
+    nbt_station_free(station);
+}
+
+/* Tables that stations with these limits take in, cut at each length, and one's own. */
+static void limits(void) {
+    static const uint32_t keys[] = {0, 1, 2, UINT32_MAX};
+    const struct sample *merge = samples;
+    size_t i, length;
+    while (merge->of != OF_table_merge)
+        merge++;
+    for (i = 0; i < 16; i++) {
+        struct nbt_station station = made(keys[i / 4], keys[i % 4]);
+        struct bytes table = merge->asked.in[0], other = merge->asked.in[1];
+        size_t mark = kept_mark();
+        for (length = 0; length < table.length; length++, release(mark))
+            CALL(station_absorb, .station = &station, .in = {{table.at, length}}, .n = {UINT64_MAX});
+        CALL(station_absorb, .station = &station, .in = {other});
+        CALL(station_absorb, .station = &station, .in = {table});
+        table = CALL(station_save, .station = &station).bytes;
+        expect(CALL(station_absorb, .station = &station, .in = {table}).used == 0, "a station's own table");
+        expect(is_same(table, CALL(station_save, .station = &station).bytes), "nothing new");
+        nbt_station_free(station);
+    }
+}
+
 int main(void) {
     size_t i;
     int input;
@@ -117,6 +204,11 @@ int main(void) {
                 changed(&samples[i], input);
     }
     free_samples();
+    any_port();
+    moved();
+    moments();
+    limits();
+    expect(memory.blocks == 0, "all stations give back what they took");
     print_statuses();
     fprintf(stderr, "%lu calls\n", call_count);
     return 0;

@@ -231,13 +231,11 @@ static void rdata(struct bytes it) {
     }
 }
 
-static void requests(uint32_t number) {
-    uint32_t request;
-    for (request = 0; request < 5; request++) {
-        struct answer made = CALL(service_request, .in = {BYTES_OF("JOE<00>.NETBIOS.COM")}, .n = {request, number, number & 1, number * 77, number * 5, number * 2654435761u});
-        expect(made.status == NBT_DONE, "a request");
-        is_packet_of_137(made.bytes);
-    }
+/* A request of the bits of a number is a packet. */
+static void request(uint32_t number) {
+    struct answer made = CALL(service_request, .in = {BYTES_OF("JOE<00>.NETBIOS.COM")}, .n = {number % 5, number, number & 1, number * 77, number * 5, number * 2654435761u});
+    expect(made.status == NBT_DONE, "a request");
+    is_packet_of_137(made.bytes);
 }
 
 /* ---- port 138 */
@@ -441,12 +439,13 @@ static void line(uint32_t port, struct bytes payload) {
     expect(CALL(capture_line, .in = {{(const uint8_t *)text, size - 1}}).status == NBT_BAD_LINE, "half a byte");
 }
 
-/* Each call that changes no station, with its sample's numbers and these bytes for its inputs. */
-static void any_call(struct bytes it) {
+/* One call of so many, of those that change no station, with its sample's numbers and these bytes for an input. */
+static void any_call(struct bytes it, size_t some) {
     size_t i, mark = kept_mark();
     for (i = 0; i < sample_count; i++) {
         struct asked asked = samples[i].asked;
-        if (rows[samples[i].of].changes || !has_input(samples[i].of, 0) || (i > 0 && samples[i - 1].of == samples[i].of))
+        if (rows[samples[i].of].changes || !has_input(samples[i].of, 0) || (i > 0 && samples[i - 1].of == samples[i].of)
+            || (samples[i].of + it.length) % some > 0)
             continue;
         asked.in[line_number % 2 < (size_t)has_input(samples[i].of, 1) ? line_number % 2 : 0] = it;
         answered(samples[i].of, &asked);
@@ -454,11 +453,21 @@ static void any_call(struct bytes it) {
     }
 }
 
+/* The text of a packet is that of its own bytes; that of a refusal has the place that the reader says. */
+static void same_text(uint32_t port, struct bytes it, struct bytes text, struct answer read, size_t used) {
+    if (read.status == NBT_DONE) {
+        expect(is_same(text, CALL(show, .in = {part(it, 0, used)}, .n = {port}).bytes), "a packet needs no byte more than `used`");
+        return;
+    }
+    expect(memcmp(text.at, read.status == NBT_MORE ? "more " : "refused ", 5) == 0, "the text of a refusal");
+    expect(read.at == UNSAID || ends_with(text, read.at), "the place in the text of a refusal");
+}
+
 /* What the program prints of a payload, and the payload's parts. */
 static void payload(uint32_t port, struct bytes it, size_t rooms, const char *printed) {
-    struct answer text, object, phrase, read = {.status = NBT_DONE, .at = UNSAID};
+    struct answer text, object, phrase, of_138, of_139;
     struct nbt_station station;
-    size_t used = 0, of_138 = 0, of_139 = 0;
+    size_t used_138 = 0, used_139 = 0;
     trials.rooms = rooms;
     text = CALL(show, .in = {it}, .n = {port});
     trials.rooms = 0;
@@ -473,22 +482,18 @@ static void payload(uint32_t port, struct bytes it, size_t rooms, const char *pr
         fwrite(it.at, 1, it.length, stdout);
         fputs(*printed == 's' ? "" : "\n", stdout);
     }
-    service(it);
-    if (port == 138)
-        read = datagram(it, &of_138), session(it, &of_139), used = of_138;
-    else if (port == 137)
-        datagram(it, &of_138), session(it, &of_139);
-    else
-        datagram(it, &of_138), read = session(it, &of_139), used = of_139;
-    if (port != 137 && read.status == NBT_DONE)
-        expect(is_same(text.bytes, CALL(show, .in = {part(it, 0, used)}, .n = {port}).bytes), "a packet needs no byte more than `used`");
-    if (port != 137 && read.status != NBT_DONE) {
-        expect(memcmp(text.bytes.at, read.status == NBT_MORE ? "more " : "refused ", 5) == 0, "the text of a refusal");
-        expect(read.at == UNSAID || ends_with(text.bytes, read.at), "the place in the text of a refusal");
-    }
+    /* A fuzzer gives each port payloads of its own. */
+    if (port == 137 || printed != NULL)
+        service(it), request((uint32_t)(it.length + line_number));
+    if (port == 138 || printed != NULL)
+        of_138 = datagram(it, &used_138);
+    if (port == 139 || printed != NULL)
+        of_139 = session(it, &used_139);
+    if (port == 138 || port == 139)
+        same_text(port, it, text.bytes, port == 138 ? of_138 : of_139, port == 138 ? used_138 : used_139);
     rdata(it);
     line(port, it);
-    any_call(it);
+    any_call(it, printed != NULL ? 1 : 4);
     if (CALL(station_create, .station = &station, .in = {it}, .n = {1, 1, 1, 1}).status == NBT_DONE)
         nbt_station_free(station);
 }
@@ -705,7 +710,6 @@ int LLVMFuzzerTestOneInput(const uint8_t *data, size_t size) {
     for (i = 0; i < count; i++) {
         line_number = i;
         payload(137 + records[i].kind % 3, records[i].bytes, 0, NULL);
-        requests((uint32_t)records[i].bytes.length);
         release(mark);
     }
     together(size | 1);

@@ -2,7 +2,7 @@
 """The library under libFuzzer, with coverage counters and AddressSanitizer in its own code.
 
 Usage: tests/fuzz_coverage.py [--seconds N] [--module FILE] [--keep].  The module is what `make targets` or tools/module keeps, out/nbt.bc
-without it. What has to hold stands in tests/lib/fuzz_calls.c. It begins with the inputs of tests/corpus.txt, a line of digits each;
+without it. What has to hold stands in tests/library/payloads.c. It begins with the inputs of tests/corpus.txt, a line of digits each;
 with --keep those that are needed for what was reached are written there, 2 MB at most. An input for which something doesn't hold
 is printed as lines of a capture, and its digits, and the status is 1; 2 where a tool is missing. The last lines say what was reached.
 """
@@ -19,7 +19,8 @@ TOP = os.path.join(os.path.dirname(os.path.abspath(__file__)), '..')
 CORPUS = os.path.join(TOP, 'tests', 'corpus.txt')
 MOST_BYTES = 2_000_000
 CLANGS = [os.environ.get('FUZZ_CLANG'), 'clang-22', 'clang-19', 'clang-16', 'clang']
-WRAPPED = '-Wl,--wrap=malloc,--wrap=realloc'
+WRAPPED = '-Wl,--wrap=malloc,--wrap=realloc,--wrap=free'
+PROGRAM = [f'{TOP}/tests/library/{name}.c' for name in ('payloads', 'harness', 'samples', 'memory')]
 LIMITS = ['-max_len=4000', '-timeout=20', '-rss_limit_mb=1500']
 REACHED = re.compile(r'^(?:UN)?COVERED_FUNC: hits: \d+ edges: (\d+)/(\d+) (\S+)', re.M)
 
@@ -60,12 +61,11 @@ def built(room, module):
     # The functions of the module don't ask for AddressSanitizer, so they are made to.
     run([*words, '-O2', '-fsanitize=address,fuzzer-no-link', '-mllvm', '-force-attribute=sanitize_address', '-o', at('library.o')])
     run([*words, '-O0', '-fsanitize=fuzzer-no-link', '-o', at('blocks.o')])
-    words = [clang, '-std=c11', '-g', '-O1', '-fsanitize=address', f'-I{TOP}/include', f'{TOP}/tests/lib/fuzz_calls.c']
+    words = [clang, '-std=c11', '-g', '-O1', '-fsanitize=address', f'-I{TOP}/include', *PROGRAM]
     heap = f'{TOP}/bindings/heaps/malloc.c'
-    run([*words, '-c', '-o', at('calls.o')])
     for library, program in (('library.o', 'fuzz'), ('blocks.o', 'blocks')):
-        run([clang, '-fsanitize=address,fuzzer', WRAPPED, at('calls.o'), heap, at(library), '-o', at(program)])
-    run([*words, '-DALONE', WRAPPED, '-fsanitize=fuzzer-no-link', heap, at('library.o'), '-o', at('alone')])
+        run([*words, '-DFUZZER', '-fsanitize=fuzzer', WRAPPED, heap, at(library), '-o', at(program)])
+    run([*words, WRAPPED, '-fsanitize=fuzzer-no-link', heap, at('library.o'), '-o', at('alone')])
     return at('fuzz'), at('alone'), at('blocks')
 
 

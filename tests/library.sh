@@ -1,6 +1,6 @@
 #!/usr/bin/env bash
 # The library for C: that the bindings read no packet by themselves, what it is made of, the examples of bindings/c, a
-# caller's worst (tests/lib/library.c) beside `nbt show`, sanitizers, memory that runs out, what payloads say beside a slow
+# caller's worst (tests/library/payloads.c) beside `nbt show`, sanitizers, memory that runs out, what payloads say beside a slow
 # model, the programs of examples/, the package for Python and its types, nbt-station, and the crate for Rust. Usage:
 # [AFTER_RT_CI=1] [MODULE=FILE] tests/library.sh [PROGRAM]; its last line is 'N passed, M failed, K skipped'. The library is
 # built over what `rt ci` has just left, where AFTER_RT_CI says so, and else by `rt lib`. MODULE then gets its LLVM module.
@@ -15,6 +15,9 @@ CC=${CC:-cc}
 strict=(-std=c11 -O1 -g -Wall -Wextra -Wpedantic -Werror "-I$top/include")
 payloads=10000
 values=25000
+# What the programs over the rows of tests/library/calls.def have alike.
+wrapped=(-Wl,--wrap=malloc,--wrap=realloc,--wrap=free)
+rows=("$here"/library/{harness,samples,memory}.c "${wrapped[@]}")
 
 # same WANTED NAME: whether standard input is what is wanted.
 same() {
@@ -119,18 +122,18 @@ chains() {
     done
 }
 
-# compiled NAME OPTION..: tests/lib/library.c, compiled so, as $room/NAME.
+# compiled NAME OPTION..: tests/library/payloads.c, compiled so, as $room/NAME.
 compiled() {
-    $CC "${strict[@]}" -o "$room/$1" "$here/lib/library.c" "${@:2}" "$built/libnbt.a" >"$room/log" 2>&1
-    count $? "tests/lib/library.c, $1: $(head -n 1 "$room/log")"
+    $CC "${strict[@]}" -o "$room/$1" "$here/library/payloads.c" "${rows[@]}" "${@:2}" "$built/libnbt.a" >"$room/log" 2>&1
+    count $? "tests/library/payloads.c, $1: $(head -n 1 "$room/log")"
 }
 
-# worst NAME LINES [ROOMS]: tests/lib/library.c over lines, whose answers are those wanted.
+# worst NAME LINES [ROOMS]: tests/library/payloads.c over lines, whose answers are those wanted.
 worst() {
     ended "$room/$1" ${3:+"$3"} <"$2" >"$room/output" 2>"$room/errors"
-    count $? "tests/lib/library.c, $1: $(tail -n 1 "$room/errors")"
+    count $? "tests/library/payloads.c, $1: $(tail -n 1 "$room/errors")"
     cmp -s "$2.wanted" "$room/output"
-    count $? "tests/lib/library.c, $1, prints what nbt show prints: $(diff "$2.wanted" "$room/output" | head -c 300)"
+    count $? "tests/library/payloads.c, $1, prints what nbt show prints: $(diff "$2.wanted" "$room/output" | head -c 300)"
 }
 
 # lines COUNT SEED [LONGEST]: payloads, of so many bytes at most, and what `nbt show` prints of them.
@@ -146,14 +149,14 @@ objects() {
     sed 's/ / 0 /' "$1" | ended "$program" show --json --input-limit 4294967296 \
         | sed -E 's/^\{"line":([0-9]+),"port":([0-9]+),"moment":0,/\1 \2 {/' >"$1.objects"
     ended "$room/plain" 0 json <"$1" 2>"$room/errors" | cmp -s "$1.objects" -
-    count $? "tests/lib/library.c prints the objects of nbt show --json: $(tail -n 1 "$room/errors")"
+    count $? "tests/library/payloads.c prints the objects of nbt show --json: $(tail -n 1 "$room/errors")"
 }
 
 # phrases LINES: the phrases of payloads are those that `nbt show --brief` prints.
 phrases() {
     sed 's/ / 0 /' "$1" | ended "$program" show --brief --input-limit 4294967296 >"$1.phrases"
     [ $? -eq 0 ] && [ -s "$1.phrases" ] && ended "$room/plain" 0 brief <"$1" 2>"$room/errors" | cmp -s "$1.phrases" -
-    count $? "tests/lib/library.c prints the phrases of nbt show --brief: $(tail -n 1 "$room/errors")"
+    count $? "tests/library/payloads.c prints the phrases of nbt show --brief: $(tail -n 1 "$room/errors")"
 }
 
 callers() {
@@ -170,19 +173,17 @@ callers() {
 # Every one is a run over all the payloads, so none is long.
 refused() {
     [ -f "$room/plain" ] || compiled plain
-    lines 30 2 1000
+    lines 12 2 1000
     worst plain "$room/lines2" 2
     counted_by every_request.py again "$room/refuse_memory.so" "$room/lines2" "$room/plain" 2
 }
 
 # hostile NAME OPTION..: a caller who goes to every limit of the header, compiled so; its calls answer the statuses listed there.
 hostile() {
-    $CC "${strict[@]}" -o "$room/hostile" "$here"/lib/{hostile,hostile_rooms,hostile_stations,wrapped_memory}.c \
-        -Wl,--wrap=malloc,--wrap=realloc "${@:2}" \
-        "$built/libnbt.a" >"$room/log" 2>&1
-    count $? "tests/lib/hostile.c, $1: $(head -n 1 "$room/log")"
+    $CC "${strict[@]}" -o "$room/hostile" "$here/library/hostile.c" "${rows[@]}" "${@:2}" "$built/libnbt.a" >"$room/log" 2>&1
+    count $? "tests/library/hostile.c, $1: $(head -n 1 "$room/log")"
     ended "$room/hostile" >"$room/statuses" 2>"$room/errors"
-    count $? "tests/lib/hostile.c, $1: $(grep -m 1 . "$room/errors")"
+    count $? "tests/library/hostile.c, $1: $(grep -m 1 . "$room/errors")"
     "$here/lib/statuses_reached.py" "$top/include/nbt.h" <"$room/statuses" >"$room/output" 2>&1
     count $? "each call answers what the header lists, $1: $(head -n 3 "$room/output" | head -c 300)"
 }
@@ -192,9 +193,8 @@ hostile() {
 short_of_memory() {
     local granted leaks=0 source=$top/bindings/c/$1.c
     wanted "$source" >"$room/wanted"
-    $CC "${strict[@]}" -fsanitize=address -Wl,--wrap=malloc,--wrap=realloc -o "$room/example" "$source" "$here/lib/wrapped_memory.c" \
-        "$built/libnbt.a" >"$room/log" 2>&1
-    count $? "$1.c over tests/lib/wrapped_memory.c: $(head -n 1 "$room/log")"
+    $CC "${strict[@]}" -fsanitize=address "${wrapped[@]}" -o "$room/example" "$source" "$here/library/memory.c" "$built/libnbt.a" >"$room/log" 2>&1
+    count $? "$1.c over tests/library/memory.c: $(head -n 1 "$room/log")"
     for ((granted = 0; granted < 200; granted++)); do
         NBT_GRANTED=$granted ended "$room/example" >"$room/output" 2>"$room/errors" \
             && sed 's/ *$//' "$room/output" | cmp -s - "$room/wanted" && break
@@ -219,11 +219,11 @@ limits() {
     local each
     hostile plain
     hostile sanitized -fsanitize=address,undefined -fno-sanitize-recover=all
-    $CC "${strict[@]}" -o "$room/bounds" "$here/lib/bounds.c" "$built/libnbt.a" >"$room/log" 2>&1
-    count $? "tests/lib/bounds.c: $(head -n 1 "$room/log")"
+    $CC "${strict[@]}" -o "$room/bounds" "$here/library/bounds.c" "${rows[@]}" "$built/libnbt.a" >"$room/log" 2>&1
+    count $? "tests/library/bounds.c: $(head -n 1 "$room/log")"
     "$here/lib/library_payloads.py" --seed 5 500 | sed 's/ / 0 /' | ended "$room/bounds" >"$room/output" 2>"$room/errors"
     count $? "the stack and the texts of calls: $(head -n 1 "$room/errors")"
-    grep -c ' of 65536$' "$room/output" | same 11 'calls whose stack is measured'
+    sed -n 's/: [0-9]* of 65536$//p' "$room/output" | sort | same "$(calls | sed 's/^nbt_//' | grep -vx station_free)" 'the stack of each call is measured'
     for each in create free list save take tick absorb; do
         short_of_memory "station_$each"
     done

@@ -13,6 +13,8 @@ out=${OUT:-$room/out}
 . "$here/lib/package_cases.sh"
 strict=(-std=c11 -O1 -g -Wall -Wextra -Wpedantic -Werror "-I$top/include")
 payloads=3000
+# What the programs over the rows of tests/library/calls.def have alike.
+rows=("$here"/library/{harness,samples,memory}.c -Wl,--wrap=malloc,--wrap=realloc,--wrap=free)
 qemu=(qemu-aarch64 -L /usr/aarch64-linux-gnu)
 memory64='process.exit(WebAssembly.validate(Uint8Array.of(0, 97, 115, 109, 1, 0, 0, 0, 5, 3, 1, 4, 1)) ? 0 : 1)'
 
@@ -79,16 +81,21 @@ alike() {
     count $? "$1 answers the same: $(diff "$2" "$room/output" | head -c 300)"
 }
 
+# asked LINES: what is asked of lines of payloads, as LINES.asked, and what the calls answer on x86-64, as LINES.wanted.
+asked() {
+    ended "$room/calls" ask <"$1" >"$1.asked" 2>"$room/errors" && ended "$room/calls" <"$1.asked" >"$1.wanted" 2>"$room/errors"
+    count $? "tests/library/targets.c: $(tail -n 1 "$room/errors")"
+}
+
 # All calls, with the same words.
 all_calls() {
-    compiled calls "$here/lib/target_calls.c" -Wl,--wrap=malloc,--wrap=realloc
+    compiled calls "$here/library/targets.c" "${rows[@]}"
     lines "$payloads" 11
-    ended "$room/calls" <"$room/lines11" >"$room/calls.wanted" 2>"$room/errors"
-    count $? "tests/lib/target_calls.c: $(tail -n 1 "$room/errors")"
-    [ "$(grep -cE '^[0-9]+ show 0 ' "$room/calls.wanted")" -eq "$payloads" ] && [ "$(wc -l <"$room/calls.wanted")" -gt $((20 * payloads)) ]
+    asked "$room/lines11"
+    [ "$(grep -cE '^[0-9]+ show 0 ' "$room/lines11.wanted")" -eq $((2 * payloads)) ] && [ "$(wc -l <"$room/lines11.wanted")" -gt $((70 * payloads)) ]
     count $? 'it prints a line a call'
-    alike aarch64 "$room/calls.wanted" "${qemu[@]}" "$room/calls.arm" <"$room/lines11"
-    alike WebAssembly "$room/calls.wanted" "${node[@]}" "$here/lib/target_calls.mjs" "$out/nbt.wasm" <"$room/lines11"
+    alike aarch64 "$room/lines11.wanted" "${qemu[@]}" "$room/calls.arm" <"$room/lines11.asked"
+    alike WebAssembly "$room/lines11.wanted" "${node[@]}" "$here/library/calls.mjs" "$out/nbt.wasm" <"$room/lines11.asked"
 }
 
 # Each request for memory refused in turn, on each target: what is answered then is the same.
@@ -100,16 +107,16 @@ refused() {
         ended "$program" build response 0006 8500 'FRED<20>' 0020 300 60000a0000050000c0a80001
         ended "$program" build request 'FRED<20>' 'JOE<00>.NETBIOS.COM'
     } | sed 's/ 0 / /' >"$room/few"
-    ended "$room/calls" <"$room/few" >"$room/calls.wanted" 2>"$room/errors"
+    asked "$room/few"
     every x86-64 "$room/calls"
     every aarch64 "${qemu[@]}" "$room/calls.arm"
-    every WebAssembly "${node[@]}" "$here/lib/target_calls.mjs" "$out/nbt.wasm"
+    every WebAssembly "${node[@]}" "$here/library/calls.mjs" "$out/nbt.wasm"
 }
 
 # every TARGET COMMAND..: a case for each request of a target.
 every() {
     local each
-    ended "${@:2}" every "$room/calls.wanted" <"$room/few" >"$room/output" 2>"$room/errors"
+    ended "${@:2}" every "$room/few.wanted" <"$room/few.asked" >"$room/output" 2>"$room/errors"
     count $? "each request is refused on $1: $(tail -n 2 "$room/errors" | tr '\n' ' ')"
     wc -l <"$room/output" | same "$(tail -n 1 "$room/errors")" "as many as there are, on $1"
     while IFS= read -r each; do
@@ -118,13 +125,13 @@ every() {
     done <"$room/output"
 }
 
-# tests/lib/library.c, a caller's worst, on aarch64.
+# tests/library/payloads.c, a caller's worst, on aarch64.
 worst() {
-    compiled worst "$here/lib/library.c"
+    compiled worst "$here/library/payloads.c" "${rows[@]}"
     lines "$payloads" 12
     sed 's/ / 0 /' "$room/lines12" | ended "$program" show --input-limit 4294967296 >"$room/lines12.wanted"
     count $? "nbt show of $payloads payloads"
-    alike 'tests/lib/library.c on aarch64' "$room/lines12.wanted" "${qemu[@]}" "$room/worst.arm" 8 <"$room/lines12"
+    alike 'tests/library/payloads.c on aarch64' "$room/lines12.wanted" "${qemu[@]}" "$room/worst.arm" 8 <"$room/lines12"
     alike 'show in WebAssembly' "$room/lines12.wanted" "${node[@]}" "$here/lib/targets.mjs" "$out" show <"$room/lines12"
 }
 
@@ -164,18 +171,15 @@ examples() {
 corpus() {
     local wanted
     wanted="$(wc -l <"$here/corpus.txt") inputs"
-    ${CC:-cc} "${strict[@]}" -DALONE -fsanitize=address,undefined -fno-sanitize-recover=all -o "$room/corpus" "$here/lib/fuzz_calls.c" \
-        -Wl,--wrap=malloc,--wrap=realloc "$out/lib/libnbt.a" >"$room/log" 2>&1
-    count $? "tests/lib/fuzz_calls.c for x86-64: $(head -n 1 "$room/log")"
-    ended "$room/corpus" <"$here/corpus.txt" 2>&1 | tail -n 1 | same "$wanted" 'the corpus on x86-64'
-    aarch64-linux-gnu-gcc "${strict[@]}" -DALONE -o "$room/corpus.arm" "$here/lib/fuzz_calls.c" -Wl,--wrap=malloc,--wrap=realloc \
-        "$out/lib/aarch64/libnbt.a" >"$room/log" 2>&1
-    count $? "tests/lib/fuzz_calls.c for aarch64: $(head -n 1 "$room/log")"
-    ended "${qemu[@]}" "$room/corpus.arm" <"$here/corpus.txt" 2>&1 | tail -n 1 | same "$wanted" 'the corpus on aarch64'
-    ${CC:-cc} "${strict[@]}" -DALONE -o "$room/off" "$here/lib/fuzz_calls.c" "$here/lib/place_off.c" -Wl,--wrap=malloc,--wrap=realloc,--wrap=nbt_datagram_read \
+    ${CC:-cc} "${strict[@]}" -fsanitize=address,undefined -fno-sanitize-recover=all -o "$room/corpus" "$here/library/payloads.c" \
+        "${rows[@]}" "$out/lib/libnbt.a" >"$room/log" 2>&1
+    count $? "tests/library/payloads.c for x86-64, sanitized: $(head -n 1 "$room/log")"
+    ended "$room/corpus" corpus <"$here/corpus.txt" 2>&1 | tail -n 1 | same "$wanted" 'the corpus on x86-64'
+    ended "${qemu[@]}" "$room/worst.arm" corpus <"$here/corpus.txt" 2>&1 | tail -n 1 | same "$wanted" 'the corpus on aarch64'
+    ${CC:-cc} "${strict[@]}" -o "$room/off" "$here"/library/{payloads,place_off}.c "${rows[@]}" -Wl,--wrap=nbt_datagram_read \
         "$out/lib/libnbt.a" >"$room/log" 2>&1
-    count $? "tests/lib/place_off.c: $(head -n 1 "$room/log")"
-    ! ended "$room/off" <"$here/corpus.txt" >"$room/output" 2>&1 && grep -q 'not so: ' "$room/output"
+    count $? "tests/library/place_off.c: $(head -n 1 "$room/log")"
+    ! ended "$room/off" corpus <"$here/corpus.txt" >"$room/output" 2>&1 && grep -q 'not so: ' "$room/output"
     count $? "the corpus finds a place that is one off: $(tail -n 1 "$room/output")"
     echo 01000411000001020003ff | ended "$room/corpus" print >"$room/output" 2>/dev/null
     same $'138 0 11000001\n139 0 ff' 'an input as lines of a capture' <"$room/output"

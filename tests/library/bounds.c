@@ -1,22 +1,29 @@
-/* The bounds that include/nbt.h has: the stack that a call wants, and how long texts are. Usage: bounds <CAPTURE, whose payloads are
- * given to the calls beside the worst ones, which are made here. The calls run on a stack of their own, whose bytes are known, so that
- * those that a call changes can be found. Prints the most of each; status 1 where one passes its bound. */
+/* The bounds that include/nbt.h has: the stack that each call wants, and how long texts are. Usage: bounds <CAPTURE, whose payloads are given
+ * to each call of calls.def, beside its samples and the worst payloads, which are made here. Calls run on a stack of their own, whose bytes
+ * are known, so that those that a call changes can be found. Prints the most of each; status 1 where one passes its bound. */
 #define _GNU_SOURCE
-#include "payloads.h"
-#include <nbt.h>
+#include "../lib/payloads.h"
+#include "harness.h"
 #include <stdbool.h>
 #include <sys/mman.h>
 #include <ucontext.h>
 
-enum { PAINT = 0x5a, STACK = 1 << 20, PAGE = 4096, LONGEST_NAME = 255, LONGEST_PAYLOAD = 65503, LINE_PAYLOAD = 131097, TABLE_ROOM = 1 << 22, KEYS = 2000 };
+enum { PAINT = 0x5a, STACK = 1 << 20, PAGE = 4096, LONGEST_NAME = 255, LONGEST_PAYLOAD = 65503, LINE_PAYLOAD = 131097, KEYS = 2000 };
 
 /* ---- the stack of a call */
 
 static uint8_t *stack;
 static ucontext_t caller;
-static void (*called)(void);
+static enum call called;
+static struct asked asked;
+static uint8_t text[1 << 24], filled[MOST_FILLED];
+static size_t used;
+static uint32_t status;
 
-static void start(void) { called(); }
+static void start(void) {
+    size_t at;
+    status = rows[called].call(&asked, filled, text, sizeof text, &used, &at);
+}
 
 static uint8_t *new_stack(void) {
     uint8_t *made = mmap(NULL, PAGE + STACK, PROT_READ | PROT_WRITE, MAP_PRIVATE | MAP_ANONYMOUS, -1, 0);
@@ -25,12 +32,11 @@ static uint8_t *new_stack(void) {
     return made + PAGE;
 }
 
-/* How many bytes of its stack some calls change, from the first to the deepest. */
-static size_t depth_of(void (*calls)(void)) {
+/* How many bytes of its stack a call changes, from the first to the deepest. */
+static size_t depth(void) {
     ucontext_t context;
     size_t untouched = 0;
     memset(stack, PAINT, STACK);
-    called = calls;
     getcontext(&context);
     context.uc_stack.ss_sp = stack;
     context.uc_stack.ss_size = STACK;
@@ -47,7 +53,7 @@ static size_t depth_of(void (*calls)(void)) {
 static struct {
     const char *name;
     size_t most, bound;
-} measures[64];
+} measures[CALLS + 32];
 static size_t measure_count;
 static bool is_passed;
 
@@ -68,119 +74,57 @@ static void measured(const char *name, size_t value, size_t bound) {
     }
 }
 
-static const uint8_t *payload;
-static uint16_t port;
-static size_t payload_length, used, at;
-static uint8_t text[1 << 24], table[TABLE_ROOM], other[TABLE_ROOM];
-static size_t table_length;
-static struct nbt_station station;
-
-static void shows(void) { nbt_show(port, payload, payload_length, text, sizeof text, &used); }
-static void tells(void) { nbt_json(port, payload, payload_length, text, sizeof text, &used); }
-static void says(void) { nbt_brief(port, payload, payload_length, text, sizeof text, &used); }
-
-static void reads_line(void) {
-    struct nbt_line said;
-    nbt_capture_line(text, 2 * LINE_PAYLOAD + 6, &said, table, sizeof table, &used);
+/* A call, whose stack is measured; its bytes stand in `text` then. */
+static void called_with(enum call of, struct asked with) {
+    called = of;
+    asked = with;
+    measured(rows[of].name, depth(), NBT_STACK);
+    if (of == OF_station_create)
+        nbt_station_free(*asked.station);
 }
 
-static void reads_137(void) {
-    struct nbt_service_header header;
-    nbt_service_header(payload, payload_length, &header, &at);
-    nbt_service_read(payload, payload_length, &header, &at);
-}
-
-static void reads_items(void) {
-    struct nbt_service_item item;
-    struct nbt_service_entry entries[4];
-    struct nbt_service_address address;
-    struct nbt_service_node node;
-    struct nbt_service_unit unit;
-    size_t place = 12;
-    uint32_t number;
-    nbt_service_items(payload, payload_length, 0, place, entries, 4, &used, &at);
-    for (number = 0; number < 8 && nbt_service_item(payload, payload_length, number, place, &item, &at) == NBT_DONE; number++) {
-        nbt_name_text(item.name, item.name_length, text, sizeof text, &used, &at);
-        nbt_service_address(item.type, payload + item.data, item.data_length, 0, &address, &at);
-        nbt_service_node(item.type, payload + item.data, item.data_length, 0, &node, &at);
-        nbt_service_unit(item.type, payload + item.data, item.data_length, &unit, &at);
-        nbt_service_domain(payload, payload_length, item.data, item.data_length, text, sizeof text, &used, &at);
-        place = item.next;
-    }
-}
-
-static void reads_others(void) {
-    struct nbt_datagram datagram;
-    struct nbt_datagram_front front;
-    struct nbt_session session;
-    struct nbt_session_front header;
-    struct nbt_session_names names;
-    struct nbt_session_retarget retarget;
-    nbt_datagram_read(payload, payload_length, &datagram, &at);
-    nbt_datagram_front(payload, payload_length, &front, &at);
-    if (nbt_session_read(payload, payload_length, &session, &at) == NBT_DONE)
-        nbt_session_write(session.type, payload + session.body, session.body_length, text, sizeof text, &used, &at);
-    nbt_session_front(payload, payload_length, &header, &at);
-    nbt_session_names(payload, payload_length, &names, &at);
-    nbt_session_retarget(payload, payload_length, &retarget, &at);
-}
-
-static void takes(void) {
-    struct nbt_taken taken;
-    nbt_station_take(&station, 0, payload, payload_length, &taken, text, sizeof text, &used);
-}
-
-static const char longest_text[] = "\\01\\01\\01\\01\\01\\01\\01\\01\\01\\01\\01\\01\\01\\01\\01<01>.A.B.C.D.E.F.G.H.I.J.K.L.M.N.O.P";
-
-static void writes(void) {
-    const uint8_t *name = (const uint8_t *)longest_text;
-    size_t length = sizeof longest_text - 1;
-    nbt_name_spell(name, length, text, sizeof text, &used, &at);
-    nbt_service_request(NBT_REGISTRATION, 1, true, name, length, 1, 1, 1, text, sizeof text, &used, &at);
-    nbt_service_response(1, 0x8000, name, length, 2, 1, (const uint8_t *)"\7NETBIOS\3COM", 13, text, sizeof text, &used, &at);
-    nbt_datagram_write(0x10, 1, 1, 138, name, length, name, length, text, 65000, 1000, text + 65536, sizeof text - 65536, &used, &at);
-    nbt_datagram_query(0x14, 1, 1, 138, name, length, text, sizeof text, &used, &at);
-    nbt_datagram_error(1, 1, 138, 0x82, text, sizeof text, &used);
-    nbt_status_text(NBT_UNKNOWN_TYPE, text, sizeof text, &used);
-    nbt_version(text, sizeof text, &used);
-}
-
-static void tables(void) {
-    struct nbt_difference difference;
-    nbt_table_list(table, table_length, text, sizeof text, &used, &at);
-    nbt_table_json(table, table_length, text, sizeof text, &used, &at);
-    nbt_table_differ(table, table_length, table, table_length, &difference, &at);
-    nbt_table_merge(table, table_length, table, table_length, UINT32_MAX, UINT32_MAX, other, sizeof other, &used, &at);
-}
-
-static void of_station(void) {
-    struct nbt_station made;
-    uint32_t dropped;
-    nbt_station_list(&station, text, sizeof text, &used);
-    nbt_station_save(&station, table, sizeof table, &table_length);
-    nbt_station_create((const uint8_t *)"FRED<20> JOE<00>", 16, 1, 138, UINT32_MAX, UINT32_MAX, &made.at, &at);
-    nbt_station_absorb(&made, 0, table, table_length, text, sizeof text, &used, &at);
-    nbt_station_absorb(&made, 0, table, table_length, text, sizeof text, &used, &at);
-    nbt_station_tick(&made, UINT64_MAX, &dropped);
-    nbt_station_free(made);
-}
+#define WITH(name, ...) called_with(OF_##name, (struct asked){__VA_ARGS__})
 
 /* ---- payloads */
 
-static void given(uint16_t number, const uint8_t *bytes, size_t length) {
-    port = number;
-    payload = bytes;
-    payload_length = length;
-    measured("stack: nbt_show", depth_of(shows), NBT_STACK);
-    measured(number == 137 ? "text: nbt_show, port 137" : "text: nbt_show", used, 64 + 131 * length);
-    measured("stack: nbt_json", depth_of(tells), NBT_STACK);
-    measured(number == 137 ? "text: nbt_json, port 137" : "text: nbt_json", used, 128 + 174 * length);
-    measured("stack: nbt_brief", depth_of(says), NBT_STACK);
-    measured("text: nbt_brief", used, NBT_BRIEF_ROOM);
-    measured("stack: nbt_service_read", depth_of(reads_137), NBT_STACK);
-    measured("stack: nbt_service_item and the parts", depth_of(reads_items), NBT_STACK);
-    measured("stack: nbt_datagram_read, nbt_session_..", depth_of(reads_others), NBT_STACK);
-    measured("stack: nbt_station_take", depth_of(takes), NBT_STACK);
+/* A payload, by each call that has an input: with the numbers of its first sample, or this port. */
+static void given(uint16_t port, const uint8_t *bytes, size_t length) {
+    size_t i;
+    for (i = 0; i < sample_count; i++) {
+        enum call of = samples[i].of;
+        struct asked with = samples[i].asked;
+        if (!has_input(of, 0) || (i > 0 && samples[i - 1].of == of))
+            continue;
+        with.in[has_input(of, 2) ? 2 : 0] = (struct bytes){bytes, length};
+        if (of == OF_show || of == OF_json || of == OF_brief)
+            with.n[0] = port;
+        called_with(of, with);
+        if (of == OF_show)
+            measured(port == 137 ? "text: nbt_show, port 137" : "text: nbt_show", used, 64 + 131 * length);
+        if (of == OF_json)
+            measured(port == 137 ? "text: nbt_json, port 137" : "text: nbt_json", used, 128 + 174 * length);
+        if (of == OF_brief)
+            measured("text: nbt_brief", used, NBT_BRIEF_ROOM);
+    }
+}
+
+/* The first records of a payload of port 137, and the parts of their RDATA. */
+static void items(const uint8_t *bytes, size_t length) {
+    const struct nbt_service_item *item = (const void *)filled;
+    size_t place = 12;
+    uint32_t number;
+    for (number = 0; number < 8; number++, place = item->next) {
+        WITH(service_item, .in = {{bytes, length}}, .n = {number, place});
+        if (status != NBT_DONE)
+            return;
+        struct nbt_service_item it = *item;
+        WITH(name_text, .in = {{it.name, it.name_length}});
+        WITH(service_address, .in = {{bytes + it.data, it.data_length}}, .n = {it.type});
+        WITH(service_node, .in = {{bytes + it.data, it.data_length}}, .n = {it.type});
+        WITH(service_unit, .in = {{bytes + it.data, it.data_length}}, .n = {it.type});
+        WITH(service_domain, .in = {{bytes, length}}, .n = {it.data, it.data_length});
+        memcpy(filled, &it, sizeof it);
+    }
 }
 
 /* The longest name as a text: bytes that are escaped, in as few labels as there can be. Its front is letters where it is a NetBIOS
@@ -215,6 +159,7 @@ static void pointers(size_t length, bool is_netbios) {
     bytes[4] = (uint8_t)(count >> 8);
     bytes[5] = (uint8_t)count;
     given(137, bytes, end);
+    items(bytes, end);
 }
 
 /* A datagram between the longest names. */
@@ -247,7 +192,7 @@ static size_t put(uint8_t *into, size_t at, const void *bytes, size_t length) {
 static void phrase_of(const char *name, uint8_t *bytes, size_t end, size_t length) {
     memset(bytes + end, 0, LINE_PAYLOAD - end);
     given(137, bytes, LINE_PAYLOAD);
-    says();
+    WITH(brief, .in = {{bytes, LINE_PAYLOAD}}, .n = {137});
     measured(name, used, length);
     if (used != length)
         exit(3);
@@ -288,30 +233,51 @@ static void longest_phrase(void) {
     phrase_of("text: nbt_brief, of a line", bytes, end, 1633);
 }
 
+/* The longest text of a name, and the calls that are given it. */
 static void names(void) {
-    uint8_t name[LONGEST_NAME];
+    static uint8_t name[LONGEST_NAME], longest[NBT_NAME_ROOM];
     size_t length = longest_name(name, true);
-    nbt_name_text(name, length, text, sizeof text, &used, &at);
+    struct bytes it = {longest, NBT_NAME_ROOM};
+    WITH(name_text, .in = {{name, length}});
     measured("text: nbt_name_text", used, NBT_NAME_ROOM);
     if (length != LONGEST_NAME || used != NBT_NAME_ROOM)
         exit(3);
+    memcpy(longest, text, used);
+    WITH(name_spell, .in = {it});
+    WITH(service_request, .in = {it}, .n = {NBT_REGISTRATION, 1, true, 1, 1, 1});
+    WITH(service_response, .in = {it, BYTES("\7NETBIOS\3COM")}, .n = {1, 0x8000, 2, 1});
+    WITH(datagram_write, .in = {it, it, {stack, 65000}}, .n = {0x10, 1, 1, 138, 1000});
+    WITH(datagram_query, .in = {it}, .n = {0x14, 1, 1, 138});
 }
 
 /* The longest line, whose payload is the longest. */
 static void longest_line(void) {
-    memset(text, '5', 2 * LINE_PAYLOAD + 6);
-    memcpy(text, "137 0 ", 6);
-    measured("stack: nbt_capture_line", depth_of(reads_line), NBT_STACK);
+    static uint8_t digits[2 * LINE_PAYLOAD + 6];
+    memset(digits, '5', sizeof digits);
+    memcpy(digits, "137 0 ", 6);
+    WITH(capture_line, .in = {{digits, sizeof digits}});
     measured("bytes: nbt_capture_line", used, NBT_LINE_ROOM);
     if (used != NBT_LINE_ROOM)
         exit(3);
 }
 
 static void status_texts(void) {
-    uint32_t status;
-    for (status = 0; status < 256; status++)
-        if (nbt_status_text(status, text, sizeof text, &used) == NBT_DONE)
+    uint32_t number;
+    for (number = 0; number < 256; number++) {
+        WITH(status_text, .n = {number});
+        if (status == NBT_DONE)
             measured("text: nbt_status_text", used, 64);
+    }
+}
+
+/* How long the lines and the objects of a table are, and the calls that are given it. */
+static void lines(struct bytes table) {
+    WITH(table_list, .in = {table});
+    measured("text: nbt_table_list", used, 4 * table.length);
+    WITH(table_json, .in = {table});
+    measured("text: nbt_table_json", used, 6 * table.length);
+    WITH(table_differ, .in = {table, table});
+    WITH(table_merge, .in = {table, table}, .n = {UINT32_MAX, UINT32_MAX});
 }
 
 /* A table of spoilt keys, which have the longest lines for their bytes. */
@@ -324,27 +290,36 @@ static void spoilt_keys(void) {
         key[6] = (uint8_t)(i >> 8);
         key[7] = (uint8_t)i;
     }
-    memcpy(table, bytes, sizeof bytes);
-    table_length = sizeof bytes;
+    lines((struct bytes){bytes, sizeof bytes});
 }
 
-/* How long the lines and the objects of the table are. */
-static void lines(void) {
-    nbt_table_list(table, table_length, text, sizeof text, &used, &at);
-    measured("text: nbt_table_list", used, 4 * table_length);
-    nbt_table_json(table, table_length, text, sizeof text, &used, &at);
-    measured("text: nbt_table_json", used, 6 * table_length);
-    measured("stack: nbt_table_..", depth_of(tables), NBT_STACK);
+/* The station that took all payloads: its table, taken in by another one twice. */
+static void tables(void) {
+    static struct nbt_station made;
+    struct bytes table;
+    WITH(station_list, .station = &open_station);
+    WITH(station_save, .station = &open_station);
+    table = keep(text, used);
+    CALL(station_create, .station = &made, .in = {BYTES("FRED<20> JOE<00>")}, .n = {1, 138, UINT32_MAX, UINT32_MAX});
+    WITH(station_absorb, .station = &made, .in = {table});
+    WITH(station_absorb, .station = &made, .in = {table});
+    WITH(station_tick, .station = &made, .n = {UINT64_MAX});
+    nbt_station_free(made);
+    lines(table);
 }
 
 int main(void) {
     struct payloads all = read_payloads();
     size_t i;
+    program = "bounds";
     stack = new_stack();
-    if (nbt_station_create((const uint8_t *)"FRED<20>", 8, 1, 138, UINT32_MAX, UINT32_MAX, &station.at, &at) != NBT_DONE)
-        return 2;
-    for (i = 0; i < all.count; i++)
+    make_samples();
+    for (i = 0; i < sample_count; i++)
+        called_with(samples[i].of, samples[i].asked);
+    for (i = 0; i < all.count; i++) {
         given(all.all[i].port, all.all[i].bytes, all.all[i].length);
+        items(all.all[i].bytes, all.all[i].length);
+    }
     pointers(LONGEST_PAYLOAD, false);
     pointers(LONGEST_PAYLOAD, true);
     longest_datagram();
@@ -354,12 +329,9 @@ int main(void) {
     names();
     status_texts();
     longest_line();
-    measured("stack: what is written", depth_of(writes), NBT_STACK);
-    measured("stack: nbt_station_..", depth_of(of_station), NBT_STACK);
-    lines();
+    tables();
     spoilt_keys();
-    lines();
-    nbt_station_free(station);
+    free_samples();
     for (i = 0; i < measure_count; i++)
         printf("%s: %zu of %zu\n", measures[i].name, measures[i].most, measures[i].bound);
     return is_passed;

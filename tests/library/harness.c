@@ -1,0 +1,277 @@
+/* Calls in rooms between pages that can't be touched: see harness.h. */
+#define _GNU_SOURCE
+#include "harness.h"
+#include <stdio.h>
+#include <stdlib.h>
+#include <sys/mman.h>
+
+enum { PAGE = 4096, OUTPUT = INPUTS, FILLED, AREAS, SPACE = 6144 * PAGE, MORE = 3 };
+#define KEPT ((size_t)1 << 30)
+
+/* ---- the rows */
+
+#define IN(i) it->in[i].at, it->in[i].length
+#define N(i) (uint32_t)it->n[i]
+#define L(i) it->n[i]
+#define B(i) (it->n[i] != 0)
+#define OUT into, room, used
+#define USED used
+#define ONE 1
+#define AT at
+#define STATION it->station
+#define MADE &it->station->at
+#define ROW(name, structure, way, words) \
+    static uint32_t name(const struct asked *it, void *FILLED, uint8_t *into, size_t room, size_t *used, size_t *at) { \
+        (void)it, (void)FILLED, (void)into, (void)room, (void)used, (void)at; \
+        return nbt_##name words; \
+    }
+#define FIELD(structure, field, place, size) \
+    _Static_assert(offsetof(struct structure, field) == place && sizeof(((struct structure *)0)->field) == size, "a field of calls.def");
+#include "calls.def"
+#undef ROW
+#undef FIELD
+
+enum { READS, CHANGES };
+#define ROW(name, structure, way, words) {#name, #structure, #words, name, sizeof(struct structure), way},
+#define FIELD(structure, field, place, size)
+const struct row rows[CALLS] = {
+#include "calls.def"
+};
+#undef ROW
+#undef FIELD
+
+static const struct field {
+    const char *structure;
+    size_t place, size;
+} fields[] = {
+#define ROW(name, structure, way, words)
+#define FIELD(structure, field, place, size) {#structure, place, size},
+#include "calls.def"
+};
+
+static int has(enum call of, const char *word) { return strstr(rows[of].words, word) != NULL; }
+
+int has_input(enum call of, int input) {
+    const char word[] = {'I', 'N', '(', (char)('0' + input), ')', '\0'};
+    return has(of, word);
+}
+
+/* ---- what holds, and what was answered */
+
+const char *program = "calls", *doing = "";
+unsigned long line_number, call_count, refusal_count;
+struct trials trials;
+static uint8_t reached[CALLS][256];
+
+void expect(int holds, const char *what) {
+    if (holds)
+        return;
+    fflush(stdout);
+    fprintf(stderr, "%s: line %lu: nbt_%s: not so: %s\n", program, line_number, doing, what);
+    abort();
+}
+
+void print_statuses(void) {
+    size_t of, status;
+    for (of = 0; of < CALLS; of++)
+        for (status = 0; status < 256; status++)
+            if (reached[of][status])
+                printf("nbt_%s %zu\n", rows[of].name, status);
+}
+
+/* Whether include/nbt.h says of a status what *at is. */
+static int has_place(uint32_t status) {
+    static const uint8_t others[] = {NBT_BAD_TEXT, NBT_SOURCE_BAD_TEXT, NBT_DESTINATION_BAD_TEXT, NBT_TRUNCATED, NBT_MORE, NBT_TRAILING_BYTES,
+        NBT_NAME_RDATA, NBT_NO_PART, NBT_TABLE_NOT_CANONICAL, NBT_SECOND_NOT_CANONICAL, NBT_NAME_PRESENT, NBT_TOO_MANY_NAMES};
+    return (status >= NBT_NAME_TRUNCATED && status <= NBT_DESTINATION_BAD_POINTER) || (status < 256 && memchr(others, (int)status, sizeof others));
+}
+
+/* ---- space */
+
+uint8_t *area_at(int area, size_t length, int side, int fill) {
+    static uint8_t *spaces[AREAS];
+    if (spaces[area] == NULL) {
+        uint8_t *start = mmap(NULL, SPACE + 2 * PAGE, PROT_READ | PROT_WRITE, MAP_PRIVATE | MAP_ANONYMOUS | MAP_NORESERVE, -1, 0);
+        expect(start != MAP_FAILED && mprotect(start, PAGE, PROT_NONE) == 0 && mprotect(start + PAGE + SPACE, PAGE, PROT_NONE) == 0, "mmap");
+        spaces[area] = start + PAGE;
+    }
+    expect(length <= SPACE, "a room in the space for it");
+    return memset(side == 0 ? spaces[area] : spaces[area] + SPACE - length, fill, length);
+}
+
+static int is_filled(const uint8_t *at, size_t length, int fill) {
+    return length == 0 || (at[0] == fill && memcmp(at, at + 1, length - 1) == 0);
+}
+
+static uint8_t *kept;
+static size_t kept_length;
+
+size_t kept_mark(void) { return kept_length; }
+
+void release(size_t mark) { kept_length = mark; }
+
+struct bytes keep(const void *from, size_t length) {
+    struct bytes made;
+    if (kept == NULL) {
+        kept = mmap(NULL, KEPT, PROT_READ | PROT_WRITE, MAP_PRIVATE | MAP_ANONYMOUS | MAP_NORESERVE, -1, 0);
+        expect(kept != MAP_FAILED, "mmap");
+    }
+    expect(length <= KEPT - kept_length - 16, "what is kept has room");
+    made = (struct bytes){kept + kept_length, length};
+    if (length > 0)
+        memcpy(kept + kept_length, from, length);
+    kept_length += (length + 15) / 8 * 8;
+    return made;
+}
+
+int is_same(struct bytes first, struct bytes second) {
+    return first.length == second.length && (first.length == 0 || memcmp(first.at, second.at, first.length) == 0);
+}
+
+/* The same question, its inputs on a side of areas of their own. Inputs that are one another's stay so. */
+static struct asked placed(enum call of, const struct asked *asked, int side) {
+    struct asked made = *asked;
+    int i;
+    for (i = 0; i < INPUTS; i++) {
+        const struct bytes *it = &asked->in[i];
+        if (i > 0 && it->at == asked->in[i - 1].at && it->length == asked->in[i - 1].length)
+            made.in[i] = made.in[i - 1];
+        else if (it->length > 0 || side == 1)
+            made.in[i].at = has_input(of, i) ? area_at(i, it->length, side, 0) : NULL;
+        else
+            made.in[i].at = NULL;
+        if (it->length > 0)
+            memcpy((uint8_t *)made.in[i].at, it->at, it->length);
+    }
+    return made;
+}
+
+/* ---- a call */
+
+/* What has to hold of each call, whatever it was given. */
+static void judge(enum call of, const struct answer *it, const struct asked *before, const struct asked *after, size_t room, int fill) {
+    int is_done = it->status == NBT_DONE, i;
+    if (has(of, "OUT")) {
+        expect(is_done ? it->used <= room : it->status == NBT_NO_ROOM ? it->used > room && it->used != UNSAID : it->used == UNSAID, "*used");
+        expect(is_filled(it->bytes.at + (is_done ? it->used : 0), is_done ? room - it->used : room, fill), "bytes past *used stay as they were");
+    } else {
+        expect(it->used == (is_done && has(of, "USED") ? 1 : UNSAID), "*used");
+    }
+    expect(is_done || is_filled(it->filled, rows[of].fills, fill), "a structure is filled in at NBT_DONE alone");
+    expect((it->at != UNSAID) == (has(of, "AT)") && has_place(it->status)), "*at is written at a status with a place alone");
+    for (i = 0; i < INPUTS; i++)
+        expect(is_same(before->in[i], after->in[i]), "inputs stay as they were");
+    expect(it->status < 256, "a number of enum nbt_status");
+    reached[of][it->status] = 1;
+}
+
+struct answer attempt(enum call of, const struct asked *asked, size_t room, int side, size_t requests) {
+    const struct row *row = &rows[of];
+    int fill = side == 0 ? 0xa5 : 0x5a, is_making = has(of, "MADE"), is_kept = is_making || has(of, "STATION");
+    struct answer it;
+    size_t lost, blocks, refused;
+    doing = row->name;
+    do {
+        struct asked made = placed(of, asked, side);
+        uint8_t *into = room == 0 && side == 0 ? NULL : area_at(OUTPUT, room, side, fill), *filled = area_at(FILLED, row->fills, side, fill);
+        it = (struct answer){.used = UNSAID, .at = UNSAID, .filled = filled};
+        if (is_making)
+            asked->station->at = filled;
+        blocks = memory.blocks;
+        lost = memory.lost;
+        grant(requests);
+        it.status = row->call(&made, filled, into, room, &it.used, &it.at);
+        lost = memory.lost - lost;
+        it.bytes = (struct bytes){into, it.status == NBT_DONE && has(of, "OUT") ? it.used : 0};
+        refused = lost + memory.denied > 0;
+        expect(it.status != NBT_NO_MEMORY || refused, "NBT_NO_MEMORY where a request is refused alone");
+        expect(!refused || (it.status != NBT_DONE && it.status != NBT_NO_ROOM), "nothing is done where a request is refused");
+        grant(SIZE_MAX);
+        judge(of, &it, asked, &made, room, fill);
+        expect(!is_making || (it.status == NBT_DONE) == (asked->station->at != NULL), "a station is made at NBT_DONE alone");
+        expect(is_kept || memory.blocks == blocks, "a call gives back what it took");
+        call_count++;
+        refusal_count += lost > 0;
+    } while (lost > 0);
+    return it;
+}
+
+static struct answer kept_answer(enum call of, struct answer it) {
+    it.bytes = keep(it.bytes.at, it.bytes.length);
+    it.filled = keep(it.filled, rows[of].fills).at;
+    return it;
+}
+
+/* Two answers are one: their numbers, their bytes, and each field. */
+static void expect_same(enum call of, struct answer first, struct answer second) {
+    size_t i;
+    expect(first.status == second.status && first.used == second.used && first.at == second.at, "the same numbers again");
+    expect(is_same(first.bytes, second.bytes), "the same bytes again");
+    for (i = 0; first.status == NBT_DONE && i < COUNT(fields); i++)
+        if (strcmp(fields[i].structure, rows[of].structure) == 0)
+            expect(memcmp((const uint8_t *)first.filled + fields[i].place, (const uint8_t *)second.filled + fields[i].place, fields[i].size) == 0,
+                   "the same fields again, each of them written");
+}
+
+static void expect_no_room(struct answer it, size_t wanted) {
+    expect(it.status == NBT_NO_ROOM && it.used == wanted, "NBT_NO_ROOM, and the same room wanted");
+}
+
+static struct answer read(enum call of, const struct asked *asked, struct answer none) {
+    size_t wanted = none.used, requests = trials.least, room = 0;
+    struct answer it = kept_answer(of, none), poor;
+    if (none.status != NBT_NO_ROOM) {
+        expect_same(of, it, attempt(of, asked, 0, 1, SIZE_MAX));
+    } else {
+        for (room = 1; trials.rooms > 0 && room < wanted; room += wanted / (trials.rooms + 1) + 1)
+            expect_no_room(attempt(of, asked, room, 0, SIZE_MAX), wanted);
+        expect_no_room(attempt(of, asked, wanted - 1, (int)(call_count % 2), SIZE_MAX), wanted);
+        room = wanted;
+        it = kept_answer(of, attempt(of, asked, room, 1, SIZE_MAX));
+        expect(it.status == NBT_DONE && it.used == wanted, "the room that is wanted");
+        expect_same(of, it, attempt(of, asked, wanted + MORE, 0, SIZE_MAX));
+    }
+    for (poor.status = NBT_NO_MEMORY; requests < trials.most && poor.status == NBT_NO_MEMORY; requests++) {
+        poor = attempt(of, asked, room, 1, requests);
+        if (poor.status != NBT_NO_MEMORY)
+            expect_same(of, it, poor);
+    }
+    return it;
+}
+
+static struct bytes table_of(struct nbt_station *station) {
+    struct asked asked = {.station = station};
+    size_t wanted = attempt(OF_station_save, &asked, 0, 1, SIZE_MAX).used;
+    struct answer it;
+    if (wanted == UNSAID)
+        return (struct bytes){NULL, 0};
+    it = attempt(OF_station_save, &asked, wanted, 1, SIZE_MAX);
+    return keep(it.bytes.at, it.bytes.length);
+}
+
+/* One that changes a station, which is as it was until it does. */
+static struct answer change(enum call of, const struct asked *asked) {
+    struct bytes before = has(of, "MADE") ? (struct bytes){NULL, 0} : table_of(asked->station);
+    struct answer it = {.status = NBT_NO_ROOM};
+    size_t room = 0, requests;
+    for (;;) {
+        it.status = NBT_NO_MEMORY;
+        for (requests = trials.least; it.status != NBT_DONE && requests < trials.most; requests++)
+            it = attempt(of, asked, room, 1, requests);
+        if (it.status != NBT_DONE)
+            it = attempt(of, asked, room, 0, SIZE_MAX);
+        if (it.status != NBT_NO_ROOM)
+            break;
+        expect(room == 0, "the room that is wanted");
+        expect_no_room(attempt(of, asked, it.used - 1, 1, SIZE_MAX), it.used);
+        room = it.used + call_count % 2 * MORE;
+    }
+    it = kept_answer(of, it);
+    if (it.status != NBT_DONE)
+        expect(has(of, "MADE") || is_same(before, table_of(asked->station)), "a station is as it was where nothing is done");
+    return it;
+}
+
+struct answer answered(enum call of, const struct asked *asked) {
+    return rows[of].changes ? change(of, asked) : read(of, asked, attempt(of, asked, 0, 0, SIZE_MAX));
+}

@@ -1,0 +1,121 @@
+/* What the programs of this folder have alike: the rows of calls.def, and a call in rooms between pages that can't be touched. */
+#ifndef HARNESS_H
+#define HARNESS_H
+
+#include "memory.h"
+#include <nbt.h>
+#include <string.h>
+
+enum { INPUTS = 3, NUMBERS = 6, MOST_FILLED = 600 };
+#define UNSAID (SIZE_MAX - 88)
+#define COUNT(list) (sizeof(list) / sizeof *(list))
+
+struct bytes {
+    const uint8_t *at;
+    size_t length;
+};
+
+/* A text or bytes of the program, without the zero that ends them. */
+#define BYTES(text) {(const uint8_t *)(text), sizeof(text) - 1}
+
+/* What a call is given. An input that it hasn't is all zero. */
+struct asked {
+    struct bytes in[INPUTS];
+    uint64_t n[NUMBERS];
+    struct nbt_station *station;
+};
+
+/* The structures that are none of the header's. */
+struct nothing {
+    uint8_t none;
+};
+struct dropped {
+    uint32_t keys;
+};
+
+enum call {
+#define ROW(name, structure, way, words) OF_##name,
+#define FIELD(structure, field, place, size)
+#include "calls.def"
+#undef ROW
+#undef FIELD
+    CALLS
+};
+
+struct row {
+    const char *name, *structure, *words;
+    uint32_t (*call)(const struct asked *it, void *filled, uint8_t *into, size_t room, size_t *used, size_t *at);
+    size_t fills;     /* the bytes of its structure */
+    int changes;      /* whether a station is another one after it */
+};
+
+extern const struct row rows[CALLS];
+
+/* What a call answered: UNSAID where it wrote no number. Its bytes and its structure stay until what is kept is released. */
+struct answer {
+    uint32_t status;
+    size_t used, at;
+    struct bytes bytes;
+    const void *filled;
+};
+
+/* An input with which each call is tried, and what it has to answer: `number` is *used at NBT_DONE, else *at. */
+struct sample {
+    enum call of;
+    uint32_t status;
+    size_t number;
+    struct asked asked;
+};
+
+/* Of a call that writes any number. */
+#define ANY (SIZE_MAX - 1)
+extern const struct sample samples[];
+extern const size_t sample_count;
+
+/* The stations of samples: none, one without room for a key, one with room for one of an address, and one with room for all. The
+ * samples are there once they are made. */
+extern struct nbt_station no_station, full_station, small_station, open_station;
+void make_samples(void);
+void free_samples(void);
+
+/* Ends the program where something doesn't hold, with what was done last. */
+void expect(int holds, const char *what);
+extern const char *program, *doing;
+extern unsigned long line_number;
+
+/* How a call is tried: in how many rooms besides, and with how many requests for memory granted, from the least to less than the most. */
+extern struct trials {
+    size_t rooms, least, most;
+} trials;
+
+/* How many calls were made, and how many of them came back because the machine refused a request. */
+extern unsigned long call_count, refusal_count;
+
+/* One call, in a room of so many bytes, on a side of it (0 the front, where an input without bytes is null, 1 the end), with so many
+ * requests granted. What has to hold of every call is judged here. What it wrote stays until the next call. */
+struct answer attempt(enum call of, const struct asked *asked, size_t room, int side, size_t requests);
+
+/* A call in no room, in a byte too little, in as much as it wants and in more, on both sides, and with few requests granted: it
+ * answers the same. One that changes a station is done once, and leaves it as it was before that. */
+struct answer answered(enum call of, const struct asked *asked);
+#define CALL(name, ...) answered(OF_##name, &(struct asked){__VA_ARGS__})
+
+/* What is kept, and let go of from a mark on. */
+struct bytes keep(const void *from, size_t length);
+size_t kept_mark(void);
+void release(size_t mark);
+
+int is_same(struct bytes first, struct bytes second);
+int has_input(enum call of, int input);
+
+/* Bytes at the edge of a page, each of them `fill`: areas 0 to 2 are of inputs, 3 is of what is written, 4 of structures. */
+uint8_t *area_at(int area, size_t length, int side, int fill);
+
+/* The statuses that calls answered, a line each. */
+void print_statuses(void);
+
+/* Numbers of several bytes, the higher byte first. */
+static inline uint32_t number_16(const uint8_t *at) { return (uint32_t)at[0] << 8 | at[1]; }
+static inline uint32_t number_32(const uint8_t *at) { return number_16(at) << 16 | number_16(at + 2); }
+
+#endif

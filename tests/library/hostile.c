@@ -1,0 +1,215 @@
+/* A caller of the library who goes to every limit that include/nbt.h leaves: each sample of samples.c, its inputs cut at each length and
+ * with each byte changed, its numbers at their least and greatest, in each room, between pages that can't be touched, and with requests
+ * for memory refused. Prints which statuses each call answered, for tests/lib/statuses_reached.py. Status other than 0, with the call on
+ * standard error, where one does what the header doesn't say. */
+#include "harness.h"
+#include <stdio.h>
+
+enum { MOST_CHANGED = 700 };
+
+static const uint64_t values[] = {0, 1, 2, 3, 11, 12, 13, 0x10, 0x12, 0x14, 0x20, 0x21, 23, 0x81, 0x84, 137, 138, 139, 255, UINT16_MAX, UINT32_MAX,
+    SIZE_MAX / 18, SIZE_MAX / 6, SIZE_MAX / 2, SIZE_MAX};
+
+/* A station that is made is given back. */
+static struct answer tried(enum call of, const struct asked *asked) {
+    size_t mark = kept_mark();
+    struct answer it = answered(of, asked);
+    if (of == OF_station_create)
+        nbt_station_free(*asked->station);
+    release(mark);
+    return it;
+}
+
+static int number_count(enum call of) {
+    int count = 0;
+    const char *at;
+    for (at = rows[of].words; *at != '\0'; at++)
+        count += (*at == 'N' || *at == 'L' || *at == 'B') && at[1] == '(' && (at == rows[of].words || at[-1] != 'I');
+    return count;
+}
+
+static void sampled(const struct sample *it) {
+    struct answer answer = tried(it->of, &it->asked);
+    size_t number = answer.status == NBT_DONE ? answer.used : answer.at;
+    int is_as_said = answer.status == it->status && (it->number == ANY || number == it->number);
+    if (!is_as_said)
+        fprintf(stderr, "sample %td: status %u, %zu\n", it - samples, (unsigned)answer.status, number);
+    expect(is_as_said, "what a sample has to answer");
+}
+
+static size_t longest(const struct asked *asked) {
+    size_t length = 0;
+    int i;
+    for (i = 0; i < INPUTS; i++)
+        length = asked->in[i].length > length ? asked->in[i].length : length;
+    return length;
+}
+
+/* With each number at each of its values. */
+static void numbered(enum call of, struct asked asked) {
+    int i;
+    size_t j;
+    for (i = 0; i < number_count(of); i++) {
+        uint64_t before = asked.n[i];
+        for (j = 0; j < COUNT(values); j++) {
+            asked.n[i] = values[j];
+            tried(of, &asked);
+        }
+        asked.n[i] = before;
+    }
+}
+
+/* With one of its numbers at one of its values: another one each time. */
+static void turned(enum call of, struct asked asked) {
+    static size_t turn;
+    asked.n[turn % (size_t)number_count(of)] = values[turn % COUNT(values)];
+    turn++;
+    tried(of, &asked);
+}
+
+/* Each number up to 257, where no input is so long that this would take long. */
+static void counted(const struct sample *it) {
+    struct asked asked = it->asked;
+    int i;
+    for (i = 0; i < number_count(it->of) && longest(&asked) <= MOST_CHANGED; i++) {
+        for (asked.n[i] = 0; asked.n[i] < 258; asked.n[i]++)
+            tried(it->of, &asked);
+        asked.n[i] = it->asked.n[i];
+    }
+}
+
+/* Each front of an input, and all of it with each byte changed. */
+static void changed(const struct sample *it, int input) {
+    static const uint8_t bytes[] = {0x00, 0x01, 0x3f, 0x40, 0x80, 0xc0, 0xff};
+    static uint8_t copy[MOST_CHANGED];
+    struct asked asked = it->asked;
+    const struct bytes whole = it->asked.in[input];
+    size_t length, i;
+    for (length = 0; length <= whole.length; length++) {
+        asked.in[input] = (struct bytes){whole.at, length};
+        tried(it->of, &asked);
+        numbered(it->of, asked);
+    }
+    asked.in[input] = (struct bytes){copy, whole.length};
+    for (length = 0; length < whole.length; length++)
+        for (i = 0; i < COUNT(bytes); i++) {
+            memcpy(copy, whole.at, whole.length);
+            copy[length] = bytes[i];
+            tried(it->of, &asked);
+            if (number_count(it->of) > 0)
+                turned(it->of, asked);
+        }
+}
+
+/* ---- what no sample says */
+
+/* Any port but 137 and 138 is taken for that of sessions. */
+static void any_port(void) {
+    static const uint16_t ports[] = {0, 136, 140, UINT16_MAX};
+    static const enum call tells[] = {OF_show, OF_json, OF_brief};
+    struct asked asked = {.in = {BYTES("\x84\0\0\6" "\x0a\0\0\5\0\x8b")}};
+    size_t i, j;
+    for (i = 0; i < COUNT(tells); i++) {
+        struct answer wanted;
+        asked.n[0] = 139;
+        wanted = answered(tells[i], &asked);
+        for (j = 0; j < COUNT(ports); j++) {
+            asked.n[0] = ports[j];
+            expect(is_same(wanted.bytes, answered(tells[i], &asked).bytes), "another port than 139");
+        }
+    }
+}
+
+static struct nbt_station made(uint32_t keys, uint32_t per_source) {
+    struct nbt_station station;
+    expect(CALL(station_create, .station = &station, .in = {BYTES("FRED<20>")}, .n = {0, 0, keys, per_source}).status == NBT_DONE, "a station");
+    return station;
+}
+
+/* What becomes of the sample of a payload that a station takes. */
+static uint32_t outcome(struct nbt_station *station, uint64_t moment, int sample) {
+    const struct sample *it = samples;
+    struct answer answer;
+    while (it->of != OF_station_take)
+        it++;
+    answer = CALL(station_take, .station = station, .in = {it[sample].asked.in[0]}, .n = {moment});
+    return answer.status == NBT_DONE ? ((const struct nbt_taken *)answer.filled)->outcome : 1000 + answer.status;
+}
+
+static uint32_t dropped(struct nbt_station *station, uint64_t moment) {
+    return ((const struct dropped *)CALL(station_tick, .station = station, .n = {moment}).filled)->keys;
+}
+
+/* A station that is moved, and one that is given back: none stands where it was, until another one does. */
+static void moved(void) {
+    struct nbt_station station = made(1, 1), other;
+    expect(outcome(&station, 0, 0) == NBT_DELIVERED, "a datagram that is handed over");
+    other = station;
+    station.at = NULL;
+    expect(CALL(station_save, .station = &station).status == NBT_NO_STATION, "no station where one was");
+    nbt_station_free(station);
+    expect(CALL(station_save, .station = &other).used == 97, "a station that was moved");
+    nbt_station_free(other);
+    other = made(0, 0);
+    expect(outcome(&other, 0, 0) == 1000 + NBT_FULL_SOURCE, "room for no key");
+    nbt_station_free(other);
+}
+
+/* Moments at their least and greatest. */
+static void moments(void) {
+    struct nbt_station station = made(1, UINT32_MAX);
+    expect(outcome(&station, UINT64_MAX, 2) == NBT_KEPT && outcome(&station, UINT64_MAX, 3) == 1000 + NBT_FULL, "a key at the last moment");
+    expect(dropped(&station, 0) == 0 && dropped(&station, UINT64_MAX) == 0, "the first and the last moment");
+    nbt_station_free(station);
+    station = made(1, UINT32_MAX);
+    expect(outcome(&station, 0, 2) == NBT_KEPT && dropped(&station, 1999) == 0 && dropped(&station, 2000) == 1, "two seconds");
+    nbt_station_free(station);
+}
+
+/* Tables that stations with these limits take in, cut at each length, and one's own. */
+static void limits(void) {
+    static const uint32_t keys[] = {0, 1, 2, UINT32_MAX};
+    const struct sample *merge = samples;
+    size_t i, length;
+    while (merge->of != OF_table_merge)
+        merge++;
+    for (i = 0; i < 16; i++) {
+        struct nbt_station station = made(keys[i / 4], keys[i % 4]);
+        struct bytes table = merge->asked.in[0], other = merge->asked.in[1];
+        size_t mark = kept_mark();
+        for (length = 0; length < table.length; length++, release(mark))
+            CALL(station_absorb, .station = &station, .in = {{table.at, length}}, .n = {UINT64_MAX});
+        CALL(station_absorb, .station = &station, .in = {other});
+        CALL(station_absorb, .station = &station, .in = {table});
+        table = CALL(station_save, .station = &station).bytes;
+        expect(CALL(station_absorb, .station = &station, .in = {table}).used == 0, "a station's own table");
+        expect(is_same(table, CALL(station_save, .station = &station).bytes), "nothing new");
+        nbt_station_free(station);
+    }
+}
+
+int main(void) {
+    size_t i;
+    int input;
+    program = "hostile";
+    make_samples();
+    trials = (struct trials){.most = 3};
+    for (i = 0; i < sample_count; i++)
+        sampled(&samples[i]);
+    for (i = 0; i < sample_count; i++) {
+        numbered(samples[i].of, samples[i].asked);
+        counted(&samples[i]);
+        for (input = 0; input < INPUTS; input++)
+            if (has_input(samples[i].of, input) && longest(&samples[i].asked) <= MOST_CHANGED)
+                changed(&samples[i], input);
+    }
+    free_samples();
+    any_port();
+    moved();
+    moments();
+    limits();
+    expect(memory.blocks == 0, "all stations give back what they took");
+    print_statuses();
+    fprintf(stderr, "%lu calls\n", call_count);
+    return 0;
+}

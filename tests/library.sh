@@ -425,7 +425,6 @@ in_rust() {
     (
         cd "$room/rust" || exit
         export PKG_CONFIG_PATH=$room/root/lib/pkgconfig LD_LIBRARY_PATH=$room/root/lib CARGO_TARGET_DIR=$room/target
-        export NBT_HEADER=$top/include/nbt.h
         "$timeout" -k 5 600 cargo "$@"
     ) >"$room/log" 2>&1
     count $? "cargo $1: $(grep -m 1 -E '^(error|Diff|test .* FAILED)' "$room/log")"

@@ -2,10 +2,11 @@
 """What the bindings, the tools and the page list alike, made of one source each: of include/nbt.h its numbers, its limits and, for Rust and
 Python, its structures and calls; of tools/nbt_look/vocabulary.py the words of the summary, for the page.
 
-Usage: tools/lists.py --write writes the files and the marked parts of files anew. --check says which of them differ, and whether the numbers
+Usage: tools/lists.py --write writes the files, the marked parts of files, and limits in manual pages anew. --check says which of them differ, and whether the numbers
 of nbt.h are those of the crates, which tests/surface.txt has, and of the help of `nbt`, which tests/cases/help.txt has; its last line is 'N
 passed, M failed', a case for each file and each number.
 """
+import re
 import sys
 
 sys.dont_write_bytecode = True
@@ -18,6 +19,10 @@ FILES = {
     'bindings/rust/src/header.rs': rust.rust_file,
     'tools/nbt_pcap/header.py': tools.tools_file,
 }
+# The limits that stand in a manual page, by what stands around them.
+IN_MAN = (('(?<=at most, 1 to )[0-9]+', 'MOST_KEYS'), ('(?<=Without it they are )[0-9]+', 'KEYS'),
+          ('(?<=as in `--keys )[0-9]+(?=`, or have)', 'MOST_KEYS'), ('(?<=as in `--keys )[0-9]+(?=`, or save)', 'KEYS'))
+MANUALS = 'man/nbt.1', 'man/nbt-station.1'
 PARTS = {'bindings/javascript/nbt.mjs': javascript.in_module, 'bindings/javascript/nbt.d.mts': javascript.in_types}
 
 
@@ -37,6 +42,11 @@ def made():
         yield TOP / name, maker(header)
     for name, maker in PARTS.items():
         yield TOP / name, with_part((TOP / name).read_text(encoding='utf-8'), maker(header))
+    for name in MANUALS:
+        text = (TOP / name).read_text(encoding='utf-8')
+        for pattern, limit in IN_MAN:
+            text = re.sub(pattern, str(header.limits[limit]), text)
+        yield TOP / name, text
 
 
 def check():

@@ -3,13 +3,15 @@ import heapq
 import select
 from dataclasses import dataclass, field
 
+from nbt_pcap.header import MOST_KEYS
+
 from .kinds import FRAGMENTS
 from .reading import READ
 from .telling import Child
 
 # A station that has this name alone: whether it hears a datagram or not, the report says when one is whole.
 STATION = '*<00>'
-KEYS = '65535'
+KEYS = str(MOST_KEYS)
 # How many bytes wait for the child before no more are given.
 MOST_WAITING = 65_536
 # How many bytes of pieces are held of datagrams that aren't whole, to say what they lack, and of how many pieces of one the frames.

@@ -12,6 +12,8 @@ INPUT = 16_777_216
 MOST_NAMES = 254
 KEPT_FOR = 2_000
 TAKE_ROOM = 66_045
-# MSG_TYPE of fragments in words, and TYPE.
+# FLAGS, and MSG_TYPE of fragments in words, of port 138; TYPE of port 139.
+MORE = 0x01
+FIRST = 0x02
 FRAGMENTS = {0x10: 'unique', 0x11: 'group', 0x12: 'broadcast'}
 SESSION_TYPES = frozenset((0x00, 0x81, 0x82, 0x83, 0x84, 0x85))

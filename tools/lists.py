@@ -20,8 +20,10 @@ FILES = {
     'tools/nbt_pcap/header.py': tools.tools_file,
 }
 # The limits that stand in a manual page, by what stands around them.
-IN_MAN = (('(?<=at most, 1 to )[0-9]+', 'MOST_KEYS'), ('(?<=Without it they are )[0-9]+', 'KEYS'),
-          ('(?<=as in `--keys )[0-9]+(?=`, or have)', 'MOST_KEYS'), ('(?<=as in `--keys )[0-9]+(?=`, or save)', 'KEYS'))
+IN_MAN = ((r'(How many keys the table holds at most, 1 to )\d+(\.\nWithout it they are )\d+', '{MOST_KEYS}', '{KEYS}'),
+          (r'(How many keys of one source address the table holds at most, 1 to )\d+', '{MOST_KEYS}'),
+          (r'(How many bytes the capture may have, 1 to \d+\.\nWithout it they are )\d+', '{INPUT}'),
+          (r'(as in `--keys )\d+(?=`, or have)', '{MOST_KEYS}'), (r'(as in `--keys )\d+(?=`, or save)', '{KEYS}'))
 MANUALS = 'man/nbt.1', 'man/nbt-station.1'
 PARTS = {'bindings/javascript/nbt.mjs': javascript.in_module, 'bindings/javascript/nbt.d.mts': javascript.in_types}
 
@@ -44,8 +46,9 @@ def made():
         yield TOP / name, with_part((TOP / name).read_text(encoding='utf-8'), maker(header))
     for name in MANUALS:
         text = (TOP / name).read_text(encoding='utf-8')
-        for pattern, limit in IN_MAN:
-            text = re.sub(pattern, str(header.limits[limit]), text)
+        for pattern, *limits in IN_MAN:
+            wanted = ''.join(f'\\g<{at}>{limit}' for at, limit in enumerate(limits, 1)).format(**header.limits)
+            text = re.sub(pattern, wanted, text)
         yield TOP / name, text
 
 

@@ -181,6 +181,13 @@ uint32_t nbt_name_text(const uint8_t *spelling, size_t spelling_length,
 
 /* Packets. ---------------------------------------------------------------------------------------------------------- */
 
+/* The ports of the three services. */
+enum nbt_port {
+    NBT_PORT_NAMES = 137,     /* the name service, over UDP */
+    NBT_PORT_DATAGRAMS = 138, /* the datagram service, over UDP */
+    NBT_PORT_SESSIONS = 139   /* the session service, over TCP */
+};
+
 /* The section of a question or a record: RFC 1002 section 4.2.1. */
 enum nbt_section {
     NBT_SECTION_QUESTION = 0,   /* a question */

@@ -2,7 +2,7 @@
 """What the bindings, the tools and the page list alike, made of one source each: of include/nbt.h its numbers, its limits and, for Rust and
 Python, its structures and calls; of tools/nbt_look/vocabulary.py the words of the summary, for the page.
 
-Usage: tools/lists.py --write writes the files, the marked parts of files, and limits in manual pages anew. --check says which of them differ, and whether the numbers
+Usage: tools/lists.py --write writes the files, the marked parts of files, and what stands within others anew, as limits in manual pages. --check says which of them differ, and whether the numbers
 of nbt.h are those of the crates, which tests/surface.txt has, and of the help of `nbt`, which tests/cases/help.txt has; its last line is 'N
 passed, M failed', a case for each file and each number.
 """
@@ -10,7 +10,7 @@ import re
 import sys
 
 sys.dont_write_bytecode = True
-from making import crates, javascript, python, rust, tools
+from making import crates, javascript, page, python, rust, tools
 from making.header import TOP, Header
 
 BEGIN, END = '// ---- tools/lists.py --write makes what follows of include/nbt.h.', '// ---- Up to here.'
@@ -18,13 +18,16 @@ FILES = {
     'bindings/python/nbt/header.py': python.python_file,
     'bindings/rust/src/header.rs': rust.rust_file,
     'tools/nbt_pcap/header.py': tools.tools_file,
+    'page/src/model/vocabulary.js': page.page_file,
 }
-# The limits that stand in a manual page, by what stands around them.
-IN_MAN = ((r'(How many keys the table holds at most, 1 to )\d+(\.\nWithout it they are )\d+', '{MOST_KEYS}', '{KEYS}'),
+# What stands in other files, by what stands around it.
+MANUAL = ((r'(How many keys the table holds at most, 1 to )\d+(\.\nWithout it they are )\d+', '{MOST_KEYS}', '{KEYS}'),
           (r'(How many keys of one source address the table holds at most, 1 to )\d+', '{MOST_KEYS}'),
           (r'(How many bytes the capture may have, 1 to \d+\.\nWithout it they are )\d+', '{INPUT}'),
           (r'(as in `--keys )\d+(?=`, or have)', '{MOST_KEYS}'), (r'(as in `--keys )\d+(?=`, or save)', '{KEYS}'))
-MANUALS = 'man/nbt.1', 'man/nbt-station.1'
+OF_PACKAGE = (r'((?:^version = |^  "version": )")[^"]+', '{VERSION}'),
+WITHIN = {'man/nbt.1': MANUAL, 'man/nbt-station.1': MANUAL, 'tools/pkgconfig': ((r'(^Version: ).+', '{VERSION}'),),
+          **dict.fromkeys(('bindings/python/pyproject.toml', 'bindings/rust/Cargo.toml', 'bindings/javascript/package.json'), OF_PACKAGE)}
 PARTS = {'bindings/javascript/nbt.mjs': javascript.in_module, 'bindings/javascript/nbt.d.mts': javascript.in_types}
 
 
@@ -44,12 +47,13 @@ def made():
         yield TOP / name, maker(header)
     for name, maker in PARTS.items():
         yield TOP / name, with_part((TOP / name).read_text(encoding='utf-8'), maker(header))
-    for name in MANUALS:
+    for name, patterns in WITHIN.items():
         text = (TOP / name).read_text(encoding='utf-8')
-        for pattern, *limits in IN_MAN:
-            wanted = ''.join(f'\\g<{at}>{limit}' for at, limit in enumerate(limits, 1)).format(**header.limits)
-            text = re.sub(pattern, wanted, text)
+        for pattern, *wanted in patterns:
+            words = ''.join(f'\\g<{at}>{each}' for at, each in enumerate(wanted, 1)).format(VERSION=header.version, **header.limits)
+            text = re.sub(pattern, words, text, flags=re.MULTILINE)
         yield TOP / name, text
+
 
 
 def check():

@@ -9,6 +9,7 @@ MADE = 'tools/lists.py --write makes this file.'
 ENUM = re.compile(r'/\*((?:(?!\*/).)*)\*/\nenum nbt_(\w+) \{\n(.*?)\n\};|enum nbt_(\w+) \{\n(.*?)\n\};', re.DOTALL)
 MEMBER = re.compile(r'^    NBT_(\w+) = (\w+),?(?: */\*((?:(?!\*/).)*)\*/)?|^    /\*((?:(?!\*/).)*)\*/', re.MULTILINE | re.DOTALL)
 NUMBER = re.compile(r'^#define NBT_(\w+) (\d+)$', re.MULTILINE)
+VERSION = re.compile('^#define NBT_VERSION "(.*)"$', re.MULTILINE)
 STRUCTURE = re.compile(r'^struct nbt_(\w+) \{\n(.*?)\n\};', re.MULTILINE | re.DOTALL)
 FIELD = re.compile(r'^    (?:struct )?(\w+) (\*?)(\w+)(?:\[(\d+)\])?;', re.MULTILINE)
 CALL = re.compile(r'^(uint32_t|void) (nbt_\w+)\(([^)]*)\);', re.MULTILINE)
@@ -54,6 +55,7 @@ class Header:
     def __init__(self):
         text = HEADER.read_text(encoding='utf-8')
         self.limits = {name: int(number) for name, number in NUMBER.findall(text)}
+        self.version = VERSION.search(text)[1]
         self.titles, self.enums = {}, {}
         for said, name, body, bare, of_bare in ENUM.findall(text):
             self.enums[name or bare], self.titles[name or bare] = members_of(body or of_bare), plain(said)
@@ -76,7 +78,7 @@ class Header:
 
 
 # With what the names of an enumeration begin.
-PREFIXES = {'status': '', 'line_kind': '', 'section': 'SECTION_', 'record_type': 'TYPE_', 'word': 'WORD_', 'operation': 'OP_',
+PREFIXES = {'status': '', 'port': 'PORT_', 'line_kind': '', 'section': 'SECTION_', 'record_type': 'TYPE_', 'word': 'WORD_', 'operation': 'OP_',
             'result_code': 'RCODE_', 'name_flag': 'FLAG_', 'node_type': 'NODE_', 'datagram_type': 'DATAGRAM_', 'datagram_flag': 'DATAGRAM_',
             'session_type': 'SESSION_', 'request': '', 'outcome': ''}
 # Those whose numbers are constants of a language, and no type of their own.

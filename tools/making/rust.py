@@ -155,8 +155,8 @@ def rust_file(header):
 
 use std::ffi::c_void;""", rust_statuses(header)]
     for enum, (module, width) in RUST_NUMBERS.items():
-        numbers = [f'/// {sentence(it.said) if it.said else "NBT_" + it.name}\npub const {it.name}: {width} = {it.digits};'
-                   for it in header.enums[enum]]
+        # Those of records are handed out.
+        numbers = [f'/// {sentence(it.said)}\n' * (enum == 'record_type') + f'pub const {it.name}: {width} = {it.digits};' for it in header.enums[enum]]
         parts.append(rust_module(module, ['\n'.join(numbers)]) if module else '\n'.join(numbers))
     parts.append('\n'.join(f'pub const {name}: u32 = {number:_};' for name, number in header.limits.items()))
     for module in dict.fromkeys(it for it, _ in IN_RUST):

@@ -1,13 +1,15 @@
 """The limits of nbt.h for the tools."""
-from .header import MADE
+from .header import CONSTANTS, MADE
 
-WORDS = 'UNIQUE', 'GROUP', 'BROADCAST'
+WORDS, QUERIES = ('UNIQUE', 'GROUP', 'BROADCAST'), ('FIND', 'FOUND', 'MISSING')
 
 
 def tools_file(header):
     lines = [f'{name} = {number:_}' for name, number in header.limits.items()]
     fragments = ', '.join(f"{it.digits}: '{it.name.lower()}'" for it in header.enums['datagram_type'] if it.name in WORDS)
-    flags = [f'{it.name} = {it.digits}' for it in header.enums['datagram_flag']]
+    services = ', '.join(it.digits for it in header.enums['port'])
+    numbers = [f'{it.name} = {it.digits}' for name in CONSTANTS for it in header.enums[name]]
+    queries = ', '.join(it.digits for it in header.enums['datagram_type'] if it.name in QUERIES)
     types = ', '.join(it.digits for it in header.enums['session_type'])
-    return '\n'.join([f'"""The limits of include/nbt.h, and its numbers that the tools read. {MADE}"""', *lines,
-                      '# FLAGS, and MSG_TYPE of fragments in words, of port 138; TYPE of port 139.', *flags, f'FRAGMENTS = {{{fragments}}}', f'SESSION_TYPES = frozenset(({types}))']) + '\n'
+    return '\n'.join([f'"""The version and the limits of include/nbt.h, and its numbers that the tools read. {MADE}"""', f"VERSION = '{header.version}'", *lines,
+                      f'SERVICES = ({services})', '# Numbers of packets.', *numbers, '# MSG_TYPE of fragments in words, and of queries; TYPE of port 139.', f'FRAGMENTS = {{{fragments}}}', f'QUERIES = ({queries})', f'SESSION_TYPES = frozenset(({types}))']) + '\n'

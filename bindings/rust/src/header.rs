@@ -164,162 +164,85 @@ impl Status {
     }
 }
 
-/// NBT_DONE
 pub const DONE: u32 = 0;
-/// The output is longer than its buffer; *used: how many bytes it has.
 pub const NO_ROOM: u32 = 1;
-/// Malloc refused.
 pub const NO_MEMORY: u32 = 2;
-/// It hasn't the form; the place: how many bytes at its front some name begins with.
 pub const BAD_TEXT: u32 = 10;
-/// A name of more than 15 characters, a label of more than 63, or too long a scope.
 pub const LONG_TEXT: u32 = 11;
-/// As [`Status::BadText`], of the source's text; the place counts in it.
 pub const SOURCE_BAD_TEXT: u32 = 12;
-/// As [`Status::LongText`], of the source's text.
 pub const SOURCE_LONG_TEXT: u32 = 13;
-/// As [`Status::BadText`], of the destination's text; the place counts in it.
 pub const DESTINATION_BAD_TEXT: u32 = 14;
-/// As [`Status::LongText`], of the destination's text.
 pub const DESTINATION_LONG_TEXT: u32 = 15;
-/// It ends too early; the place: where.
 pub const NAME_TRUNCATED: u32 = 20;
-/// A length byte begins with the bits 01 or 10; the place: where it stands.
 pub const NAME_RESERVED_LABEL: u32 = 21;
-/// A pointer stands where none may; the place: where.
 pub const NAME_POINTER: u32 = 22;
-/// A label makes the spelling longer than 255 bytes; the place: where it stands.
 pub const NAME_LONG: u32 = 23;
-/// Labels that no NetBIOS name has; the place: a place in their spelling. In a payload in which the name has no pointer, byte the place after the one where the name begins: 4 for the first name of a session request, 14 for the source of a datagram, 10 for the name of a query of port 138; a second name begins after the zero byte of the first.
 pub const NAME_NOT_NETBIOS: u32 = 24;
-/// Bytes after the spelling; the place: where they begin.
 pub const NAME_TRAILING_BYTES: u32 = 25;
-/// A pointer that doesn't go back; the place: where; of names of the name service alone.
 pub const NAME_BAD_POINTER: u32 = 26;
-/// NBT_SOURCE_TRUNCATED
 pub const SOURCE_TRUNCATED: u32 = 30;
-/// NBT_SOURCE_RESERVED_LABEL
 pub const SOURCE_RESERVED_LABEL: u32 = 31;
-/// NBT_SOURCE_POINTER
 pub const SOURCE_POINTER: u32 = 32;
-/// NBT_SOURCE_LONG
 pub const SOURCE_LONG: u32 = 33;
-/// NBT_SOURCE_NOT_NETBIOS
 pub const SOURCE_NOT_NETBIOS: u32 = 34;
-/// No call of this version answers it.
 pub const SOURCE_BAD_POINTER: u32 = 36;
-/// NBT_DESTINATION_TRUNCATED
 pub const DESTINATION_TRUNCATED: u32 = 40;
-/// NBT_DESTINATION_RESERVED_LABEL
 pub const DESTINATION_RESERVED_LABEL: u32 = 41;
-/// NBT_DESTINATION_POINTER
 pub const DESTINATION_POINTER: u32 = 42;
-/// NBT_DESTINATION_LONG
 pub const DESTINATION_LONG: u32 = 43;
-/// NBT_DESTINATION_NOT_NETBIOS
 pub const DESTINATION_NOT_NETBIOS: u32 = 44;
-/// No call of this version answers it.
 pub const DESTINATION_BAD_POINTER: u32 = 46;
-/// The payload ends inside the packet; the place: where it ends.
 pub const TRUNCATED: u32 = 50;
-/// No packet has this type.
 pub const UNKNOWN_TYPE: u32 = 51;
-/// The packet isn't there whole yet; the place: how many bytes are missing, at least.
 pub const MORE: u32 = 52;
-/// A flag that has to be zero is set (RFC 1002 section 4.3.1).
 pub const RESERVED_FLAGS: u32 = 53;
-/// No packet of this type has a body of this length.
 pub const BAD_LENGTH: u32 = 54;
-/// Bytes after the names of a session request; the place: where they begin.
 pub const TRAILING_BYTES: u32 = 55;
-/// The name in RDATA of type NS ends elsewhere than the RDATA; the place: where the RDATA begins.
 pub const NAME_RDATA: u32 = 56;
-/// The header counts fewer questions and records.
 pub const NO_ITEM: u32 = 57;
-/// RDATA of another type, or not of the form that its type has.
 pub const OTHER_RDATA: u32 = 58;
-/// RDATA has fewer parts; the place: how many.
 pub const NO_PART: u32 = 59;
-/// No number of enum nbt_request.
 pub const UNKNOWN_REQUEST: u32 = 60;
-/// Pieces of no bytes.
 pub const ZERO_PIECE: u32 = 61;
-/// The data passes 65,535 bytes, or a packet of it does.
 pub const LONG_DATA: u32 = 62;
-/// It begins with neither NBT2 nor NBT1.
 pub const TABLE_BAD_MAGIC: u32 = 70;
-/// It ends before or inside a field that has to follow.
 pub const TABLE_TRUNCATED: u32 = 71;
-/// No saved table has there what it has; the place: where.
 pub const TABLE_NOT_CANONICAL: u32 = 72;
-/// A datagram longer than the longest; no call of this version answers it.
 pub const TABLE_LONG: u32 = 73;
-/// More keys of one address than may be held.
 pub const TABLE_FULL_SOURCE: u32 = 74;
-/// More keys than may be held in all.
 pub const TABLE_FULL: u32 = 75;
-/// NBT_SECOND_BAD_MAGIC
 pub const SECOND_BAD_MAGIC: u32 = 80;
-/// NBT_SECOND_TRUNCATED
 pub const SECOND_TRUNCATED: u32 = 81;
-/// The place counts in the second.
 pub const SECOND_NOT_CANONICAL: u32 = 82;
-/// No call of this version answers it.
 pub const SECOND_LONG: u32 = 83;
-/// NBT_SECOND_FULL_SOURCE
 pub const SECOND_FULL_SOURCE: u32 = 84;
-/// NBT_SECOND_FULL
 pub const SECOND_FULL: u32 = 85;
-/// A fragment has the flag 0x02 at an offset other than 0, or lacks it at 0.
 pub const MISPLACED_FIRST: u32 = 90;
-/// A fragment reaches past the longest datagram, 65,535 bytes.
 pub const LONG: u32 = 91;
-/// As many keys of the address are held as may be, and a further one is new.
 pub const FULL_SOURCE: u32 = 92;
-/// As many keys are held as may be in all, and a further one is new.
 pub const FULL: u32 = 93;
-/// A name stands there twice; the place: where its second text begins.
 pub const NAME_PRESENT: u32 = 100;
-/// More than 254 names; the place: where the text of the 255th begins.
 pub const TOO_MANY_NAMES: u32 = 101;
-/// The station is none.
 pub const NO_STATION: u32 = 102;
-/// The packet stands, but its type isn't the one that has the part.
 pub const OTHER_TYPE: u32 = 110;
-/// It is none of a capture's.
 pub const BAD_LINE: u32 = 120;
-/// No number of this enum.
 pub const UNKNOWN_STATUS: u32 = 255;
 
-/// It is empty, or a comment.
 pub const BLANK: u32 = 0;
-/// A payload that came.
 pub const PACKET: u32 = 1;
-/// What the clock shows.
 pub const TICK: u32 = 2;
 
-/// NBT_QUERY
 pub const QUERY: u32 = 0;
-/// NBT_NODE_STATUS
 pub const NODE_STATUS: u32 = 1;
-/// NBT_REGISTRATION
 pub const REGISTRATION: u32 = 2;
-/// Its opcode is 8, and RD is clear (our choice).
 pub const REFRESH: u32 = 3;
-/// NBT_RELEASE
 pub const RELEASE: u32 = 4;
 
-/// A fragment, by which its datagram became neither whole nor spoilt.
 pub const KEPT: u32 = 0;
-/// A fragment that contradicts what was known of its datagram.
 pub const SPOILT: u32 = 1;
-/// A fragment that made its datagram whole, and one of the names hears it.
 pub const DELIVERED: u32 = 2;
-/// A fragment that made its datagram whole, and none of the names hears it.
 pub const UNHEARD: u32 = 3;
-/// An error or a query packet; the station is as it was.
 pub const OTHER: u32 = 4;
-/// No packet stands at the front of the payload; the station is as it was.
 pub const REFUSED: u32 = 5;
 
 /// RR_TYPE of a name server.
@@ -332,45 +255,28 @@ pub const NB: u16 = 0x0020;
 pub const NBSTAT: u16 = 0x0021;
 
 pub mod word {
-    /// R: a response.
     pub const R: u16 = 0x8000;
-    /// OPCODE, in four bits.
     pub const OPCODE: u16 = 0x7800;
-    /// NM_FLAGS, of which these have names:.
     pub const NM_FLAGS: u16 = 0x07f0;
-    /// AA: the node has the name, or keeps account of it.
     pub const AA: u16 = 0x0400;
-    /// TC: something is missing.
     pub const TC: u16 = 0x0200;
-    /// RD: recursion is desired.
     pub const RD: u16 = 0x0100;
-    /// RA: recursion is available.
     pub const RA: u16 = 0x0080;
-    /// B: it was broadcast or multicast.
     pub const B: u16 = 0x0010;
-    /// RCODE, in four bits.
     pub const RCODE: u16 = 0x000f;
 }
 
 pub mod name_flag {
-    /// G: a group's name.
     pub const G: u16 = 0x8000;
-    /// ONT: the type of the node, one of enum nbt_node_type.
     pub const ONT: u16 = 0x6000;
-    /// DRG: it is being given up; this and what follows are of NAME_FLAGS alone.
     pub const DRG: u16 = 0x1000;
-    /// CNF: another node claims it.
     pub const CNF: u16 = 0x0800;
-    /// ACT: it is active.
     pub const ACT: u16 = 0x0400;
-    /// PRM: it is the node's permanent name.
     pub const PRM: u16 = 0x0200;
 }
 
 pub mod datagram_flag {
-    /// More fragments follow.
     pub const MORE: u8 = 0x01;
-    /// The first fragment.
     pub const FIRST: u8 = 0x02;
 }
 

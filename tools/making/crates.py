@@ -5,7 +5,6 @@ from .header import TOP
 
 CONSTANT = re.compile(r'const (\w+)(?:: \w+)? = (\w+);')
 WORD = re.compile(r'([0-9 |]+) => Some\("(\w+)"\)')
-TYPE = re.compile(r'Kind::(\w+) => (0x\w+),')
 KEYS = re.compile(r'number\(alloc, "keys", "N", help, (\w+)\)\.default_value\("(\w+)"\)')
 # By enumeration the files with its constants. Those that have other names there stand below.
 FILES = {'status': 'nb_c/src/statuses.rt', 'line_kind': 'nb_c/src/captures.rt', 'outcome': 'nb_c/src/taken.rt', 'record_type': 'nb_service/src/kinds.rt',
@@ -13,6 +12,10 @@ FILES = {'status': 'nb_c/src/statuses.rt', 'line_kind': 'nb_c/src/captures.rt', 
          'name_flag': 'nb_service/src/flags.rt'}
 NAMES = {'UNIQUE': 'DIRECT_UNIQUE', 'GROUP': 'DIRECT_GROUP', 'ERROR': 'ERROR_TYPE', 'FIND': 'QUERY_REQUEST', 'FOUND': 'POSITIVE_RESPONSE',
          'MISSING': 'NEGATIVE_RESPONSE'}
+# Those that are arms of a `match`, whose default has the other.
+ARMS = {'session_type': ('nb_session/src/kind.rt', r'Kind::(?P<name>\w+) => (?P<number>0x\w+),'),
+        'section': ('nb_c/src/service_reading.rt', r'Section::(?P<name>\w+)\) => (?P<number>\d)'),
+        'request': ('nb_c/src/service.rt', r'(?P<number>\d) => (?P<name>\w+?)(?:_request)?\(alloc')}
 LIMITS = {'MOST_LINE': ('nb_member/src/limits.rt', 'MAX_LINE'), 'MOST_DATAGRAM': ('nb_datagram/src/limits.rt', 'MAX_LENGTH'),
           'MOST_BODY': ('nb_session/src/limits.rt', 'MAX_MESSAGE'), 'INPUT': ('nb_names/src/limits.rt', 'MAX_INPUT'),
           'MOST_NAMES': ('nb_member/src/limits.rt', 'MAX_NAMES'), 'KEPT_FOR': ('nb_member/src/limits.rt', 'FRAGMENT_TIMEOUT'),
@@ -44,9 +47,11 @@ def numbers(header):
         for each in header.enums[enum]:
             word = each.name if each.name.endswith('_ERR') else each.name.removeprefix('OTHER_').lower()
             yield f'{enum} {each.name}', each.number, each.number if each.number in told.get(word, ()) else None
-    types = {name.upper(): int(digits, 0) for name, digits in TYPE.findall(text_of('nb_session/src/kind.rt'))}
-    for each in header.enums['session_type']:
-        yield f'session_type {each.name}', each.number, types.get(each.name)
+    for enum, (path, pattern) in ARMS.items():
+        found = {it['name'].upper(): int(it['number'], 0) for it in re.finditer(pattern, text_of(path))}
+        for each in header.enums[enum]:
+            if each.name not in ('QUESTION', 'RELEASE'):
+                yield f'{enum} {each.name}', each.number, found.get(each.name)
     for name, (path, constant) in LIMITS.items():
         yield name, header.limits[name], constants(path).get(constant)
     most, usual = KEYS.search(text_of('nbt/src/command_line.rt')).groups()

@@ -11,9 +11,10 @@ TYPES = {'Section': 'SECTIONS', 'RequestKind': 'REQUESTS', 'TakenOutcome': 'OUTC
 
 
 def words_of(header, name):
-    """The words of a list, in the order of their numbers, which go from 0 on."""
+    """The words of a list, each at the place of its number."""
     enum, spelled = LISTS[name]
-    return [f"'{spelled(each.name)}'" for each in header.enums[enum]]
+    words = {each.number: spelled(each.name) for each in header.enums[enum]}
+    return [f"'{words.get(number, '')}'" for number in range(max(words) + 1)]
 
 
 def in_module(header):

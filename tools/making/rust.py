@@ -41,7 +41,7 @@ def rust_status(each, statuses):
     group, said = each.group.removesuffix('.'), RUST_SAYS.get(each.name, each.said)
     alike = ALIKE.search(group)
     if alike:
-        other = next(it.name for it in statuses if it.number == int(alike[1]) + each.number % 10)
+        other = next((it.name for it in statuses if it.number == int(alike[1]) + each.number % 10), 'no other')
         group = f"{group.partition('; as those')[0]}: as NBT_{other}"
     said = '; '.join(filter(None, (group, said))) if alike else ': '.join(filter(None, (group, said)))
     return f'    /// {sentence(said)}\n    {rust_name(each.name)} = {each.digits},'

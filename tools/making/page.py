@@ -4,11 +4,11 @@ import importlib
 import json
 import re
 
-from .header import CONSTANTS, MADE, TOP, in_lines
+from .header import MADE, TOP, in_lines
 
 SOURCE = TOP / 'tools' / 'nbt_look' / 'vocabulary.py'
 DEFINED = re.compile(r'((?:^#.*\n)*)^(?:class )?(\w+)(?: = |\(enum)', re.MULTILINE)
-LISTED = 'datagram_type', 'port'
+LISTED = 'port', 'word', 'name_flag', 'datagram_flag', 'datagram_type'
 # Lists whose words are types too.
 KEYS_OF_OBJECTS = ('SECTIONS',)
 
@@ -16,7 +16,7 @@ KEYS_OF_OBJECTS = ('SECTIONS',)
 def page_file(header):
     """The module, of which nothing is left out but what is told of the kinds."""
     parts = [f'/** The numbers of include/nbt.h that the page reads, and the words and limits of tools/nbt_look/vocabulary.py. {MADE} */']
-    for name in (*CONSTANTS, *LISTED):
+    for name in LISTED:
         numbers = in_lines([f'{each.name}: {each.digits},' for each in header.enums[name]], '    ', 140)
         parts.append(f'/** {header.titles[name]} */\nexport const {name.upper()} = Object.freeze({{\n{numbers}\n}});')
     parts.append('\n'.join(f'export const {name} = {number:_};' for name, number in header.limits.items()))

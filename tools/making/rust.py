@@ -22,7 +22,7 @@ RUST_TYPES = {'uint8_t': 'u8', 'uint16_t': 'u16', 'uint32_t': 'u32', 'uint64_t':
 SERDE = '#[cfg_attr(feature = "serde", serde(%s))]'
 DERIVES = '#[derive(Clone, Copy, Debug, PartialEq, Eq, %sHash)]\n#[cfg_attr(feature = "serde", derive(serde::Serialize, serde::Deserialize))]'
 # Numbers that are no type's, by the module in which they stand, and how wide they are.
-RUST_NUMBERS = {'status': ('', 'u32'), 'line_kind': ('', 'u32'), 'request': ('', 'u32'), 'outcome': ('', 'u32'), 'record_type': ('', 'u16'),
+RUST_NUMBERS = {'status': ('', 'u32'), 'line_kind': ('', 'u32'), 'request': ('', 'u32'), 'outcome': ('', 'u32'), 'record_type': ('record_type', 'u16'),
                 'word': ('word', 'u16'), 'name_flag': ('name_flag', 'u16'), 'datagram_flag': ('datagram_flag', 'u8')}
 
 

@@ -15,25 +15,8 @@ KEPT_FOR = 2_000
 TAKE_ROOM = 66_045
 SERVICES = (137, 138, 139)
 # Numbers of packets.
-NS = 0x0002
-NULL = 0x000a
-NB = 0x0020
 NBSTAT = 0x0021
-R = 0x8000
-OPCODE = 0x7800
-NM_FLAGS = 0x07f0
-AA = 0x0400
-TC = 0x0200
-RD = 0x0100
-RA = 0x0080
-B = 0x0010
-RCODE = 0x000f
 G = 0x8000
-ONT = 0x6000
-DRG = 0x1000
-CNF = 0x0800
-ACT = 0x0400
-PRM = 0x0200
 MORE = 0x01
 FIRST = 0x02
 # MSG_TYPE of fragments in words, and of queries; TYPE of port 139.

@@ -245,14 +245,16 @@ pub const UNHEARD: u32 = 3;
 pub const OTHER: u32 = 4;
 pub const REFUSED: u32 = 5;
 
-/// RR_TYPE of a name server.
-pub const NS: u16 = 0x0002;
-/// RR_TYPE of an answer that says nothing of the name.
-pub const NULL: u16 = 0x000a;
-/// RR_TYPE of an address of a NetBIOS name.
-pub const NB: u16 = 0x0020;
-/// RR_TYPE of the status of a node.
-pub const NBSTAT: u16 = 0x0021;
+pub mod record_type {
+    /// RR_TYPE of a name server.
+    pub const NS: u16 = 0x0002;
+    /// RR_TYPE of an answer that says nothing of the name.
+    pub const NULL: u16 = 0x000a;
+    /// RR_TYPE of an address of a NetBIOS name.
+    pub const NB: u16 = 0x0020;
+    /// RR_TYPE of the status of a node.
+    pub const NBSTAT: u16 = 0x0021;
+}
 
 pub mod word {
     pub const R: u16 = 0x8000;

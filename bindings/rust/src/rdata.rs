@@ -5,9 +5,9 @@ use std::net::Ipv4Addr;
 use crate::header::service::NodeType;
 use crate::header::{
     name_flag, nbt_service_address, nbt_service_node, nbt_service_unit, FoundServiceAddress,
-    FoundServiceNode, FoundServiceUnit, DONE, NB, NBSTAT, NO_PART, NS,
+    FoundServiceNode, FoundServiceUnit, DONE, NO_PART,
 };
-use crate::service::Entry;
+use crate::service::{Entry, NB, NBSTAT, NS};
 use crate::Name;
 
 /// What a record says, by its type.

@@ -3,10 +3,10 @@
 use std::borrow::Cow;
 
 use crate::header::service::ResultCode;
-use crate::header::{nbt_service_response, word, NB, NBSTAT, NS, NULL};
+use crate::header::{nbt_service_response, word};
 use crate::rdata::NodeName;
 use crate::room::write_into;
-use crate::service::Entry;
+use crate::service::{Entry, NB, NBSTAT, NS, NULL};
 use crate::{Error, Name, Result, Status};
 
 /// R, AA and RD: of a node that answers for its own name.

@@ -29,8 +29,8 @@ use crate::header::{
 use crate::room::written;
 use crate::Result;
 
+pub use crate::header::record_type::*;
 pub use crate::header::service::{NodeType, Operation, ResultCode, Section};
-pub use crate::header::{NB, NBSTAT, NS};
 pub use crate::rdata::{Addresses, NodeName, NodeNames, NodeStatus, Rdata};
 pub use crate::responses::{Answer, Response};
 pub use crate::service_header::Header;

@@ -1,7 +1,7 @@
 /** The numbers of include/nbt.h that the page reads, and the words and limits of tools/nbt_look/vocabulary.py. tools/lists.py --write makes this file. */
-/** QUESTION_TYPE and RR_TYPE: RFC 1002 sections 4.2.1.2 and 4.2.1.3. */
-export const RECORD_TYPE = Object.freeze({
-    NS: 0x0002, NULL: 0x000a, NB: 0x0020, NBSTAT: 0x0021,
+/** The ports of the three services. */
+export const PORT = Object.freeze({
+    NAMES: 137, DATAGRAMS: 138, SESSIONS: 139,
 });
 /** The second word of a header of the name service: RFC 1002 section 4.2.1.1. */
 export const WORD = Object.freeze({
@@ -18,10 +18,6 @@ export const DATAGRAM_FLAG = Object.freeze({
 /** MSG_TYPE: RFC 1002 section 4.4.1. */
 export const DATAGRAM_TYPE = Object.freeze({
     UNIQUE: 0x10, GROUP: 0x11, BROADCAST: 0x12, ERROR: 0x13, FIND: 0x14, FOUND: 0x15, MISSING: 0x16,
-});
-/** The ports of the three services. */
-export const PORT = Object.freeze({
-    NAMES: 137, DATAGRAMS: 138, SESSIONS: 139,
 });
 export const STACK = 65_536;
 export const NAME_ROOM = 704;

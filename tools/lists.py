@@ -2,9 +2,9 @@
 """What the bindings, the tools and the page list alike, made of one source each: of include/nbt.h its numbers, its limits and, for Rust and
 Python, its structures and calls; of tools/nbt_look/vocabulary.py the words of the summary, for the page.
 
-Usage: tools/lists.py --write writes the files, the marked parts of files, and what stands within others anew, as limits in manual pages. --check says which of them differ, and whether the numbers
-of nbt.h are those of the crates, which tests/surface.txt has, and of the help of `nbt`, which tests/cases/help.txt has; its last line is 'N
-passed, M failed', a case for each file and each number.
+Usage: tools/lists.py --write writes the files anew, the marked parts of others, and what stands within further ones, as limits in manual pages.
+--check says which differ from that, and which numbers of nbt.h aren't those of the crates' sources; its last line is 'N passed, M failed', a
+case for each file and each number.
 """
 import re
 import sys
@@ -21,12 +21,12 @@ FILES = {
     'page/src/model/vocabulary.js': page.page_file,
 }
 # What stands in other files, by what stands around it.
-MANUAL = ((r'(How many keys the table holds at most, 1 to )\d+(\.\nWithout it they are )\d+', '{MOST_KEYS}', '{KEYS}'),
-          (r'(How many keys of one source address the table holds at most, 1 to )\d+', '{MOST_KEYS}'),
-          (r'(How many bytes the capture may have, 1 to \d+\.\nWithout it they are )\d+', '{INPUT}'),
+OF_TABLES = ((r'(How many keys the table holds at most, 1 to )\d+(\.\nWithout it they are )\d+', '{MOST_KEYS}', '{KEYS}'),
+             (r'(How many keys of one source address the table holds at most, 1 to )\d+', '{MOST_KEYS}'))
+OF_NBT = (*OF_TABLES, (r'(How many bytes the capture may have, 1 to \d+\.\nWithout it they are )\d+', '{INPUT}'),
           (r'(as in `--keys )\d+(?=`, or have)', '{MOST_KEYS}'), (r'(as in `--keys )\d+(?=`, or save)', '{KEYS}'))
 OF_PACKAGE = (r'((?:^version = |^  "version": )")[^"]+', '{VERSION}'),
-WITHIN = {'man/nbt.1': MANUAL, 'man/nbt-station.1': MANUAL, 'tools/pkgconfig': ((r'(^Version: ).+', '{VERSION}'),),
+WITHIN = {'man/nbt.1': OF_NBT, 'man/nbt-station.1': OF_TABLES, 'tools/pkgconfig': ((r'(^Version: ).+', '{VERSION}'),),
           **dict.fromkeys(('bindings/python/pyproject.toml', 'bindings/rust/Cargo.toml', 'bindings/javascript/package.json'), OF_PACKAGE)}
 PARTS = {'bindings/javascript/nbt.mjs': javascript.in_module, 'bindings/javascript/nbt.d.mts': javascript.in_types}
 
@@ -51,9 +51,10 @@ def made():
         text = (TOP / name).read_text(encoding='utf-8')
         for pattern, *wanted in patterns:
             words = ''.join(f'\\g<{at}>{each}' for at, each in enumerate(wanted, 1)).format(VERSION=header.version, **header.limits)
-            text = re.sub(pattern, words, text, flags=re.MULTILINE)
+            text, count = re.subn(pattern, words, text, flags=re.MULTILINE)
+            if count == 0:
+                raise SystemExit(f'tools/lists.py: {name} has no {pattern}')
         yield TOP / name, text
-
 
 
 def check():

@@ -3,24 +3,26 @@ import re
 
 from .header import ALIKE, MADE, camel, in_lines, plain
 
-# By its module and its name: of which enumeration a type is, which of the members it has, what it is, what is derived for it too, and what
-# serde calls its members; and what a number is that none has.
+# By its module and its name: of which enumeration a type is, which of the members it has, what it is, what serde calls its members, and what
+# a number is that none has.
 IN_RUST = {
-    ('service', 'Operation'): ('operation', (), '', 'PartialOrd, Ord, ', 'snake_case', 'number'),
-    ('service', 'ResultCode'): ('result_code', (), '', 'PartialOrd, Ord, ', '', 'number'),
-    ('service', 'NodeType'): ('node_type', (), '', '', '', ''),
-    ('service', 'Section'): ('section', ('ANSWER', 'AUTHORITY', 'ADDITIONAL'), 'Where a record stands.', 'PartialOrd, Ord, ', 'lowercase', ''),
-    ('datagram', 'Kind'): ('datagram_type', ('UNIQUE', 'GROUP', 'BROADCAST'), "What MSG_TYPE says of a fragment's datagram.", '', 'lowercase', 'fault'),
-    ('datagram', 'Query'): ('datagram_type', ('FIND', 'FOUND', 'MISSING'), 'What MSG_TYPE says of a query packet.', '', 'lowercase', 'fault'),
-    ('session', 'Kind'): ('session_type', (), '', '', 'lowercase', 'fault'),
+    ('service', 'Operation'): ('operation', (), '', 'snake_case', 'number'),
+    ('service', 'ResultCode'): ('result_code', (), '', '', 'number'),
+    ('service', 'NodeType'): ('node_type', (), '', '', ''),
+    ('service', 'Section'): ('section', ('ANSWER', 'AUTHORITY', 'ADDITIONAL'), 'Where a record stands.', 'lowercase', ''),
+    ('datagram', 'Kind'): ('datagram_type', ('UNIQUE', 'GROUP', 'BROADCAST'), "What MSG_TYPE says of a fragment's datagram.", 'lowercase', 'fault'),
+    ('datagram', 'Query'): ('datagram_type', ('FIND', 'FOUND', 'MISSING'), 'What MSG_TYPE says of a query packet.', 'lowercase', 'fault'),
+    ('session', 'Kind'): ('session_type', (), '', 'lowercase', 'fault'),
 }
+MISSING = {'': (), 'number': ('/// The one with this number; the number itself where none has it.', '|number| -> u8 { number }'),
+           'fault': ('/// The one with this number; `UnknownType` where none has it.', '|number| -> crate::Error { crate::Error::UNKNOWN_TYPE }')}
 RUST_NAMES = {'FMT_ERR': 'FormatError', 'SRV_ERR': 'ServerFailure', 'NAM_ERR': 'NameError', 'IMP_ERR': 'NotImplemented', 'RFS_ERR': 'Refused',
               'ACT_ERR': 'ActiveError', 'CFT_ERR': 'Conflict', 'KEEPALIVE': 'KeepAlive'}
 RUST_WORDS = {'OTHER_REFRESH': 'refresh'}
 RUST_SAYS = {'NO_MEMORY': 'memory ran out', 'UNKNOWN_STATUS': "a number that this version of the crate doesn't know: [`crate::Error::number`] keeps it"}
 RUST_TYPES = {'uint8_t': 'u8', 'uint16_t': 'u16', 'uint32_t': 'u32', 'uint64_t': 'u64', 'size_t': 'usize', 'void': 'c_void'}
 SERDE = '#[cfg_attr(feature = "serde", serde(%s))]'
-DERIVES = '#[derive(Clone, Copy, Debug, PartialEq, Eq, %sHash)]\n#[cfg_attr(feature = "serde", derive(serde::Serialize, serde::Deserialize))]'
+DERIVES = '#[derive(Clone, Copy, Debug, PartialEq, Eq, PartialOrd, Ord, Hash)]\n#[cfg_attr(feature = "serde", derive(serde::Serialize, serde::Deserialize))]'
 # Numbers that are no type's, by the module in which they stand, and how wide they are.
 RUST_NUMBERS = {'status': ('', 'u32'), 'line_kind': ('', 'u32'), 'request': ('', 'u32'), 'outcome': ('', 'u32'), 'record_type': ('record_type', 'u16'),
                 'word': ('word', 'u16'), 'name_flag': ('name_flag', 'u16'), 'datagram_flag': ('datagram_flag', 'u8')}
@@ -53,7 +55,7 @@ def rust_statuses(header):
     placed = in_lines([f'{it}' + ' |' * (it != max(header.placed)) for it in sorted(header.placed)], '            ', 120)
     return f"""/// Why a call did nothing. Each is a number of `enum nbt_status`, which stands for one thing in all versions; its text
 /// is the library's words, as in `bad text`.
-{DERIVES % 'PartialOrd, Ord, '}
+{DERIVES}
 {SERDE % 'rename_all = "SCREAMING_SNAKE_CASE"'}
 #[non_exhaustive]
 #[repr(u32)]
@@ -75,28 +77,16 @@ impl Status {{
 }}"""
 
 
-def rust_enum(header, place, enum, names, says, derives, case, missing):
+def rust_enum(header, place, enum, names, says, case, missing):
     """A type of an enumeration, with its numbers and words."""
-    name, members = place[1], [it for it in header.enums[enum] if not names or it.name in names]
     title = says or header.titles[enum].partition('. ')[0].removesuffix('.') + '.'
-    lines = []
-    for it in members:
-        rename = '' if case or enum != 'result_code' else '    ' + SERDE % f'rename = "{word_of(enum, it.name)}"' + '\n'
-        lines.append(f'    /// {sentence(it.said)}\n{rename}    {rust_name(it.name)} = {it.digits},')
-    words = '\n'.join(f'            {name}::{rust_name(it.name)} => "{word_of(enum, it.name)}",' for it in members)
-    parts = [f"/// {title}\n{DERIVES % derives}\n" + (SERDE % f'rename_all = "{case}"' + '\n') * bool(case)
-             + f'#[repr(u8)]\npub enum {name} {{\n' + '\n'.join(lines) + '\n}',
-             f'impl {name} {{\n    /// All of them, by number.\n    pub const ALL: [{name}; {len(members)}] = ['
-             + ', '.join(f'{name}::{rust_name(it.name)}' for it in members) + '];\n}']
-    if missing:
-        error, answer = {'number': ('u8', 'number'), 'fault': ('Error', 'Error::UNKNOWN_TYPE')}[missing]
-        parts.append(f'/// The one with this number; {"the number itself" if missing == "number" else "`UnknownType`"} where none has it.\n'
-                     f'impl TryFrom<u8> for {name} {{\n    type Error = {error};\n\n'
-                     f'    fn try_from(number: u8) -> std::result::Result<{name}, {error}> {{\n'
-                     f'        {name}::ALL.into_iter().find(|it| *it as u8 == number).ok_or({answer})\n    }}\n}}')
-    parts.append(f"impl fmt::Display for {name} {{\n    fn fmt(&self, out: &mut fmt::Formatter<'_>) -> fmt::Result {{\n"
-                 f'        out.pad(match self {{\n{words}\n        }})\n    }}\n}}')
-    return '\n\n'.join(parts)
+    lines = [f'/// {title}', *[SERDE % f'rename_all = "{case}"'] * bool(case), f'{place[1]} {{']
+    for it in header.enums[enum]:
+        if not names or it.name in names:
+            word = word_of(enum, it.name)
+            rename = [] if case or enum != 'result_code' else [SERDE % f'rename = "{word}"']
+            lines += [f'    {each}' for each in (f'/// {sentence(it.said)}', *rename, f'{rust_name(it.name)} = {it.digits}, "{word}";')]
+    return '\n'.join(['numbered! {', *(f'    {each}' for each in (*lines, '}', *MISSING[missing])), '}'])
 
 
 def word_of(enum, name):
@@ -161,8 +151,7 @@ use std::ffi::c_void;""", rust_statuses(header)]
     parts.append('\n'.join(f'pub const {name}: u32 = {number:_};' for name, number in header.limits.items()))
     for module in dict.fromkeys(it for it, _ in IN_RUST):
         types = [rust_enum(header, place, *said) for place, said in IN_RUST.items() if place[0] == module]
-        used = 'use std::fmt;\n' + '\nuse crate::Error;\n' * ('Error::UNKNOWN' in ''.join(types))
-        parts.append(rust_module(module, [used.rstrip(), *types]))
+        parts.append(rust_module(module, ['use crate::codes::numbered;', *types]))
     parts += [rust_structure(header, *each) for each in header.structures.items()]
     parts.append('extern "C" {\n' + '\n'.join(rust_call(*each) for each in header.calls) + '\n}')
     return '\n\n'.join(parts) + '\n'

@@ -297,308 +297,145 @@ pub const KEPT_FOR: u32 = 2_000;
 pub const TAKE_ROOM: u32 = 66_045;
 
 pub mod service {
-    use std::fmt;
+    use crate::codes::numbered;
 
-    /// OPCODE: what a packet asks for, or answers.
-    #[derive(Clone, Copy, Debug, PartialEq, Eq, PartialOrd, Ord, Hash)]
-    #[cfg_attr(feature = "serde", derive(serde::Serialize, serde::Deserialize))]
-    #[cfg_attr(feature = "serde", serde(rename_all = "snake_case"))]
-    #[repr(u8)]
-    pub enum Operation {
-        /// Who has a name, or which names a node has.
-        Query = 0,
-        /// A name is claimed.
-        Registration = 5,
-        /// It is given up.
-        Release = 6,
-        /// The answer takes its time.
-        Wack = 7,
-        /// It is claimed anew.
-        Refresh = 8,
-        /// The same, by the other number that the standard has for it.
-        OtherRefresh = 9,
+    numbered! {
+        /// OPCODE: what a packet asks for, or answers.
+        #[cfg_attr(feature = "serde", serde(rename_all = "snake_case"))]
+        Operation {
+            /// Who has a name, or which names a node has.
+            Query = 0, "query";
+            /// A name is claimed.
+            Registration = 5, "registration";
+            /// It is given up.
+            Release = 6, "release";
+            /// The answer takes its time.
+            Wack = 7, "wack";
+            /// It is claimed anew.
+            Refresh = 8, "refresh";
+            /// The same, by the other number that the standard has for it.
+            OtherRefresh = 9, "refresh";
+        }
+        /// The one with this number; the number itself where none has it.
+        |number| -> u8 { number }
     }
 
-    impl Operation {
-        /// All of them, by number.
-        pub const ALL: [Operation; 6] = [Operation::Query, Operation::Registration, Operation::Release, Operation::Wack, Operation::Refresh, Operation::OtherRefresh];
+    numbered! {
+        /// RCODE: how a request fared.
+        ResultCode {
+            /// It was done; of a request, nothing is said.
+            #[cfg_attr(feature = "serde", serde(rename = "ok"))]
+            Ok = 0, "ok";
+            /// Its form was bad.
+            #[cfg_attr(feature = "serde", serde(rename = "FMT_ERR"))]
+            FormatError = 1, "FMT_ERR";
+            /// The server can't.
+            #[cfg_attr(feature = "serde", serde(rename = "SRV_ERR"))]
+            ServerFailure = 2, "SRV_ERR";
+            /// The name isn't there.
+            #[cfg_attr(feature = "serde", serde(rename = "NAM_ERR"))]
+            NameError = 3, "NAM_ERR";
+            /// The server doesn't do such requests.
+            #[cfg_attr(feature = "serde", serde(rename = "IMP_ERR"))]
+            NotImplemented = 4, "IMP_ERR";
+            /// The server won't.
+            #[cfg_attr(feature = "serde", serde(rename = "RFS_ERR"))]
+            Refused = 5, "RFS_ERR";
+            /// Another node has the name.
+            #[cfg_attr(feature = "serde", serde(rename = "ACT_ERR"))]
+            ActiveError = 6, "ACT_ERR";
+            /// Several nodes have it.
+            #[cfg_attr(feature = "serde", serde(rename = "CFT_ERR"))]
+            Conflict = 7, "CFT_ERR";
+        }
+        /// The one with this number; the number itself where none has it.
+        |number| -> u8 { number }
     }
 
-    /// The one with this number; the number itself where none has it.
-    impl TryFrom<u8> for Operation {
-        type Error = u8;
-
-        fn try_from(number: u8) -> std::result::Result<Operation, u8> {
-            Operation::ALL.into_iter().find(|it| *it as u8 == number).ok_or(number)
+    numbered! {
+        /// ONT: how a node claims its names and asks for those of others.
+        NodeType {
+            /// By broadcast.
+            B = 0, "B";
+            /// By a server.
+            P = 1, "P";
+            /// By broadcast, then by a server.
+            M = 2, "M";
+            /// By a server, then by broadcast; RFC 1002 reserves this number.
+            H = 3, "H";
         }
     }
 
-    impl fmt::Display for Operation {
-        fn fmt(&self, out: &mut fmt::Formatter<'_>) -> fmt::Result {
-            out.pad(match self {
-                Operation::Query => "query",
-                Operation::Registration => "registration",
-                Operation::Release => "release",
-                Operation::Wack => "wack",
-                Operation::Refresh => "refresh",
-                Operation::OtherRefresh => "refresh",
-            })
-        }
-    }
-
-    /// RCODE: how a request fared.
-    #[derive(Clone, Copy, Debug, PartialEq, Eq, PartialOrd, Ord, Hash)]
-    #[cfg_attr(feature = "serde", derive(serde::Serialize, serde::Deserialize))]
-    #[repr(u8)]
-    pub enum ResultCode {
-        /// It was done; of a request, nothing is said.
-        #[cfg_attr(feature = "serde", serde(rename = "ok"))]
-        Ok = 0,
-        /// Its form was bad.
-        #[cfg_attr(feature = "serde", serde(rename = "FMT_ERR"))]
-        FormatError = 1,
-        /// The server can't.
-        #[cfg_attr(feature = "serde", serde(rename = "SRV_ERR"))]
-        ServerFailure = 2,
-        /// The name isn't there.
-        #[cfg_attr(feature = "serde", serde(rename = "NAM_ERR"))]
-        NameError = 3,
-        /// The server doesn't do such requests.
-        #[cfg_attr(feature = "serde", serde(rename = "IMP_ERR"))]
-        NotImplemented = 4,
-        /// The server won't.
-        #[cfg_attr(feature = "serde", serde(rename = "RFS_ERR"))]
-        Refused = 5,
-        /// Another node has the name.
-        #[cfg_attr(feature = "serde", serde(rename = "ACT_ERR"))]
-        ActiveError = 6,
-        /// Several nodes have it.
-        #[cfg_attr(feature = "serde", serde(rename = "CFT_ERR"))]
-        Conflict = 7,
-    }
-
-    impl ResultCode {
-        /// All of them, by number.
-        pub const ALL: [ResultCode; 8] = [ResultCode::Ok, ResultCode::FormatError, ResultCode::ServerFailure, ResultCode::NameError, ResultCode::NotImplemented, ResultCode::Refused, ResultCode::ActiveError, ResultCode::Conflict];
-    }
-
-    /// The one with this number; the number itself where none has it.
-    impl TryFrom<u8> for ResultCode {
-        type Error = u8;
-
-        fn try_from(number: u8) -> std::result::Result<ResultCode, u8> {
-            ResultCode::ALL.into_iter().find(|it| *it as u8 == number).ok_or(number)
-        }
-    }
-
-    impl fmt::Display for ResultCode {
-        fn fmt(&self, out: &mut fmt::Formatter<'_>) -> fmt::Result {
-            out.pad(match self {
-                ResultCode::Ok => "ok",
-                ResultCode::FormatError => "FMT_ERR",
-                ResultCode::ServerFailure => "SRV_ERR",
-                ResultCode::NameError => "NAM_ERR",
-                ResultCode::NotImplemented => "IMP_ERR",
-                ResultCode::Refused => "RFS_ERR",
-                ResultCode::ActiveError => "ACT_ERR",
-                ResultCode::Conflict => "CFT_ERR",
-            })
-        }
-    }
-
-    /// ONT: how a node claims its names and asks for those of others.
-    #[derive(Clone, Copy, Debug, PartialEq, Eq, Hash)]
-    #[cfg_attr(feature = "serde", derive(serde::Serialize, serde::Deserialize))]
-    #[repr(u8)]
-    pub enum NodeType {
-        /// By broadcast.
-        B = 0,
-        /// By a server.
-        P = 1,
-        /// By broadcast, then by a server.
-        M = 2,
-        /// By a server, then by broadcast; RFC 1002 reserves this number.
-        H = 3,
-    }
-
-    impl NodeType {
-        /// All of them, by number.
-        pub const ALL: [NodeType; 4] = [NodeType::B, NodeType::P, NodeType::M, NodeType::H];
-    }
-
-    impl fmt::Display for NodeType {
-        fn fmt(&self, out: &mut fmt::Formatter<'_>) -> fmt::Result {
-            out.pad(match self {
-                NodeType::B => "B",
-                NodeType::P => "P",
-                NodeType::M => "M",
-                NodeType::H => "H",
-            })
-        }
-    }
-
-    /// Where a record stands.
-    #[derive(Clone, Copy, Debug, PartialEq, Eq, PartialOrd, Ord, Hash)]
-    #[cfg_attr(feature = "serde", derive(serde::Serialize, serde::Deserialize))]
-    #[cfg_attr(feature = "serde", serde(rename_all = "lowercase"))]
-    #[repr(u8)]
-    pub enum Section {
-        /// An answer.
-        Answer = 1,
-        /// A record of the authority section.
-        Authority = 2,
-        /// An additional record.
-        Additional = 3,
-    }
-
-    impl Section {
-        /// All of them, by number.
-        pub const ALL: [Section; 3] = [Section::Answer, Section::Authority, Section::Additional];
-    }
-
-    impl fmt::Display for Section {
-        fn fmt(&self, out: &mut fmt::Formatter<'_>) -> fmt::Result {
-            out.pad(match self {
-                Section::Answer => "answer",
-                Section::Authority => "authority",
-                Section::Additional => "additional",
-            })
+    numbered! {
+        /// Where a record stands.
+        #[cfg_attr(feature = "serde", serde(rename_all = "lowercase"))]
+        Section {
+            /// An answer.
+            Answer = 1, "answer";
+            /// A record of the authority section.
+            Authority = 2, "authority";
+            /// An additional record.
+            Additional = 3, "additional";
         }
     }
 }
 
 pub mod datagram {
-    use std::fmt;
+    use crate::codes::numbered;
 
-    use crate::Error;
-
-    /// What MSG_TYPE says of a fragment's datagram.
-    #[derive(Clone, Copy, Debug, PartialEq, Eq, Hash)]
-    #[cfg_attr(feature = "serde", derive(serde::Serialize, serde::Deserialize))]
-    #[cfg_attr(feature = "serde", serde(rename_all = "lowercase"))]
-    #[repr(u8)]
-    pub enum Kind {
-        /// A fragment of a datagram for one name.
-        Unique = 0x10,
-        /// A fragment of one for the members of a group.
-        Group = 0x11,
-        /// A fragment of one for all.
-        Broadcast = 0x12,
-    }
-
-    impl Kind {
-        /// All of them, by number.
-        pub const ALL: [Kind; 3] = [Kind::Unique, Kind::Group, Kind::Broadcast];
-    }
-
-    /// The one with this number; `UnknownType` where none has it.
-    impl TryFrom<u8> for Kind {
-        type Error = Error;
-
-        fn try_from(number: u8) -> std::result::Result<Kind, Error> {
-            Kind::ALL.into_iter().find(|it| *it as u8 == number).ok_or(Error::UNKNOWN_TYPE)
+    numbered! {
+        /// What MSG_TYPE says of a fragment's datagram.
+        #[cfg_attr(feature = "serde", serde(rename_all = "lowercase"))]
+        Kind {
+            /// A fragment of a datagram for one name.
+            Unique = 0x10, "unique";
+            /// A fragment of one for the members of a group.
+            Group = 0x11, "group";
+            /// A fragment of one for all.
+            Broadcast = 0x12, "broadcast";
         }
+        /// The one with this number; `UnknownType` where none has it.
+        |number| -> crate::Error { crate::Error::UNKNOWN_TYPE }
     }
 
-    impl fmt::Display for Kind {
-        fn fmt(&self, out: &mut fmt::Formatter<'_>) -> fmt::Result {
-            out.pad(match self {
-                Kind::Unique => "unique",
-                Kind::Group => "group",
-                Kind::Broadcast => "broadcast",
-            })
+    numbered! {
+        /// What MSG_TYPE says of a query packet.
+        #[cfg_attr(feature = "serde", serde(rename_all = "lowercase"))]
+        Query {
+            /// A question: who has the name?.
+            Find = 0x14, "find";
+            /// The answer that somebody has it.
+            Found = 0x15, "found";
+            /// The answer that nobody has it.
+            Missing = 0x16, "missing";
         }
-    }
-
-    /// What MSG_TYPE says of a query packet.
-    #[derive(Clone, Copy, Debug, PartialEq, Eq, Hash)]
-    #[cfg_attr(feature = "serde", derive(serde::Serialize, serde::Deserialize))]
-    #[cfg_attr(feature = "serde", serde(rename_all = "lowercase"))]
-    #[repr(u8)]
-    pub enum Query {
-        /// A question: who has the name?.
-        Find = 0x14,
-        /// The answer that somebody has it.
-        Found = 0x15,
-        /// The answer that nobody has it.
-        Missing = 0x16,
-    }
-
-    impl Query {
-        /// All of them, by number.
-        pub const ALL: [Query; 3] = [Query::Find, Query::Found, Query::Missing];
-    }
-
-    /// The one with this number; `UnknownType` where none has it.
-    impl TryFrom<u8> for Query {
-        type Error = Error;
-
-        fn try_from(number: u8) -> std::result::Result<Query, Error> {
-            Query::ALL.into_iter().find(|it| *it as u8 == number).ok_or(Error::UNKNOWN_TYPE)
-        }
-    }
-
-    impl fmt::Display for Query {
-        fn fmt(&self, out: &mut fmt::Formatter<'_>) -> fmt::Result {
-            out.pad(match self {
-                Query::Find => "find",
-                Query::Found => "found",
-                Query::Missing => "missing",
-            })
-        }
+        /// The one with this number; `UnknownType` where none has it.
+        |number| -> crate::Error { crate::Error::UNKNOWN_TYPE }
     }
 }
 
 pub mod session {
-    use std::fmt;
+    use crate::codes::numbered;
 
-    use crate::Error;
-
-    /// TYPE of a packet of the session service: RFC 1002 section 4.3.1.
-    #[derive(Clone, Copy, Debug, PartialEq, Eq, Hash)]
-    #[cfg_attr(feature = "serde", derive(serde::Serialize, serde::Deserialize))]
-    #[cfg_attr(feature = "serde", serde(rename_all = "lowercase"))]
-    #[repr(u8)]
-    pub enum Kind {
-        /// Data of the session.
-        Message = 0x00,
-        /// A request for a session; its body is the spelling of the called name, then that of the calling one.
-        Request = 0x81,
-        /// The answer that the session stands; without a body.
-        Positive = 0x82,
-        /// The answer that it doesn't; its body is a code of one byte.
-        Negative = 0x83,
-        /// The answer that somebody else is to be called: an address in four bytes, and a port in two.
-        Retarget = 0x84,
-        /// A sign of life; without a body.
-        KeepAlive = 0x85,
-    }
-
-    impl Kind {
-        /// All of them, by number.
-        pub const ALL: [Kind; 6] = [Kind::Message, Kind::Request, Kind::Positive, Kind::Negative, Kind::Retarget, Kind::KeepAlive];
-    }
-
-    /// The one with this number; `UnknownType` where none has it.
-    impl TryFrom<u8> for Kind {
-        type Error = Error;
-
-        fn try_from(number: u8) -> std::result::Result<Kind, Error> {
-            Kind::ALL.into_iter().find(|it| *it as u8 == number).ok_or(Error::UNKNOWN_TYPE)
+    numbered! {
+        /// TYPE of a packet of the session service: RFC 1002 section 4.3.1.
+        #[cfg_attr(feature = "serde", serde(rename_all = "lowercase"))]
+        Kind {
+            /// Data of the session.
+            Message = 0x00, "message";
+            /// A request for a session; its body is the spelling of the called name, then that of the calling one.
+            Request = 0x81, "request";
+            /// The answer that the session stands; without a body.
+            Positive = 0x82, "positive";
+            /// The answer that it doesn't; its body is a code of one byte.
+            Negative = 0x83, "negative";
+            /// The answer that somebody else is to be called: an address in four bytes, and a port in two.
+            Retarget = 0x84, "retarget";
+            /// A sign of life; without a body.
+            KeepAlive = 0x85, "keepalive";
         }
-    }
-
-    impl fmt::Display for Kind {
-        fn fmt(&self, out: &mut fmt::Formatter<'_>) -> fmt::Result {
-            out.pad(match self {
-                Kind::Message => "message",
-                Kind::Request => "request",
-                Kind::Positive => "positive",
-                Kind::Negative => "negative",
-                Kind::Retarget => "retarget",
-                Kind::KeepAlive => "keepalive",
-            })
-        }
+        /// The one with this number; `UnknownType` where none has it.
+        |number| -> crate::Error { crate::Error::UNKNOWN_TYPE }
     }
 }
 

@@ -37,6 +37,7 @@
 #![deny(missing_docs, unsafe_op_in_unsafe_fn)]
 
 mod captures;
+mod codes;
 mod datagram_front;
 mod error;
 // Made, line by line.

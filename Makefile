@@ -14,7 +14,7 @@ PLUGIN = out/nbt.so
 # The shell is given what users choose in the environment, whatever characters it has.
 export PROGRAM DESTDIR PREFIX DEB LIBRARY TARGETS DIST PLUGIN PLUGINS
 
-.PHONY: run build try check test bench fuzz completions install uninstall deb lib install-lib uninstall-lib targets page wireshark install-wireshark fuzz-coverage dist
+.PHONY: run build try check test bench fuzz completions lists install uninstall deb lib install-lib uninstall-lib targets page wireshark install-wireshark fuzz-coverage dist
 
 # Prove and build the program, and replay a capture in a station with these names.
 run: build
@@ -54,6 +54,10 @@ fuzz: build
 completions: $(PROGRAM)
 	tools/completions.py bash $(PROGRAM) >completions/nbt.bash
 	tools/completions.py zsh $(PROGRAM) >completions/_nbt
+
+# Write what several languages list alike anew, of include/nbt.h and tools/nbt_look/vocabulary.py.
+lists:
+	tools/lists.py --write
 
 # Put the program below PREFIX, with its tools, pages and completions; tools/installation has the list. It is built first where
 # it isn't there yet: after a change say make build.

@@ -52,9 +52,9 @@ enum nbt_status {
     NBT_BAD_TEXT = 10,             /* it hasn't the form; *at: how many bytes at its front some name begins with */
     NBT_LONG_TEXT = 11,            /* a name of more than 15 characters, a label of more than 63, or too long a scope */
     NBT_SOURCE_BAD_TEXT = 12,      /* as NBT_BAD_TEXT, of the source's text; *at counts in it */
-    NBT_SOURCE_LONG_TEXT = 13,     /* as NBT_LONG_TEXT */
+    NBT_SOURCE_LONG_TEXT = 13,     /* as NBT_LONG_TEXT, of the source's text */
     NBT_DESTINATION_BAD_TEXT = 14, /* as NBT_BAD_TEXT, of the destination's text; *at counts in it */
-    NBT_DESTINATION_LONG_TEXT = 15,
+    NBT_DESTINATION_LONG_TEXT = 15, /* as NBT_LONG_TEXT, of the destination's text */
 
     /* A name can't be read in a packet or a spelling (RFC 1002 section 4.1). */
     NBT_NAME_TRUNCATED = 20,       /* it ends too early; *at: where */
@@ -141,8 +141,20 @@ enum nbt_status {
 #define NBT_STACK 65536
 #define NBT_NAME_ROOM 704
 #define NBT_BRIEF_ROOM 2048
-/* As many bytes as the payload of no line of a capture has more of. */
+/* As many bytes as no line of a capture has more of, and as its payload has no more of. */
+#define NBT_MOST_LINE 262200
 #define NBT_LINE_ROOM 131097
+/* As many bytes of data as no datagram has more of, nor a packet of one, and as the body of no packet of a session has more of. */
+#define NBT_MOST_DATAGRAM 65535
+#define NBT_MOST_BODY 131071
+/* How many keys a table of the command `nbt` has room for where it isn't told, and as many as it may be told, at most. */
+#define NBT_KEYS 1024
+#define NBT_MOST_KEYS 65535
+/* As many bytes of an input as the command `nbt` reads no more of where it isn't told. */
+#define NBT_INPUT 16777216
+/* As many names as no station has more of, and for how many milliseconds it keeps a key. */
+#define NBT_MOST_NAMES 254
+#define NBT_KEPT_FOR 2000
 
 /* The words of a status, as "done", plain ASCII without a line feed, at most 64 bytes.
  * NBT_NO_ROOM, NBT_UNKNOWN_STATUS. */
@@ -168,6 +180,109 @@ uint32_t nbt_name_text(const uint8_t *spelling, size_t spelling_length,
                        uint8_t *into, size_t into_length, size_t *used, size_t *at);
 
 /* Packets. ---------------------------------------------------------------------------------------------------------- */
+
+/* The ports of the three services. */
+enum nbt_port {
+    NBT_PORT_NAMES = 137,     /* the name service, over UDP */
+    NBT_PORT_DATAGRAMS = 138, /* the datagram service, over UDP */
+    NBT_PORT_SESSIONS = 139   /* the session service, over TCP */
+};
+
+/* The section of a question or a record: RFC 1002 section 4.2.1. */
+enum nbt_section {
+    NBT_SECTION_QUESTION = 0,   /* a question */
+    NBT_SECTION_ANSWER = 1,     /* an answer */
+    NBT_SECTION_AUTHORITY = 2,  /* a record of the authority section */
+    NBT_SECTION_ADDITIONAL = 3  /* an additional record */
+};
+
+/* QUESTION_TYPE and RR_TYPE: RFC 1002 sections 4.2.1.2 and 4.2.1.3. */
+enum nbt_record_type {
+    NBT_TYPE_NS = 0x0002,     /* RR_TYPE of a name server */
+    NBT_TYPE_NULL = 0x000a,   /* RR_TYPE of an answer that says nothing of the name */
+    NBT_TYPE_NB = 0x0020,     /* RR_TYPE of an address of a NetBIOS name */
+    NBT_TYPE_NBSTAT = 0x0021  /* RR_TYPE of the status of a node */
+};
+
+/* The second word of a header of the name service: RFC 1002 section 4.2.1.1. */
+enum nbt_word {
+    NBT_WORD_R = 0x8000,        /* R: a response */
+    NBT_WORD_OPCODE = 0x7800,   /* OPCODE, in four bits */
+    NBT_WORD_NM_FLAGS = 0x07f0, /* NM_FLAGS, of which these have names: */
+    NBT_WORD_AA = 0x0400,       /* AA: the node has the name, or keeps account of it */
+    NBT_WORD_TC = 0x0200,       /* TC: something is missing */
+    NBT_WORD_RD = 0x0100,       /* RD: recursion is desired */
+    NBT_WORD_RA = 0x0080,       /* RA: recursion is available */
+    NBT_WORD_B = 0x0010,        /* B: it was broadcast or multicast */
+    NBT_WORD_RCODE = 0x000f     /* RCODE, in four bits */
+};
+
+/* OPCODE: what a packet asks for, or answers. That 8 and 9 are both a refresh is said by RFC 1002 sections 4.2.1.1 and 4.2.4. */
+enum nbt_operation {
+    NBT_OP_QUERY = 0,         /* who has a name, or which names a node has */
+    NBT_OP_REGISTRATION = 5,  /* a name is claimed */
+    NBT_OP_RELEASE = 6,       /* it is given up */
+    NBT_OP_WACK = 7,          /* the answer takes its time */
+    NBT_OP_REFRESH = 8,       /* it is claimed anew */
+    NBT_OP_OTHER_REFRESH = 9  /* the same, by the other number that the standard has for it */
+};
+
+/* RCODE: how a request fared. */
+enum nbt_result_code {
+    NBT_RCODE_OK = 0,      /* it was done; of a request, nothing is said */
+    NBT_RCODE_FMT_ERR = 1, /* its form was bad */
+    NBT_RCODE_SRV_ERR = 2, /* the server can't */
+    NBT_RCODE_NAM_ERR = 3, /* the name isn't there */
+    NBT_RCODE_IMP_ERR = 4, /* the server doesn't do such requests */
+    NBT_RCODE_RFS_ERR = 5, /* the server won't */
+    NBT_RCODE_ACT_ERR = 6, /* another node has the name */
+    NBT_RCODE_CFT_ERR = 7  /* several nodes have it */
+};
+
+/* NB_FLAGS and NAME_FLAGS: RFC 1002 sections 4.2.13 and 4.2.18. */
+enum nbt_name_flag {
+    NBT_FLAG_G = 0x8000,   /* G: a group's name */
+    NBT_FLAG_ONT = 0x6000, /* ONT: the type of the node, one of enum nbt_node_type */
+    NBT_FLAG_DRG = 0x1000, /* DRG: it is being given up; this and what follows are of NAME_FLAGS alone */
+    NBT_FLAG_CNF = 0x0800, /* CNF: another node claims it */
+    NBT_FLAG_ACT = 0x0400, /* ACT: it is active */
+    NBT_FLAG_PRM = 0x0200  /* PRM: it is the node's permanent name */
+};
+
+/* ONT: how a node claims its names and asks for those of others. */
+enum nbt_node_type {
+    NBT_NODE_B = 0, /* by broadcast */
+    NBT_NODE_P = 1, /* by a server */
+    NBT_NODE_M = 2, /* by broadcast, then by a server */
+    NBT_NODE_H = 3  /* by a server, then by broadcast; RFC 1002 reserves this number */
+};
+
+/* MSG_TYPE: RFC 1002 section 4.4.1. */
+enum nbt_datagram_type {
+    NBT_DATAGRAM_UNIQUE = 0x10,    /* a fragment of a datagram for one name */
+    NBT_DATAGRAM_GROUP = 0x11,     /* a fragment of one for the members of a group */
+    NBT_DATAGRAM_BROADCAST = 0x12, /* a fragment of one for all */
+    NBT_DATAGRAM_ERROR = 0x13,     /* a datagram wasn't taken */
+    NBT_DATAGRAM_FIND = 0x14,      /* a question: who has the name? */
+    NBT_DATAGRAM_FOUND = 0x15,     /* the answer that somebody has it */
+    NBT_DATAGRAM_MISSING = 0x16    /* the answer that nobody has it */
+};
+
+/* FLAGS of a packet of the datagram service: RFC 1002 section 4.4.1. */
+enum nbt_datagram_flag {
+    NBT_DATAGRAM_MORE = 0x01,  /* more fragments follow */
+    NBT_DATAGRAM_FIRST = 0x02  /* the first fragment */
+};
+
+/* TYPE of a packet of the session service: RFC 1002 section 4.3.1. */
+enum nbt_session_type {
+    NBT_SESSION_MESSAGE = 0x00,   /* data of the session */
+    NBT_SESSION_REQUEST = 0x81,   /* a request for a session; its body is the spelling of the called name, then that of the calling one */
+    NBT_SESSION_POSITIVE = 0x82,  /* the answer that the session stands; without a body */
+    NBT_SESSION_NEGATIVE = 0x83,  /* the answer that it doesn't; its body is a code of one byte */
+    NBT_SESSION_RETARGET = 0x84,  /* the answer that somebody else is to be called: an address in four bytes, and a port in two */
+    NBT_SESSION_KEEPALIVE = 0x85  /* a sign of life; without a body */
+};
 
 /* What the command `nbt show` prints of a payload that came to this port, line feeds included: the packet that it
  * begins with, or why it begins with none (our choice). 137 is the name service, 138 the datagram service; any other
@@ -217,7 +332,7 @@ uint32_t nbt_capture_line(const uint8_t *line, size_t line_length, struct nbt_li
 /* The header of a packet of the name service: RFC 1002 section 4.2.1.1. */
 struct nbt_service_header {
     uint16_t identifier;  /* NAME_TRN_ID */
-    uint16_t word;        /* R 0x8000, OPCODE 0x7800, NM_FLAGS 0x07f0, RCODE 0x000f */
+    uint16_t word;        /* its bits are those of enum nbt_word */
     uint16_t questions;   /* QDCOUNT */
     uint16_t answers;     /* ANCOUNT */
     uint16_t authorities; /* NSCOUNT */
@@ -239,9 +354,9 @@ uint32_t nbt_service_read(const uint8_t *payload, size_t payload_length, struct 
 /* A question or a record of the name service: RFC 1002 sections 4.2.1.2 and 4.2.1.3. Places and lengths are in bytes of
  * the payload. */
 struct nbt_service_item {
-    uint32_t section;      /* 0 a question, 1 an answer, 2 an authority, 3 an additional record */
+    uint32_t section;      /* one of enum nbt_section */
     uint32_t time_to_live; /* TTL, in seconds; 0 of a question */
-    uint16_t type;         /* QUESTION_TYPE or RR_TYPE: 0x0020 NB, 0x0021 NBSTAT, 0x0002 NS */
+    uint16_t type;         /* QUESTION_TYPE or RR_TYPE, as of enum nbt_record_type */
     uint16_t class_number; /* QUESTION_CLASS or RR_CLASS */
     size_t data;           /* RDATA; its length is 0 of a question */
     size_t data_length;
@@ -284,7 +399,7 @@ uint32_t nbt_service_items(const uint8_t *payload, size_t payload_length, uint32
 /* An address of a NetBIOS name, in RDATA of type NB: RFC 1002 section 4.2.13. */
 struct nbt_service_address {
     uint32_t address; /* NB_ADDRESS */
-    uint16_t flags;   /* NB_FLAGS: G 0x8000, a group's name; ONT 0x6000, the type of the node */
+    uint16_t flags;   /* NB_FLAGS, of enum nbt_name_flag */
 };
 
 /* Reads the address with this number.
@@ -294,7 +409,7 @@ uint32_t nbt_service_address(uint16_t type, const uint8_t *data, size_t data_len
 
 /* One of the names of a node, in RDATA of type NBSTAT: RFC 1002 section 4.2.18. */
 struct nbt_service_node {
-    uint16_t flags;   /* NAME_FLAGS: G 0x8000, ONT 0x6000, DRG 0x1000, CNF 0x0800, ACT 0x0400, PRM 0x0200 */
+    uint16_t flags;   /* NAME_FLAGS, of enum nbt_name_flag */
     uint8_t name[16]; /* the sixteen bytes of the name */
 };
 
@@ -323,8 +438,8 @@ uint32_t nbt_service_domain(const uint8_t *payload, size_t payload_length, size_
 
 /* A packet of the datagram service: RFC 1002 section 4.4. Places and lengths are in bytes of the payload. */
 struct nbt_datagram {
-    uint8_t type;               /* MSG_TYPE: 0x10 to 0x12 a fragment, 0x13 an error, 0x14 to 0x16 a query */
-    uint8_t flags;              /* FLAGS, all eight bits: 0x01 more fragments follow, 0x02 the first fragment */
+    uint8_t type;               /* MSG_TYPE, one of enum nbt_datagram_type: 0x10 to 0x12 a fragment, 0x14 to 0x16 a query */
+    uint8_t flags;              /* FLAGS, all eight bits, as of enum nbt_datagram_flag */
     uint16_t identifier;        /* DGM_ID */
     uint32_t address;           /* SOURCE_IP */
     uint16_t port;              /* SOURCE_PORT */
@@ -392,7 +507,7 @@ uint32_t nbt_datagram_query(uint8_t type, uint16_t identifier, uint32_t address,
 
 /* A packet of the session service: RFC 1002 section 4.3. */
 struct nbt_session {
-    uint8_t type;       /* TYPE: 0x00 a message, 0x81 a request, 0x82 and 0x83 its answers, 0x84 retarget, 0x85 alive */
+    uint8_t type;       /* TYPE, one of enum nbt_session_type */
     size_t body;        /* where the body begins: after the four bytes of the header */
     size_t body_length; /* at most 131,071 bytes */
     size_t used;        /* the bytes of the packet; what follows it isn't looked at */
@@ -462,7 +577,7 @@ uint32_t nbt_service_request(uint32_t request, uint16_t identifier, bool broadca
                              uint8_t *into, size_t into_length, size_t *used, size_t *at);
 
 /* A response of the name service: a packet with one answer about the name with this text, and nothing else. Its class is
- * IN. `word` is the whole word of flags, written as it is: R 0x8000, OPCODE 0x7800, NM_FLAGS 0x07f0, RCODE 0x000f. `type` is
+ * IN. `word` is the whole word of flags, of enum nbt_word, written as it is. `type` is
  * RR_TYPE, and `data` RDATA: of type NS (0x0002) the spelling of a domain name, which is without pointers and has no byte
  * after it; of another any bytes.
  * NBT_BAD_TEXT, NBT_LONG_TEXT, then of type NS 20 to 23 and NBT_NAME_TRAILING_BYTES (*at counts in `data`), of another

@@ -22,19 +22,19 @@ import plain_program
 from bench_bars import GROWN, GROWTH, PER_SOURCE, PIECES, PLAIN, TEXT, WORST, Bars
 from bench_captures import (FRED, MOST_IN_A_CAPTURE, descending, labels, office, one_address, pointed, refused,
                             saved_after, shuffled, unfragmented)
+from limits import MANY, MOST_KEYS
 
 HERE = os.path.dirname(os.path.abspath(__file__))
 PROGRAM = os.path.join(HERE, '..', 'crates', 'nbt', 'out', 'nbt')
-KEYS = ['--keys', '65535']
-REPLAY, SHOW, SAVE, MERGE = ['replay', 'FRED<20>'], ['show'], ['save', *KEYS], ['merge', *KEYS]
-# How many keys one address may have in a table of 65,535, in the last rows of one address.
+REPLAY, SHOW, SAVE, MERGE = ['replay', 'FRED<20>'], ['show'], ['save', *MANY], ['merge', *MANY]
+# How many keys one address may have in a table of as many as may be, in the last rows of one address.
 LIMITS = (64, 1_000, 30_000)
 # How many tables of a byte each are merged into one entry.
 TABLES = 1_000
 GROWING = (('pieces of a byte, shuffled', REPLAY, lambda size: shuffled(random.Random(size), 1, size, 1), PIECES),
            ('pieces of a byte, descending', REPLAY, lambda size: descending(random.Random(size), size), GROWTH),
-           ('keys', ['replay', *KEYS, 'FRED<20>'], one_address, GROWTH),
-           ('keys of an address, counted', ['replay', *KEYS, '--per-source', '65534', 'FRED<20>'], one_address, GROWTH),
+           ('keys', ['replay', *MANY, 'FRED<20>'], one_address, GROWTH),
+           ('keys of an address, counted', ['replay', *MANY, '--per-source', str(MOST_KEYS - 1), 'FRED<20>'], one_address, GROWTH),
            ('lines', SHOW, lambda size: office(138, size), GROWTH),
            ('keys', SAVE, one_address, GROWTH),
            ('keys', MERGE, one_address, GROWTH))
@@ -161,9 +161,9 @@ class Bench:
     def flood(self):
         """The rows of one address's keys: not counted, all of them counted, and limited to fewer."""
         path, packets = written(self.folder, 'one address', one_address(60_000 // self.part))
-        free = self.row(['replay', *KEYS, 'FRED<20>'], 'one address', path, packets)
+        free = self.row(['replay', *MANY, 'FRED<20>'], 'one address', path, packets)
         for most in (60_000, *LIMITS):
-            words = ['replay', *KEYS, '--per-source', str(most), 'FRED<20>']
+            words = ['replay', *MANY, '--per-source', str(most), 'FRED<20>']
             self.row(words, f'one address, {most:,} keys of it', path, packets, free, PER_SOURCE)
 
     def growth(self):

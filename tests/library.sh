@@ -320,8 +320,8 @@ for number, line in enumerate(sys.stdin, 1):
 ' <"$room/lines3" >"$room/output" 2>"$room/errors"
     cmp -s "$room/lines3.wanted" "$room/output"
     count $? "nbt.show prints what nbt show prints: $(tail -n 1 "$room/errors")"
-    grep -v '^tick' "$room/capture" | ended "$program" save --keys 65535 >"$room/table"
-    ended "$program" list --keys 65535 <"$room/table" >"$room/listed"
+    grep -v '^tick' "$room/capture" | ended "$program" save --keys "$many" >"$room/table"
+    ended "$program" list --keys "$many" <"$room/table" >"$room/listed"
     in_python -c '
 import sys, nbt
 sys.stdout.write(nbt.list_table(bytes.fromhex(sys.stdin.read())))
@@ -425,7 +425,6 @@ in_rust() {
     (
         cd "$room/rust" || exit
         export PKG_CONFIG_PATH=$room/root/lib/pkgconfig LD_LIBRARY_PATH=$room/root/lib CARGO_TARGET_DIR=$room/target
-        export NBT_HEADER=$top/include/nbt.h
         "$timeout" -k 5 600 cargo "$@"
     ) >"$room/log" 2>&1
     count $? "cargo $1: $(grep -m 1 -E '^(error|Diff|test .* FAILED)' "$room/log")"

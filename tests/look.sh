@@ -587,7 +587,7 @@ END
     count $? "frames of any bytes: $(tail -n 1 "$room/output")"
 }
 
-kinds() { python3 -c 'import sys; sys.dont_write_bytecode = True; sys.path.insert(0, sys.argv[1]); from nbt_look import kindwords; print(", ".join(kindwords.ALL))' "$here/../tools"; }
+kinds() { python3 -c 'import sys; sys.dont_write_bytecode = True; sys.path.insert(0, sys.argv[1]); from nbt_look.vocabulary import KINDS; print(", ".join(KINDS))' "$here/../tools"; }
 
 # ---- Random captures, terminals, memory, networks.
 random() { counted "$here/random_looks.py" 10; }

@@ -1,7 +1,7 @@
 #!/usr/bin/env bash
 # The manual pages: what mandoc says of them, where mandoc is installed, and whether they have each command, option and
 # refusal of the built program's and the tools' help; what bash and zsh offer; what `make install` puts where, and what `make
-# uninstall` leaves; the Debian package; the pages and the public items beside the sources. Usage: tests/manual.sh [PROGRAM]; its last line is 'N
+# uninstall` leaves; the Debian package; the pages and the public items beside the sources; what is listed alike in several languages. Usage: tests/manual.sh [PROGRAM]; its last line is 'N
 # passed, M failed, K skipped'.
 set -uo pipefail
 . "$(dirname "$0")/lib/counting.sh"
@@ -260,6 +260,7 @@ part words words
 part refusals refusals
 part pages counted_by pages.py
 part surface counted_by surface.py
+part lists counted "$here/../tools/lists.py" --check
 part bash completion bash nbt.bash
 if command -v zsh >/dev/null; then part zsh completion zsh _nbt; else lacks zsh zsh; fi
 part installed installed

@@ -17,6 +17,7 @@ import tempfile
 import time
 
 sys.path.insert(1, f'{sys.path[0]}/lib')
+from limits import MANY
 from process_inputs import CAPTURE, COMMANDS, FRED, READING, REPORT, captures, chained, repeated, roomy
 from process_runs import (TESTS, broken_pipe, bytes_of, closed, instructions, limited, lines_of, requests as counted_requests, rest_of,
                           run, small_pipe, start, starts, wait)
@@ -305,11 +306,11 @@ def short_memory():
     for the libraries that it would load.
     """
     many = captures(3_000, '5a' * 150)
-    table = run(['save', '--keys', '65535'], many)[1]
+    table = run(['save', *MANY], many)[1]
     long = b'139 0 0001ffff' + b'5a' * 131_071 + b'\n'
     work = [(['name', 'FRED<20>'], b''), (['show'], many), (['show'], long),
-            (['replay', '--keys', '65535', 'FRED<20>'], many), (['save', '--keys', '65535'], many),
-            (['merge', '--keys', '65535'], table * 2), (['list', '--keys', '65535'], table * 2), (['agree'], table * 2),
+            (['replay', *MANY, 'FRED<20>'], many), (['save', *MANY], many),
+            (['merge', *MANY], table * 2), (['list', *MANY], table * 2), (['agree'], table * 2),
             (['build', 'unique', '10.0.0.5:138/0001', 'JOE<00>', 'FRED<20>', '5a' * 40_000, '2'], b'')]
     least = next(it for it in range(64, 65_536, 64) if starts([], it << 10))
     print(f'the program starts from {least} kB of memory on')
@@ -358,12 +359,12 @@ def short_stack():
     elsewhere in each run, so each has several."""
     records = f'137 0 000185000000{150:04x}00000000' + f'{FRED}00200001000493e0000600000a000005' * 150 + '\n'
     many = captures(2_000)
-    status, table, _ = run(['save', '--keys', '65535'], many)
-    check(status == 0, 'nbt save --keys 65535: a table of 2,000 keys')
+    status, table, _ = run(['save', *MANY], many)
+    check(status == 0, 'nbt save with as many keys as may be: a table of 2,000 keys')
     deep = [*((['show', *how], records.encode()) for how in ([], ['--json'], ['--brief'], ['--partial'])),
-            (['show'], many), (['save', '--keys', '65535'], many),
-            (['replay', '--keys', '65535', 'FRED<20>'], many), (['merge', '--keys', '65535'], table * 2),
-            (['list', '--keys', '65535'], table * 2), (['agree'], table * 2), ([], b''), (['--help'], b''),
+            (['show'], many), (['save', *MANY], many),
+            (['replay', *MANY, 'FRED<20>'], many), (['merge', *MANY], table * 2),
+            (['list', *MANY], table * 2), (['agree'], table * 2), ([], b''), (['--help'], b''),
             (['replay', '--help'], b'')]
     work = [(words, given, tuple(wanted)) for words, given, *wanted in COMMANDS]
     for words, given, wanted in work + [(words, given, run(words, given)) for words, given in deep]:

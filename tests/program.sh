@@ -10,6 +10,7 @@ fred=20454746434546454543414341434143414341434143414341434143414341434100
 joe=20454b45504546434143414341434143414341434143414341434143414341414100
 scoped=204547464345464545434143414341434143414341434143414341434143414341074e455442494f5303434f4d00
 empty=110200010a000005008a00440000$joe$fred
+keys=$(limit KEYS)
 wildcard=20434b41414141414141414141414141414141414141414141414141414141414100
 
 nbt() { ended "$program" "$@"; }
@@ -18,10 +19,14 @@ nbt() { ended "$program" "$@"; }
 holds() { printf '%s' "$2" | cmp -s - "$1"; }
 
 # ---- The cases of tests/cases: after `$ COMMAND` stand the lines of its standard output, those of its standard error
-# behind `! `, and `? STATUS` where that isn't 0. `...` stands for text that isn't empty, {FRED} and the like for spellings.
+# behind `! `, and `? STATUS` where that isn't 0. `...` stands for text that isn't empty, {FRED} and the like for spellings, {KEYS} and
+# {MOST_KEYS} for limits of include/nbt.h, {OVER_KEYS} and {OVER_MOST_KEYS} for one more.
 # `hostile NAME=VALUE .. COMMAND` runs a command over the devices of tests/lib/devices.c.
 
-spelled() { sed "s/{FRED}/$fred/g; s/{JOE}/$joe/g; s/{SCOPED}/$scoped/g; s/{WILDCARD}/$wildcard/g; s/{EMPTY}/$empty/g" "$1"; }
+spelled() {
+    sed "s/{FRED}/$fred/g; s/{JOE}/$joe/g; s/{SCOPED}/$scoped/g; s/{WILDCARD}/$wildcard/g; s/{EMPTY}/$empty/g
+        s/{KEYS}/$keys/g; s/{OVER_KEYS}/$((keys + 1))/g; s/{MOST_KEYS}/$many/g; s/{OVER_MOST_KEYS}/$((many + 1))/g" "$1"
+}
 
 # sample COMMAND TOLD: what a command writes and ends with, told as in tests/cases; none, where there is no command.
 sample() {

@@ -9,8 +9,8 @@ program=$(realpath "${1:-$here/../crates/nbt/out/nbt}")
 tools=$(realpath "$here/../tools")
 cd "$room" || exit
 
-save() { ended "$program" save --keys 65535; }
-merge() { ended "$program" merge --keys 65535; }
+save() { ended "$program" save --keys "$many"; }
+merge() { ended "$program" merge --keys "$many"; }
 
 # engine NAME WORD..: $room/NAME, a tool by these words; its first word is the program.
 engine() { printf '#!/bin/sh\nexec %s--program "$@"\n' "$(printf '%q ' "${@:2}")" >"$1" && chmod +x "$1"; }
@@ -182,7 +182,7 @@ inputs() {
         if [ -e table ]; then cat table table.next | merge >table.both && mv table.both table; else mv table.next table; fi
     done
     cp table copy
-    ended "$program" list --keys 65535 <table | cmp -s - many.list
+    ended "$program" list --keys "$many" <table | cmp -s - many.list
     count $? 'nbt list: the datagrams of the table'
 
     # What `make install` puts there, found by its name.
@@ -290,7 +290,7 @@ with_parallel() {
 
     # An OUT of several lines.
     "$tools/nbt-parallel" --program "$program" --list out >output 2>errors && [ ! -s errors ] &&
-        sort output | cmp -s - <("$program" list --keys 65535 <flow.table | sort)
+        sort output | cmp -s - <("$program" list --keys "$many" <flow.table | sort)
     count $? "nbt-parallel --list: $(cat errors)"
     "$tools/nbt-parallel" --list out --program "$program" 2>errors | head -c 1 >output
     [ "${PIPESTATUS[0]}" -eq 3 ] && [ "$(cat errors)" = 'nbt-parallel: the program that reads this ended' ]

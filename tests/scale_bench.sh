@@ -7,6 +7,7 @@ program=$(realpath "${1:-$here/../crates/nbt/out/nbt}")
 room=$(mktemp -d)
 trap 'rm -rf "$room"' EXIT
 cd "$room"
+many=$(sed -n 's/^#define NBT_MOST_KEYS //p' "$here/../include/nbt.h")
 copies=16
 python3 "$here/lib/scale_capture.py" few "$room"
 for ((i = 0; i < copies; i++)); do cat few; done >capture
@@ -28,7 +29,7 @@ measure() {
 
 echo "a capture of $size MiB in shards of 8 MiB"
 split -C 8m capture part.
-measure 'nbt save alone, a shard after another' bash -c "for each in part.*; do '$program' save --keys 65535 <\$each; done"
+measure 'nbt save alone, a shard after another' bash -c "for each in part.*; do '$program' save --keys $many <\$each; done"
 rm part.*
 for workers in 1 2 4; do
     measure "nbt-parallel --jobs $workers" "$here/../tools/nbt-parallel" --program "$program" --jobs $workers capture out

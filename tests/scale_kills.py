@@ -15,6 +15,9 @@ import tempfile
 import time
 
 HERE = pathlib.Path(__file__).resolve().parent
+sys.path.insert(1, str(HERE / 'lib'))
+from limits import MANY
+
 ENGINES = {'nbt-parallel': ['--jobs', '2'], 'nbt-dask': ['--workers', '2']}
 LONGEST = 120
 
@@ -48,7 +51,7 @@ class Runs:
         program = os.path.abspath(options.program)
         subprocess.run([HERE / 'lib/scale_capture.py', 'gaps', folder], check=True)
         capture = (folder / 'gaps').read_bytes()
-        self.table = subprocess.run([program, 'save', '--keys', '65535'], input=capture, capture_output=True, check=True).stdout
+        self.table = subprocess.run([program, 'save', *MANY], input=capture, capture_output=True, check=True).stdout
         self.command = [HERE.parent / 'tools' / options.engine, '--program', program, '--shard-bytes', '262201', 'gaps', 'out',
                         *ENGINES[options.engine]]
 

@@ -147,8 +147,8 @@ stations() {
     compiled replay "$here/lib/library_replay.c"
     alike 'a station on aarch64' "$room/replayed" "${qemu[@]}" "$room/replay.arm" 'FRED<20>' 'JOE<00>' <"$room/capture"
     alike 'a station in JavaScript' "$room/replayed" "${node[@]}" "$here/lib/targets.mjs" "$out" replay 'FRED<20>' 'JOE<00>' <"$room/capture"
-    grep -v '^tick' "$room/capture" | ended "$program" save --keys 65535 >"$room/table"
-    ended "$program" list --keys 65535 <"$room/table" >"$room/listed"
+    grep -v '^tick' "$room/capture" | ended "$program" save --keys "$many" >"$room/table"
+    ended "$program" list --keys "$many" <"$room/table" >"$room/listed"
     grep -q ' whole ' "$room/listed" && grep -q ' partial ' "$room/listed"
     count $? 'nbt list has a whole key, and one that is not'
     alike 'list in JavaScript' "$room/listed" "${node[@]}" "$here/lib/targets.mjs" "$out" list <"$room/table"

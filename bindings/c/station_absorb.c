@@ -8,7 +8,7 @@ static uint8_t into[NBT_TAKE_ROOM];
 static struct nbt_station created(void) {
     struct nbt_station station;
     size_t at;
-    nbt_station_create((const uint8_t *)"FRED<20>", 8, 0x0a000009, 138, 1024, UINT32_MAX, &station.at, &at);
+    nbt_station_create((const uint8_t *)"FRED<20>", 8, 0x0a000009, 138, NBT_KEYS, UINT32_MAX, &station.at, &at);
     return station;
 }
 

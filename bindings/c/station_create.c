@@ -6,7 +6,7 @@
 static void create(const char *names) {
     struct nbt_station station;
     size_t at = 0;
-    uint32_t status = nbt_station_create((const uint8_t *)names, strlen(names), 0x0a000009, 138, 1024, UINT32_MAX, &station.at, &at);
+    uint32_t status = nbt_station_create((const uint8_t *)names, strlen(names), 0x0a000009, 138, NBT_KEYS, UINT32_MAX, &station.at, &at);
     printf("'%s': status %u at %zu\n", names, (unsigned)status, at);
     if (status == NBT_DONE)
         nbt_station_free(station);

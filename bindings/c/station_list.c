@@ -11,7 +11,7 @@ int main(void) {
     struct nbt_taken taken;
     uint8_t text[256];
     size_t used, at;
-    if (nbt_station_create((const uint8_t *)"FRED<20>", 8, 0x0a000009, 138, 1024, UINT32_MAX, &station.at, &at) != NBT_DONE)
+    if (nbt_station_create((const uint8_t *)"FRED<20>", 8, 0x0a000009, 138, NBT_KEYS, UINT32_MAX, &station.at, &at) != NBT_DONE)
         return 1;
     if (nbt_station_list(&station, text, sizeof text, &used) == NBT_DONE)
         printf("%zu bytes\n", used);

@@ -7,7 +7,7 @@ int main(void) {
     struct nbt_station station;
     uint8_t none[1], *table;
     size_t used, at;
-    if (nbt_station_create((const uint8_t *)"FRED<20>", 8, 0x0a000009, 138, 1024, UINT32_MAX, &station.at, &at) != NBT_DONE)
+    if (nbt_station_create((const uint8_t *)"FRED<20>", 8, 0x0a000009, 138, NBT_KEYS, UINT32_MAX, &station.at, &at) != NBT_DONE)
         return 1;
     if (nbt_station_save(&station, none, 0, &used) == NBT_NO_ROOM && (table = malloc(used)) != NULL) {
         if (nbt_station_save(&station, table, used, &used) == NBT_DONE)

@@ -49,7 +49,7 @@ int main(void) {
     struct nbt_station station;
     size_t at;
     bool done;
-    if (nbt_station_create(bytes("FRED<20> OFFICE<1e>"), 19, 0x0a000009, 138, 1024, UINT32_MAX, &station.at, &at) != NBT_DONE)
+    if (nbt_station_create(bytes("FRED<20> OFFICE<1e>"), 19, 0x0a000009, 138, NBT_KEYS, UINT32_MAX, &station.at, &at) != NBT_DONE)
         return 1;
     done = listen(&station);
     nbt_station_free(station);

@@ -12,7 +12,7 @@ int main(void) {
     size_t used, at;
     uint32_t dropped;
     uint64_t now;
-    if (nbt_station_create((const uint8_t *)"FRED<20>", 8, 0x0a000009, 138, 1024, UINT32_MAX, &station.at, &at) != NBT_DONE)
+    if (nbt_station_create((const uint8_t *)"FRED<20>", 8, 0x0a000009, 138, NBT_KEYS, UINT32_MAX, &station.at, &at) != NBT_DONE)
         return 1;
     if (nbt_station_take(&station, 5000, piece, sizeof piece - 1, &taken, into, sizeof into, &used) != NBT_DONE) {
         nbt_station_free(station);

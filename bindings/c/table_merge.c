@@ -8,7 +8,7 @@ int main(void) {
     static const uint8_t second[] = "NBT2\0\0\0\1" "\x0a\0\0\5" "\0\x8a" "\0\2" "\0";
     uint8_t joined[64];
     size_t used, at;
-    uint32_t status = nbt_table_merge(first, sizeof first - 1, second, sizeof second - 1, 1024, UINT32_MAX,
+    uint32_t status = nbt_table_merge(first, sizeof first - 1, second, sizeof second - 1, NBT_KEYS, UINT32_MAX,
                                       joined, sizeof joined, &used, &at);
     if (status != NBT_DONE)
         return 1;

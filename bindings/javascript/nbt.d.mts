@@ -5,6 +5,15 @@ export type Address = string | number;
 /** Milliseconds since any moment of the caller's choice. A bigint may have all 64 bits. */
 export type Moment = number | bigint;
 
+// ---- tools/lists.py --write makes what follows of include/nbt.h.
+/** Where a record stands. */
+export type Section = 'answer' | 'authority' | 'additional';
+/** What a request asks for. */
+export type RequestKind = 'query' | 'nodeStatus' | 'registration' | 'refresh' | 'release';
+/** What became of a payload. */
+export type TakenOutcome = 'KEPT' | 'SPOILT' | 'DELIVERED' | 'UNHEARD' | 'OTHER' | 'REFUSED';
+// ---- Up to here.
+
 /** The numbers of enum nbt_status, by their names without NBT_; nbt.h says when each comes. */
 export declare const Status: Readonly<Record<string, number>>;
 
@@ -20,9 +29,9 @@ export declare class NbtError extends Error {
 
 /** What stands at the front of a payload of port 138, whether or not a packet does: RFC 1002 sections 4.4.1 and 4.4.2. */
 export interface DatagramFront {
-    /** MSG_TYPE, also one that no packet has: 0x10 to 0x12 a fragment, 0x13 an error, 0x14 to 0x16 a query. */
+    /** MSG_TYPE, one of enum nbt_datagram_type, or one that no packet has. */
     type: number;
-    /** FLAGS, all eight bits: 0x01 more fragments follow, 0x02 the first fragment. */
+    /** FLAGS, all eight bits, as of enum nbt_datagram_flag. */
     flags: number;
     identifier: number;
     address: string;
@@ -83,14 +92,14 @@ export interface ServiceQuestion {
     /** The spelling of its name, in which pointers were followed: `text` gives that of a NetBIOS name. */
     spelling: Uint8Array;
     isNetbios: boolean;
-    /** QUESTION_TYPE or RR_TYPE: 0x0020 NB, 0x0021 NBSTAT, 0x0002 NS. */
+    /** QUESTION_TYPE or RR_TYPE, as of enum nbt_record_type. */
     type: number;
     classNumber: number;
 }
 
 /** A record of the name service: RFC 1002 section 4.2.1.3. */
 export interface ServiceRecord extends ServiceQuestion {
-    section: 'answer' | 'authority' | 'additional';
+    section: Section;
     /** TTL, in seconds. */
     timeToLive: number;
     /** RDATA. */
@@ -106,7 +115,7 @@ export interface ServiceRecord extends ServiceQuestion {
 /** A packet of the name service, port 137: RFC 1002 section 4.2.1. */
 export interface ServicePacket {
     identifier: number;
-    /** R 0x8000, OPCODE 0x7800, NM_FLAGS 0x07f0, RCODE 0x000f. */
+    /** Its bits are those of enum nbt_word. */
     word: number;
     /** QDCOUNT, ANCOUNT, NSCOUNT and ARCOUNT. */
     counts: number[];
@@ -163,10 +172,10 @@ export interface Request {
 /** What a response of the name service says, which has one answer about a name and nothing else. `timeToLive` is in seconds. */
 export interface Response {
     identifier: number;
-    /** The whole word of flags, written as it is: R 0x8000, OPCODE 0x7800, NM_FLAGS 0x07f0, RCODE 0x000f. */
+    /** The whole word of flags, of enum nbt_word, written as it is. */
     word: number;
     name: string;
-    /** RR_TYPE: 0x0020 NB, 0x0021 NBSTAT, 0x0002 NS, 0x000a NULL. */
+    /** RR_TYPE, as of enum nbt_record_type. */
     type: number;
     timeToLive?: number;
     /** RDATA: of type NS the spelling of a name, of another any bytes; none without it. */
@@ -196,7 +205,7 @@ export interface Delivery extends Key {
 
 /** What became of a payload. */
 export interface Taken {
-    outcome: 'KEPT' | 'SPOILT' | 'DELIVERED' | 'UNHEARD' | 'OTHER' | 'REFUSED';
+    outcome: TakenOutcome;
     /** The key of a fragment's datagram; null, 0 and 0 of anything else. */
     address: string | null;
     port: number;
@@ -227,7 +236,7 @@ export interface Station {
 
 /** The calls of nbt.h, over one module with a memory of its own. What is answered is the caller's. */
 export interface Nbt {
-    /** keys is 1,024 without it, port 138. NbtError: BAD_TEXT, LONG_TEXT, NAME_PRESENT, TOO_MANY_NAMES. */
+    /** Without it keys is NBT_KEYS of nbt.h, port 138. NbtError: BAD_TEXT, LONG_TEXT, NAME_PRESENT, TOO_MANY_NAMES. */
     readonly Station: new (names: Iterable<string>, address: Address, options?: Limits & { port?: number }) => Station;
     /** The words of a status. */
     words(status: number): string;
@@ -262,13 +271,13 @@ export interface Nbt {
     /** A line of a capture, a text or its bytes, without its line feed; null where it is empty or a comment. NbtError: BAD_LINE. */
     readLine(line: string | Bytes): Line | null;
     writeSession(type: number, body?: Bytes): Uint8Array;
-    request(kind: 'query' | 'nodeStatus' | 'registration' | 'refresh' | 'release', request: Request): Uint8Array;
+    request(kind: RequestKind, request: Request): Uint8Array;
     /** The spelling of the name of a server, which is RDATA of type NS: so many bytes of a payload of port 137, from a place on. Pointers in
      * it are followed. NbtError: NAME_TRUNCATED, NAME_RESERVED_LABEL, NAME_LONG, NAME_BAD_POINTER, NAME_RDATA, whose places count in the payload. */
     readDomain(payload: Bytes, place: number, length: number): Uint8Array;
     /** NbtError: BAD_TEXT, LONG_TEXT, of type NS NAME_TRUNCATED to NAME_LONG and NAME_TRAILING_BYTES, whose places count in the data, LONG_DATA. */
     response(response: Response): Uint8Array;
-    /** Joins two saved tables; keys is 65,535 without it. */
+    /** Joins two saved tables; without it keys is NBT_MOST_KEYS of nbt.h. */
     merge(first: Bytes, second: Bytes, limits?: Limits): Uint8Array;
     /** What the command `nbt list` prints of a saved table. */
     list(table: Bytes): string;

@@ -1,6 +1,7 @@
 /** NetBIOS packets over TCP and UDP (RFC 1001, RFC 1002): the library of nbt.h in WebAssembly, for node, deno and browsers.
  * nbt.d.mts says what each call is given and answers. */
 
+// ---- tools/lists.py --write makes what follows of include/nbt.h.
 /** The numbers of enum nbt_status. */
 export const Status = Object.freeze({
     DONE: 0, NO_ROOM: 1, NO_MEMORY: 2, BAD_TEXT: 10, LONG_TEXT: 11, SOURCE_BAD_TEXT: 12, SOURCE_LONG_TEXT: 13,
@@ -11,20 +12,39 @@ export const Status = Object.freeze({
     DESTINATION_NOT_NETBIOS: 44, DESTINATION_BAD_POINTER: 46, TRUNCATED: 50, UNKNOWN_TYPE: 51, MORE: 52, RESERVED_FLAGS: 53,
     BAD_LENGTH: 54, TRAILING_BYTES: 55, NAME_RDATA: 56, NO_ITEM: 57, OTHER_RDATA: 58, NO_PART: 59, UNKNOWN_REQUEST: 60,
     ZERO_PIECE: 61, LONG_DATA: 62, TABLE_BAD_MAGIC: 70, TABLE_TRUNCATED: 71, TABLE_NOT_CANONICAL: 72, TABLE_LONG: 73,
-    TABLE_FULL_SOURCE: 74, TABLE_FULL: 75, SECOND_BAD_MAGIC: 80, SECOND_TRUNCATED: 81, SECOND_NOT_CANONICAL: 82, SECOND_LONG: 83,
-    SECOND_FULL_SOURCE: 84, SECOND_FULL: 85, MISPLACED_FIRST: 90, LONG: 91, FULL_SOURCE: 92, FULL: 93, NAME_PRESENT: 100,
-    TOO_MANY_NAMES: 101, NO_STATION: 102, OTHER_TYPE: 110, BAD_LINE: 120, UNKNOWN_STATUS: 255,
+    TABLE_FULL_SOURCE: 74, TABLE_FULL: 75, SECOND_BAD_MAGIC: 80, SECOND_TRUNCATED: 81, SECOND_NOT_CANONICAL: 82,
+    SECOND_LONG: 83, SECOND_FULL_SOURCE: 84, SECOND_FULL: 85, MISPLACED_FIRST: 90, LONG: 91, FULL_SOURCE: 92, FULL: 93,
+    NAME_PRESENT: 100, TOO_MANY_NAMES: 101, NO_STATION: 102, OTHER_TYPE: 110, BAD_LINE: 120, UNKNOWN_STATUS: 255,
 });
-const STATUS_NAMES = new Map(Object.entries(Status).map(([name, number]) => [number, name]));
+const TYPE = Object.freeze({
+    NS: 0x0002, NULL: 0x000a, NB: 0x0020, NBSTAT: 0x0021,
+});
+const SESSION = Object.freeze({
+    MESSAGE: 0x00, REQUEST: 0x81, POSITIVE: 0x82, NEGATIVE: 0x83, RETARGET: 0x84, KEEPALIVE: 0x85,
+});
 const LINES = ['blank', 'packet', 'tick'];
 const OUTCOMES = ['KEPT', 'SPOILT', 'DELIVERED', 'UNHEARD', 'OTHER', 'REFUSED'];
+const SECTIONS = ['question', 'answer', 'authority', 'additional'];
 const REQUESTS = ['query', 'nodeStatus', 'registration', 'refresh', 'release'];
-const REQUEST = 0x81, RETARGET = 0x84, NO_LIMIT = 0xffff_ffff, TAKE_ROOM = 66_045;
+const KEYS = 1_024, MOST_KEYS = 65_535, TAKE_ROOM = 66_045;
+/** What a module has to have. */
+const CALLS = [
+    'heap_give_back', 'heap_limit', 'heap_take', 'nbt_brief', 'nbt_capture_line', 'nbt_datagram_error', 'nbt_datagram_front',
+    'nbt_datagram_query', 'nbt_datagram_read', 'nbt_datagram_write', 'nbt_json', 'nbt_name_spell', 'nbt_name_text',
+    'nbt_service_address', 'nbt_service_domain', 'nbt_service_header', 'nbt_service_item', 'nbt_service_items',
+    'nbt_service_node', 'nbt_service_read', 'nbt_service_request', 'nbt_service_response', 'nbt_service_unit',
+    'nbt_session_front', 'nbt_session_names', 'nbt_session_read', 'nbt_session_retarget', 'nbt_session_write', 'nbt_show',
+    'nbt_station_absorb', 'nbt_station_create', 'nbt_station_free', 'nbt_station_list', 'nbt_station_save', 'nbt_station_take',
+    'nbt_station_tick', 'nbt_status_text', 'nbt_table_differ', 'nbt_table_json', 'nbt_table_list', 'nbt_table_merge',
+    'nbt_version',
+];
+// ---- Up to here.
+const STATUS_NAMES = new Map(Object.entries(Status).map(([name, number]) => [number, name]));
+const NO_LIMIT = 0xffff_ffff;
 // In front of the bytes that a call is given: how many it used, a place, and a structure of numbers. INTO is its room.
 const USED = { at: 0 }, AT = { at: 8 }, FOUND = { at: 16 }, FRONT = 528, INTO = {};
 // ENTRIES is room for structures of so many bytes, of which a call fills in many at once, so many at most. An item has no fewer bytes.
 const ENTRIES = {}, ENTRY = 560, MOST_ENTRIES = 1_024, LEAST_ITEM = 5;
-const SECTIONS = ['question', 'answer', 'authority', 'additional'], NB = 0x20, NBSTAT = 0x21;
 // How much room an answer has at first, and how much is kept from one call to the next.
 const ROOM = 4_096, MOST_KEPT = 1 << 20;
 const utf8 = new TextEncoder(), ascii = new TextDecoder();
@@ -235,8 +255,8 @@ class Calls {
                 found.push(told());
             }
         };
-        const addresses = type === NB ? parts('nbt_service_address', () => ({ address: addressText(this.long(16)), flags: this.word(20) })) : null;
-        const names = type === NBSTAT ? parts('nbt_service_node', () => ({ flags: this.word(16), name: this.bytes.slice(this.at + 18, this.at + 34) })) : null;
+        const addresses = type === TYPE.NB ? parts('nbt_service_address', () => ({ address: addressText(this.long(16)), flags: this.word(20) })) : null;
+        const names = type === TYPE.NBSTAT ? parts('nbt_service_node', () => ({ flags: this.word(16), name: this.bytes.slice(this.at + 18, this.at + 34) })) : null;
         const hasUnit = names !== null && this.make('nbt_service_unit', [type, data, FOUND, AT], 0) === Status.DONE;
         return { addresses, node: names && { names, unit: hasUnit ? this.bytes.slice(this.at + 16, this.at + 22) : null } };
     }
@@ -273,7 +293,7 @@ const forgotten = new FinalizationRegistry(({ calls, handle }) => calls.fault ||
 const stationOf = (calls) => class Station {
     #handle = 0;
 
-    constructor(names, address, { port = 138, keys = 1_024, perSource = NO_LIMIT } = {}) {
+    constructor(names, address, { port = 138, keys = KEYS, perSource = NO_LIMIT } = {}) {
         const words = [namesOf(names), addressOf(address), numberOf(port, 16, 'port'), ...limitsOf(keys, perSource)];
         const handle = calls.take(8);
         try {
@@ -357,7 +377,7 @@ function libraryOf(calls) {
         version: () => ascii.decode(calls.write('nbt_version', [INTO, USED])),
         list: listed('nbt_table_list'),
         tableJson: listed('nbt_table_json'),
-        merge: (first, second, { keys = 65_535, perSource = NO_LIMIT } = {}) =>
+        merge: (first, second, { keys = MOST_KEYS, perSource = NO_LIMIT } = {}) =>
             written('nbt_table_merge', bytesOf(first, 'first'), bytesOf(second, 'second'), ...limitsOf(keys, perSource)),
 
         readLine(line) {
@@ -406,10 +426,10 @@ function libraryOf(calls) {
             calls.fill('nbt_session_read', [bytes, FOUND, AT]);
             const type = calls.byte(16), used = calls.number(40), words = [bytes.subarray(0, used), FOUND, AT];
             const read = { type, body: calls.part(bytes, 24), used, called: null, calling: null, retarget: null };
-            if (type === REQUEST) {
+            if (type === SESSION.REQUEST) {
                 calls.fill('nbt_session_names', words);
                 [read.called, read.calling] = [16, 272].map((at) => calls.counted(at)).map((spelling) => calls.name(spelling));
-            } else if (type === RETARGET) {
+            } else if (type === SESSION.RETARGET) {
                 calls.fill('nbt_session_retarget', words);
                 read.retarget = calls.endpoint(16);
             }
@@ -449,15 +469,6 @@ async function bytesAt(place) {
 
 /** A module of one instruction, whose memory has addresses of 64 bits. */
 const MEMORY64 = Uint8Array.of(0, 97, 115, 109, 1, 0, 0, 0, 5, 3, 1, 4, 1);
-
-/** What a module has to have. */
-const CALLS = [
-    'heap_give_back', 'heap_limit', 'heap_take', 'nbt_brief', 'nbt_capture_line', 'nbt_datagram_error', 'nbt_datagram_front', 'nbt_datagram_query',
-    'nbt_datagram_read', 'nbt_datagram_write', 'nbt_json', 'nbt_name_spell', 'nbt_name_text', 'nbt_service_address', 'nbt_service_domain',
-    'nbt_service_header', 'nbt_service_items', 'nbt_service_node', 'nbt_service_request', 'nbt_service_response', 'nbt_service_unit', 'nbt_session_front', 'nbt_session_names', 'nbt_session_read', 'nbt_session_retarget', 'nbt_session_write', 'nbt_show',
-    'nbt_station_absorb', 'nbt_station_create', 'nbt_station_free', 'nbt_station_list', 'nbt_station_save', 'nbt_station_take',
-    'nbt_station_tick', 'nbt_status_text', 'nbt_table_differ', 'nbt_table_json', 'nbt_table_list', 'nbt_table_merge', 'nbt_version',
-];
 
 /** Loads nbt.wasm: from beside this file, or what `module` is. Its memory grows to `limit` bytes at most. */
 export async function load({ module = new URL('nbt.wasm', import.meta.url), limit = 1 << 30 } = {}) {

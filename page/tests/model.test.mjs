@@ -185,7 +185,7 @@ test('conflicts: who holds a name, who was refused it and by whom', () => {
     const asked = new Seen();
     assert.equal(asked.take(service('query', 'FRED<20>', { word: '8507', rcode: 'CFT_ERR' }), '', ends(1, '10.0.0.1', '10.0.0.9')), true);
     assert.deepEqual(said(asked), [[1, "FRED<20>: 10.0.0.1 says that it is in conflict; who holds it isn't in the capture."]]);
-    const group = { name: 'WORK<00>', claimants: ['10.0.0.1', '10.0.0.2'], refused: '10.0.0.3', by: '10.0.0.1', frame: 4 };
+    const group = { name: 'WORK<00>', holders: ['10.0.0.1', '10.0.0.2'], refused: '10.0.0.3', by: '10.0.0.1', frame: 4 };
     assert.equal(outcome(group), 'WORK<00>: 10.0.0.1 and 10.0.0.2 hold it; 10.0.0.3 was refused it by 10.0.0.1.');
 });
 
@@ -221,7 +221,7 @@ test('refusals are counted without their places', () => {
     for (const [frame, refused, at] of [[3, 'name: bad pointer 50', 50], [4, 'name: bad pointer 12', 12], [5, 'unknown type', undefined]]) {
         seen.take({ refused, at }, '', ends(frame, '10.0.0.5', '10.0.0.9'));
     }
-    assert.deepEqual(seen.tables().refused, [{ reason: 'name: bad pointer', packets: 2, frame: 3, byte: 50 }, { reason: 'unknown type', packets: 1, frame: 5, byte: null }]);
+    assert.deepEqual(seen.tables().malformed, [{ reason: 'name: bad pointer', packets: 2, frame: 3, payload_byte: 50 }, { reason: 'unknown type', packets: 1, frame: 5, payload_byte: null }]);
 });
 
 test('the keys of a list, and what is known of them', () => {

@@ -30,8 +30,8 @@ for (const path of paths) {
     const datagrams = await datagramsOf(tap);
     const tables = { ...tap.seen.tables(), ...datagrams.tables() };
     const text = (row, column) => shownAs(row, column, (time) => since(time, tap.first));
-    const shown = TABLES.filter(([key]) => tables[key]?.length).map(([key, title, columns]) =>
-        [title, { columns: columns.map((each) => each === 'byte' ? 'payload byte' : each), rows: tables[key].map((row) => columns.map((each) => text(row, each))) }]);
+    const shown = TABLES.filter(({ key }) => tables[key]?.length).map(({ key, title, columns }) =>
+        [title, { columns: columns.map((each) => each.replace('_', ' ')), rows: tables[key].map((row) => columns.map((each) => text(row, each))) }]);
     console.log(JSON.stringify(Object.fromEntries(shown)));
 }
 library.close();

@@ -13,6 +13,10 @@ mkdir "$room/python"
 ln -s "$(python3 -c 'import os, sys; print(os.path.realpath(sys.executable))')" "$room/python/python3"
 PATH=$room/python:$PATH
 
+# limit NAME: a limit of include/nbt.h. many: as many keys as a command takes.
+limit() { sed -n "s/^#define NBT_$1 //p" "$here/../include/nbt.h"; }
+many=$(limit MOST_KEYS)
+
 # count STATUS NAME: one case more, which went well if the status is 0.
 count() {
     if [ "$1" -eq 0 ]; then

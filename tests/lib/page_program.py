@@ -7,6 +7,8 @@ import shutil
 import subprocess
 import tempfile
 
+from limits import MANY
+
 COUNTS = re.compile(r'(\d+ frames?, )?\d+ packets?, \d+ malformed, ')
 ROW = re.compile(r' *(\d+) +(\S+) +(\S+) +(\S+) +(.*)')
 
@@ -66,15 +68,15 @@ class Program:
 
     def delivered(self, path, station):
         """Key, source and destination of each datagram that is delivered."""
-        lines = self.run(['nbt', 'replay', '--keys', '65535', station], self.capture(path)).decode().splitlines()
+        lines = self.run(['nbt', 'replay', *MANY, station], self.capture(path)).decode().splitlines()
         return [[words[2], words[4], words[5]] for words in map(str.split, lines) if words[1] == 'delivered']
 
     def table(self, path):
-        return self.run(['nbt', 'save', '--keys', '65535'], self.capture(path, '--no-ticks'))
+        return self.run(['nbt', 'save', *MANY], self.capture(path, '--no-ticks'))
 
     def keys(self, path):
         """Key and state of each key of a table."""
-        return [line.split()[:2] for line in self.run(['nbt', 'list', '--keys', '65535'], self.table(path)).decode().splitlines()]
+        return [line.split()[:2] for line in self.run(['nbt', 'list', *MANY], self.table(path)).decode().splitlines()]
 
     def differing(self, one, two):
         """Of each key that differs what the first and the second capture say of it."""

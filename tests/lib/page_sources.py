@@ -6,7 +6,10 @@ import struct
 import subprocess
 
 import page_files
+from limits import MANY
 from page_checks import check, equal
+
+SAVES = ' '.join(['nbt save', *MANY])
 
 
 class SourceCases:
@@ -86,12 +89,12 @@ class SourceCases:
             self.browser.give(self.path("it's $HOME.pcap", file.read()))
         word = r"'it'\''s $HOME.pcap'"
         equal(self.browser.texts('#view-export code'),
-              [f'nbt-pcap2cap {word} | nbt show --json', f'nbt-pcap2cap {word}', f'nbt-pcap2cap --no-ticks {word} | nbt save --keys 65535'], 'commands')
+              [f'nbt-pcap2cap {word} | nbt show --json', f'nbt-pcap2cap {word}', f'nbt-pcap2cap --no-ticks {word} | {SAVES}'], 'commands')
 
     def packed(self):
         """Files that gzip packed: they are what they packed, by what is shown, given out and said of the same there."""
-        for name, commands in (('office.pcap', ['nbt-pcap2cap {0} | nbt show --json', 'nbt-pcap2cap {0}', 'nbt-pcap2cap --no-ticks {0} | nbt save --keys 65535']),
-                               ('capture.txt', ['gzip -dc {0} | nbt show --json', 'gzip -dc {0}', 'gzip -dc {0} | nbt save --keys 65535'])):
+        for name, commands in (('office.pcap', ['nbt-pcap2cap {0} | nbt show --json', 'nbt-pcap2cap {0}', 'nbt-pcap2cap --no-ticks {0} | ' + SAVES]),
+                               ('capture.txt', ['gzip -dc {0} | nbt show --json', 'gzip -dc {0}', 'gzip -dc {0} | ' + SAVES])):
             plain = f'{self.top}/examples/{name}'
             with open(plain, 'rb') as file:
                 path = self.path(f'{name}.gz', gzip.compress(file.read()))

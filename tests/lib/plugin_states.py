@@ -16,6 +16,7 @@ import subprocess
 import sys
 
 sys.dont_write_bytecode = True
+from limits import MANY
 from plugin_captures import Made
 from plugin_pcap import fields_of, write_pcap
 
@@ -61,7 +62,7 @@ class Sharkd:
 
 def report_of(program, lines, names):
     """What is reported of each line, by its number."""
-    done = subprocess.run([program, 'replay', '--keys', '65535', *names], input='\n'.join([*lines, '']), capture_output=True, text=True, check=True)
+    done = subprocess.run([program, 'replay', *MANY, *names], input='\n'.join([*lines, '']), capture_output=True, text=True, check=True)
     return {int(number): words for number, _, words in (line.partition(' ') for line in done.stdout.splitlines())}
 
 

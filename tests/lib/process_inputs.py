@@ -1,4 +1,6 @@
 """Packets, captures and commands for tests/process.py, and inputs that want a known room."""
+from limits import MANY, MOST_KEYS
+
 JOE = '20454b45504546434143414341434143414341434143414341434143414341414100'
 FRED = '20454746434546454543414341434143414341434143414341434143414341434100'
 
@@ -86,7 +88,7 @@ def roomy():
     """
     long, half = '5a' * 64_000, '5a' * 32_000
     for name, limit, rows in [
-            ('65,535 keys of a byte', 69_800, [(key, 0, '5a') for key in range(65_535)]),
+            ('as many keys as may be, of a byte', 69_800, [(key, 0, '5a') for key in range(MOST_KEYS)]),
             ('20,000 keys of three bytes, the middle one last', 25_500,
              [(key, offset, '5a') for offset in (0, 2, 1) for key in range(20_000)]),
             ('10 keys of 9,000 bytes apart', 13_100,
@@ -95,7 +97,7 @@ def roomy():
             ('120 keys of two pieces of 32,000 bytes', 15_200,
              [(key, offset, half) for offset in (0, 32_000) for key in range(120)])]:
         given, report = pieces(*rows)
-        yield name, ['replay', '--keys', '65535', 'FRED<20>'], given, report, limit
+        yield name, ['replay', *MANY, 'FRED<20>'], given, report, limit
     yield 'ever new addresses, a key each', ['save', '--per-source', '1'], passing(90_000), b'4e42543200000000\n', 3_700
     comments = (b'#' * 4_000 + b'\n') * 4_000
     for words, output in [(['show'], b''), (['replay', 'FRED<20>'], b''), (['save'], b'4e42543200000000\n')]:

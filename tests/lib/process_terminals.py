@@ -3,6 +3,7 @@ import os
 import re
 import time
 
+from limits import MANY, filled
 from process_inputs import COMMANDS, FRED, READING, captures, packet
 from process_runs import (TESTS, at_terminal, limited, lines_of, quiet_terminal, rest_of, rest_of_terminal, run, start, starts, wait,
                           with_errors_shown)
@@ -63,7 +64,7 @@ PCAPS = ['a1b2c3d4', 'd4c3b2a1', 'a1b23c4d', '4d3cb2a1', '0a0d0d0a']
 def meanings():
     """The line of `nbt help` of each refusal, by its words: those of tests/cases/refusals.txt."""
     with open(os.path.join(TESTS, 'cases', 'refusals.txt'), 'rb') as cases:
-        lines = [line for line in cases if not line.startswith((b'#', b'$', b'\n'))]
+        lines = [filled(line) for line in cases if not line.startswith((b'#', b'$', b'\n'))]
     return {re.sub(rb' (AT|N)$', b'', line.split(b': ')[0]): line for line in lines}
 
 
@@ -210,7 +211,7 @@ def plain():
 def short_of_memory():
     """With little memory a terminal shows the line alone, or what it means too."""
     many = captures(3_000, '5a' * 150)
-    words = ['save', '--keys', '65535']
+    words = ['save', *MANY]
     whole = run(words, many)
     refused_so = [(3, b'', b'nbt: memory\n' + said) for said in (b'', meaning(b'memory'))]
     least = next(it for it in range(64, 65_536, 64) if starts(words, it << 10))

@@ -17,6 +17,7 @@ sys.dont_write_bytecode = True
 sys.path.insert(1, f'{sys.path[0]}/..')
 import station_system
 from fuzz_inputs import Maker, capture_lines, example_bytes
+from limits import MOST_KEYS
 from station_runs import (ANN, EMPTY, GROUP, PATIENCE, SENDER, TRIES, UNIQUE, LeftOut, TooSlow, Wrong, begun, expect, nbt, packet, pieces,
                           replayed, station, whole_tables)
 from wire import FRED, JOE
@@ -191,7 +192,7 @@ def refused_beginnings():
         expect((1, 'nbt-station: bad text 0'), begun(folder, *own, ''))
         expect((1, 'nbt-station: name: present 9'), begun(folder, *own, 'FRED<20>', 'FRED<20>'))
         expect((3, f'nbt-station: {busy}: Address already in use'), begun(folder, '--bind', busy, 'FRED<20>'))
-        for words in ['--bind', 'localhost'], ['--keys', '0'], ['--per-source', '65536'], ['--port', 'x'], ['--bind', '::1']:
+        for words in ['--bind', 'localhost'], ['--keys', '0'], ['--per-source', str(MOST_KEYS + 1)], ['--port', 'x'], ['--bind', '::1']:
             expect(2, begun(folder, *words, 'FRED<20>')[0])
         expect(2, begun(folder, '--bind', '127.0.0.1:138', '--port', '139', 'FRED<20>')[0])
         expect([], os.listdir(folder))

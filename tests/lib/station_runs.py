@@ -10,6 +10,7 @@ import tempfile
 import time
 
 sys.dont_write_bytecode = True
+from limits import MANY
 from wire import FRED, JOE, first_level
 
 TOOL, PROGRAM = map(os.path.abspath, sys.argv[1:3])
@@ -150,7 +151,7 @@ def nbt(*words, text=''):
 def replayed(payloads, *names):
     """The deliveries of `nbt replay` of these payloads."""
     capture = ''.join(f'138 0 {it.hex() or "empty"}\n' for it in payloads)
-    lines = nbt('replay', '--keys', '65535', *names, text=capture).splitlines()
+    lines = nbt('replay', *MANY, *names, text=capture).splitlines()
     return [line.split(' ', 1)[1] for line in lines if ' delivered ' in line]
 
 

@@ -23,9 +23,8 @@ listing      a line for each packet
 objects      an object of JSON for each packet
 whole        all of one frame
 cells        the cells of a table, and where they fold
-tables       the words that choose tables of the summary
+vocabulary   the words and limits of the summary
 merging      several files as one capture
-version      the version of these tools
 trial        whether a nbt on PATH is the one of this version
 places       which byte of a payload the place of a fault is
 advice       what to do about a fault, by its port

@@ -6,7 +6,7 @@ from nbt_pcap import arguments
 from nbt_pcap.process import NAME, Stopped
 
 from . import kindwords
-from .tables import TITLES
+from .vocabulary import KINDS, TABLES
 
 USAGE = 'usage: %s FILE.., or -, --live or -i INTERFACE in place of FILE; --help says more' % NAME
 SUMMARY = '--summary='
@@ -119,15 +119,15 @@ def tables_in(text):
     """Tables of the summary, with commas between them, by their titles."""
     wanted = text.split(',')
     for each in wanted:
-        if each not in TITLES:
-            raise Stopped(2, 'argument --summary: %s is no table; they are %s; --help says more' % (each or 'nothing', ', '.join(TITLES)))
-    return [TITLES[each] for each in wanted]
+        if each not in TABLES:
+            raise Stopped(2, 'argument --summary: %s is no table; they are %s; --help says more' % (each or 'nothing', ', '.join(TABLES)))
+    return [TABLES[each][0] for each in wanted]
 
 
 def kinds_in(text):
     """Kinds with commas between them."""
     wanted = text.split(',')
     for each in wanted:
-        if each not in kindwords.ALL:
+        if each not in KINDS:
             raise argparse.ArgumentTypeError(kindwords.advice(each))
     return wanted

@@ -1,17 +1,11 @@
 """Who claims and holds which name, packet by packet: RFC 1002 sections 4.2.2 to 4.2.11 and 5.1. docs/SUMMARY.md has the rules."""
 from .conflicts import Conflicts
-from .messages import Act, Front
 from .owners import Owners
-from .parts import GROUP, names_of
+from .parts import group_of, names_of
 from .rooms import Room
-from .tenures import CLAIMING, KEPT, OBJECTING, Standing, Tenure
+from .tenures import CLAIMING, KEPT, Tenure
+from .vocabulary import MOST_OF_NAME, NO_UNIT, OBJECTING, TAKEN, Act, Front, Standing
 from .waiting import Waiting
-
-# What a response says of a name that another station has: RFC 1002 section 4.2.6.
-TAKEN = ('ACT_ERR', 'CFT_ERR')
-# How many tenures of a name are looked at for conflicts.
-MOST_OF_NAME = 64
-NO_UNIT = '000000000000'
 
 
 class Claims:
@@ -217,7 +211,7 @@ class Claims:
                 tenure.end(Standing.LOST, message.at)
                 self.conflicts.decide(each['name'], message.source, self.holders(each['name'], [message.source], message), message.source, message.frame)
             elif 'ACT' in each['set'] and 'DRG' not in each['set']:
-                self.hold(tenure, bool(int(each['flags'], 16) & GROUP), message)
+                self.hold(tenure, group_of(each), message)
         return is_conflict
 
     def finds_none(self, message):

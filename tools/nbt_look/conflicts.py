@@ -2,9 +2,7 @@
 from dataclasses import dataclass
 
 from .rooms import Room
-
-# How many pairs of addresses that claim one name are kept.
-MOST_PAIRS = 4_096
+from .vocabulary import MOST_PAIRS, TABLES
 
 
 @dataclass
@@ -45,8 +43,7 @@ class Undecided:
 class Conflicts:
     """The conflicts of a capture, by name and by who was refused it."""
 
-    title = 'conflicts'
-    head = ('name', 'holder', 'refused', 'by', 'frame')
+    title, head = TABLES['conflicts']
     texts = {'holder': lambda claimants, row: (', ' if row['by'] else ' or ').join(claimants) or 'not in the capture',
              'refused': lambda refused, row: refused or 'nobody'}
 

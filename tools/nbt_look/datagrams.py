@@ -8,6 +8,7 @@ from .counts import run_text
 from .reading import READ
 from .replaying import KEYS, Replay, is_piece
 from .rooms import Room
+from .vocabulary import TABLES
 
 COUNTED = ('whole', 'incomplete', 'spoilt')
 # How many bytes of lines wait to be listed together.
@@ -17,8 +18,7 @@ MOST_LISTED = 1_048_576
 class Datagrams:
     """Datagrams by their names: how many are whole, incomplete and spoilt, and how many of their packets the snap length cut."""
 
-    title = 'datagrams'
-    head = ('source', 'destination', 'kind', *COUNTED, 'cut')
+    title, head = TABLES['datagrams']
 
     def __init__(self, program):
         self.program = program
@@ -65,8 +65,7 @@ class Datagrams:
 class Failed:
     """The datagrams that didn't become whole: of each its key, what is known of it, and its frames."""
 
-    title = 'failed datagrams'
-    head = ('key', 'state', 'source', 'destination', 'bytes_known', 'size', 'missing', 'frames')
+    title, head = TABLES['failed']
     texts = {'size': lambda size, _row: '?' if size is None else str(size),
              'missing': lambda runs, _row: ', '.join(map(run_text, runs)) or '-'}
 

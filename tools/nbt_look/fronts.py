@@ -1,11 +1,12 @@
 """What stands of a packet that the snap length cut, or that nbt refuses to read: its object of JSON, with a phrase."""
-from .parts import NBSTAT, SECTIONS, first_of, is_response, type_of
+from .parts import first_of, is_response, type_of
+from .vocabulary import MULTIHOMED, SECTIONS, STATUS_TYPE
 
 # By OPCODE, what a request does with a name, and a response; the latter where RCODE is 0, and where it isn't.
-REQUESTS = {'query': 'asks for %s', 'registration': 'claims %s', 15: 'claims as one of several addresses %s', 'refresh': 'refreshes %s',
+REQUESTS = {'query': 'asks for %s', 'registration': 'claims %s', MULTIHOMED: 'claims as one of several addresses %s', 'refresh': 'refreshes %s',
             'release': 'releases %s'}
 REGISTERED = 'grants %s', 'refuses %s'
-RESPONSES = {'query': ('answers about %s', 'answers: %s is not found'), 'registration': REGISTERED, 15: REGISTERED, 'refresh': REGISTERED,
+RESPONSES = {'query': ('answers about %s', 'answers: %s is not found'), 'registration': REGISTERED, MULTIHOMED: REGISTERED, 'refresh': REGISTERED,
              'release': ('grants the release of %s', 'refuses the release of %s'), 'wack': ('asks to wait for %s',) * 2}
 DATAGRAMS = {'unique': 'datagram', 'group': 'group datagram', 'broadcast': 'broadcast datagram'}
 NEGATIVE = ('refuses ', 'answers: ')
@@ -69,7 +70,7 @@ def service_phrase(shown):
 
 
 def request_words(shown):
-    if shown['op'] == 'query' and type_of(shown) in (None, NBSTAT):
+    if shown['op'] == 'query' and type_of(shown) in (None, STATUS_TYPE):
         return 'asks for the node status of %s' if type_of(shown) else 'asks about %s'
     if shown['op'] == 'registration' and 'RD' not in shown['flags']:
         return 'overwrites %s'

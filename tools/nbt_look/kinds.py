@@ -1,7 +1,6 @@
 """The kinds of packets."""
 from .parts import is_response
-
-FRAGMENTS = ('unique', 'group', 'broadcast')
+from .vocabulary import MULTIHOMED, PIECES, STATUS_TYPE
 
 
 def kinds_of(shown):
@@ -22,12 +21,12 @@ def told_kinds(shown):
         return set()
     if shown['port'] == 139:
         return {kind, 'session'}
-    return datagram_kinds(shown, kind) if kind in FRAGMENTS else {kind, *{'found': ('positive',), 'missing': ('negative',)}.get(kind, ())}
+    return datagram_kinds(shown, kind) if kind in PIECES else {kind, *{'found': ('positive',), 'missing': ('negative',)}.get(kind, ())}
 
 
 def service_kinds(shown):
-    asks_status = any(each.get('type') == '0021' for each in (*shown['questions'], *shown['answers'], shown.get('about', {})))
-    operation = 'registration' if shown['op'] == 15 else shown['op']
+    asks_status = any(each.get('type') == STATUS_TYPE for each in (*shown['questions'], *shown['answers'], shown.get('about', {})))
+    operation = 'registration' if shown['op'] == MULTIHOMED else shown['op']
     kinds = {'status' if asks_status else operation}
     if is_response(shown):
         kinds.add('response')

@@ -1,24 +1,7 @@
 """The words for kinds of packets: those of --kind, what each is, and which one is meant by other words."""
 import difflib
 
-# Each kind by the port of its packets, with a word on it for --help.
-OF_SERVICE = {
-    'query': 'asks for a name, and what is answered', 'status': 'asks what names a station has, and what is answered',
-    'registration': 'claims a name, and what is answered', 'refresh': 'claims a name again, and what is answered',
-    'release': 'gives a name up, and what is answered', 'wack': 'asks to wait', 'response': 'any answer',
-    'conflict': 'claims a name that another station has, is refused one for that, or has to give one up'}
-OF_DATAGRAMS = {
-    'datagram': 'unique, group or broadcast', 'unique': 'a datagram to one station', 'group': 'a datagram to a group',
-    'broadcast': 'a datagram to all', 'fragment': 'a piece of a datagram', 'error': 'a datagram is not taken',
-    'find': 'asks whether datagrams are relayed to a name', 'found': 'answers that they are relayed', 'missing': 'answers that none are relayed'}
-OF_SESSIONS = {
-    'session': 'any packet', 'request': 'calls a name', 'retarget': 'sends the caller elsewhere', 'message': 'data',
-    'keepalive': 'keeps the session alive'}
-OF_EACH = {
-    'positive': 'an answer that grants, finds or accepts', 'negative': 'an answer that refuses, or finds nothing',
-    'malformed': 'nbt refuses to read it', 'left-out': 'cut, or not read for another reason'}
-SECTIONS = (('port 137', OF_SERVICE), ('port 138', OF_DATAGRAMS), ('port 139', OF_SESSIONS), ('each port', OF_EACH))
-ALL = tuple(kind for _, kinds in SECTIONS for kind in kinds)
+from .vocabulary import KINDS, KINDS_OF
 
 # Words that one would guess, by the kind that is meant.
 GUESSES = {
@@ -44,21 +27,21 @@ def advice(word):
     for each in (word, singular):
         if each in ANSWERS:
             return '%s is no kind: %s' % (word, ANSWERS[each])
-        if each in ALL or each in KIND_MEANT:
+        if each in KINDS or each in KIND_MEANT:
             return '%s is no kind: perhaps %s' % (word, KIND_MEANT.get(each, each))
-    near = difflib.get_close_matches(word, ALL, 1)
-    return '%s is none of %s' % (word, ', '.join(ALL)) if not near else '%s is no kind: perhaps %s' % (word, near[0])
+    near = difflib.get_close_matches(word, KINDS, 1)
+    return '%s is none of %s' % (word, ', '.join(KINDS)) if not near else '%s is no kind: perhaps %s' % (word, near[0])
 
 
 def about(kind):
     """A kind, and the word on it."""
-    word = next(kinds[kind] for _, kinds in SECTIONS if kind in kinds)
+    word = next(kinds[kind] for kinds in KINDS_OF.values() if kind in kinds)
     also = '; see also %s' % SEE_ALSO[kind] if kind in SEE_ALSO else ''
     return '%s (%s%s)' % (kind, word, also)
 
 
 def help_lines():
     """The kinds of each port, for --help."""
-    for title, kinds in SECTIONS:
+    for title, kinds in KINDS_OF.items():
         yield '  of %s' % title
         yield from ('    %-14s%s' % each for each in kinds.items())

@@ -1,9 +1,10 @@
 """A line for each packet, in columns."""
+from nbt_pcap.header import SERVICES
+
 from .counts import left_out_words
 
 # The least widths of the columns before the phrase, which grow with what stands in them.
 WIDTHS = (5, 9, 15, 15)
-SERVICES = ('137', '138', '139')
 
 
 class Listing:
@@ -26,7 +27,7 @@ class Listing:
     def left_out(self, item):
         frame = item.frame
         sizes = ', %d of %d bytes' % (frame.captured, frame.size) if frame.captured < frame.size else ''
-        self.row(frame, ends(frame, SERVICES), 'left out: ' + left_out_words(item) + sizes, 'left out')
+        self.row(frame, ends(frame, tuple(map(str, SERVICES))), 'left out: ' + left_out_words(item) + sizes, 'left out')
 
     def opened(self, item):
         """Nothing is said of it."""

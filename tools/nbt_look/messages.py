@@ -1,42 +1,10 @@
 """A packet of the name service as the summary reads it: RFC 1002 section 4.2."""
-import enum
 from dataclasses import dataclass
 
-from .parts import NBSTAT, entries, group_of, is_response, subject, type_of
-
-
-class Act(enum.Enum):
-    """What a packet does with a name, by R, OPCODE, RCODE and type; each has its section of RFC 1002."""
-
-    CLAIMS = 'name registration request 4.2.2, name refresh request 4.2.4, operation 15'
-    OVERWRITES = 'name overwrite request and demand 4.2.3'
-    GRANTS = 'positive name registration response 4.2.5'
-    REFUSES = 'negative name registration response 4.2.6'
-    CHALLENGES = 'end-node challenge registration response 4.2.7'
-    DEMANDS = 'name conflict demand 4.2.8, or a negative response with CFT_ERR'
-    RELEASES = 'name release request and demand 4.2.9'
-    RELEASED = 'positive name release response 4.2.10'
-    KEEPS = 'negative name release response 4.2.11'
-    ASKS = 'name query request 4.2.12'
-    ANSWERS = 'positive name query response 4.2.13, redirect 4.2.15, node status response 4.2.18'
-    FINDS_NONE = 'negative name query response 4.2.14'
-    WAITS = 'WACK response 4.2.16'
-    ASKS_STATUS = 'node status request 4.2.17'
-    ASKS_UNKNOWN = 'name query request 4.2.12 or node status request 4.2.17, of which no type stands'
-    OTHER = 'another operation'
-
-
-class Front(enum.Enum):
-    """How much of a packet stands."""
-
-    WHOLE = 'whole'
-    CUT = 'cut'
-    MALFORMED = 'malformed'
-
+from .parts import entries, group_of, is_response, subject, type_of
+from .vocabulary import MULTIHOMED, NOBODYS, STATUS_TYPE, Act, Front
 
 CLAIMS = (Act.CLAIMS, Act.OVERWRITES)
-MULTIHOMED = 15
-NOBODYS = '0.0.0.0'
 REGISTERING = ('registration', 'refresh', MULTIHOMED)
 
 
@@ -125,7 +93,7 @@ def act_of(shown):
 def request_of(operation, shown):
     if operation == 'query':
         is_front = 'cut' in shown or 'refused' in shown
-        return {NBSTAT: Act.ASKS_STATUS, None: Act.ASKS_UNKNOWN if is_front else Act.ASKS}.get(type_of(shown), Act.ASKS)
+        return {STATUS_TYPE: Act.ASKS_STATUS, None: Act.ASKS_SOMETHING if is_front else Act.ASKS}.get(type_of(shown), Act.ASKS)
     if operation == 'registration' and 'RD' not in shown['flags']:
         return Act.OVERWRITES
     return Act.CLAIMS if operation in REGISTERING else Act.RELEASES if operation == 'release' else Act.OTHER

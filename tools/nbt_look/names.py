@@ -2,18 +2,12 @@
 import collections
 
 from .tenures import KEPT
-
-HEAD = ('name', 'kind', 'address', 'group', 'how', 'since', 'until', 'lifetime', 'conflicts', 'refusals')
-# What the last byte of a name says, where it is unique and where it is a group's.
-KINDS = {'00': ('workstation', 'domain'), '01': ('messenger', 'master browser'), '03': ('messenger', 'messenger'),
-         '06': ('remote access server', ''), '1b': ('domain master browser', ''), '1c': ('', 'domain controllers'),
-         '1d': ('master browser', ''), '1e': ('', 'browser elections'), '1f': ('NetDDE', ''), '20': ('file server', ''),
-         '21': ('remote access client', ''), 'be': ('network monitor', ''), 'bf': ('network monitor application', '')}
+from .vocabulary import SUFFIXES, TABLES
 
 
 def kind_of(name, group):
     """The kind of a name in words, by its last byte."""
-    pair = KINDS.get(name.partition('<')[2][:2], ('', ''))
+    pair = SUFFIXES.get(name.partition('<')[2][:2], ('', ''))
     return pair[bool(group)] or pair[not group]
 
 
@@ -25,8 +19,7 @@ def lifetime_text(seconds, _row):
 class Names:
     """The tenures of names in rows."""
 
-    title = 'names'
-    head = HEAD
+    title, head = TABLES['names']
     texts = {'lifetime': lifetime_text}
 
     def __init__(self, claims):
@@ -43,7 +36,7 @@ class Names:
         how = tenure.standing.value + (', ' + tenure.front if tenure.front and tenure.group is None else '')
         since, until = (None if at is None else times(at) for at in (tenure.since, tenure.until))
         lifetime = tenure.lifetime if tenure.standing in KEPT else None
-        return dict(zip(HEAD, (tenure.name, kind_of(tenure.name, tenure.group), tenure.address or None, tenure.group, how, since, until,
+        return dict(zip(Names.head, (tenure.name, kind_of(tenure.name, tenure.group), tenure.address or None, tenure.group, how, since, until,
                                lifetime, conflicts, tenure.refusals)))
 
     def others(self):

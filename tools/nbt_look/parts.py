@@ -1,8 +1,7 @@
 """The parts of a packet of port 137, by its object of JSON."""
+from nbt_pcap.header import G
 
-GROUP = 0x8000
-NBSTAT = '0021'
-SECTIONS = ('questions', 'answers', 'authorities', 'additional')
+from .vocabulary import SECTIONS
 
 
 def is_response(shown):
@@ -39,7 +38,7 @@ def entries(shown):
 
 def group_of(entry):
     """Whether an entry, or a name of a node status, is a group's: the bit G of NB_FLAGS and NAME_FLAGS."""
-    return bool(int(entry['flags'], 16) & GROUP)
+    return bool(int(entry['flags'], 16) & G)
 
 
 def names_of(shown):

@@ -1,6 +1,8 @@
 """Which byte of a payload the place of a fault is."""
 import re
 
+from nbt_pcap.header import QUERIES
+
 # Of these the place counts in the spelling of a name (RFC 1002 section 4.1), and not in the payload.
 IN_NAME = re.compile('^(.*): not netbios ([0-9]+)$')
 LETTERS = frozenset(b'ABCDEFGHIJKLMNOP')
@@ -8,7 +10,6 @@ FRONT = 32
 LONGEST_LABEL = 63
 # Where the first name of a packet begins: of port 139, and of port 138 by its type (RFC 1002 sections 4.3.2, 4.4.2 and 4.4.4).
 OF_SESSION, OF_DATAGRAM, OF_QUERY = 4, 14, 10
-QUERIES = (0x14, 0x15, 0x16)
 
 
 def is_in_name(refused):

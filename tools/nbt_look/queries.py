@@ -1,26 +1,13 @@
 """Queries and node status requests that nobody answers: RFC 1002 sections 4.2.12 to 4.2.18."""
 import collections
-import enum
 from dataclasses import dataclass, field
 
-from .messages import Act, Front
 from .rooms import Room
-from .waiting import MOST_FRAMES, Waiting
+from .vocabulary import MOST_FRAMES, MOST_UNREAD, TABLES, Act, Answer, Front
+from .waiting import Waiting
 
-# Of how many frames that can't be read at all the times are kept, for who sent them to whom.
-MOST_UNREAD = 64
-KINDS = {Act.ASKS: 'query', Act.ASKS_STATUS: 'status', Act.ASKS_UNKNOWN: None}
+KINDS = {Act.ASKS: 'query', Act.ASKS_STATUS: 'status', Act.ASKS_SOMETHING: None}
 RESPONSES = (Act.ANSWERS, Act.FINDS_NONE)
-
-
-class Answer(enum.Enum):
-    """What answered a request."""
-
-    NEVER = 'never'
-    UNKNOWN = 'not known'            # something came whose name doesn't stand
-    CUT = 'cut'                      # identifier and name stand
-    MALFORMED = 'malformed'
-    WHOLE = 'whole'
 
 
 OF_FRONT = {Front.WHOLE: Answer.WHOLE, Front.CUT: Answer.CUT, Front.MALFORMED: Answer.MALFORMED}
@@ -48,8 +35,7 @@ class Unanswered:
 class Queries:
     """Queries and node status requests without an answer, by name, asker and station asked."""
 
-    title = 'queries without an answer'
-    head = ('name', 'kind', 'by', 'asked', 'times', 'frames', 'since', 'answered')
+    title, head = TABLES['queries']
 
     def __init__(self, owners):
         self.waiting = Waiting(owners, self.over)

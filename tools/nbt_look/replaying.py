@@ -3,17 +3,17 @@ import heapq
 import select
 from dataclasses import dataclass, field
 
-from .kinds import FRAGMENTS
+from nbt_pcap.header import MOST_KEYS
+
 from .reading import READ
 from .telling import Child
+from .vocabulary import MOST_FRAMES, MOST_HELD, PIECES
 
 # A station that has this name alone: whether it hears a datagram or not, the report says when one is whole.
 STATION = '*<00>'
-KEYS = '65535'
+KEYS = str(MOST_KEYS)
 # How many bytes wait for the child before no more are given.
 MOST_WAITING = 65_536
-# How many bytes of pieces are held of datagrams that aren't whole, to say what they lack, and of how many pieces of one the frames.
-MOST_HELD, MOST_FRAMES = 16_777_216, 16
 WHOLE = ('delivered', 'unheard')
 
 
@@ -141,4 +141,4 @@ class Replay:
 
 def is_piece(item, shown):
     """Whether it is a packet with a piece of a datagram, or a whole one."""
-    return item.service == 138 and shown.get('kind') in FRAGMENTS and 'refused' not in shown
+    return item.service == 138 and shown.get('kind') in PIECES and 'refused' not in shown

@@ -1,13 +1,11 @@
 """Entries of which only so many are kept."""
-
-# How many names, claims, stations, pairs of callers and so on are kept at most; the rest is counted.
-MOST = 16_384
+from .vocabulary import MOST_ENTRIES
 
 
 class Room:
     """Entries by key. Past the bound they aren't kept, and what would go into them is counted."""
 
-    def __init__(self, most=MOST):
+    def __init__(self, most=MOST_ENTRIES):
         self.most = most
         self.entries = {}
         self.others = 0

@@ -3,10 +3,7 @@ import collections
 from dataclasses import dataclass, field
 
 from .rooms import Room
-
-# How many streams are known; the one that was silent longest is let go.
-MOST_STREAMS = 16_384
-RESPONSES = ('positive', 'negative', 'retarget')
+from .vocabulary import MOST_STREAMS, SESSION_RESPONSES, TABLES
 
 
 @dataclass
@@ -51,7 +48,7 @@ class Streams:
     def sides(self, here, there, kind):
         """Who called, and who was called, where the connection's begin isn't in the capture: who asks for a session, else whose port isn't the
         service's, else who isn't answering."""
-        is_answer = kind in RESPONSES if (here[1] in self.ports) == (there[1] in self.ports) else here[1] in self.ports
+        is_answer = kind in SESSION_RESPONSES if (here[1] in self.ports) == (there[1] in self.ports) else here[1] in self.ports
         return (there, here) if is_answer and kind != 'request' else (here, there)
 
     def keep(self, key, session):
@@ -93,8 +90,7 @@ class Calls:
 class Sessions:
     """All sessions, by the names and addresses of both sides. `named` is told which station has which name, once a session is accepted."""
 
-    title = 'sessions'
-    head = ('calling', 'called', 'from', 'to', 'calls', 'accepted', 'refused', 'sent', 'received')
+    title, head = TABLES['sessions']
 
     def __init__(self, ports, named):
         self.room = Room()

@@ -1,9 +1,7 @@
 """The stations: who sends packets, and what they are called."""
-from .messages import CLAIMS, Act
+from .messages import CLAIMS
 from .rooms import Room
-
-# How many names of a station are kept.
-MOST_NAMES = 64
+from .vocabulary import MOST_OF_STATION, TABLES, Act
 
 
 class Station:
@@ -14,15 +12,14 @@ class Station:
         self.names, self.status = {}, []
 
     def name(self, text):
-        if len(self.names) < MOST_NAMES:
+        if len(self.names) < MOST_OF_STATION:
             self.names[text] = True
 
 
 class Stations:
     """The stations, by address."""
 
-    title = 'stations'
-    head = ('address', 'mac', 'packets', 'names', 'refused', 'status', 'unit')
+    title, head = TABLES['stations']
 
     def __init__(self, claims):
         self.room = Room()
@@ -46,7 +43,7 @@ class Stations:
     def answers(message, sender):
         for record in message.shown['answers']:
             if sender and record.get('names'):
-                sender.status = [each['name'] for each in record['names'][:MOST_NAMES]]
+                sender.status = [each['name'] for each in record['names'][:MOST_OF_STATION]]
                 sender.unit = record.get('unit')
 
     def named(self, address, name):

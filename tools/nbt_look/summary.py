@@ -11,7 +11,7 @@ from .names import Names
 from .queries import Queries
 from .sessions import Sessions
 from .stations import Stations
-from .tables import LEFT_OUT
+from .vocabulary import TABLES
 
 PLACE = re.compile(' [0-9]+$')
 
@@ -19,8 +19,7 @@ PLACE = re.compile(' [0-9]+$')
 class Faults:
     """The packets that nbt refuses to read, by reason, with the first frame of each, and the byte of its payload at which the fault is."""
 
-    title = 'malformed'
-    head = ('reason', 'packets', 'frame', 'payload_byte')
+    title, head = TABLES['malformed']
 
     def __init__(self):
         self.reasons = {}
@@ -39,8 +38,7 @@ class Faults:
 class LeftOut:
     """The frames of which something is left out, by reason."""
 
-    title = LEFT_OUT
-    head = ('reason', 'frames')
+    title, head = TABLES['left-out']
 
     def __init__(self):
         self.counts = {}

@@ -1,24 +1,9 @@
 """A name at an address: what is known of it, from when to when."""
-import enum
 from dataclasses import dataclass
 
+from .vocabulary import Standing
+
 SECOND = 10**9
-# How long a station that broadcasts a claim waits for objections: BCAST_REQ_RETRY_TIMEOUT, RFC 1002 section 6.
-OBJECTING = 250 * 10**6
-
-
-class Standing(enum.Enum):
-    """What became of a name at an address."""
-
-    CLAIMS = 'claims'
-    HOLDS = 'holds'
-    SAID = 'is said to be'
-    REFUSED = 'refused'
-    RELEASED = 'released'
-    LOST = 'lost'
-    EXPIRED = 'expired'
-
-
 CLAIMING = (Standing.CLAIMS, Standing.HOLDS)
 KEPT = (*CLAIMING, Standing.SAID)
 

@@ -6,9 +6,8 @@ import signal
 import subprocess
 import time
 
+from nbt_pcap.header import VERSION
 from nbt_pcap.process import Stopped
-
-from .version import VERSION
 
 # How many seconds an answer may take on a machine that is busy, and how many bytes it has at most.
 PATIENCE, MOST = 10, 4_096

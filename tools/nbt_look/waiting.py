@@ -3,13 +3,7 @@ import collections
 import math
 from dataclasses import dataclass, field
 
-from .messages import Front
-
-SECOND = 10**9
-# How long after its latest repeat a request may be answered: twice UCAST_REQ_RETRY_TIMEOUT, our choice.
-WAIT = 10 * SECOND
-# How many identifiers wait, and how many requests of one; the one that came first is over then. How many frames of one are kept.
-MOST_WAITING, MOST_OF_ONE, MOST_FRAMES = 4_096, 256, 16
+from .vocabulary import ANSWERING, MOST_FRAMES, MOST_OF_ONE, MOST_WAITING, Front
 
 
 @dataclass
@@ -30,7 +24,7 @@ class Request:
 
     def repeat(self, message):
         self.times += 1
-        self.until = max(self.until, message.at + WAIT)
+        self.until = max(self.until, message.at + ANSWERING)
         if len(self.frames) < MOST_FRAMES:
             self.frames.append(message.frame)
 

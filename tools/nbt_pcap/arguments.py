@@ -3,9 +3,9 @@ import argparse
 import os
 import stat
 
+from .header import SERVICES
 from .process import NAME, Stopped
 
-SERVICES = (137, 138, 139)
 # How the text of a capture begins.
 CAPTURE_FRONTS = (b'# ', b'137 ', b'138 ', b'139 ', b'tick')
 

@@ -1,11 +1,10 @@
 """The lines of a capture: payloads and comments, and the clock whose ticks stand between them."""
+from .header import INPUT, KEPT_FOR
 from .process import say, write
 
-# How many bytes nbt reads of one input without an option, how many at most with one, and what is said where more were written.
-MOST_IN_A_CAPTURE = 16_777_216
+# How many bytes nbt reads of one input at most, and what is said where more were written than it reads without an option.
 NO_LIMIT = 18_446_744_073_709_551_615
-TOO_LONG = 'more than %d bytes are written now: nbt reads them with --input-limit %d' % (MOST_IN_A_CAPTURE, NO_LIMIT)
-FRAGMENT_TIMER = 2_000
+TOO_LONG = 'more than %d bytes are written now: nbt reads them with --input-limit %d' % (INPUT, NO_LIMIT)
 
 
 class Output:
@@ -28,7 +27,7 @@ class Output:
             written = write(data)
             self.size += written
             data = data[written:]
-        if before <= MOST_IN_A_CAPTURE < self.size and not self.quiet:
+        if before <= INPUT < self.size and not self.quiet:
             self.before_words()
             say(TOO_LONG)
 
@@ -70,4 +69,4 @@ class Capture:
 
     def last_drop(self):
         """The moment of the tick that drops the last key."""
-        return ((self.latest + FRAGMENT_TIMER) // 1000 + 1) * 1000
+        return ((self.latest + KEPT_FOR) // 1000 + 1) * 1000

@@ -5,9 +5,9 @@ import datetime
 import ipaddress
 import re
 
+from .header import MOST_LINE
 from .process import Stopped
 
-MOST_IN_A_LINE = 262_200
 LINE = re.compile(rb'(137|138|139) ([0-9]{1,20}) ((?:[0-9a-fA-F]{2})+|empty)|tick ([0-9]{1,20})|(#.*)?', re.DOTALL)
 COMMENT = re.compile(r'# frame ([0-9]{1,10}) (\S+) (\S+):([0-9]{1,5}) > (\S+):([0-9]{1,5})')
 # What pcap2cap says of the next payload, of which the snap length cut the end.
@@ -64,7 +64,7 @@ class Frame:
 def lines_of(file, title):
     """The lines of an open file; of one that is too long so much that it is refused."""
     try:
-        while line := file.readline(MOST_IN_A_LINE + 2):
+        while line := file.readline(MOST_LINE + 2):
             yield line
     except OSError as error:
         raise Stopped(3, '%s: %s' % (title, error.strerror)) from error
@@ -77,7 +77,7 @@ def payloads_of(lines):
     for number, line in enumerate(lines, 1):
         line = line.removesuffix(b'\n')
         match = LINE.fullmatch(line)
-        if not match or len(line) > MOST_IN_A_LINE or int(match[2] or match[4] or 0) >= 2**64:
+        if not match or len(line) > MOST_LINE or int(match[2] or match[4] or 0) >= 2**64:
             raise Refused('line %d' % number)
         if match[1]:
             yield number, int(match[1]), int(match[2]), '' if match[3] == b'empty' else match[3].decode(), frame, size

@@ -1,7 +1,7 @@
 """The header of a session packet: RFC 1002 section 4.3.1."""
+from .header import SESSION_TYPES
 
 HEADER = 4
-TYPES = frozenset((0x00, 0x81, 0x82, 0x83, 0x84, 0x85))
 
 
 def size_of(data):
@@ -11,7 +11,7 @@ def size_of(data):
 
 def has_header(data):
     """Whether a whole header has a type that exists, and no reserved flag."""
-    return data[0] in TYPES and data[1] <= 1
+    return data[0] in SESSION_TYPES and data[1] <= 1
 
 
 def is_whole(data):

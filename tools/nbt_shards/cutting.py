@@ -7,11 +7,9 @@ tick. With groups by source address each range gives a shard for each group: the
 import re
 from collections import namedtuple
 
-from .ending import Stopped
+from nbt_pcap.header import INPUT, KEPT_FOR
 
-MOST_READ = 16_777_216
-LONGEST_LINE = 262_200
-TIMEOUT = 2_000
+from .ending import Stopped
 
 # Whole lines of an input: the offsets between which they stand, the number of the first, and how many they are.
 Range = namedtuple('Range', 'capture begin end first lines')
@@ -37,7 +35,7 @@ def ranges_of(capture, options):
     except OSError as error:
         raise Stopped('%s: %s' % (capture, error.strerror)) from error
     for each in ranges:
-        if each.end - each.begin > MOST_READ and not options.by_source:
+        if each.end - each.begin > INPUT and not options.by_source:
             raise too_long(each, options)
     return ranges
 
@@ -83,11 +81,11 @@ def line_ends(capture, most):
 def tick_places(capture):
     """The ends of all lines of a capture with ticks.
 
-    A key lives from the moment of its first payload, and the first tick TIMEOUT or more after that drops it. So a tick
+    A key lives from the moment of its first payload, and the first tick KEPT_FOR or more after that drops it. So a tick
     leaves none that shows as much after the moments of all payloads since the last such tick.
     """
     last = last_tick(capture)
-    at, latest = 0, -TIMEOUT
+    at, latest = 0, -KEPT_FOR
     with open(capture, 'rb') as file:
         for line in file:
             at += len(line)
@@ -95,9 +93,9 @@ def tick_places(capture):
             if payload := PAYLOAD.match(line):
                 latest = max(latest, int(payload[1]))
             elif tick := TICK.match(line):
-                leaves_none = latest + TIMEOUT <= int(tick[1])
+                leaves_none = latest + KEPT_FOR <= int(tick[1])
             if leaves_none:
-                latest = -TIMEOUT
+                latest = -KEPT_FOR
             yield Place(at, 1, leaves_none or at > last)
 
 
@@ -133,11 +131,11 @@ def too_long(each, options):
     """Why a range isn't cut further."""
     size = each.end - each.begin
     if options.tables:
-        return Stopped('%s: line %d has %d bytes, and `nbt merge` reads %d' % (each.capture, each.first, size, MOST_READ), 1)
+        return Stopped('%s: line %d has %d bytes, and `nbt merge` reads %d' % (each.capture, each.first, size, INPUT), 1)
     return Stopped(
         '%s has %d bytes, of which `nbt save` reads %d, and can\'t be cut there: keys live across each of its ticks. Cut it '
         'by source address (--by-source %d), or leave the ticks out (nbt-pcap2cap --no-ticks) where no key has to be dropped'
-        % (place_of(each), size, MOST_READ, 1 + size // (MOST_READ // 2)), 1)
+        % (place_of(each), size, INPUT, 1 + size // (INPUT // 2)), 1)
 
 
 def place_of(each):

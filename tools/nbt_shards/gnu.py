@@ -7,6 +7,8 @@ import signal
 import subprocess
 import tempfile
 
+from nbt_pcap.header import MOST_KEYS
+
 from .ending import Stopped, progress
 
 # A job: reads what it was given, counts it, and puts the table there at once, if it is one. Its last line tells what it did.
@@ -20,11 +22,11 @@ ends() {
 }
 is_table() {
     [ "$(printf '%s\n%s\n' $empty $empty | "$program" agree 2>&1)" = equal ] && [ "$(wc -l <"$part")" -eq 1 ] &&
-        words=$("$program" list --keys 65535 2>&1 >/dev/null <"$part")
+        words=$("$program" list --keys KEYS 2>&1 >/dev/null <"$part")
 }
 set -- $(wc -lc <"$input")
 [ "$1 $2" = "$lines $bytes" ] || ends 1 "it has $1 line ends and $2 bytes here, and $lines and $bytes where it was cut"
-words=$("$program" "$command" --keys 65535 2>&1 >"$part" <"$input")
+words=$("$program" "$command" --keys KEYS 2>&1 >"$part" <"$input")
 status=$?
 [ $status -le 128 ] || words="signal $((status - 128)) ended the program"
 [ "$words" != 'nbt: write' ] || why=$(LC_ALL=C cat "$input" 2>&1 >"$part") || words="$PWD/$table: ${why##*: }"
@@ -32,7 +34,7 @@ status=$?
 is_table || ends 3 "what $program printed isn't a saved table. $words"
 words=$(sync "$part" 2>&1) && words=$(mv "$part" "$table" 2>&1) || ends 3 "$words"
 echo "$table 0 $lines"
-'''
+'''.replace('KEYS', str(MOST_KEYS))
 # Which program a machine has: its version, and a checksum of its file.
 IDENTITY = 'echo "$("$1" --version) $(sha256sum <"$(command -v "$1")")"'
 TOLD = re.compile(r'(\S+) ([0-9]+)(?: (.*))?')

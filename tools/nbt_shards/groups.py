@@ -1,14 +1,15 @@
 """How many groups by source address are enough."""
 import os
 
-from .cutting import LONGEST_LINE, MOST_READ, has_ticks, last_tick
+from nbt_pcap.header import INPUT, MOST_KEYS, MOST_LINE
+
+from .cutting import has_ticks, last_tick
 from .ending import Stopped, progress
-from .refusals import MOST_KEYS
 from .sample import Sample
 
 MOST_GROUPS = 4_096
 # Two tables of so many bytes can always be merged.
-HALF = MOST_READ // 2
+HALF = INPUT // 2
 
 
 def judge_groups(options):
@@ -33,7 +34,7 @@ def judge_groups(options):
     sure = 1 if sample.below == 1 << 32 else 1 + 4 / max(1, len(sample.keys)) ** 0.5
     groups = options.by_source or 1
     counted = len(sample.seen) < sample.MOST_SEEN
-    if fits(sums, groups, MOST_KEYS * (1 if counted else sure), MOST_READ * sure):
+    if fits(sums, groups, MOST_KEYS * (1 if counted else sure), INPUT * sure):
         return
     keys, digits = (sum(each) for each in zip(*sums.values()))
     raise Stopped('%s about %d keys and %d bytes of saved tables%s, of which a group may have %d and %d (--no-estimate begins all the same). %s'
@@ -48,7 +49,7 @@ def blocks_of(capture, begin):
         rest = b'\n'
         while block := file.read(1 << 22):
             cut = block.rfind(b'\n') + 1
-            if cut or len(rest) > LONGEST_LINE:
+            if cut or len(rest) > MOST_LINE:
                 yield rest + block[:cut]
                 rest = b'\n'
             rest += block[cut:]

@@ -1,11 +1,11 @@
 """What is told of a shard that was refused."""
 import re
 
+from nbt_pcap.header import MOST_KEYS
+
 from .cutting import place_of
 from .ending import Stopped
 from .shards import group_of, lines_of
-
-MOST_KEYS = 65_535
 
 
 def refusal(shard, words):

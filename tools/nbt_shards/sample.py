@@ -4,8 +4,7 @@ import re
 import zlib
 from collections import namedtuple
 
-LONGEST_DATAGRAM = 65_535
-MORE, FIRST = 1, 2
+from nbt_pcap.header import FIRST, MORE, MOST_DATAGRAM
 
 # A line that may have a fragment: its type, its flags, its key (identifier, address, port), LENGTH, and its offset.
 FRAGMENT = re.compile(rb'\n138 [0-9]{1,20} (1[0-2])([0-9A-Fa-f]{2})([0-9A-Fa-f]{16})([0-9A-Fa-f]{4})([0-9A-Fa-f]{4})')
@@ -98,7 +97,7 @@ def fragment_of(match, block):
     if end > (line_end if line_end >= 0 else len(block)) or bool(flags & FIRST) != (offset == 0):
         return None
     data = name_end(block, name_end(block, match.end(), end), end)
-    if data is None or offset + (end - data) // 2 > LONGEST_DATAGRAM:
+    if data is None or offset + (end - data) // 2 > MOST_DATAGRAM:
         return None
     content = zlib.crc32(match[1] + block[match.end():end].lower())
     return Fragment((data - match.end()) // 2, (end - data) // 2, content, flags & MORE)

@@ -3,7 +3,9 @@ import hashlib
 import re
 import zlib
 
-from .cutting import MOST_READ, place_of
+from nbt_pcap.header import INPUT
+
+from .cutting import place_of
 from .ending import Stopped
 
 BLOCK = 1 << 22
@@ -70,7 +72,7 @@ def rows_by_source(shard):
         for row in rows if group is None else [rows[group]]:
             row.append(line)
         held += len(line)
-        if held > MOST_READ:
+        if held > INPUT:
             yield rows
             rows, held = [[] for _ in range(shard.groups)], 0
     yield rows
@@ -94,6 +96,6 @@ def group_of(line, groups):
 
 def judge_size(shard, size):
     """Refuses a shard that `nbt save` wouldn't read."""
-    if size > MOST_READ:
+    if size > INPUT:
         raise Stopped('%s: group %d has %d bytes, of which `nbt save` reads %d. More groups (--by-source) make it smaller, or '
-                      'shorter shards (--shard-bytes) where no tick is in the way' % (place_of(shard.range), shard.group, size, MOST_READ), 1)
+                      'shorter shards (--shard-bytes) where no tick is in the way' % (place_of(shard.range), shard.group, size, INPUT), 1)

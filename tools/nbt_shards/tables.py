@@ -3,7 +3,8 @@ import contextlib
 import hashlib
 import os
 
-from .cutting import MOST_READ
+from nbt_pcap.header import INPUT
+
 from .ending import Stopped
 from .groups import HALF
 
@@ -16,13 +17,13 @@ def grouped(sizes, options):
     for place in sorted(range(len(sizes)), key=lambda place: (sizes[place], place)):
         if not rows or sizes[place] > room or len(rows[-1]) == MOST_TOGETHER:
             rows.append([])
-            room = MOST_READ
+            room = INPUT
         rows[-1].append(place)
         room -= sizes[place]
     if len(rows) == len(sizes):
         raise Stopped('%d tables are left, of which no two can be merged: the two smallest have %d bytes together, and `nbt '
                       'merge` reads %d. Cut by source address: --by-source %d'
-                      % (len(sizes), sum(sorted(sizes)[:2]), MOST_READ, groups_for(sum(sizes), options)), 1)
+                      % (len(sizes), sum(sorted(sizes)[:2]), INPUT, groups_for(sum(sizes), options)), 1)
     return rows
 
 

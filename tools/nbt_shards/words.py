@@ -2,10 +2,10 @@
 import argparse
 import os
 
-from .cutting import LONGEST_LINE, MOST_READ
+from nbt_pcap.header import INPUT, MOST_LINE
+
 from .ending import Stopped
 from .groups import MOST_GROUPS
-
 
 # How pcap files of both byte orders begin, with microseconds and nanoseconds, and pcapng files.
 PCAPS = (b'\xd4\xc3\xb2\xa1', b'\xa1\xb2\xc3\xd4', b'\x4d\x3c\xb2\xa1', b'\xa1\xb2\x3c\x4d', b'\n\r\r\n')
@@ -18,7 +18,7 @@ def parser(name, about):
     words.add_argument('out', metavar='OUT', help='the file for the saved table; it appears when all is done')
     words.add_argument('--force', action='store_true', help='replace OUT, if it is a saved table')
     words.add_argument('--program', metavar='PATH', help='the program nbt, as the workers find it')
-    words.add_argument('--shard-bytes', metavar='N', type=number(LONGEST_LINE + 1, MOST_READ), default=8_388_608,
+    words.add_argument('--shard-bytes', metavar='N', type=number(MOST_LINE + 1, INPUT), default=8_388_608,
                        help='how many bytes of a capture a shard has at most, where ticks allow it (8388608)')
     words.add_argument('--by-source', metavar='N', type=number(1, MOST_GROUPS),
                        help='N tables, a line of OUT each: a source address goes to the table with its number modulo N')

@@ -13,6 +13,7 @@ tables      saved tables
 captures    lines of captures
 turns       calls on a station, one at a time
 statuses    why a call did nothing, as exceptions
+header      the numbers and structures of nbt.h
 numbers     numbers, addresses and texts, judged before a call
 buffers     the bytes of buffers
 library     the shared library, found and loaded
@@ -23,18 +24,19 @@ The calls may be made from any thread, and let other threads run meanwhile, but 
 station a call waits for another to end.
 """
 from .buffers import Buffer
-from .captures import Line, LineKind, capture_line
-from .datagrams import Datagram, DatagramFront, DatagramType, datagram_error, datagram_query
+from .captures import Line, capture_line
+from .datagrams import Datagram, DatagramFront, datagram_error, datagram_query
+from .header import DatagramType, LineKind, NodeType, Operation, Outcome, ResultCode, SessionType, Status
 from .library import VERSION
 from .names import spell, text
 from .packets import brief, json, show
-from .rdata import DomainName, NbEntry, NodeName, NodeStatus, NodeType, Rdata
+from .rdata import DomainName, NbEntry, NodeName, NodeStatus, Rdata
 from .responses import negative_query_response, node_status_response, query_response, response
 from .service import node_status, query, refresh, registration, release
-from .service_packets import Operation, Question, Record, ResultCode, ServicePacket
-from .sessions import SessionFront, SessionPacket, SessionStream, SessionType
-from .stations import Delivery, Outcome, Station, Taken
-from .statuses import MoreNeeded, NbtError, Status
+from .service_packets import Question, Record, ServicePacket
+from .sessions import SessionFront, SessionPacket, SessionStream
+from .stations import Delivery, Station, Taken
+from .statuses import MoreNeeded, NbtError
 from .tables import Key, differ, list_table, merge, table_json
 from .turns import ReentryError
 

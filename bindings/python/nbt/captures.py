@@ -2,27 +2,14 @@
 from __future__ import annotations
 
 import ctypes
-import enum
 from dataclasses import dataclass
 from typing import Union
 
+from . import header
 from .buffers import Buffer, given
+from .header import LineKind
 from .library import ADDRESS, BYTES, writer
 from .numbers import encoded
-
-
-class LineKind(enum.IntEnum):
-    """What a line is: the numbers of enum nbt_line_kind."""
-
-    BLANK = 0
-    PACKET = 1
-    TICK = 2
-
-
-class Numbers(ctypes.Structure):
-    """struct nbt_line."""
-
-    _fields_ = [('kind', ctypes.c_uint32), ('port', ctypes.c_uint16), ('moment', ctypes.c_uint64)]
 
 
 @dataclass(frozen=True)
@@ -43,6 +30,6 @@ def capture_line(line: Union[str, Buffer]) -> Line:
 
     NbtError: BAD_LINE.
     """
-    data, told = encoded(line, 'line') if isinstance(line, str) else given(line), Numbers()
+    data, told = encoded(line, 'line') if isinstance(line, str) else given(line), header.Line()
     payload = LINE(data, len(data) - data.endswith(b'\n'), ctypes.addressof(told))
     return Line(LineKind(told.kind), told.port, told.moment, payload)

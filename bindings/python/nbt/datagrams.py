@@ -2,54 +2,22 @@
 from __future__ import annotations
 
 import ctypes
-import enum
 import ipaddress
 from dataclasses import dataclass
 from typing import Iterator, List, Optional, Tuple, Union
 
-from . import names
+from . import header, names
 from .buffers import Buffer, given
+from .header import FIRST, MORE, MOST_DATAGRAM, DatagramType
 from .library import BYTES, Reader, writer
 from .numbers import Address, address_number, encoded, named, number
 from .statuses import NbtError
 
 # A header, and as many bytes as DGM_LENGTH can say.
-LONGEST = 14 + 0xffff
+LONGEST = 14 + MOST_DATAGRAM
 
-
-class DatagramType(enum.IntEnum):
-    """MSG_TYPE: three kinds of fragment, an error, and a query with its two answers."""
-
-    UNIQUE = 0x10
-    GROUP = 0x11
-    BROADCAST = 0x12
-    ERROR = 0x13
-    FIND = 0x14
-    FOUND = 0x15
-    MISSING = 0x16
-
-
-class Found(ctypes.Structure):
-    """struct nbt_datagram."""
-
-    _fields_ = [('type', ctypes.c_uint8), ('flags', ctypes.c_uint8), ('identifier', ctypes.c_uint16),
-                ('address', ctypes.c_uint32), ('port', ctypes.c_uint16), ('offset', ctypes.c_uint16),
-                ('source', ctypes.c_size_t), ('source_length', ctypes.c_size_t), ('destination', ctypes.c_size_t),
-                ('destination_length', ctypes.c_size_t), ('data', ctypes.c_size_t), ('data_length', ctypes.c_size_t),
-                ('used', ctypes.c_size_t)]
-
-
-class FoundFront(ctypes.Structure):
-    """struct nbt_datagram_front."""
-
-    _fields_ = [('type', ctypes.c_uint8), ('flags', ctypes.c_uint8), ('identifier', ctypes.c_uint16),
-                ('address', ctypes.c_uint32), ('port', ctypes.c_uint16), ('offset', ctypes.c_uint16),
-                ('source', ctypes.c_size_t), ('source_length', ctypes.c_size_t), ('destination', ctypes.c_size_t),
-                ('destination_length', ctypes.c_size_t)]
-
-
-READ = Reader('nbt_datagram_read', Found, 'source', 'destination', 'data', longest=LONGEST)
-FRONT = Reader('nbt_datagram_front', FoundFront, 'source', 'destination')
+READ = Reader('nbt_datagram_read', header.Datagram, 'source', 'destination', 'data', longest=LONGEST)
+FRONT = Reader('nbt_datagram_front', header.DatagramFront, 'source', 'destination')
 WRITE = writer('nbt_datagram_write', ctypes.c_uint8, ctypes.c_uint16, ctypes.c_uint32, ctypes.c_uint16, *BYTES, *BYTES,
                *BYTES, ctypes.c_uint16)
 ERROR = writer('nbt_datagram_error', ctypes.c_uint16, ctypes.c_uint32, ctypes.c_uint16, ctypes.c_uint8, places=False)
@@ -64,12 +32,12 @@ class Flagged:
     @property
     def more(self) -> bool:
         """Whether more fragments follow."""
-        return self.flags & 0x01 != 0
+        return self.flags & MORE != 0
 
     @property
     def first(self) -> bool:
         """Whether it is the first fragment."""
-        return self.flags & 0x02 != 0
+        return self.flags & FIRST != 0
 
 
 @dataclass(frozen=True)

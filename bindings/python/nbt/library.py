@@ -10,16 +10,17 @@ import os
 from typing import Any, Callable, List, Optional, Tuple, Type
 
 from .buffers import Buffer, lend
+from .header import Status
 from .numbers import whole_number
-from .statuses import NbtError, Status, refusal
+from .statuses import NbtError, refusal
 
 NAME = 'libnbt.so.0'
 # How many bytes an answer may have before a call is made a second time, and how many a room has that is kept.
 ROOM, MOST_SPARE = 4_096, 1 << 20
 # How many bytes of a buffer are copied at first.
 FRONT = 4_096
-# Of enum nbt_status.
-DONE, NO_ROOM = 0, 1
+# Whole numbers, which are compared sooner.
+DONE, NO_ROOM = int(Status.DONE), int(Status.NO_ROOM)
 
 # Addresses are given as numbers. Lengths have the same type: both are as wide, so C is passed the same, and ctypes takes a
 # number for c_void_p in half the time that it wants for c_size_t.

@@ -2,7 +2,6 @@
 from __future__ import annotations
 
 import ctypes
-import enum
 import ipaddress
 import struct
 from dataclasses import dataclass
@@ -10,19 +9,9 @@ from functools import lru_cache
 from typing import Any, List, Optional, Tuple, Union
 
 from . import names
+from .header import ACT, CNF, DRG, G, NB, NBSTAT, NS, PRM, SERVICE_ADDRESS, SERVICE_NODE, NodeType, Status
 from .library import ADDRESS, ALONE, DONE, LENGTH, call
-from .statuses import NbtError, Status
-
-NB, NBSTAT, NS = 0x0020, 0x0021, 0x0002
-
-
-class NodeType(enum.IntEnum):
-    """ONT: how a node claims its names and asks for those of others."""
-
-    B = 0
-    P = 1
-    M = 2
-    H = 3
+from .statuses import NbtError
 
 
 class Flagged:
@@ -33,7 +22,7 @@ class Flagged:
     @property
     def group(self) -> bool:
         """G: whether it is a group's name."""
-        return self.flags & 0x8000 != 0
+        return self.flags & G != 0
 
     @property
     def node_type(self) -> NodeType:
@@ -59,22 +48,22 @@ class NodeName(Flagged):
     @property
     def deregistered(self) -> bool:
         """DRG: whether it is being given up."""
-        return self.flags & 0x1000 != 0
+        return self.flags & DRG != 0
 
     @property
     def conflict(self) -> bool:
         """CNF: whether another node claims it."""
-        return self.flags & 0x0800 != 0
+        return self.flags & CNF != 0
 
     @property
     def active(self) -> bool:
         """ACT."""
-        return self.flags & 0x0400 != 0
+        return self.flags & ACT != 0
 
     @property
     def permanent(self) -> bool:
         """PRM: whether it is the node's permanent name."""
-        return self.flags & 0x0200 != 0
+        return self.flags & PRM != 0
 
 
 @dataclass(frozen=True)
@@ -103,8 +92,7 @@ Rdata = Union[Tuple[NbEntry, ...], NodeStatus, DomainName, bytes]
 
 # How many bytes an address of a name has with its flags, and one of the names of a node.
 ENTRY_LENGTH, NODE_LENGTH = 6, 18
-# struct nbt_service_address and struct nbt_service_node, and room for one.
-FOUND_ADDRESS, FOUND_NODE = struct.Struct('@IH'), struct.Struct('@H16s')
+# Room for one of either.
 PART_ROOM = ctypes.c_char * 32
 
 PART = ctypes.c_uint16, ADDRESS, LENGTH, LENGTH, ADDRESS, ADDRESS
@@ -126,13 +114,13 @@ def read_rdata(kind: int, address: int, length: int, server: bytes) -> Rdata:
 
 def read_entries(address: int, length: int) -> Optional[Tuple[NbEntry, ...]]:
     """The addresses of a name; None where RDATA has another form."""
-    found = parts(ADDRESSES, FOUND_ADDRESS, NB, address, length, length // ENTRY_LENGTH)
+    found = parts(ADDRESSES, SERVICE_ADDRESS, NB, address, length, length // ENTRY_LENGTH)
     return None if found is None else tuple([NbEntry(flags, ipaddress.IPv4Address(number)) for number, flags in found])
 
 
 def read_status(address: int, length: int) -> Optional[NodeStatus]:
     """The names of a node, and its unit; None where RDATA has another form."""
-    found = parts(NODES, FOUND_NODE, NBSTAT, address, length, length // NODE_LENGTH)
+    found = parts(NODES, SERVICE_NODE, NBSTAT, address, length, length // NODE_LENGTH)
     if found is None:
         return None
     return NodeStatus(tuple([NodeName(node_text(name), flags) for flags, name in found]), read_unit(address, length))

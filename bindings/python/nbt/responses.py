@@ -12,16 +12,12 @@ from typing import Iterable, Optional, Tuple, Union
 
 from . import names
 from .buffers import Buffer, given
+from .header import AA, NB, NBSTAT, NM_FLAGS, NS, NULL, R, RD, Operation, ResultCode
 from .library import BYTES, writer
 from .numbers import address_number, encoded, number
-from .rdata import NB, NBSTAT, NS, DomainName, NbEntry, NodeStatus, Rdata
-from .service_packets import Operation, ResultCode
+from .rdata import DomainName, NbEntry, NodeStatus, Rdata
 
 RESPONSE = writer('nbt_service_response', ctypes.c_uint16, ctypes.c_uint16, *BYTES, ctypes.c_uint16, ctypes.c_uint32, *BYTES)
-# RR_TYPE of an answer that says nothing of the name.
-NULL = 0x000a
-# R; NM_FLAGS, of which AA is that the node has the name or keeps account of it, and RD that the request wanted such a node.
-R, NM_FLAGS, AA, RD = 0x8000, 0x07f0, 0x0400, 0x0100
 # An address of a name, and one of the names of a node.
 ENTRY, NODE = struct.Struct('>HL'), struct.Struct('>16sH')
 # STATISTICS: UNIT_ID, and what follows it.

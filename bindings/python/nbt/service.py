@@ -8,38 +8,38 @@ from __future__ import annotations
 
 import ctypes
 
+from .header import Request
 from .library import BYTES, writer
 from .numbers import Address, address_number, encoded, number, truth
 
-QUERY, NODE_STATUS, REGISTRATION, REFRESH, RELEASE = range(5)
 REQUEST = writer('nbt_service_request', ctypes.c_uint32, ctypes.c_uint16, ctypes.c_bool, *BYTES, ctypes.c_uint32,
                  ctypes.c_uint16, ctypes.c_uint32)
 
 
 def query(identifier: int, name: str, broadcast: bool = False) -> bytes:
     """A name query request."""
-    return request(QUERY, identifier, name, broadcast)
+    return request(Request.QUERY, identifier, name, broadcast)
 
 
 def node_status(identifier: int, name: str, broadcast: bool = False) -> bytes:
     """A node status request."""
-    return request(NODE_STATUS, identifier, name, broadcast)
+    return request(Request.NODE_STATUS, identifier, name, broadcast)
 
 
 def registration(identifier: int, name: str, time_to_live: int, nb_flags: int, address: Address,
                  broadcast: bool = False) -> bytes:
     """A name registration request. The time to live is in seconds."""
-    return request(REGISTRATION, identifier, name, broadcast, time_to_live, nb_flags, address)
+    return request(Request.REGISTRATION, identifier, name, broadcast, time_to_live, nb_flags, address)
 
 
 def refresh(identifier: int, name: str, time_to_live: int, nb_flags: int, address: Address, broadcast: bool = False) -> bytes:
     """A name refresh request. The time to live is in seconds."""
-    return request(REFRESH, identifier, name, broadcast, time_to_live, nb_flags, address)
+    return request(Request.REFRESH, identifier, name, broadcast, time_to_live, nb_flags, address)
 
 
 def release(identifier: int, name: str, nb_flags: int, address: Address, broadcast: bool = False) -> bytes:
     """A name release request."""
-    return request(RELEASE, identifier, name, broadcast, 0, nb_flags, address)
+    return request(Request.RELEASE, identifier, name, broadcast, 0, nb_flags, address)
 
 
 def request(kind: int, identifier: int, name: str, broadcast: bool, time_to_live: int = 0, nb_flags: int = 0,

@@ -2,14 +2,13 @@
 from __future__ import annotations
 
 import ctypes
-import enum
-import struct
 from dataclasses import dataclass
 from functools import lru_cache
 from typing import Any, List, Optional, Tuple, Type, TypeVar, Union, cast
 
 from . import names
 from .buffers import Buffer, lend
+from .header import AA, B, NM_FLAGS, R, RA, RD, SERVICE_ENTRY, SERVICE_HEADER, TC, Operation, ResultCode
 from .library import ADDRESS, ALONE, DONE, LENGTH, behind, call, error_of
 from .numbers import whole_number
 from .rdata import DomainName, Rdata, read_rdata
@@ -18,34 +17,8 @@ from .statuses import NbtError
 HEADER_LENGTH = 12
 Made = TypeVar('Made')
 
-
-class Operation(enum.IntEnum):
-    """OPCODE. That 8 and 9 are both a refresh is said by sections 4.2.1.1 and 4.2.4."""
-
-    QUERY = 0
-    REGISTRATION = 5
-    RELEASE = 6
-    WACK = 7
-    REFRESH = 8
-    OTHER_REFRESH = 9
-
-
-class ResultCode(enum.IntEnum):
-    """RCODE."""
-
-    OK = 0
-    FMT_ERR = 1
-    SRV_ERR = 2
-    NAM_ERR = 3
-    IMP_ERR = 4
-    RFS_ERR = 5
-    ACT_ERR = 6
-    CFT_ERR = 7
-
-
-# struct nbt_service_header, and room for one; struct nbt_service_entry, and for how many of them there is room at once.
-HEADER_LAYOUT, ENTRY_LAYOUT = struct.Struct('@6HN'), struct.Struct('@2I2H3N2B255s0NB255s0N')
-HEADER_ROOM, MOST_ENTRIES = ctypes.c_char * HEADER_LAYOUT.size, 1_024
+# Room for a header, and for how many questions and records there is room at once.
+HEADER_ROOM, MOST_ENTRIES = ctypes.c_char * SERVICE_HEADER.size, 1_024
 # A question has no fewer bytes.
 LEAST = 5
 
@@ -58,7 +31,7 @@ class Question:
     """What is asked for."""
 
     name: Union[str, DomainName]  # the text of a NetBIOS name; a DomainName where it is none
-    type: int                     # QUESTION_TYPE: 0x0020 NB, 0x0021 NBSTAT
+    type: int                     # QUESTION_TYPE, as of enum nbt_record_type
     class_number: int             # QUESTION_CLASS
 
 
@@ -67,7 +40,7 @@ class Record:
     """What is said of a name."""
 
     name: Union[str, DomainName]  # the text of a NetBIOS name; a DomainName where it is none
-    type: int                     # RR_TYPE: 0x0020 NB, 0x0021 NBSTAT, 0x0002 NS
+    type: int                     # RR_TYPE, as of enum nbt_record_type
     class_number: int             # RR_CLASS
     time_to_live: int             # TTL, in seconds
     rdata: Rdata                  # the bytes, where it is of another type, or hasn't the form of its type
@@ -80,7 +53,7 @@ class ServicePacket:
     identifier: int                     # NAME_TRN_ID
     response: bool                      # R
     op: Union[Operation, int]           # OPCODE
-    flags: int                          # NM_FLAGS where they stand in the header's second word, of the bits 0x07f0
+    flags: int                          # NM_FLAGS where they stand in the header's second word
     rcode: Union[ResultCode, int]           # RCODE
     counts: Tuple[int, int, int, int]   # QDCOUNT, ANCOUNT, NSCOUNT, ARCOUNT
     questions: Tuple[Question, ...]
@@ -92,27 +65,27 @@ class ServicePacket:
     @property
     def authoritative(self) -> bool:
         """AA."""
-        return self.flags & 0x0400 != 0
+        return self.flags & AA != 0
 
     @property
     def truncated(self) -> bool:
         """TC."""
-        return self.flags & 0x0200 != 0
+        return self.flags & TC != 0
 
     @property
     def recursion_desired(self) -> bool:
         """RD."""
-        return self.flags & 0x0100 != 0
+        return self.flags & RD != 0
 
     @property
     def recursion_available(self) -> bool:
         """RA."""
-        return self.flags & 0x0080 != 0
+        return self.flags & RA != 0
 
     @property
     def broadcast(self) -> bool:
         """B."""
-        return self.flags & 0x0010 != 0
+        return self.flags & B != 0
 
     @property
     def records(self) -> Tuple[Record, ...]:
@@ -148,11 +121,11 @@ def read_at(address: int, length: int, offset: int) -> Tuple[Optional[ServicePac
     status = HEADER(front, left, ctypes.addressof(header), ctypes.addressof(at))
     if status != DONE:
         return None, error_of(status, at.value)
-    identifier, word, qd, an, ns, ar, _used = HEADER_LAYOUT.unpack(header)
+    identifier, word, qd, an, ns, ar, _used = SERVICE_HEADER.unpack(header)
     sections, used, fault = read_items(front, left, qd + an + ns + ar)
     questions, answers, authorities, additional = [tuple(each) for each in sections]
-    return made(ServicePacket, identifier=identifier, response=word & 0x8000 != 0, op=OPERATIONS[word >> 11 & 15],
-                flags=word & 0x07f0, rcode=RESULTS[word & 15], counts=(qd, an, ns, ar), questions=questions, answers=answers,
+    return made(ServicePacket, identifier=identifier, response=word & R != 0, op=OPERATIONS[word >> 11 & 15],
+                flags=word & NM_FLAGS, rcode=RESULTS[word & 15], counts=(qd, an, ns, ar), questions=questions, answers=answers,
                 authorities=authorities, additional=additional, used=used), fault
 
 
@@ -185,7 +158,7 @@ def read_items(payload: int, length: int, count: int) -> Tuple[List[Any], int, O
         found = used.value
         number += found
         for (section, ttl, kind, class_number, data, data_length, place, netbios, name_length, spelling, server_length,
-             server) in ENTRY_LAYOUT.iter_unpack(room if found == most else memoryview(room)[:found * ENTRY_LAYOUT.size]):
+             server) in SERVICE_ENTRY.iter_unpack(room if found == most else memoryview(room)[:found * SERVICE_ENTRY.size]):
             name = name_of(spelling[:name_length], netbios)
             sections[section].append(
                 made(Record, name=name, type=kind, class_number=class_number, time_to_live=ttl,
@@ -197,7 +170,7 @@ def read_items(payload: int, length: int, count: int) -> Tuple[List[Any], int, O
 @lru_cache
 def room_for(count: int) -> Any:
     """Room for so many entries."""
-    return ctypes.c_char * (count * ENTRY_LAYOUT.size)
+    return ctypes.c_char * (count * SERVICE_ENTRY.size)
 
 
 @lru_cache(4_096)

@@ -2,62 +2,24 @@
 from __future__ import annotations
 
 import ctypes
-import enum
 import ipaddress
 from dataclasses import dataclass
 from typing import Any, Iterator, Optional, Tuple, Union
 
-from . import names
+from . import header, names
 from .buffers import Buffer, given
+from .header import MOST_BODY, SessionType
 from .library import BYTES, Reader, writer
 from .numbers import named, number
 from .statuses import MoreNeeded, NbtError
 
 # TYPE, FLAGS and LENGTH, in so many bytes; and with them as many as LENGTH can say.
 HEADER = 4
-LONGEST = HEADER + 0x1ffff
+LONGEST = HEADER + MOST_BODY
 
-
-class SessionType(enum.IntEnum):
-    """TYPE."""
-
-    MESSAGE = 0x00
-    REQUEST = 0x81
-    POSITIVE = 0x82
-    NEGATIVE = 0x83
-    RETARGET = 0x84
-    KEEPALIVE = 0x85
-
-
-class Found(ctypes.Structure):
-    """struct nbt_session."""
-
-    _fields_ = [('type', ctypes.c_uint8), ('body', ctypes.c_size_t), ('body_length', ctypes.c_size_t),
-                ('used', ctypes.c_size_t)]
-
-
-class FoundFront(ctypes.Structure):
-    """struct nbt_session_front."""
-
-    _fields_ = [('type', ctypes.c_uint8), ('flags', ctypes.c_uint8), ('body_length', ctypes.c_size_t)]
-
-
-class Names(ctypes.Structure):
-    """struct nbt_session_names."""
-
-    _fields_ = [('called_length', ctypes.c_uint8), ('called', ctypes.c_uint8 * 255), ('calling_length', ctypes.c_uint8),
-                ('calling', ctypes.c_uint8 * 255)]
-
-
-class Retarget(ctypes.Structure):
-    """struct nbt_session_retarget."""
-
-    _fields_ = [('address', ctypes.c_uint32), ('port', ctypes.c_uint16)]
-
-
-READ = Reader('nbt_session_read', Found, 'body', longest=LONGEST)
-FRONT = Reader('nbt_session_front', FoundFront, longest=HEADER)
-NAMES, RETARGET = Reader('nbt_session_names', Names), Reader('nbt_session_retarget', Retarget)
+READ = Reader('nbt_session_read', header.Session, 'body', longest=LONGEST)
+FRONT = Reader('nbt_session_front', header.SessionFront, longest=HEADER)
+NAMES, RETARGET = Reader('nbt_session_names', header.SessionNames), Reader('nbt_session_retarget', header.SessionRetarget)
 WRITE = writer('nbt_session_write', ctypes.c_uint8, *BYTES)
 
 

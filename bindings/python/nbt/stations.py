@@ -2,50 +2,20 @@
 from __future__ import annotations
 
 import ctypes
-import enum
 import ipaddress
 import weakref
 from dataclasses import dataclass
 from types import TracebackType
 from typing import Iterable, List, NoReturn, Optional, Type
 
-from . import names as spelled
+from . import header, names as spelled
 from .buffers import Buffer, given
-from .datagrams import DatagramType
+from .header import KEYS, TAKE_ROOM, DatagramType, Outcome, Taken as Numbers
 from .library import ADDRESS, BYTES, DONE, call, error_of, failure, writer
 from .numbers import Address, address_number, encoded, number
 from .statuses import NbtError
-from .tables import KEYS, PER_SOURCE
+from .tables import PER_SOURCE
 from .turns import Turns
-
-# NBT_TAKE_ROOM: no call of nbt_station_take writes more.
-TAKE_ROOM = 66_045
-
-
-class Outcome(enum.IntEnum):
-    """What became of a payload: the numbers of enum nbt_outcome."""
-
-    KEPT = 0
-    SPOILT = 1
-    DELIVERED = 2
-    UNHEARD = 3
-    OTHER = 4
-    REFUSED = 5
-
-
-class Handle(ctypes.Structure):
-    """struct nbt_station."""
-
-    _fields_ = [('at', ctypes.c_void_p)]
-
-
-class Numbers(ctypes.Structure):
-    """struct nbt_taken."""
-
-    _fields_ = [('outcome', ctypes.c_uint32), ('address', ctypes.c_uint32), ('port', ctypes.c_uint16),
-                ('identifier', ctypes.c_uint16), ('type', ctypes.c_uint8), ('source_length', ctypes.c_size_t),
-                ('destination_length', ctypes.c_size_t), ('data_length', ctypes.c_size_t), ('error_length', ctypes.c_size_t),
-                ('refusal', ctypes.c_uint32), ('refused_at', ctypes.c_size_t)]
 
 
 @dataclass(frozen=True)
@@ -81,7 +51,7 @@ TICK = call('nbt_station_tick', ADDRESS, ctypes.c_uint64, ADDRESS)
 SAVE = writer('nbt_station_save', ADDRESS, places=False)
 LIST = writer('nbt_station_list', ADDRESS, places=False)
 ABSORB = writer('nbt_station_absorb', ADDRESS, ctypes.c_uint64, *BYTES)
-FREE = call('nbt_station_free', Handle, answer=None)
+FREE = call('nbt_station_free', header.Station, answer=None)
 
 
 class Station:
@@ -96,7 +66,7 @@ class Station:
 
     def __init__(self, names: Iterable[str], address: Address, port: int = 138, keys: int = KEYS,
                  per_source: int = PER_SOURCE) -> None:
-        texts, self.handle = joined(names), Handle()
+        texts, self.handle = joined(names), header.Station()
         at, place = ctypes.c_void_p(), ctypes.c_size_t()
         status = CREATE(texts, len(texts), address_number(address), number(port, 16, 'port'), number(keys, 32, 'keys'),
                         number(per_source, 32, 'per source'), ctypes.byref(at), ctypes.byref(place))
@@ -123,7 +93,7 @@ class Station:
         """Gives the station back. No other call may follow; a second close does nothing."""
         self.turns.take(self.finalizer)
 
-    def open(self) -> ctypes._Pointer[Handle]:
+    def open(self) -> ctypes._Pointer[header.Station]:
         """The handle; ValueError where the station is closed."""
         if not self.finalizer.alive:
             raise ValueError('the station is closed')

@@ -7,19 +7,12 @@ from dataclasses import dataclass
 from typing import Optional
 
 from .buffers import Buffer, given
+from .header import KEYS, Difference
 from .library import ADDRESS, BYTES, DONE, call, failure, writer
 from .numbers import number
 
-# How many keys a table has room for, and how many of one address, where nothing else is said.
-KEYS, PER_SOURCE = 1_024, 4_294_967_295
-
-
-class Difference(ctypes.Structure):
-    """struct nbt_difference."""
-
-    _fields_ = [('address', ctypes.c_uint32), ('port', ctypes.c_uint16), ('identifier', ctypes.c_uint16),
-                ('differ', ctypes.c_uint8)]
-
+# How many keys of one address a table has room for, where nothing else is said: no limit.
+PER_SOURCE = 4_294_967_295
 
 MERGE = writer('nbt_table_merge', *BYTES, *BYTES, ctypes.c_uint32, ctypes.c_uint32)
 LIST = writer('nbt_table_list', *BYTES)

@@ -1,4 +1,4 @@
-"""The package beside the header: the same statuses, and a word for each."""
+"""The package beside the header and the library: its calls, its version, and words for each status."""
 import os
 import re
 import subprocess
@@ -8,7 +8,7 @@ import unittest
 import nbt
 from nbt import Status
 from nbt.library import STATUS_TEXT, LIBRARY, found_at
-from nbt.statuses import PLACED, NbtError
+from nbt.statuses import NbtError
 
 HEADER = os.environ.get('NBT_HEADER', os.path.join(os.path.dirname(__file__), '..', '..', '..', 'include', 'nbt.h'))
 
@@ -85,11 +85,6 @@ class Library(unittest.TestCase):
         with open(HEADER, encoding='utf-8') as lines:
             self.header = lines.read()
 
-    def test_statuses(self):
-        enum = re.search(r'enum nbt_status \{(.*?)\};', self.header, re.DOTALL)[1]
-        found = {name: int(value) for name, value in re.findall(r'NBT_([A-Z_]+) = (\d+)', enum)}
-        self.assertEqual({it.name: it.value for it in Status}, found)
-
     def test_words(self):
         words = [STATUS_TEXT(it).decode('ascii') for it in Status]
         self.assertEqual([f'{it} {text}' for it, text in zip(map(int, Status), words)], WORDS.split('\n')[1:-1])
@@ -98,11 +93,6 @@ class Library(unittest.TestCase):
         with self.assertRaises(NbtError) as caught:
             STATUS_TEXT(254)
         self.assertEqual(caught.exception.status, Status.UNKNOWN_STATUS)
-
-    def test_places(self):
-        """Each status whose line of the header has *at, or is said to be as one that has."""
-        placed = set(re.findall(r'NBT_([A-Z_]+) = \d+,? +/\*(?:(?!\*/).)*\*at', self.header))
-        self.assertLessEqual(placed, {it.name for it in PLACED})
 
     def test_calls(self):
         for name in re.findall(r'\b(nbt_[a-z_]+)\(', self.header):

@@ -17,7 +17,7 @@ class Shared:
         self.replace()
 
     def replace(self):
-        self.station = nbt.Station(['FRED<20>'], '10.0.0.9', keys=65_535)
+        self.station = nbt.Station(['FRED<20>'], '10.0.0.9', keys=2**32 - 1)
 
     def close(self, before=lambda: None):
         """Closes the station, which another replaces first."""

@@ -1,13 +1,8 @@
 //! Lines of captures: what came to the ports of NetBIOS and when, as the commands of `nbt` read it (our choice).
 
-use crate::calls::nbt_capture_line;
+use crate::header::{nbt_capture_line, FoundLine, PACKET, TICK};
 use crate::room::written;
-use crate::structures::FoundLine;
 use crate::Result;
-
-/// NBT_PACKET and NBT_TICK of `enum nbt_line_kind`.
-const PACKET: u32 = 1;
-const TICK: u32 = 2;
 
 /// What a line of a capture says. Moments are in milliseconds since any moment of the capture's choice.
 #[derive(Clone, Debug, PartialEq, Eq, Hash)]
@@ -54,7 +49,7 @@ pub enum Line {
 ///
 /// `BadLine` for any other line, and for one of more than 262,200 bytes; `NoMemory`.
 pub fn capture_line(line: &[u8]) -> Result<Option<Line>> {
-    let mut said = FoundLine::default();
+    let mut said = FoundLine::EMPTY;
     // SAFETY: the line is a slice, and what is written lies apart from it.
     let payload = unsafe {
         written(|room| {

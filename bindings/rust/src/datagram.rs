@@ -21,87 +21,17 @@
 //! # Ok::<(), Box<dyn std::error::Error>>(())
 //! ```
 
-use std::fmt;
 use std::net::{Ipv4Addr, SocketAddrV4};
 
-use crate::calls::{
-    nbt_datagram_error, nbt_datagram_query, nbt_datagram_read, nbt_datagram_write, DONE,
+use crate::header::{
+    datagram_flag, nbt_datagram_error, nbt_datagram_query, nbt_datagram_read, nbt_datagram_write,
+    FoundDatagram, DONE,
 };
 use crate::room::written;
-use crate::structures::FoundDatagram;
 use crate::{Error, Result, Spelling};
 
 pub use crate::datagram_front::{read_front, Front, Header};
-
-/// What MSG_TYPE says of a fragment's datagram.
-#[derive(Clone, Copy, Debug, PartialEq, Eq, Hash)]
-#[cfg_attr(feature = "serde", derive(serde::Serialize, serde::Deserialize))]
-#[cfg_attr(feature = "serde", serde(rename_all = "lowercase"))]
-#[repr(u8)]
-pub enum Kind {
-    /// For one name.
-    Unique = 0x10,
-    /// For the members of a group.
-    Group = 0x11,
-    /// For all.
-    Broadcast = 0x12,
-}
-
-/// The kind with this number, of MSG_TYPE; `UnknownType` where it is no fragment's.
-impl TryFrom<u8> for Kind {
-    type Error = Error;
-
-    fn try_from(number: u8) -> Result<Kind> {
-        let all = [Kind::Unique, Kind::Group, Kind::Broadcast];
-        let found = all.into_iter().find(|it| *it as u8 == number);
-        found.ok_or(Error::UNKNOWN_TYPE)
-    }
-}
-
-impl fmt::Display for Kind {
-    fn fmt(&self, out: &mut fmt::Formatter<'_>) -> fmt::Result {
-        out.pad(match self {
-            Kind::Unique => "unique",
-            Kind::Group => "group",
-            Kind::Broadcast => "broadcast",
-        })
-    }
-}
-
-/// What MSG_TYPE says of a query packet.
-#[derive(Clone, Copy, Debug, PartialEq, Eq, Hash)]
-#[cfg_attr(feature = "serde", derive(serde::Serialize, serde::Deserialize))]
-#[cfg_attr(feature = "serde", serde(rename_all = "lowercase"))]
-#[repr(u8)]
-pub enum Query {
-    /// A question: who has the name?
-    Find = 0x14,
-    /// The answer that somebody has it.
-    Found = 0x15,
-    /// The answer that nobody has it.
-    Missing = 0x16,
-}
-
-/// The query packet with this number, of MSG_TYPE; `UnknownType` where none has it.
-impl TryFrom<u8> for Query {
-    type Error = Error;
-
-    fn try_from(number: u8) -> Result<Query> {
-        let all = [Query::Find, Query::Found, Query::Missing];
-        let found = all.into_iter().find(|it| *it as u8 == number);
-        found.ok_or(Error::UNKNOWN_TYPE)
-    }
-}
-
-impl fmt::Display for Query {
-    fn fmt(&self, out: &mut fmt::Formatter<'_>) -> fmt::Result {
-        out.pad(match self {
-            Query::Find => "find",
-            Query::Found => "found",
-            Query::Missing => "missing",
-        })
-    }
-}
+pub use crate::header::datagram::{Kind, Query};
 
 /// A packet of port 138, whose names and data are lent from the payload.
 #[derive(Clone, Copy, Debug, PartialEq, Eq, Hash)]
@@ -153,12 +83,12 @@ pub struct Fragment<'a> {
 impl Packet<'_> {
     /// Whether more fragments follow.
     pub fn has_more(&self) -> bool {
-        self.flags & 0x01 != 0
+        self.flags & datagram_flag::MORE != 0
     }
 
     /// Whether it is the first fragment.
     pub fn is_first(&self) -> bool {
-        self.flags & 0x02 != 0
+        self.flags & datagram_flag::FIRST != 0
     }
 }
 
@@ -169,7 +99,7 @@ impl Packet<'_> {
 /// `Truncated` for less than the ten bytes of a header, `UnknownType`, `Truncated`, `SourceTruncated` to
 /// `SourceNotNetbios`, `DestinationTruncated` to `DestinationNotNetbios`, judged in this order.
 pub fn read(payload: &[u8]) -> Result<Packet<'_>> {
-    let (mut found, mut at) = (FoundDatagram::default(), 0);
+    let (mut found, mut at) = (FoundDatagram::EMPTY, 0);
     // SAFETY: the payload is a slice, and what is written lies apart from it.
     let status = unsafe { nbt_datagram_read(payload.as_ptr(), payload.len(), &mut found, &mut at) };
     if status != DONE {
@@ -207,10 +137,13 @@ fn body_of<'a>(payload: &'a [u8], found: &FoundDatagram) -> Result<Body<'a>> {
             data,
         }));
     }
-    match (found.kind, data) {
-        (0x13, &[code]) => Ok(Body::Error(code)),
-        // The library answers no other.
-        (kind, _) => Query::try_from(kind).map(|query| Body::Query(query, destination)),
+    if let Ok(query) = Query::try_from(found.kind) {
+        return Ok(Body::Query(query, destination));
+    }
+    // The library answers no other: an error's data is its code.
+    match data {
+        &[code] => Ok(Body::Error(code)),
+        _ => Err(Error::UNKNOWN_TYPE),
     }
 }
 

@@ -2,9 +2,8 @@
 
 use std::net::{Ipv4Addr, SocketAddrV4};
 
-use crate::calls::{nbt_datagram_front, DONE};
 use crate::datagram::read;
-use crate::structures::FoundFront;
+use crate::header::{datagram_flag, nbt_datagram_front, FoundDatagramFront, DONE};
 use crate::{Error, Spelling};
 
 /// The header of a packet of port 138, whether or not the packet stands, and the names of a fragment that are there whole.
@@ -30,12 +29,12 @@ pub struct Header<'a> {
 impl Header<'_> {
     /// Whether more fragments follow.
     pub fn has_more(&self) -> bool {
-        self.flags & 0x01 != 0
+        self.flags & datagram_flag::MORE != 0
     }
 
     /// Whether it is that of the first fragment.
     pub fn is_first(&self) -> bool {
-        self.flags & 0x02 != 0
+        self.flags & datagram_flag::FIRST != 0
     }
 }
 
@@ -75,7 +74,7 @@ pub struct Front<'a> {
 /// # Ok::<(), Box<dyn std::error::Error>>(())
 /// ```
 pub fn read_front(payload: &[u8]) -> Front<'_> {
-    let (mut found, mut at) = (FoundFront::default(), 0);
+    let (mut found, mut at) = (FoundDatagramFront::EMPTY, 0);
     // SAFETY: the payload is a slice, and what is written lies apart from it.
     let status =
         unsafe { nbt_datagram_front(payload.as_ptr(), payload.len(), &mut found, &mut at) };
@@ -86,7 +85,7 @@ pub fn read_front(payload: &[u8]) -> Front<'_> {
 }
 
 /// The header that was found in this payload.
-fn header_of<'a>(payload: &'a [u8], found: &FoundFront) -> Header<'a> {
+fn header_of<'a>(payload: &'a [u8], found: &FoundDatagramFront) -> Header<'a> {
     let name = |start: usize, length: usize| {
         (length > 0).then(|| Spelling(&payload[start..start + length]))
     };

@@ -36,11 +36,14 @@
 //! the folder of `nbt.pc`. With `NBT_STATIC=1` it is linked into the program.
 #![deny(missing_docs, unsafe_op_in_unsafe_fn)]
 
-mod calls;
 mod captures;
 mod codes;
 mod datagram_front;
 mod error;
+// Made, line by line.
+#[allow(dead_code)]
+#[rustfmt::skip]
+mod header;
 mod name;
 mod names;
 mod packets;
@@ -52,7 +55,6 @@ mod serialized;
 mod service_header;
 mod service_packets;
 mod status;
-mod structures;
 mod tables;
 
 pub mod datagram;
@@ -62,11 +64,11 @@ pub mod station;
 
 pub use captures::{capture_line, Line};
 pub use error::Error;
+pub use header::Status;
 pub use name::{Labels, Name};
 pub use names::{spell, text, Spelling};
 pub use packets::{brief, brief_into, json, json_into, show, show_into, version};
 pub use station::Station;
-pub use status::Status;
 pub use tables::{differ, list_table, merge, table_json, Limits};
 
 /// What a call answers: a value, or why it did nothing.

@@ -5,7 +5,7 @@ use std::fmt::{self, Write};
 use std::hash::{Hash, Hasher};
 use std::str::FromStr;
 
-use crate::calls::{nbt_name_spell, DONE};
+use crate::header::{nbt_name_spell, DONE};
 use crate::names::{text, Spelling};
 use crate::{Error, Result, Status};
 

@@ -2,7 +2,7 @@
 
 use std::fmt;
 
-use crate::calls::{nbt_name_spell, nbt_name_text};
+use crate::header::{nbt_name_spell, nbt_name_text};
 use crate::room::{text_of, written};
 use crate::{Error, Result};
 

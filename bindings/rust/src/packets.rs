@@ -1,6 +1,6 @@
 //! What the command `nbt show` prints of a payload: as lines, as a phrase and as JSON; the version of the library.
 
-use crate::calls::{nbt_brief, nbt_json, nbt_show, nbt_version};
+use crate::header::{nbt_brief, nbt_json, nbt_show, nbt_version};
 use crate::room::{text_of, write_into, written};
 use crate::Result;
 

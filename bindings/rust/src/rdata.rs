@@ -2,18 +2,13 @@
 
 use std::net::Ipv4Addr;
 
-use crate::calls::{nbt_service_address, nbt_service_node, nbt_service_unit, DONE, NO_PART};
-use crate::codes::NodeType;
-use crate::service::Entry;
-use crate::structures::{FoundAddress, FoundNode};
+use crate::header::service::NodeType;
+use crate::header::{
+    name_flag, nbt_service_address, nbt_service_node, nbt_service_unit, FoundServiceAddress,
+    FoundServiceNode, FoundServiceUnit, DONE, NO_PART,
+};
+use crate::service::{Entry, NB, NBSTAT, NS};
 use crate::Name;
-
-/// RR_TYPE of an address of a NetBIOS name.
-pub const NB: u16 = 0x0020;
-/// RR_TYPE of the status of a node.
-pub const NBSTAT: u16 = 0x0021;
-/// RR_TYPE of a name server.
-pub const NS: u16 = 0x0002;
 
 /// What a record says, by its type.
 #[derive(Clone, Debug)]
@@ -94,8 +89,8 @@ impl Iterator for Addresses<'_> {
 impl ExactSizeIterator for Addresses<'_> {}
 
 /// What the library answers for the address of a number.
-fn address_at(data: &[u8], number: usize) -> (u32, FoundAddress, usize) {
-    let (mut found, mut at) = (FoundAddress::default(), 0);
+fn address_at(data: &[u8], number: usize) -> (u32, FoundServiceAddress, usize) {
+    let (mut found, mut at) = (FoundServiceAddress::EMPTY, 0);
     // SAFETY: the data is a slice, and what is written lies apart from it.
     let status =
         unsafe { nbt_service_address(NB, data.as_ptr(), data.len(), number, &mut found, &mut at) };
@@ -129,7 +124,7 @@ pub struct NodeName {
 impl NodeName {
     /// G: whether it is a group's name.
     pub fn is_group(&self) -> bool {
-        self.flags & 0x8000 != 0
+        self.flags & name_flag::G != 0
     }
 
     /// ONT.
@@ -139,22 +134,22 @@ impl NodeName {
 
     /// DRG: whether it is being given up.
     pub fn is_deregistered(&self) -> bool {
-        self.flags & 0x1000 != 0
+        self.flags & name_flag::DRG != 0
     }
 
     /// CNF: whether another node claims it.
     pub fn is_in_conflict(&self) -> bool {
-        self.flags & 0x0800 != 0
+        self.flags & name_flag::CNF != 0
     }
 
     /// ACT.
     pub fn is_active(&self) -> bool {
-        self.flags & 0x0400 != 0
+        self.flags & name_flag::ACT != 0
     }
 
     /// PRM: whether it is the node's permanent name.
     pub fn is_permanent(&self) -> bool {
-        self.flags & 0x0200 != 0
+        self.flags & name_flag::PRM != 0
     }
 }
 
@@ -202,8 +197,8 @@ impl Iterator for NodeNames<'_> {
 impl ExactSizeIterator for NodeNames<'_> {}
 
 /// What the library answers for the name of a number.
-fn node_at(data: &[u8], number: usize) -> (u32, FoundNode, usize) {
-    let (mut found, mut at) = (FoundNode::default(), 0);
+fn node_at(data: &[u8], number: usize) -> (u32, FoundServiceNode, usize) {
+    let (mut found, mut at) = (FoundServiceNode::EMPTY, 0);
     // SAFETY: the data is a slice, and what is written lies apart from it.
     let status = unsafe {
         nbt_service_node(
@@ -220,8 +215,8 @@ fn node_at(data: &[u8], number: usize) -> (u32, FoundNode, usize) {
 
 /// The unit that stands behind the names, if it does.
 fn unit_of(data: &[u8]) -> Option<[u8; 6]> {
-    let (mut unit, mut at) = ([0; 6], 0);
+    let (mut unit, mut at) = (FoundServiceUnit::EMPTY, 0);
     // SAFETY: the data is a slice, and what is written lies apart from it.
     let status = unsafe { nbt_service_unit(NBSTAT, data.as_ptr(), data.len(), &mut unit, &mut at) };
-    (status == DONE).then_some(unit)
+    (status == DONE).then_some(unit.bytes)
 }

@@ -2,19 +2,17 @@
 
 use std::borrow::Cow;
 
-use crate::calls::nbt_service_response;
-use crate::codes::ResultCode;
-use crate::rdata::{NodeName, NB, NBSTAT, NS};
+use crate::header::service::ResultCode;
+use crate::header::{nbt_service_response, word};
+use crate::rdata::NodeName;
 use crate::room::write_into;
-use crate::service::Entry;
+use crate::service::{Entry, NB, NBSTAT, NS, NULL};
 use crate::{Error, Name, Result, Status};
 
-/// RR_TYPE of an answer that says nothing of the name.
-const NULL: u16 = 0x000a;
 /// R, AA and RD: of a node that answers for its own name.
-const ANSWERED: u16 = 0x8500;
+const ANSWERED: u16 = word::R | word::AA | word::RD;
 /// R and AA.
-const OF_A_NODE: u16 = 0x8400;
+const OF_A_NODE: u16 = word::R | word::AA;
 /// How many bytes an address of a name has, and a name of a node.
 const ENTRY_LENGTH: usize = 6;
 const NODE_LENGTH: usize = 18;
@@ -53,7 +51,7 @@ const STATISTICS_LENGTH: usize = 46;
 pub struct Response<'a> {
     /// NAME_TRN_ID, that of the request.
     pub identifier: u16,
-    /// R 0x8000, OPCODE 0x7800, NM_FLAGS 0x07f0 and RCODE 0x000f, written as they are.
+    /// R, OPCODE, NM_FLAGS and RCODE, written as they are.
     pub word: u16,
     /// The text of the name.
     pub name: &'a str,

@@ -1,6 +1,6 @@
 //! What the calls write: bytes, in as much room as they want, and places.
 
-use crate::calls::{DONE, NO_ROOM};
+use crate::header::{DONE, NO_ROOM};
 use crate::{Error, Result};
 
 /// How many bytes an answer may have before its call is made a second time.

@@ -23,17 +23,27 @@
 
 use std::net::Ipv4Addr;
 
-use crate::calls::nbt_service_request;
+use crate::header::{
+    name_flag, nbt_service_request, NODE_STATUS, QUERY, REFRESH, REGISTRATION, RELEASE,
+};
 use crate::room::written;
 use crate::Result;
 
-pub use crate::codes::{NodeType, Operation, ResultCode};
-pub use crate::rdata::{Addresses, NodeName, NodeNames, NodeStatus, Rdata, NB, NBSTAT, NS};
+pub use crate::header::record_type::*;
+pub use crate::header::service::{NodeType, Operation, ResultCode, Section};
+pub use crate::rdata::{Addresses, NodeName, NodeNames, NodeStatus, Rdata};
 pub use crate::responses::{Answer, Response};
 pub use crate::service_header::Header;
 pub use crate::service_packets::{
-    read, read_front, Front, Packet, Question, Questions, Record, Records, Section,
+    read, read_front, Front, Packet, Question, Questions, Record, Records,
 };
+
+impl NodeType {
+    /// The type in NB_FLAGS, or in NAME_FLAGS.
+    pub(crate) fn of_flags(flags: u16) -> NodeType {
+        NodeType::ALL[usize::from((flags & name_flag::ONT) >> 13)]
+    }
+}
 
 /// What is said of a name: an entry of RDATA.
 #[derive(Clone, Copy, Debug, PartialEq, Eq, Hash)]
@@ -48,7 +58,7 @@ pub struct Entry {
 impl Entry {
     /// G: whether it is a group's name.
     pub fn is_group(&self) -> bool {
-        self.nb_flags & 0x8000 != 0
+        self.nb_flags & name_flag::G != 0
     }
 
     /// ONT.
@@ -110,11 +120,11 @@ impl Request {
             address: Ipv4Addr::UNSPECIFIED,
         };
         match self {
-            Request::Query => (0, 0, none),
-            Request::NodeStatus => (1, 0, none),
-            Request::Registration(entry, seconds) => (2, seconds, entry),
-            Request::Refresh(entry, seconds) => (3, seconds, entry),
-            Request::Release(entry) => (4, 0, entry),
+            Request::Query => (QUERY, 0, none),
+            Request::NodeStatus => (NODE_STATUS, 0, none),
+            Request::Registration(entry, seconds) => (REGISTRATION, seconds, entry),
+            Request::Refresh(entry, seconds) => (REFRESH, seconds, entry),
+            Request::Release(entry) => (RELEASE, 0, entry),
         }
     }
 }

@@ -1,6 +1,7 @@
 //! Headers of packets of port 137.
 
-use crate::codes::{Operation, ResultCode};
+use crate::header::service::{Operation, ResultCode};
+use crate::header::word;
 
 /// The header of a packet: RFC 1002 section 4.2.1.1.
 #[derive(Clone, Copy, Debug, PartialEq, Eq, Hash)]
@@ -8,7 +9,7 @@ use crate::codes::{Operation, ResultCode};
 pub struct Header {
     /// NAME_TRN_ID.
     pub identifier: u16,
-    /// R 0x8000, OPCODE 0x7800, NM_FLAGS 0x07f0 and RCODE 0x000f.
+    /// R, OPCODE, NM_FLAGS and RCODE, as they stand.
     pub word: u16,
     /// QDCOUNT, ANCOUNT, NSCOUNT and ARCOUNT.
     pub counts: [u16; 4],
@@ -17,7 +18,7 @@ pub struct Header {
 impl Header {
     /// R: whether it is the header of a response.
     pub fn is_response(&self) -> bool {
-        self.word & 0x8000 != 0
+        self.word & word::R != 0
     }
 
     /// OPCODE, or its number where none has it.
@@ -27,27 +28,27 @@ impl Header {
 
     /// AA.
     pub fn is_authoritative(&self) -> bool {
-        self.word & 0x0400 != 0
+        self.word & word::AA != 0
     }
 
     /// TC.
     pub fn is_truncated(&self) -> bool {
-        self.word & 0x0200 != 0
+        self.word & word::TC != 0
     }
 
     /// RD.
     pub fn wants_recursion(&self) -> bool {
-        self.word & 0x0100 != 0
+        self.word & word::RD != 0
     }
 
     /// RA.
     pub fn has_recursion(&self) -> bool {
-        self.word & 0x0080 != 0
+        self.word & word::RA != 0
     }
 
     /// B.
     pub fn is_broadcast(&self) -> bool {
-        self.word & 0x0010 != 0
+        self.word & word::B != 0
     }
 
     /// RCODE, or its number where none has it.

@@ -2,10 +2,13 @@
 
 use std::fmt;
 
-use crate::calls::{nbt_service_header, nbt_service_items, nbt_service_read, DONE, NO_ITEM};
+use crate::header::service::Section;
+use crate::header::{
+    nbt_service_header, nbt_service_items, nbt_service_read, FoundServiceEntry, FoundServiceHeader,
+    DONE, NO_ITEM,
+};
 use crate::rdata::Rdata;
 use crate::service_header::Header;
-use crate::structures::{FoundEntry, FoundHeader};
 use crate::{Error, Name, Result};
 
 /// Where the first question or record stands: behind the header.
@@ -155,11 +158,12 @@ pub fn read_front(payload: &[u8]) -> Front<'_> {
 }
 
 /// A call that reads a header.
-type ReadsHeader = unsafe extern "C" fn(*const u8, usize, *mut FoundHeader, *mut usize) -> u32;
+type ReadsHeader =
+    unsafe extern "C" fn(*const u8, usize, *mut FoundServiceHeader, *mut usize) -> u32;
 
 /// The header at the front of a payload, and how many bytes were used, by one of the two calls that read it.
 fn found_header(payload: &[u8], call: ReadsHeader) -> Result<(Header, usize)> {
-    let (mut found, mut at) = (FoundHeader::default(), 0);
+    let (mut found, mut at) = (FoundServiceHeader::EMPTY, 0);
     // SAFETY: the payload is a slice, and what is written lies apart from it.
     let status = unsafe { call(payload.as_ptr(), payload.len(), &mut found, &mut at) };
     if status != DONE {
@@ -168,7 +172,12 @@ fn found_header(payload: &[u8], call: ReadsHeader) -> Result<(Header, usize)> {
     let header = Header {
         identifier: found.identifier,
         word: found.word,
-        counts: found.counts,
+        counts: [
+            found.questions,
+            found.answers,
+            found.authorities,
+            found.additional,
+        ],
     };
     Ok((header, found.used))
 }
@@ -190,7 +199,7 @@ struct Walk<'a> {
     number: u32,
     place: usize,
     /// Those that were read, how many they are, and how many of them were handed out.
-    read: [FoundEntry; AT_ONCE],
+    read: [FoundServiceEntry; AT_ONCE],
     filled: usize,
     given: usize,
 }
@@ -202,14 +211,14 @@ impl<'a> Walk<'a> {
             payload,
             number: 0,
             place: FIRST,
-            read: [FoundEntry::EMPTY; AT_ONCE],
+            read: [FoundServiceEntry::EMPTY; AT_ONCE],
             filled: 0,
             given: 0,
         }
     }
 
     /// The next one, if the header counts one more.
-    fn next(&mut self) -> Result<Option<FoundEntry>> {
+    fn next(&mut self) -> Result<Option<FoundServiceEntry>> {
         if self.given == self.filled {
             self.read_more()?;
         }
@@ -246,14 +255,14 @@ impl<'a> Walk<'a> {
     }
 
     /// The next one, of so many that stand.
-    fn next_of(&mut self, left: &mut usize) -> Option<FoundEntry> {
+    fn next_of(&mut self, left: &mut usize) -> Option<FoundServiceEntry> {
         *left = left.checked_sub(1)?;
         self.next().ok().flatten()
     }
 }
 
 /// The number of an item's section, of four.
-fn section_of(found: &FoundEntry) -> usize {
+fn section_of(found: &FoundServiceEntry) -> usize {
     (found.item.section & 3) as usize
 }
 
@@ -263,7 +272,7 @@ fn section_of(found: &FoundEntry) -> usize {
 pub struct Question {
     /// QUESTION_NAME.
     pub name: Name,
-    /// QUESTION_TYPE: 0x0020 NB, 0x0021 NBSTAT.
+    /// QUESTION_TYPE, as [`NB`](crate::service::NB).
     pub kind: u16,
     /// QUESTION_CLASS.
     pub class: u16,
@@ -284,7 +293,7 @@ impl Iterator for Questions<'_> {
         Some(Question {
             name: Name::of_bytes(found.name, found.name_length),
             kind: found.kind,
-            class: found.class,
+            class: found.class_number,
         })
     }
 
@@ -294,19 +303,6 @@ impl Iterator for Questions<'_> {
 }
 
 impl ExactSizeIterator for Questions<'_> {}
-
-/// Where a record stands.
-#[derive(Clone, Copy, Debug, PartialEq, Eq, PartialOrd, Ord, Hash)]
-#[cfg_attr(feature = "serde", derive(serde::Serialize, serde::Deserialize))]
-#[cfg_attr(feature = "serde", serde(rename_all = "lowercase"))]
-pub enum Section {
-    /// Among the answers.
-    Answer,
-    /// In the authority section.
-    Authority,
-    /// Among the additional records.
-    Additional,
-}
 
 /// What is said of a name: RFC 1002 section 4.2.1.3. By what [`rdata`](Record::rdata) reads nobody can put anything else.
 ///
@@ -338,16 +334,12 @@ pub struct Record<'a> {
 
 impl<'a> Record<'a> {
     /// The record that was found in a payload.
-    fn of(payload: &'a [u8], entry: &FoundEntry) -> Record<'a> {
+    fn of(payload: &'a [u8], entry: &FoundServiceEntry) -> Record<'a> {
         let found = &entry.item;
         Record {
-            section: match section_of(entry) {
-                2 => Section::Authority,
-                3 => Section::Additional,
-                _ => Section::Answer,
-            },
+            section: Section::ALL[section_of(entry).saturating_sub(1).min(2)],
             name: Name::of_bytes(found.name, found.name_length),
-            class: found.class,
+            class: found.class_number,
             time_to_live: found.time_to_live,
             kind: found.kind,
             data: &payload[found.data..found.data + found.data_length],
@@ -356,7 +348,7 @@ impl<'a> Record<'a> {
         }
     }
 
-    /// RR_TYPE: 0x0020 NB, 0x0021 NBSTAT, 0x0002 NS.
+    /// RR_TYPE, as [`NB`](crate::service::NB).
     pub fn kind(&self) -> u16 {
         self.kind
     }

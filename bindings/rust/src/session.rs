@@ -15,62 +15,18 @@
 //! # Ok::<(), nbt::Error>(())
 //! ```
 
-use std::fmt;
 use std::iter::FusedIterator;
 use std::net::{Ipv4Addr, SocketAddrV4};
 
-use crate::calls::{
+use crate::header::{
     nbt_session_front, nbt_session_names, nbt_session_read, nbt_session_retarget,
-    nbt_session_write, DONE, MORE,
+    nbt_session_write, FoundSession, FoundSessionFront, FoundSessionNames, FoundSessionRetarget,
+    DONE, MORE,
 };
 use crate::room::written;
-use crate::structures::{FoundNames, FoundRetarget, FoundSession, FoundSessionFront};
 use crate::{Error, Result, Spelling};
 
-/// TYPE: what a packet is.
-#[derive(Clone, Copy, Debug, PartialEq, Eq, Hash)]
-#[cfg_attr(feature = "serde", derive(serde::Serialize, serde::Deserialize))]
-#[cfg_attr(feature = "serde", serde(rename_all = "lowercase"))]
-#[repr(u8)]
-pub enum Kind {
-    /// Data of the session, at most 131,071 bytes.
-    Message = 0x00,
-    /// A request for a session. Its body is the spelling of the name that is called, then that of the one that calls.
-    Request = 0x81,
-    /// The answer that the session stands; without a body.
-    Positive = 0x82,
-    /// The answer that it doesn't. Its body is a code of one byte.
-    Negative = 0x83,
-    /// The answer that somebody else is to be called: an address in four bytes, and a port in two.
-    Retarget = 0x84,
-    /// A sign of life; without a body.
-    KeepAlive = 0x85,
-}
-
-/// The kind with this number, of TYPE; `UnknownType` where none has it.
-impl TryFrom<u8> for Kind {
-    type Error = Error;
-
-    fn try_from(number: u8) -> Result<Kind> {
-        use Kind::*;
-        let all = [Message, Request, Positive, Negative, Retarget, KeepAlive];
-        let found = all.into_iter().find(|it| *it as u8 == number);
-        found.ok_or(Error::UNKNOWN_TYPE)
-    }
-}
-
-impl fmt::Display for Kind {
-    fn fmt(&self, out: &mut fmt::Formatter<'_>) -> fmt::Result {
-        out.pad(match self {
-            Kind::Message => "message",
-            Kind::Request => "request",
-            Kind::Positive => "positive",
-            Kind::Negative => "negative",
-            Kind::Retarget => "retarget",
-            Kind::KeepAlive => "keepalive",
-        })
-    }
-}
+pub use crate::header::session::Kind;
 
 /// A packet of port 139, whose body is lent from what was read. Nobody can give it another.
 ///
@@ -106,7 +62,7 @@ impl<'a> Packet<'a> {
 
     /// CALLED_NAME and CALLING_NAME, of a request.
     pub fn names(&self) -> Option<(Spelling<'a>, Spelling<'a>)> {
-        let (mut found, mut at) = (FoundNames::EMPTY, 0);
+        let (mut found, mut at) = (FoundSessionNames::EMPTY, 0);
         // SAFETY: the packet is a slice, and what is written lies apart from it.
         let status = unsafe {
             nbt_session_names(self.whole.as_ptr(), self.whole.len(), &mut found, &mut at)
@@ -123,7 +79,7 @@ impl<'a> Packet<'a> {
 
     /// Whom to call instead: RETARGET_IP_ADDRESS and RETARGET_PORT, of a retarget.
     pub fn retarget(&self) -> Option<SocketAddrV4> {
-        let (mut found, mut at) = (FoundRetarget::default(), 0);
+        let (mut found, mut at) = (FoundSessionRetarget::EMPTY, 0);
         // SAFETY: the packet is a slice, and what is written lies apart from it.
         let status = unsafe {
             nbt_session_retarget(self.whole.as_ptr(), self.whole.len(), &mut found, &mut at)
@@ -151,7 +107,7 @@ pub enum Next<'a> {
 /// `UnknownType`, `ReservedFlags`, `BadLength`, and of a request `NameTruncated` to `NameNotNetbios`, `TrailingBytes`,
 /// judged in this order.
 pub fn read(bytes: &[u8]) -> Result<Next<'_>> {
-    let (mut found, mut at) = (FoundSession::default(), 0);
+    let (mut found, mut at) = (FoundSession::EMPTY, 0);
     // SAFETY: the bytes are a slice, and what is written lies apart from it.
     let status = unsafe { nbt_session_read(bytes.as_ptr(), bytes.len(), &mut found, &mut at) };
     match status {
@@ -214,7 +170,7 @@ pub struct Front {
 /// assert_eq!(front.fault.map(|it| it.status()), Some(Status::BadLength));
 /// ```
 pub fn read_front(bytes: &[u8]) -> Front {
-    let (mut found, mut at) = (FoundSessionFront::default(), 0);
+    let (mut found, mut at) = (FoundSessionFront::EMPTY, 0);
     // SAFETY: the bytes are a slice, and what is written lies apart from it.
     let status = unsafe { nbt_session_front(bytes.as_ptr(), bytes.len(), &mut found, &mut at) };
     let header = Header {

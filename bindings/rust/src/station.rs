@@ -30,14 +30,14 @@
 use std::net::{Ipv4Addr, SocketAddrV4};
 use std::{fmt, ptr};
 
-use crate::calls::{
-    nbt_station_absorb, nbt_station_create, nbt_station_free, nbt_station_list, nbt_station_save,
-    nbt_station_take, nbt_station_tick, DONE,
-};
 use crate::datagram::Kind;
+use crate::header::{
+    nbt_station_absorb, nbt_station_create, nbt_station_free, nbt_station_list, nbt_station_save,
+    nbt_station_take, nbt_station_tick, FoundTaken, Handle, DELIVERED, DONE, KEPT, OTHER, REFUSED,
+    SPOILT, UNHEARD,
+};
 use crate::names::spelled_length;
 use crate::room::{text_of, write_into, written};
-use crate::structures::{Handle, Taken};
 use crate::{spell, Error, Limits, Name, Result, Spelling, Status};
 
 /// A station: its names, and a table that the payloads of port 138 fill and the clock empties. A datagram is handed over
@@ -209,7 +209,7 @@ impl Station {
     /// `MisplacedFirst`, `Long`, `FullSource`, `Full`, `NoMemory` (which may come before those that follow the first).
     /// The station is then as it was.
     pub fn take(&mut self, moment: u64, payload: &[u8]) -> Result<Outcome<'_>> {
-        let mut taken = Taken::default();
+        let mut taken = FoundTaken::EMPTY;
         // SAFETY: the station is open, the payload is a slice, and what is written lies apart from both. Where the room
         // is less than any outcome wants, the station is as it was, and takes the payload when there is more.
         unsafe {
@@ -360,19 +360,19 @@ impl fmt::Debug for Station {
 }
 
 /// What became of a payload, of which this was told and given.
-fn outcome_of<'a>(taken: &Taken, given: &'a [u8]) -> Result<Outcome<'a>> {
+fn outcome_of<'a>(taken: &FoundTaken, given: &'a [u8]) -> Result<Outcome<'a>> {
     let key = Key {
         sender: SocketAddrV4::new(Ipv4Addr::from(taken.address), taken.port),
         identifier: taken.identifier,
     };
     let answer = given.get(..taken.error_length).filter(|it| !it.is_empty());
     match taken.outcome {
-        0 => Ok(Outcome::Kept(key)),
-        1 => Ok(Outcome::Spoilt(key)),
-        2 => delivery(key, taken, given).map(Outcome::Delivered),
-        3 => Ok(Outcome::Unheard { key, answer }),
-        4 => Ok(Outcome::Other),
-        5 => Ok(Outcome::Refused {
+        KEPT => Ok(Outcome::Kept(key)),
+        SPOILT => Ok(Outcome::Spoilt(key)),
+        DELIVERED => delivery(key, taken, given).map(Outcome::Delivered),
+        UNHEARD => Ok(Outcome::Unheard { key, answer }),
+        OTHER => Ok(Outcome::Other),
+        REFUSED => Ok(Outcome::Refused {
             error: Error::new(taken.refusal, taken.refused_at),
             answer,
         }),
@@ -382,7 +382,7 @@ fn outcome_of<'a>(taken: &Taken, given: &'a [u8]) -> Result<Outcome<'a>> {
 }
 
 /// The datagram that is handed over: both spellings, then the data.
-fn delivery<'a>(key: Key, taken: &Taken, given: &'a [u8]) -> Result<Delivery<'a>> {
+fn delivery<'a>(key: Key, taken: &FoundTaken, given: &'a [u8]) -> Result<Delivery<'a>> {
     let (source, rest) = given.split_at(taken.source_length);
     let (destination, data) = rest.split_at(taken.destination_length);
     Ok(Delivery {

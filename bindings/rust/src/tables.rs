@@ -3,13 +3,14 @@
 
 use std::net::{Ipv4Addr, SocketAddrV4};
 
-use crate::calls::{nbt_table_differ, nbt_table_json, nbt_table_list, nbt_table_merge, DONE};
+use crate::header::{
+    nbt_table_differ, nbt_table_json, nbt_table_list, nbt_table_merge, FoundDifference, DONE, KEYS,
+};
 use crate::room::{text_of, written};
 use crate::station::Key;
-use crate::structures::Difference;
 use crate::{Error, Result};
 
-/// How much a table has room for: 1,024 keys, and no limit on one address, where nothing else is said.
+/// How much a table has room for: as many keys as a command of `nbt` has room for, and no limit on one address, where nothing else is said.
 #[derive(Clone, Copy, Debug, PartialEq, Eq, Hash)]
 #[cfg_attr(feature = "serde", derive(serde::Serialize, serde::Deserialize))]
 pub struct Limits {
@@ -22,7 +23,7 @@ pub struct Limits {
 impl Default for Limits {
     fn default() -> Limits {
         Limits {
-            keys: 1_024,
+            keys: KEYS,
             per_source: u32::MAX,
         }
     }
@@ -137,7 +138,7 @@ pub fn table_json(table: &[u8]) -> Result<String> {
 /// `TableBadMagic` to `TableNotCanonical` of the first, `SecondBadMagic` to `SecondNotCanonical` of the second, `NoMemory`
 /// (which may come before those of the second).
 pub fn differ(first: &[u8], second: &[u8]) -> Result<Option<Key>> {
-    let (mut found, mut at) = (Difference::default(), 0);
+    let (mut found, mut at) = (FoundDifference::EMPTY, 0);
     // SAFETY: the tables are slices, and what is written lies apart from them.
     let status = unsafe {
         nbt_table_differ(

@@ -21,7 +21,7 @@ export function portOf(end) {
  * An end as it is shown: without a port that is the service's own.
  *
  * @param {string} end
- * @param {string[]} own
+ * @param {readonly string[]} own
  */
 export function shown(end, own) {
     if (end === '') return '-';

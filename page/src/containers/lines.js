@@ -1,8 +1,8 @@
 /** The lines of a capture that is text: docs/FORMATS.md, "Captures". */
 import { bytesOf } from './digits.js';
+import { MOST_LINE } from '../model/vocabulary.js';
 import { FORM, faultOf } from './line_faults.js';
 
-const MOST_IN_A_LINE = 262_200;
 const LINE = /^(?:(137|138|139) ([0-9]{1,20}) ((?:[0-9a-fA-F]{2})+|empty)|tick ([0-9]{1,20})|(#[^]*)?)$/;
 const COMMENT = /^# frame ([0-9]{1,10}) (\S+) (\S+):([0-9]{1,5}) > (\S+):([0-9]{1,5})$/;
 const TIME = /^([0-9]{4}-[0-9]{2}-[0-9]{2}T[0-9]{2}:[0-9]{2}:[0-9]{2})\.([0-9]{6})Z$/;
@@ -40,10 +40,10 @@ export class LineFault extends Error {
  */
 export function* linesOf(file) {
     for (let at = 0, number = 1; at < file.size; number++) {
-        const bytes = file.bytes(at, at + MOST_IN_A_LINE + 1);
+        const bytes = file.bytes(at, at + MOST_LINE + 1);
         const feed = bytes.indexOf(10);
         const size = feed < 0 ? bytes.length : feed;
-        if (size > MOST_IN_A_LINE) throw new LineFault(number, `it is longer than ${MOST_IN_A_LINE} bytes`);
+        if (size > MOST_LINE) throw new LineFault(number, `it is longer than ${MOST_LINE} bytes`);
         at += size + 1;
         yield { ...lineOf(characters(bytes.subarray(0, size)), number), end: Math.min(at, file.size) };
     }

@@ -1,4 +1,5 @@
 /** The payloads of ports 137, 138 and 139 that a pcap or pcapng file has, and what is left out of it, by reason. */
+import { PORT } from '../model/vocabulary.js';
 import { Fragments } from './fragments.js';
 import { internetIn } from './internet.js';
 import { packetIn } from './link.js';
@@ -9,9 +10,6 @@ import { Streams } from './streams.js';
 import { TCP, TCP_HEADER, UDP, UDP_HEADER, datagramIn, portsIn, segmentIn } from './transport.js';
 import { linkName, wrappingOf } from './unread.js';
 
-const NAME = 137;
-const DATAGRAM = 138;
-const SESSION = 139;
 /** Of how many streams the number is known. */
 const MOST_STREAMS = 262_144;
 /** Why a frame has no packet that nbt-look would find either. */
@@ -125,7 +123,7 @@ export class PayloadReader {
         this.ours += 1;
         if (why) return this.report.leaveOut(FRAGMENTS, why);
         if (segment) return this.segment(internet, below, segment, stream);
-        this.datagram(internet, below, ports.source === NAME || ports.source === DATAGRAM ? ports.source : ports.destination);
+        this.datagram(internet, below, ports.source === PORT.NAMES || ports.source === PORT.DATAGRAMS ? ports.source : ports.destination);
     }
 
     /**
@@ -160,7 +158,7 @@ export class PayloadReader {
         const { source, destination } = this.report.mark;
         if (segment.syn) this.opened(segment);
         const title = `stream ${stream} from ${internet.source.replace(/^\[|\]$/g, '')} port ${segment.source}`;
-        for (const bytes of this.streams.take({ stream, from: source, to: destination, title, segment })) this.payload(SESSION, below, bytes);
+        for (const bytes of this.streams.take({ stream, from: source, to: destination, title, segment })) this.payload(PORT.SESSIONS, below, bytes);
     }
 
     /** @param {import('./transport.js').Segment} segment one with a SYN */
@@ -238,5 +236,5 @@ function isOurs(packet) {
     const ports = portsIn(packet.payload);
     if (!ports) return null;
     const both = [ports.source, ports.destination];
-    return packet.protocol === TCP ? both.includes(SESSION) : both.includes(NAME) || both.includes(DATAGRAM);
+    return packet.protocol === TCP ? both.includes(PORT.SESSIONS) : both.includes(PORT.NAMES) || both.includes(PORT.DATAGRAMS);
 }

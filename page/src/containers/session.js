@@ -1,7 +1,7 @@
 /** The header of a session packet: RFC 1002 section 4.3.1. It says where the next packet begins, and nothing else is read here. */
+import { SESSION_TYPES } from '../model/vocabulary.js';
 
 export const HEADER = 4;
-const TYPES = new Set([0x00, 0x81, 0x82, 0x83, 0x84, 0x85]);
 
 /**
  * How many bytes the packet has whose header stands at a place.
@@ -20,5 +20,5 @@ export function sizeAt(bytes, at) {
  * @param {number} at
  */
 export function hasHeader(bytes, at) {
-    return TYPES.has(bytes[at]) && bytes[at + 1] <= 1;
+    return SESSION_TYPES.has(bytes[at]) && bytes[at + 1] <= 1;
 }

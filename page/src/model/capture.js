@@ -3,8 +3,7 @@ import { bytesOf, digitsOf } from '../containers/digits.js';
 import { LineFault, linesOf } from '../containers/lines.js';
 import { LEFT_OUT } from './packets.js';
 import { momentOf, utc } from '../model/times.js';
-
-const TIMER = 2_000;
+import { KEPT_FOR } from './vocabulary.js';
 
 /**
  * A line. A payload's has the row that it is of, where the capture is made of frames.
@@ -66,7 +65,7 @@ class Ticks {
     *until(moment) {
         const end = moment - (moment % 1_000);
         if (end < this.next) return;
-        const last = (Math.floor((this.latest + TIMER) / 1_000) + 1) * 1_000;
+        const last = (Math.floor((this.latest + KEPT_FOR) / 1_000) + 1) * 1_000;
         for (let at = this.next; at <= Math.min(end - 1, last); at += 1_000) yield at;
         yield end;
         this.next = end + 1_000;

@@ -1,18 +1,13 @@
 /** Who claims and holds which name, packet by packet: RFC 1002 sections 4.2.2 to 4.2.11 and 5.1. docs/SUMMARY.md has the rules. */
 import { Conflicts } from './conflicts.js';
-import { isGroup } from './objects.js';
+import { isGroup } from './parts.js';
 import { Owners } from './owners.js';
-import { Room } from './room.js';
-import { OBJECTING, Tenure } from './tenures.js';
+import { Room } from './rooms.js';
+import { Tenure } from './tenures.js';
+import { MOST_OF_NAME, NO_UNIT, OBJECTING, TAKEN } from './vocabulary.js';
 import { Waiting } from './waiting.js';
 
 /** @typedef {import('./messages.js').Message} Message */
-
-/** What a response says of a name that another station has. RFC 1002 section 4.2.6. */
-const TAKEN = ['ACT_ERR', 'CFT_ERR'];
-/** How many tenures of a name are looked at for conflicts. */
-const MOST_OF_NAME = 64;
-const NO_UNIT = '000000000000';
 
 /** The tenures of all names, and the conflicts among them. */
 export class Claims {
@@ -90,7 +85,7 @@ export class Claims {
             request.subject.push(tenure);
             if (isMultihomed && source) this.owners.join(source, place.address);
             const isNew = claim(tenure, place.group, message);
-            tenure.renew(place.ttl, message.at);
+            tenure.renew(place.lifetime, message.at);
             if (isBroadcast) this.wait(tenure, message, request);
             if (isNew && this.contest(tenure, message.at)) isContested = true;
         }
@@ -106,7 +101,7 @@ export class Claims {
      */
     wait(tenure, { at, act, source }, request) {
         if (tenure.isSilent && tenure.asking === request) tenure.begin('claims', at);
-        if (tenure.how !== 'claims') return;
+        if (tenure.standing !== 'claims') return;
         if (act === 'overwrites') {
             tenure.begin('holds', at);
             tenure.due = null;
@@ -138,11 +133,11 @@ export class Claims {
         if (message.name === null) return leaveOpen(asked);
         const groups = new Map(message.places.map(({ address, group }) => [address, group]));
         for (const tenure of asked.length ? asked : this.recorded(message)) {
-            const isNew = tenure.how !== 'holds' || tenure.group === null;
+            const isNew = tenure.standing !== 'holds' || tenure.group === null;
             tenure.begin('holds', message.at, message.frame);
             tenure.due = null;
             tenure.group ??= groups.get(tenure.address) ?? null;
-            tenure.renew(message.ttl, message.at);
+            tenure.renew(message.lifetime, message.at);
             if (isNew) this.contest(tenure, message.at);
         }
         return false;
@@ -222,11 +217,11 @@ export class Claims {
      * @param {string} name
      * @param {string} address
      * @param {bigint} at
-     * @param {import('./objects.js').Front} front
+     * @param {import('./parts.js').Front} front
      */
     release(name, address, at, front = 'whole') {
         const tenure = this.tenure(name, address, address);
-        if (tenure?.how === '' && front !== 'whole') tenure.front = front;
+        if (tenure?.standing === '' && front !== 'whole') tenure.front = front;
         tenure?.end('released', at);
     }
 
@@ -238,7 +233,7 @@ export class Claims {
     answered(message) {
         const { source, at } = message;
         const isOwn = message.named.some((address) => this.owners.areOne(address, source));
-        for (const { name, address, group, ttl } of message.places) {
+        for (const { name, address, group, lifetime } of message.places) {
             const tenure = this.tenure(name, address, address);
             if (!tenure) continue;
             if (isOwn && group === false) this.owners.join(source, address);
@@ -248,7 +243,7 @@ export class Claims {
                 tenure.begin('is said to be', at);
                 tenure.group = group;
             }
-            tenure.renew(ttl, at);
+            tenure.renew(lifetime, at);
         }
         return this.status(message);
     }
@@ -259,7 +254,7 @@ export class Claims {
      * @param {Message} message
      */
     hold(tenure, group, message) {
-        const isNew = tenure.how !== 'holds' || tenure.group !== group;
+        const isNew = tenure.standing !== 'holds' || tenure.group !== group;
         tenure.begin('holds', message.at, message.frame);
         Object.assign(tenure, { group, due: null });
         if (isNew) this.contest(tenure, message.at);
@@ -391,7 +386,7 @@ export class Claims {
         let isContested = false;
         for (const each of this.of(tenure.name)) {
             if (!this.isAgainst(each, tenure, at)) continue;
-            const isHeld = each.how === 'holds' || tenure.how === 'holds';
+            const isHeld = each.standing === 'holds' || tenure.standing === 'holds';
             this.conflicts.open(tenure.name, [each.address, tenure.address], isHeld, Math.max(each.began, tenure.began));
             isContested ||= isHeld || each.due !== null || tenure.due !== null;
         }
@@ -433,14 +428,14 @@ export class Claims {
      */
     holders(name, lost, { source, named }) {
         const others = this.of(name).filter((each) => each.isKept && !lost.includes(each.address));
-        const held = others.filter(({ how }) => how === 'holds');
+        const held = others.filter(({ standing }) => standing === 'holds');
         const holding = held.length ? held : others.filter(({ due }) => due !== null);
         const own = holding.filter((each) => this.isOf(each, source));
         const addresses = (/** @type {Tenure[]} */ tenures) => tenures.map(({ address }) => address);
         if (own.length) return addresses(holding.filter((each) => own.includes(each) || (own[0].group && each.group)));
         const told = named.filter((each) => !lost.some((one) => this.owners.areOne(each, one)));
         if (told.length) return told;
-        return addresses(holding.length ? holding : others.filter(({ how }) => how === 'is said to be'));
+        return addresses(holding.length ? holding : others.filter(({ standing }) => standing === 'is said to be'));
     }
 
     /**
@@ -450,7 +445,7 @@ export class Claims {
      * @param {string} address
      */
     isRefused(name, address) {
-        return this.tenures.entries.get(`${name} ${address}`)?.how === 'refused';
+        return this.tenures.entries.get(`${name} ${address}`)?.standing === 'refused';
     }
 }
 

@@ -1,19 +1,17 @@
 /** Conflicts about names: who holds one, who was refused it or has to give it up, by whom; or who claims it, while nobody is refused. */
-import { Room } from './room.js';
+import { Room } from './rooms.js';
+import { MOST_PAIRS } from './vocabulary.js';
 
 /**
- * A row. Where nobody is refused there are several claimants, and neither `refused` nor `by`; where it isn't known who holds the name,
- * there is no claimant.
+ * A row. Where nobody is refused several claim it, who are the holders, with neither `refused` nor `by`; where it isn't known who holds the name,
+ * there is no holder.
  *
- * @typedef {{name: string, claimants: string[], refused: string, by: string, frame: number}} Conflict
+ * @typedef {{name: string, holders: string[], refused: string, by: string, frame: number}} Conflict
  *
  * Two addresses of which both claim a name: in which frame the later one began, and whether one of them held it then or later.
  *
  * @typedef {{addresses: [string, string], frame: number, isHeld: boolean}} Pair
  */
-
-/** How many pairs of addresses that claim one name are kept. */
-const MOST_PAIRS = 4_096;
 
 export class Conflicts {
     /** @param {import('./owners.js').Owners} owners */
@@ -69,8 +67,8 @@ export class Conflicts {
      * @param {number} frame
      */
     decide(name, refused, holders, by, frame) {
-        const conflict = this.decided.get(`${name} ${refused}`, () => ({ name, claimants: holders, refused, by, frame }));
-        if (conflict) Object.assign(conflict, { claimants: holders.length ? holders : conflict.claimants, by, frame });
+        const conflict = this.decided.get(`${name} ${refused}`, () => ({ name, holders, refused, by, frame }));
+        if (conflict) Object.assign(conflict, { holders: holders.length ? holders : conflict.holders, by, frame });
         const pairs = this.undecided.entries.get(name)?.entries;
         for (const [key, { addresses }] of pairs ?? []) {
             if (addresses.includes(refused)) pairs?.delete(key);
@@ -89,7 +87,7 @@ export class Conflicts {
     /** @returns {Conflict[]} by their frames */
     rows() {
         const disputed = this.disputed().map(({ name, pairs }) => ({
-            name, claimants: [...new Set(pairs.flatMap(({ addresses }) => addresses))], refused: '', by: '', frame: Math.min(...pairs.map(({ frame }) => frame)),
+            name, holders: [...new Set(pairs.flatMap(({ addresses }) => addresses))], refused: '', by: '', frame: Math.min(...pairs.map(({ frame }) => frame)),
         }));
         return [...this.decided.entries.values(), ...disputed].sort((one, other) => one.frame - other.frame);
     }

@@ -1,12 +1,12 @@
 /** The tables of datagrams: which are whole, incomplete or spoilt, by their names, and those that failed. */
 import { keyOf } from './keys.js';
-import { Room } from './room.js';
+import { Room } from './rooms.js';
 
 /**
  * @typedef {import('./replay.js').Held} Held
  * @typedef {import('./replay.js').Names} Names
  * @typedef {Names & {whole: number, incomplete: number, spoilt: number, cut: number}} DatagramRow
- * @typedef {{key: string, state: string, source: string, destination: string, frames: number[], 'bytes known': number | null, size: string, missing: string}} FailedRow
+ * @typedef {{key: string, state: string, source: string, destination: string, frames: number[], bytes_known: number | null, size: string, missing: string}} FailedRow
  */
 
 export class Datagrams {
@@ -45,10 +45,10 @@ export class Datagrams {
      * @returns {FailedRow}
      */
     failure({ names: { source, destination }, frames, pieces }, key, state) {
-        const row = { key, state, source, destination, frames: [...frames], 'bytes known': null, size: '?', missing: '-' };
+        const row = { key, state, source, destination, frames: [...frames], bytes_known: null, size: '?', missing: '-' };
         if (state !== 'incomplete' || !pieces.length) return row;
         const { held, end, places } = keyOf(this.list(pieces).split('\n')[0]);
-        return { ...row, 'bytes known': held, size: end === null ? '?' : String(end), missing: missingOf(places, end) };
+        return { ...row, bytes_known: held, size: end === null ? '?' : String(end), missing: missingOf(places, end) };
     }
 
     tables() {

@@ -1,5 +1,7 @@
 /** What stands of a packet that the snap length cut, or that the library refuses to read: as far as its header, names and records are whole. */
 
+import { DATAGRAM_TYPE, PIECES, PORT, SECTIONS } from './vocabulary.js';
+
 /** Of port 137 the header, with its first four bytes, and what follows the name of a question. RFC 1002 section 4.2.1. */
 const HEADER = 12;
 const ID_AND_WORD = 4;
@@ -8,10 +10,6 @@ const CLASS = 2;
 /** The fewest bytes of a question: a name of one byte, and what follows it. */
 const LEAST = 5;
 const ONE_QUESTION = [0, 1, 0, 0, 0, 0, 0, 0];
-const SECTIONS = /** @type {const} */ (['questions', 'answers', 'authorities', 'additional']);
-/** MSG_TYPE of datagrams, in words. */
-const KINDS = new Map([[0x10, 'unique'], [0x11, 'group'], [0x12, 'broadcast']]);
-const SERVICE = 137;
 const REFUSED = 'refused: ';
 
 /**
@@ -25,7 +23,7 @@ const REFUSED = 'refused: ';
  *
  * @param {Reader} library
  * @param {Uint8Array} bytes
- * @returns {import('./objects.js').Told}
+ * @returns {import('./parts.js').Told}
  */
 export function serviceFront(library, bytes) {
     if (bytes.length < HEADER) return {};
@@ -47,7 +45,7 @@ function wholeItems(library, bytes, counts) {
     let [whole, most] = [0, Math.min(all, Math.floor((bytes.length - HEADER) / LEAST))];
     while (whole < most) {
         const middle = Math.ceil((whole + most) / 2);
-        if (library.brief(SERVICE, withItems(bytes, counts, middle)).startsWith(REFUSED)) most = middle - 1;
+        if (library.brief(PORT.NAMES, withItems(bytes, counts, middle)).startsWith(REFUSED)) most = middle - 1;
         else whole = middle;
     }
     return whole;
@@ -76,10 +74,10 @@ function withItems(bytes, counts, items) {
  * @param {Uint8Array} bytes
  * @param {number[]} counts
  * @param {number} items
- * @returns {import('./objects.js').Told}
+ * @returns {import('./parts.js').Told}
  */
 function read(library, bytes, counts, items) {
-    return JSON.parse(library.json(SERVICE, withItems(bytes, counts, items)));
+    return JSON.parse(library.json(PORT.NAMES, withItems(bytes, counts, items)));
 }
 
 /**
@@ -88,14 +86,14 @@ function read(library, bytes, counts, items) {
  *
  * @param {Reader} library
  * @param {Uint8Array} bytes
- * @returns {import('./objects.js').Told}
+ * @returns {import('./parts.js').Told}
  */
 function aboutOf(library, bytes) {
     let end = HEADER;
     while (end < bytes.length && bytes[end]) end += 1 + bytes[end];
     const missing = end < bytes.length ? Math.max(end + 1 + TYPE_AND_CLASS - bytes.length, 0) : 0;
     const made = Uint8Array.from([...bytes.subarray(0, ID_AND_WORD), ...ONE_QUESTION, ...bytes.subarray(HEADER), ...new Array(missing).fill(0)]);
-    const { questions } = /** @type {import('./objects.js').Told} */ (JSON.parse(library.json(SERVICE, made)));
+    const { questions } = /** @type {import('./parts.js').Told} */ (JSON.parse(library.json(PORT.NAMES, made)));
     if (!questions?.length) return {};
     const [{ name, type }] = questions;
     return { about: missing > CLASS ? { name } : { name, type } };
@@ -106,11 +104,11 @@ function aboutOf(library, bytes) {
  *
  * @param {Reader} library
  * @param {Uint8Array} bytes
- * @returns {import('./objects.js').Told}
+ * @returns {import('./parts.js').Told}
  */
 export function datagramFront(library, bytes) {
     const front = frontIn(library, bytes);
-    const kind = front && KINDS.get(front.type);
+    const kind = front && PIECES[front.type - DATAGRAM_TYPE.UNIQUE];
     if (!front || !kind) return {};
     const key = `${front.address}:${front.port}/${front.identifier.toString(16).padStart(4, '0')}`;
     return { kind, key, ...(front.source !== null && { source: front.source }), ...(front.destination !== null && { destination: front.destination }) };

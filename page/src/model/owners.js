@@ -1,5 +1,5 @@
 /** Which addresses are one station's. */
-import { Room } from './room.js';
+import { Room } from './rooms.js';
 
 /** Addresses that are one station's, by what shows it: a MAC that broadcasts, a unit of node statuses, a claim of operation 15. */
 export class Owners {

@@ -1,4 +1,5 @@
 /** Which byte of a payload the place of a fault is. */
+import { DATAGRAM_TYPE } from './vocabulary.js';
 
 /** Of these the place counts in the spelling of a name (RFC 1002 section 4.1), and not in the payload. */
 const IN_NAME = /^(.*): not netbios (\d+)$/s;
@@ -9,7 +10,8 @@ const LONGEST_LABEL = 63;
 const OF_SESSION = 4;
 const OF_DATAGRAM = 14;
 const OF_QUERY = 10;
-const QUERIES = [0x14, 0x15, 0x16];
+const { FIND, FOUND, MISSING } = DATAGRAM_TYPE;
+const QUERIES = [FIND, FOUND, MISSING];
 
 /**
  * @typedef {object} NamePlace a place that counts in a name

@@ -1,17 +1,13 @@
 /** Queries, and requests for a node's status, that nobody answers: RFC 1002 sections 4.2.12 to 4.2.18. */
 import { compare } from './names.js';
-import { Room } from './room.js';
-import { MOST_FRAMES, Waiting } from './waiting.js';
-
-/** Of how many frames that can't be read at all the times are kept, for who sent them to whom. */
-const MOST_UNREAD = 64;
-/** What answers a request: the later ones say more. Of 'not known' something came of which no name stands. */
-const RANKS = /** @type {const} */ (['never', 'not known', 'cut', 'malformed', 'whole']);
+import { Room } from './rooms.js';
+import { ANSWERS, MOST_FRAMES, MOST_UNREAD } from './vocabulary.js';
+import { Waiting } from './waiting.js';
 
 /**
  * What answered a request, and in which frame, if its name stands.
  *
- * @typedef {{rank: typeof RANKS[number], frame: number | null}} Answer
+ * @typedef {{rank: import('./vocabulary.js').Answer, frame: number | null}} Answer
  * @typedef {import('./waiting.js').Request<Answer>} Request
  */
 
@@ -134,7 +130,7 @@ export class Queries {
 
 /** @param {Answer} answer */
 function rankOf({ rank }) {
-    return RANKS.indexOf(rank);
+    return ANSWERS.indexOf(rank);
 }
 
 /** @param {Request} request */

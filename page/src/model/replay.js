@@ -1,7 +1,7 @@
 /** What becomes of the pieces of datagrams: what a station of the library reports of them, with a look at the clock before each. RFC 1002 section 5.3. */
 
-/** Of how many pieces of a datagram the frames are kept, and how many bytes of pieces, to say what they lack. */
-const [MOST_FRAMES, MOST_HELD] = [16, 16 << 20];
+import { MOST_FRAMES, MOST_HELD } from './vocabulary.js';
+
 const WHOLE = ['DELIVERED', 'UNHEARD'];
 /** Why a station has no place for a piece. */
 const REFUSED = ['MISPLACED_FIRST', 'LONG', 'FULL_SOURCE', 'FULL'];

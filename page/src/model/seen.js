@@ -2,18 +2,13 @@
 import { Claims } from './claims.js';
 import { messageOf } from './messages.js';
 import { compare, nameRows } from './names.js';
-import { serviceOf } from './objects.js';
+import { serviceOf } from './parts.js';
 import { Queries } from './queries.js';
-import { Room } from './room.js';
+import { Room } from './rooms.js';
 import { Sessions } from './sessions.js';
 import { Stations } from './stations.js';
 import { UnreadFrames } from './unread.js';
-
-/** The packets that carry a datagram, or a piece of one. */
-const PIECES = new Set(['unique', 'group', 'broadcast']);
-/** As many keys as a station of the page has. */
-const MOST_KEYS = 65_535;
-const SERVICE = 137;
+import { MOST_KEYS, PIECES, PORT } from './vocabulary.js';
 
 /**
  * Where a packet stands in the file, and who sent it to whom.
@@ -28,8 +23,8 @@ const SERVICE = 137;
  * @property {string} destinationPort
  * @property {string | null} mac
  *
- * @typedef {import('./objects.js').Told} Told
- * @typedef {{reason: string, packets: number, frame: number, byte: number | null}} Refusal
+ * @typedef {import('./parts.js').Told} Told
+ * @typedef {{reason: string, packets: number, frame: number, payload_byte: number | null}} Refusal
  * @typedef {{reason: string, frames: number}} Loss
  */
 
@@ -63,14 +58,14 @@ export class Seen {
     take(told, brief, ends) {
         this.packets += 1;
         if (told.refused !== undefined) this.refuse(told.refused, told.at ?? null, ends.frame);
-        else if (told.key !== undefined && PIECES.has(told.kind ?? '')) this.firsts.get(told.key, () => ends.frame);
+        else if (told.key !== undefined && PIECES.includes(told.kind ?? '')) this.firsts.get(told.key, () => ends.frame);
         const service = serviceOf(told);
         const message = service && messageOf(service, ends);
         this.claims.see(ends.time ?? 0n);
         this.stations.take(told, message, ends);
         this.sessions.take(told, brief, ends);
         if (message) return this.message(message);
-        if (ends.port === SERVICE) this.cannotRead(ends);
+        if (ends.port === PORT.NAMES) this.cannotRead(ends);
         return false;
     }
 
@@ -86,7 +81,7 @@ export class Seen {
         this.claims.see(ends.time ?? 0n);
         this.stations.take(told, message, ends);
         if (message) this.message(message);
-        else if (ends.port === SERVICE) this.cannotRead(ends);
+        else if (ends.port === PORT.NAMES) this.cannotRead(ends);
     }
 
     /** @param {import('./messages.js').Message} message */
@@ -113,7 +108,7 @@ export class Seen {
     refuse(refused, byte, frame) {
         this.refusedPackets += 1;
         const reason = withoutPlace(refused);
-        const entry = this.refused.get(reason, () => ({ reason, packets: 0, frame, byte }));
+        const entry = this.refused.get(reason, () => ({ reason, packets: 0, frame, payload_byte: byte }));
         if (entry) entry.packets += 1;
     }
 
@@ -128,8 +123,8 @@ export class Seen {
         return {
             names: nameRows(this.claims), conflicts: this.claims.conflicts.rows(),
             stations: this.stations.rows((name, address) => this.claims.isRefused(name, address)), queries: this.queries.rows(), sessions: this.sessions.rows(),
-            refused: [...this.refused.entries.values()].sort((one, other) => compare(one.reason, other.reason)),
-            'left out': [...this.leftOut.entries.values()].sort((one, other) => other.frames - one.frames),
+            malformed: [...this.refused.entries.values()].sort((one, other) => compare(one.reason, other.reason)),
+            'left-out': [...this.leftOut.entries.values()].sort((one, other) => other.frames - one.frames),
             unread: this.unread.rows(),
         };
     }

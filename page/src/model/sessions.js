@@ -1,11 +1,9 @@
 /** Sessions: who called whom, and what came of it. RFC 1002 sections 4.3 and 5.3. */
 import { compare } from './names.js';
-import { Room } from './room.js';
+import { Room } from './rooms.js';
+import { MOST_STREAMS, PORT, SESSION_RESPONSES } from './vocabulary.js';
 
-/** How many streams are known; the one that was silent longest is let go. */
-const MOST_STREAMS = 16_384;
-const PORT = '139';
-const RESPONSES = ['positive', 'negative', 'retarget'];
+const PORT_TEXT = String(PORT.SESSIONS);
 
 /**
  * The sessions of one caller with one station, by their names.
@@ -63,12 +61,12 @@ export class Sessions {
     }
 
     /**
-     * @param {import('./objects.js').Told} told
+     * @param {import('./parts.js').Told} told
      * @param {string} brief
      * @param {import('./seen.js').Ends} ends
      */
     take(told, brief, ends) {
-        if (ends.port !== 139 || told.kind === undefined || told.refused !== undefined) return;
+        if (ends.port !== PORT.SESSIONS || told.kind === undefined || told.refused !== undefined) return;
         const here = { address: ends.source, port: ends.sourcePort };
         const session = this.session(told, here, { address: ends.destination, port: ends.destinationPort });
         session.isBegun = true;
@@ -83,7 +81,7 @@ export class Sessions {
     /**
      * The session of a packet.
      *
-     * @param {import('./objects.js').Told} told
+     * @param {import('./parts.js').Told} told
      * @param {Side} here
      * @param {Side} there
      */
@@ -109,7 +107,7 @@ export class Sessions {
     /**
      * @param {Calls} calls
      * @param {Session} session
-     * @param {import('./objects.js').Told} told
+     * @param {import('./parts.js').Told} told
      * @param {boolean} isBack
      * @param {string} brief
      */
@@ -164,7 +162,7 @@ function begun(caller, callee, sequence) {
  * @returns {[Side, Side]}
  */
 function sidesOf(here, there, kind) {
-    const isAnswer = (here.port === PORT) === (there.port === PORT) ? RESPONSES.includes(kind) : here.port === PORT;
+    const isAnswer = (here.port === PORT_TEXT) === (there.port === PORT_TEXT) ? SESSION_RESPONSES.includes(kind) : here.port === PORT_TEXT;
     return isAnswer && kind !== 'request' ? [there, here] : [here, there];
 }
 

@@ -1,10 +1,8 @@
 /** The stations: who sends packets, and what they are called. */
 import { compare } from './names.js';
 import { isClaim } from './messages.js';
-import { Room } from './room.js';
-
-/** How many names of a station are kept. */
-const MOST_NAMES = 64;
+import { Room } from './rooms.js';
+import { MOST_OF_STATION } from './vocabulary.js';
 
 /**
  * @typedef {object} Station
@@ -26,7 +24,7 @@ export class Stations {
     /**
      * Takes a packet: who sends it, and the names that it uses. Names of sessions come by `named`, once they are accepted.
      *
-     * @param {import('./objects.js').Told} told
+     * @param {import('./parts.js').Told} told
      * @param {import('./messages.js').Message | null} message
      * @param {import('./seen.js').Ends} ends
      */
@@ -56,7 +54,7 @@ export class Stations {
      */
     named(address, name) {
         const station = this.station(address);
-        if (station && station.names.size < MOST_NAMES) station.names.add(name);
+        if (station && station.names.size < MOST_OF_STATION) station.names.add(name);
     }
 
     /**
@@ -82,7 +80,7 @@ export class Stations {
 function status({ answers }, sender) {
     for (const record of answers) {
         if (!record.names?.length) continue;
-        sender.status = record.names.slice(0, MOST_NAMES).map((each) => each.name);
+        sender.status = record.names.slice(0, MOST_OF_STATION).map((each) => each.name);
         sender.unit = record.unit ?? null;
     }
 }

@@ -1,9 +1,7 @@
 /** A name at an address: what is known of it, from when to when. */
 import { SECOND } from './waiting.js';
 
-/** How long a station that broadcasts a claim waits for objections: BCAST_REQ_RETRY_TIMEOUT, RFC 1002 section 6. */
-export const OBJECTING = 250_000_000n;
-/** @typedef {'' | 'claims' | 'holds' | 'is said to be' | 'refused' | 'released' | 'lost' | 'expired'} Standing */
+/** @typedef {'' | import('./vocabulary.js').Standing} Standing */
 
 /** A name at an address, by a station's claim or by another packet's word. Times are in nanoseconds. */
 export class Tenure {
@@ -17,7 +15,7 @@ export class Tenure {
         this.address = address;
         this.station = station || address;
         /** @type {Standing} */
-        this.how = '';
+        this.standing = '';
         /** @type {boolean | null} null where it isn't known */
         this.group = null;
         /** @type {'' | 'cut' | 'malformed'} how much stands of a claim of which not all does */
@@ -42,11 +40,11 @@ export class Tenure {
     }
 
     get isClaiming() {
-        return this.how === 'claims' || this.how === 'holds';
+        return this.standing === 'claims' || this.standing === 'holds';
     }
 
     get isKept() {
-        return this.isClaiming || this.how === 'is said to be';
+        return this.isClaiming || this.standing === 'is said to be';
     }
 
     /** When its lifetime is over; null where it has no end. */
@@ -57,33 +55,33 @@ export class Tenure {
     /**
      * Takes a standing; one that ended before begins anew, and has no lifetime yet.
      *
-     * @param {Standing} how
+     * @param {Standing} standing
      * @param {bigint} at
      * @param {number} [frame]
      */
-    begin(how, at, frame) {
+    begin(standing, at, frame) {
         if (!this.isKept) Object.assign(this, { since: at, until: null, lifetime: null });
         if (!this.isClaiming && frame !== undefined) this.began = frame;
-        this.how = how;
+        this.standing = standing;
         this.isSilent = false;
     }
 
     /**
      * Counts the lifetime from now on.
      *
-     * @param {number | null} ttl
+     * @param {number | null} lifetime
      * @param {bigint} at
      */
-    renew(ttl, at) {
-        if (ttl !== null) Object.assign(this, { lifetime: ttl, counted: at });
+    renew(lifetime, at) {
+        if (lifetime !== null) Object.assign(this, { lifetime, counted: at });
     }
 
     /**
-     * @param {Standing} how
+     * @param {Standing} standing
      * @param {bigint | null} at
      */
-    end(how, at) {
-        Object.assign(this, { how, until: at, due: null });
+    end(standing, at) {
+        Object.assign(this, { standing, until: at, due: null });
     }
 
     /**
@@ -104,7 +102,7 @@ export class Tenure {
         let held = null;
         if (this.due !== null && this.due < at) {
             held = this.due;
-            Object.assign(this, { due: null, how: 'holds', isSilent: true });
+            Object.assign(this, { due: null, standing: 'holds', isSilent: true });
         }
         if (this.isKept && this.over !== null && this.over <= at) this.end('expired', this.over);
         return held;

@@ -1,5 +1,5 @@
 /** Frames that aren't read here, by link type and by why. */
-import { Room } from './room.js';
+import { Room } from './rooms.js';
 
 /** How many pairs of a link type and a reason are told apart. */
 const MOST = 64;

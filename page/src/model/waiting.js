@@ -1,14 +1,8 @@
 /** Requests of the name service that wait for their answers: RFC 1002 sections 4.2.1.1 and 6. */
+import { ANSWERING, MOST_FRAMES, MOST_OF_ONE, MOST_WAITING } from './vocabulary.js';
 
 export const SECOND = 1_000_000_000n;
-/** How long after its latest repeat a request may be answered: twice UCAST_REQ_RETRY_TIMEOUT, our choice. */
-const WAIT = 10n * SECOND;
 const WITHOUT_END = 1n << 64n;
-/** How many identifiers wait, and how many requests of one; the one that came first is over then. */
-const MOST_WAITING = 4_096;
-const MOST_OF_ONE = 256;
-/** How many frames of the repeats of one are kept. */
-export const MOST_FRAMES = 16;
 
 /**
  * A request with its repeats: who asks whom what, when, in which frames, and until when an answer counts.
@@ -53,8 +47,8 @@ export class Waiting {
      */
     put(message, kind) {
         const { name, source, target, at, frame, isBroadcast } = message;
-        const waiting = this.requests.get(`${source} ${message.id}`) ?? new Map();
-        this.requests.set(`${source} ${message.id}`, waiting);
+        const waiting = this.requests.get(`${source} ${message.number}`) ?? new Map();
+        this.requests.set(`${source} ${message.number}`, waiting);
         for (const [key, each] of waiting) {
             if (at <= each.until && each.name === name && (each.kind === kind || each.kind === null || kind === null)) continue;
             waiting.delete(key);
@@ -66,7 +60,7 @@ export class Waiting {
         waiting.set(`${name} ${target}`, request);
         request.kind ??= kind;
         request.times += 1;
-        if (at + WAIT > request.until) request.until = at + WAIT;
+        if (at + ANSWERING > request.until) request.until = at + ANSWERING;
         if (request.frames.length < MOST_FRAMES) request.frames.push(frame);
         this.letGo(waiting);
         return request;
@@ -89,8 +83,8 @@ export class Waiting {
      * @param {import('./messages.js').Message} message
      * @returns {Request<T>[]}
      */
-    of({ target, id, name, at, source }) {
-        return [...this.requests.get(`${target} ${id}`)?.values() ?? []].filter((each) => (name === null || each.name === name) && at <= each.until
+    of({ target, number, name, at, source }) {
+        return [...this.requests.get(`${target} ${number}`)?.values() ?? []].filter((each) => (name === null || each.name === name) && at <= each.until
             && (each.isBroadcast || !each.asked || this.owners.areOne(each.asked, source)));
     }
 
@@ -100,8 +94,8 @@ export class Waiting {
      * @param {import('./messages.js').Message} message
      */
     wait(message) {
-        const isOpen = message.ttl === null && message.front !== 'whole';
-        const until = isOpen ? WITHOUT_END : message.at + BigInt(message.ttl ?? 0) * SECOND;
+        const isOpen = message.lifetime === null && message.front !== 'whole';
+        const until = isOpen ? WITHOUT_END : message.at + BigInt(message.lifetime ?? 0) * SECOND;
         for (const each of this.of(message)) {
             if (until > each.until) each.until = until;
         }

@@ -7,12 +7,12 @@
  *
  * @param {Conflict} conflict
  */
-export function outcome({ name, claimants, refused, by }) {
-    const holder = claimants.join(' and ');
+export function outcome({ name, holders, refused, by }) {
+    const holder = holders.join(' and ');
     if (!refused && by) return `${name}: ${by} says that it is in conflict; who holds it isn't in the capture.`;
-    if (!refused) return `${name}: ${claimants.slice(0, -1).join(', ')} and ${claimants.at(-1)} claim it, and nobody was refused it.`;
+    if (!refused) return `${name}: ${holders.slice(0, -1).join(', ')} and ${holders.at(-1)} claim it, and nobody was refused it.`;
     if (!holder) return `${name}: ${by} refused it to ${refused}; who holds it isn't in the capture.`;
-    return `${name}: ${holder} ${claimants.length > 1 ? 'hold' : 'holds'} it; ${refused} was refused it${claimants.includes(by) && claimants.length === 1 ? '' : ` by ${by}`}.`;
+    return `${name}: ${holder} ${holders.length > 1 ? 'hold' : 'holds'} it; ${refused} was refused it${holders.includes(by) && holders.length === 1 ? '' : ` by ${by}`}.`;
 }
 
 /**

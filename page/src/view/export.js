@@ -1,4 +1,5 @@
 /** The view of what is given out, as files: each is byte for byte what the program prints. */
+import { MOST_KEYS } from '../model/vocabulary.js';
 import { byId, element, number } from './dom.js';
 import { quoted } from './shell.js';
 
@@ -7,7 +8,7 @@ const FORMS = /** @type {const} */ ([
     ['json', 'jsonl', 'JSON lines', 'Save JSON lines', 'an object for each packet', (/** @type {string} */ file) => `nbt-pcap2cap ${file} | nbt show --json`, 'nbt show --json'],
     ['capture', 'capture.txt', 'Capture', 'Save the capture', 'the packets as text, with their frames', (/** @type {string} */ file) => `nbt-pcap2cap ${file}`, ''],
     ['table', 'table.txt', 'Saved table', 'Save the table', 'what a station knows of all datagrams',
-        (/** @type {string} */ file) => `nbt-pcap2cap --no-ticks ${file} | nbt save --keys 65535`, 'nbt save --keys 65535'],
+        (/** @type {string} */ file) => `nbt-pcap2cap --no-ticks ${file} | nbt save --keys ${MOST_KEYS}`, `nbt save --keys ${MOST_KEYS}`],
 ]);
 
 export class ExportView {

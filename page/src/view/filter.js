@@ -1,12 +1,6 @@
 /** Which packets are shown: words of a box, and what was chosen of the counts. */
+import { KINDS, SERVICES } from '../model/vocabulary.js';
 
-/** The kinds of packets, in the words of nbt-look. */
-export const KINDS = [
-    'query', 'status', 'registration', 'refresh', 'release', 'wack', 'response', 'conflict', 'datagram', 'unique', 'group', 'broadcast',
-    'fragment', 'error', 'find', 'found', 'missing', 'session', 'request', 'retarget', 'message', 'keepalive', 'positive', 'negative', 'malformed',
-    'left-out',
-];
-export const PORTS = ['137', '138', '139'];
 /** A whole address of IPv4, which is no part of another one. */
 const ADDRESS = /^\d{1,3}(?:\.\d{1,3}){3}$/;
 
@@ -21,10 +15,10 @@ export class Filter {
     constructor({ words, kind, sender, reason }) {
         const parts = words.trim().split(/\s+/).filter((each) => each !== '');
         this.kinds = parts.map((each) => each.toLowerCase()).filter((each) => KINDS.includes(each)).concat(kind || []);
-        this.ports = parts.filter((each) => PORTS.includes(each)).map(Number);
+        this.ports = parts.filter((each) => SERVICES.includes(each)).map(Number);
         this.sender = sender;
         this.reason = reason;
-        const others = parts.filter((each) => !KINDS.includes(each.toLowerCase()) && !PORTS.includes(each));
+        const others = parts.filter((each) => !KINDS.includes(each.toLowerCase()) && !SERVICES.includes(each));
         this.patterns = others.map(patternOf);
         /** What was found of a text, by its number. @type {Map<number, boolean>[]} */
         this.found = this.patterns.map(() => new Map());

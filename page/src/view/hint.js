@@ -1,5 +1,5 @@
 /** What is said where the filter leaves no row: what the box takes, and words in place of a filter of Wireshark. */
-import { KINDS, PORTS } from './filter.js';
+import { KINDS, SERVICES } from '../model/vocabulary.js';
 
 /** A comparison of Wireshark: a field, how it is compared, and the value. */
 const COMPARISON = /([a-z][\w.]*)\s*(==|eq\b|~|matches\b|contains\b)\s*("[^"]*"|[^\s&|()]+)/gi;
@@ -10,7 +10,7 @@ const PROTOCOLS = new Map([['nbns', '137'], ['nbdgm', '138'], ['nbss', '139']]);
 const WORDS = /^(?:ipv?6?\.(?:addr|src|dst|host)|(?:nbns|nbdgm|netbios)\..*name|nbdgm\.src\.ip)$/i;
 const PORTED = /^(?:udp|tcp)\.(?:port|srcport|dstport)$/i;
 
-export const TAKES = `The box takes words, of which each has to fit: a part of a name, of an address or of what is said; ${PORTS.join(', ')}; or a kind: ${KINDS.join(', ')}.`;
+export const TAKES = `The box takes words, of which each has to fit: a part of a name, of an address or of what is said; ${SERVICES.join(', ')}; or a kind: ${KINDS.join(', ')}.`;
 
 /**
  * @param {string} words
@@ -30,7 +30,7 @@ export function hintOf(words) {
 function wordsOf(filter) {
     const found = [...filter.matchAll(COMPARISON)].flatMap(([, field, , value]) => {
         const plain = value.replace(/"/g, '');
-        return WORDS.test(field) || (PORTED.test(field) && PORTS.includes(plain)) ? [plain] : [];
+        return WORDS.test(field) || (PORTED.test(field) && SERVICES.includes(plain)) ? [plain] : [];
     });
     const protocols = filter.toLowerCase().split(/[^a-z.]+/).flatMap((each) => PROTOCOLS.get(each.split('.')[0]) ?? []);
     return [...new Set([...found, ...protocols])].join(' ');

@@ -46,11 +46,11 @@ export class NamesView {
         const { app } = this;
         const lost = new Set(tables.conflicts.map((/** @type {Conflict} */ { name, refused }) => `${name} ${refused}`));
         this.root.replaceChildren(element('p', { class: 'lead' }, summary(tables.conflicts)), ...this.outcomes(tables.conflicts),
-            ...TABLES.flatMap(([key, title, columns]) => {
+            ...TABLES.flatMap(({ key, title, columns }) => {
                 const rows = tables[key] ?? [];
                 const more = notKept[key] ? [element('p', { class: 'quiet' }, `and ${counted(notKept[key], 'packet')} of more than are kept`)] : [];
                 if (!rows.length) return more;
-                const head = columns.map((each) => ({ frame: app.unit, byte: 'payload byte' })[String(each)] ?? each);
+                const head = columns.map((each) => (each === 'frame' ? app.unit : each.replace('_', ' ')));
                 const cells = rows.map((/** @type {any} */ row) => columns.map((column) => this.cell(row, column)));
                 return [table(title, head, cells, (at) => standing(key, rows[at], lost)), ...more];
             }));
@@ -121,7 +121,7 @@ export class NamesView {
  */
 function standing(key, row, lost) {
     if (key === 'conflicts') return row.refused ? 'decided' : 'undecided';
-    if (key === 'refused') return 'bad';
+    if (key === 'malformed') return 'bad';
     if (key !== 'names') return '';
     if (row.how === 'refused' || lost.has(`${row.name} ${row.address}`)) return 'bad';
     return row.conflicts || row.refusals ? 'contested' : '';

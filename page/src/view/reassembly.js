@@ -1,11 +1,10 @@
 /** The reassembly's view: each key as a bar, and what a station with chosen names is handed, and when. */
 import { keyOf } from '../model/keys.js';
+import { MOST_NAMES } from '../model/vocabulary.js';
 import { hashOf } from './address.js';
 import { bar, folded, preview } from './bars.js';
 import { byId, counted, element, number, table } from './dom.js';
 import { known } from './keys.js';
-
-const MOST_NAMES = 254;
 
 export class ReassemblyView {
     /** @param {import('./app.js').App} app */

@@ -1,18 +1,10 @@
 /** The tables of the names' view: their titles and columns, and how a value is shown. */
+import { TABLES as ALIKE } from '../model/vocabulary.js';
 
-/** The conflicts, then the tables in the order and with the titles of nbt-look, then what nbt-look alone reads; and the columns of each. */
-export const TABLES = /** @type {const} */ ([
-    ['conflicts', 'conflicts', ['name', 'holder', 'refused', 'by', 'frame']],
-    ['names', 'names', ['name', 'kind', 'address', 'group', 'how', 'since', 'until', 'lifetime', 'conflicts', 'refusals']],
-    ['stations', 'stations', ['address', 'mac', 'packets', 'names', 'refused', 'status', 'unit']],
-    ['queries', 'queries without an answer', ['name', 'kind', 'by', 'asked', 'times', 'frames', 'since', 'answered']],
-    ['sessions', 'sessions', ['calling', 'called', 'from', 'to', 'calls', 'accepted', 'refused', 'sent', 'received']],
-    ['datagrams', 'datagrams', ['source', 'destination', 'kind', 'whole', 'incomplete', 'spoilt', 'cut']],
-    ['failed', 'failed datagrams', ['key', 'state', 'source', 'destination', 'bytes known', 'size', 'missing', 'frames']],
-    ['refused', 'malformed', ['reason', 'packets', 'frame', 'byte']],
-    ['left out', 'left out', ['reason', 'frames']],
-    ['unread', 'not read here', ['link type', 'why', 'frames', 'frame']],
-]);
+const { conflicts, ...others } = ALIKE;
+/** Each table by its key, with its title and columns: the conflicts, the others in the order of nbt-look, then what nbt-look alone reads. */
+export const TABLES = Object.entries({ conflicts, ...others, unread: ['not read here', ['link type', 'why', 'frames', 'frame']] })
+    .map(([key, [title, columns]]) => ({ key, title: String(title), columns: [...columns] }));
 
 /**
  * A value as nbt-look's tables have it.
@@ -28,8 +20,8 @@ export function shownAs(row, column, since) {
     if (column === 'lifetime') return value === null ? '-' : `${value} s${value ? '' : ', no end'}`;
     if (column === 'answered') return answered(row);
     if (column === 'how') return row.front && row.group === null ? `${value}, ${row.front}` : value;
-    if (column === 'holder') return row.claimants.join(row.by ? ', ' : ' or ') || 'not in the capture';
-    if (column === 'refused' && row.claimants) return String(value || 'nobody');
+    if (column === 'holder') return row.holders.join(row.by ? ', ' : ' or ') || 'not in the capture';
+    if (column === 'refused' && row.holders) return String(value || 'nobody');
     return textOf(value);
 }
 

@@ -1,13 +1,11 @@
 /** What becomes of the datagrams of a file, by a station of the library. */
 import { Datagrams } from '../model/datagrams.js';
 import { Replay } from '../model/replay.js';
+import { MOST_KEYS, PIECES, PORT } from '../model/vocabulary.js';
 import { pause } from './pause.js';
 
-const KEYS = 65_535;
-const DATAGRAMS = 138;
 /** A station that has this name alone: whether it hears a datagram or not, it says when one is whole. */
 const NAME = '*<00>';
-const PIECES = ['unique', 'group', 'broadcast'];
 /** How many payloads go into a station before the worker looks whether something is wanted of it. */
 const PART = 256;
 
@@ -16,7 +14,7 @@ const PART = 256;
  * @returns {Promise<Datagrams>}
  */
 export async function datagramsOf(tap) {
-    const station = new tap.library.Station([NAME], '0.0.0.0', { keys: KEYS });
+    const station = new tap.library.Station([NAME], '0.0.0.0', { keys: MOST_KEYS });
     const datagrams = new Datagrams((pieces) => listOf(tap, pieces));
     for (const names of tap.cut) datagrams.count(names, 'cut');
     const replay = new Replay(station, (held, key, state) => datagrams.ended(held, key, state));
@@ -25,7 +23,7 @@ export async function datagramsOf(tap) {
         for (const line of tap.capture()) {
             if (line.kind !== 'payload') continue;
             count += 1;
-            const piece = line.port === DATAGRAMS ? pieceOf(tap, line, line.row ?? count) : null;
+            const piece = line.port === PORT.DATAGRAMS ? pieceOf(tap, line, line.row ?? count) : null;
             if (piece) replay.take(piece);
             if (count % PART === PART - 1) await pause();
         }
@@ -43,7 +41,7 @@ export async function datagramsOf(tap) {
  * @returns {import('../model/replay.js').Piece | null} null of a packet that has no piece
  */
 function pieceOf(tap, { moment, bytes }, row) {
-    const { key, kind, source, destination, refused } = JSON.parse(tap.library.json(DATAGRAMS, bytes));
+    const { key, kind, source, destination, refused } = JSON.parse(tap.library.json(PORT.DATAGRAMS, bytes));
     if (refused !== undefined || !PIECES.includes(kind)) return null;
     return { moment: BigInt(moment), key, names: { source, destination, kind }, frame: tap.packets.at(row).frame, bytes };
 }

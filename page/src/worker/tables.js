@@ -1,9 +1,8 @@
 /** Datagrams put together, by the library: the table of a file, what it lists, and what a station with chosen names is handed. */
 import { digitsOf } from '../containers/digits.js';
+import { MOST_KEYS, PORT } from '../model/vocabulary.js';
 import { pause } from './pause.js';
 
-const KEYS = 65_535;
-const DATAGRAMS = 138;
 /** How many lines are looked at, or payloads go into a station, before the worker looks whether something is wanted of it. */
 const PART = 256;
 const MOST_DELIVERIES = 10_000;
@@ -31,11 +30,11 @@ const NO_ROOM = ['FULL', 'FULL_SOURCE'];
  */
 export async function tableOf(tap) {
     if (tap.table) return tap.table;
-    const station = new tap.library.Station([], '0.0.0.0', { keys: KEYS });
+    const station = new tap.library.Station([], '0.0.0.0', { keys: MOST_KEYS });
     let count = 0;
     try {
         for (const line of tap.capture()) {
-            if (line.kind === 'payload' && line.port === DATAGRAMS) pass(() => station.take(0, line.bytes), MALFORMED);
+            if (line.kind === 'payload' && line.port === PORT.DATAGRAMS) pass(() => station.take(0, line.bytes), MALFORMED);
             count += 1;
             if (count % PART === 0) await pause();
         }
@@ -72,14 +71,14 @@ function pass(take, statuses) {
  * @returns {Promise<{handed: Handed[], more: number}>}
  */
 export async function handedTo(tap, names) {
-    const station = new tap.library.Station(names, '0.0.0.0', { keys: KEYS });
+    const station = new tap.library.Station(names, '0.0.0.0', { keys: MOST_KEYS });
     /** @type {Handed[]} */
     const handed = [];
     let [count, more] = [0, 0];
     try {
         for (const line of tap.capture()) {
             if (line.kind === 'tick') station.tick(BigInt(line.moment));
-            if (line.kind !== 'payload' || line.port !== DATAGRAMS) continue;
+            if (line.kind !== 'payload' || line.port !== PORT.DATAGRAMS) continue;
             const delivery = pass(() => station.take(BigInt(line.moment), line.bytes), [...MALFORMED, ...NO_ROOM])?.delivery;
             if (delivery && handed.length === MOST_DELIVERIES) more += 1;
             else if (delivery) handed.push(described(delivery, line.row, line.moment));
@@ -131,7 +130,7 @@ export async function incompleteOf(tap) {
  */
 export async function compared(one, other) {
     const tables = [await tableOf(one), await tableOf(other)];
-    const joined = one.library.merge(tables[0], tables[1], { keys: KEYS });
+    const joined = one.library.merge(tables[0], tables[1], { keys: MOST_KEYS });
     const [first, second, both] = [...tables, joined].map((table) => listed(one.library, table));
     return { first, second, both, firsts: [one, other].map((tap) => tap.seen.firsts.entries) };
 }

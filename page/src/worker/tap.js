@@ -3,14 +3,14 @@ import { hostOf, portOf, shown } from '../containers/ends.js';
 import { made, written } from '../model/capture.js';
 import { Seen, withoutPlace } from '../model/seen.js';
 import { datagramFront, serviceFront } from '../model/fronts.js';
-import { kindsOf } from '../model/objects.js';
+import { kindsOf } from '../model/kinds.js';
 import { Batch } from './batch.js';
 import { slicesOf } from './file.js';
 import { LEFT_OUT, Packets } from '../model/packets.js';
+import { MOST_KEYS, SERVICES } from '../model/vocabulary.js';
 
 /** Of how many datagrams that are cut the names are kept. */
-const MOST_CUT = 65_535;
-const SERVICES = ['137', '138', '139'];
+const MOST_CUT = MOST_KEYS;
 
 /**
  * @typedef {import('../../../bindings/javascript/nbt.mjs').Nbt} Nbt
@@ -78,7 +78,7 @@ export class Tap {
      *
      * @param {number} port
      * @param {Uint8Array} bytes
-     * @returns {import('../model/objects.js').Told}
+     * @returns {import('../model/parts.js').Told}
      */
     standing(port, bytes) {
         if (port === 139) return {};
@@ -95,7 +95,7 @@ export class Tap {
     payload({ port, mark, mac, vlan, bytes }) {
         const text = this.library.json(port, bytes);
         const said = this.library.brief(port, bytes);
-        /** @type {import('../model/objects.js').Told} */
+        /** @type {import('../model/parts.js').Told} */
         const told = JSON.parse(text);
         const standing = told.refused === undefined ? told : { ...this.standing(port, bytes), ...told };
         const isConflict = this.seen.take(standing, said, endsOf(mark, port, mac));

@@ -149,8 +149,11 @@ fn values_that_lend_nothing() {
         json!({"name": "FRED<20>", "kind": 32, "class": 1}),
     );
     both_ways(
-        Limits::default(),
-        json!({"keys": 1024, "per_source": u32::MAX}),
+        Limits {
+            keys: 9,
+            per_source: u32::MAX,
+        },
+        json!({"keys": 9, "per_source": u32::MAX}),
     );
     both_ways(Request::NodeStatus, json!("node_status"));
     let wanted = json!({"registration": [{"nb_flags": 0x6000, "address": "10.0.0.6"}, 9]});

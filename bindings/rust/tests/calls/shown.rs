@@ -1,7 +1,7 @@
 //! What `nbt show` prints of a payload, and what statuses say.
 
 use std::collections::BTreeSet;
-use std::{env, fs, thread};
+use std::thread;
 
 use nbt::{brief, brief_into, json, json_into, show, show_into, version, Status};
 
@@ -60,12 +60,10 @@ fn phrases_are_shown() {
     assert_eq!(brief(137, &query.unwrap()).unwrap(), "asks for FRED<20>");
 }
 
-/// The crate's version and the header's are the library's.
+/// The crate's version is the library's.
 #[test]
 fn versions_agree() {
-    let version = version().unwrap();
-    assert_eq!(version, env!("CARGO_PKG_VERSION"));
-    assert!(header().contains(&format!("#define NBT_VERSION \"{version}\"\n")));
+    assert_eq!(version().unwrap(), env!("CARGO_PKG_VERSION"));
 }
 
 #[test]
@@ -98,35 +96,9 @@ fn threads_show() {
     });
 }
 
-/// include/nbt.h.
-fn header() -> String {
-    let path = concat!(env!("CARGO_MANIFEST_DIR"), "/../../include/nbt.h");
-    fs::read_to_string(env::var("NBT_HEADER").unwrap_or(path.into())).unwrap()
-}
-
-/// The names and numbers of `enum nbt_status`, as include/nbt.h has them.
-fn header_statuses() -> Vec<(String, u32)> {
-    let header = header();
-    let (_, rest) = header.split_once("enum nbt_status {").unwrap();
-    let (inside, _) = rest.split_once("};").unwrap();
-    let numbered = inside
-        .lines()
-        .filter_map(|line| line.trim().strip_prefix("NBT_")?.split_once(" = "));
-    let number = |rest: &str| rest.split([',', ' ']).next().unwrap().parse().unwrap();
-    numbered
-        .map(|(name, rest)| (name.replace('_', "").to_lowercase(), number(rest)))
-        .collect()
-}
-
-/// Each is one of the header's, and the other way round, but for those that no call of this crate ends with.
+/// Each has words of its own.
 #[test]
-fn statuses_are_those_of_the_header() {
-    let mut known: Vec<_> = Status::ALL
-        .iter()
-        .map(|it| (format!("{it:?}").to_lowercase(), it.number()))
-        .collect();
-    known.splice(0..0, [("done".into(), 0), ("noroom".into(), 1)]);
-    assert_eq!(known, header_statuses());
+fn words_of_statuses() {
     let words: BTreeSet<_> = Status::ALL.iter().map(Status::to_string).collect();
     assert_eq!(words.len(), Status::ALL.len());
     assert!(words.iter().all(|it| !it.is_empty() && it.is_ascii()));

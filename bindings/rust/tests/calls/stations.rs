@@ -229,8 +229,8 @@ fn what_is_too_much() {
     let limits = |keys, per_source| Limits { keys, per_source };
     let ([first, second], [other, _]) = (pieces(7, "FRED<20>"), pieces(8, "FRED<20>"));
     for (limits, payload, status) in [
-        (limits(1, 1_024), &other, Status::Full),
-        (limits(1_024, 1), &other, Status::FullSource),
+        (limits(1, 9), &other, Status::Full),
+        (limits(9, 1), &other, Status::FullSource),
         (limits(9, 9), &changed(&first, 1, 1), Status::MisplacedFirst),
         (
             limits(9, 9),

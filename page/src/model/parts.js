@@ -1,4 +1,5 @@
-/** The objects in which the library tells a packet: the members are those of docs/FORMATS.md, "JSON". */
+/** The parts of a packet, by its object of JSON: the members are those of docs/FORMATS.md, "JSON". */
+import { NAME_FLAG } from './vocabulary.js';
 
 /**
  * @typedef {{name: string, type: string, class: string}} Question
@@ -13,7 +14,7 @@
  * @property {NodeName[]} [names]
  * @property {string} [unit]
  *
- * @typedef {'whole' | 'cut' | 'malformed'} Front how much of a packet stands
+ * @typedef {import('./vocabulary.js').Front} Front
  *
  * A packet of port 137, or what stands of one.
  *
@@ -53,12 +54,6 @@
  * @typedef {Partial<Service> & Others} Told
  */
 
-/** The bit G of NB_FLAGS and NAME_FLAGS: a group's name. RFC 1002 sections 4.2.1.3 and 4.2.18. */
-const GROUP = 0x8000;
-const NBSTAT = '0021';
-/** The bit M of FLAGS: more of the datagram follows. RFC 1002 section 4.4.1. */
-const MORE = 1;
-
 /**
  * The packet as one of port 137, if it is one.
  *
@@ -76,7 +71,7 @@ export function isResponse(service) {
 
 /** @param {{flags: string}} entry */
 export function isGroup(entry) {
-    return (parseInt(entry.flags, 16) & GROUP) !== 0;
+    return (parseInt(entry.flags, 16) & NAME_FLAG.G) !== 0;
 }
 
 /**
@@ -140,47 +135,4 @@ export function namesIn(told) {
     const inside = service ? recordsOf(service).flatMap((record) => record.names ?? []) : [];
     const texts = [...single, ...listed.map((each) => each.name), ...inside.map((each) => each.name)];
     return texts.flatMap((each) => (each === undefined ? [] : [each]));
-}
-
-/**
- * The words by which a packet is filtered and counted.
- *
- * @param {Told} told
- * @param {number} port
- * @returns {string[]}
- */
-export function kindsOf(told, port) {
-    if (told.refused !== undefined) return ['malformed'];
-    const service = serviceOf(told);
-    if (service) return serviceKinds(service);
-    const kind = told.kind ?? 'message';
-    if (port === 139) return [kind, 'session'];
-    if (kind === 'found') return [kind, 'positive'];
-    if (kind === 'missing') return [kind, 'negative'];
-    if (!['unique', 'group', 'broadcast'].includes(kind)) return [kind];
-    const isPiece = (parseInt(told.flags ?? '0', 16) & MORE) !== 0 || (told.offset ?? 0) > 0;
-    return isPiece ? [kind, 'datagram', 'fragment'] : [kind, 'datagram'];
-}
-
-/**
- * @param {Service} service
- * @returns {string[]}
- */
-function serviceKinds(service) {
-    const isStatus = [...service.questions, ...service.answers].some((each) => each.type === NBSTAT);
-    const operation = service.op === 15 ? 'registration' : String(service.op);
-    const kinds = [isStatus ? 'status' : operation];
-    if (isResponse(service)) kinds.push('response', ...responseKinds(service));
-    return kinds;
-}
-
-/**
- * What a response says by its code. A conflict demand answers nothing.
- *
- * @param {Service} service
- */
-function responseKinds({ op, rcode }) {
-    if (rcode === 'ok') return op === 'wack' ? [] : ['positive'];
-    if (rcode !== 'CFT_ERR') return ['negative'];
-    return op === 'registration' ? ['conflict'] : ['conflict', 'negative'];
 }

@@ -1,7 +1,5 @@
 /** Entries of which only so many are kept. */
-
-/** How many names, claims, stations, pairs of callers and so on are kept at most; the rest is counted. */
-const MOST = 16_384;
+import { MOST_ENTRIES } from './vocabulary.js';
 
 /**
  * Entries by key. Past the bound they aren't kept, and what would go into them is counted.
@@ -10,7 +8,7 @@ const MOST = 16_384;
  */
 export class Room {
     /** @param {number} most */
-    constructor(most = MOST) {
+    constructor(most = MOST_ENTRIES) {
         this.most = most;
         /** @type {Map<string, T>} */
         this.entries = new Map();

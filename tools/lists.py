@@ -1,0 +1,85 @@
+#!/usr/bin/env python3
+"""What the bindings, the tools and the page list alike, made of one source each: of include/nbt.h its numbers, its limits and, for Rust and
+Python, its structures and calls; of tools/nbt_look/vocabulary.py the words of the summary, for the page.
+
+Usage: tools/lists.py --write writes the files anew, the marked parts of others, and what stands within further ones, as limits in manual pages.
+--check says which differ from that, and which numbers of nbt.h aren't those of the crates' sources; its last line is 'N passed, M failed', a
+case for each file and each number.
+"""
+import re
+import sys
+
+sys.dont_write_bytecode = True
+from making import crates, javascript, page, python, rust, tools
+from making.header import TOP, Header
+
+BEGIN, END = '// ---- tools/lists.py --write makes what follows of include/nbt.h.', '// ---- Up to here.'
+FILES = {
+    'bindings/python/nbt/header.py': python.python_file,
+    'bindings/rust/src/header.rs': rust.rust_file,
+    'tools/nbt_pcap/header.py': tools.tools_file,
+    'page/src/model/vocabulary.js': page.page_file,
+}
+# What stands in other files, by what stands around it.
+OF_TABLES = ((r'(How many keys the table holds at most, 1 to )\d+(\.\nWithout it they are )\d+', '{MOST_KEYS}', '{KEYS}'),
+             (r'(How many keys of one source address the table holds at most, 1 to )\d+', '{MOST_KEYS}'))
+OF_NBT = (*OF_TABLES, (r'(How many bytes the capture may have, 1 to \d+\.\nWithout it they are )\d+', '{INPUT}'),
+          (r'(as in `--keys )\d+(?=`, or have)', '{MOST_KEYS}'), (r'(as in `--keys )\d+(?=`, or save)', '{KEYS}'))
+OF_PACKAGE = (r'((?:^version = |^  "version": )")[^"]+', '{VERSION}'),
+WITHIN = {'man/nbt.1': OF_NBT, 'man/nbt-station.1': OF_TABLES, 'tools/pkgconfig': ((r'(^Version: ).+', '{VERSION}'),),
+          **dict.fromkeys(('bindings/python/pyproject.toml', 'bindings/rust/Cargo.toml', 'bindings/javascript/package.json'), OF_PACKAGE)}
+PARTS = {'bindings/javascript/nbt.mjs': javascript.in_module, 'bindings/javascript/nbt.d.mts': javascript.in_types}
+
+
+def with_part(text, part):
+    """A file with what is made in the place of what was."""
+    front, begin, rest = text.partition(BEGIN + '\n')
+    _, end, behind = rest.partition(END + '\n')
+    if not begin or not end:
+        raise SystemExit(f'tools/lists.py: {BEGIN} and {END} have to stand there')
+    return front + begin + part + end + behind
+
+
+def made():
+    """Each file, as it should be."""
+    header = Header()
+    for name, maker in FILES.items():
+        yield TOP / name, maker(header)
+    for name, maker in PARTS.items():
+        yield TOP / name, with_part((TOP / name).read_text(encoding='utf-8'), maker(header))
+    for name, patterns in WITHIN.items():
+        text = (TOP / name).read_text(encoding='utf-8')
+        for pattern, *wanted in patterns:
+            words = ''.join(f'\\g<{at}>{each}' for at, each in enumerate(wanted, 1)).format(VERSION=header.version, **header.limits)
+            text, count = re.subn(pattern, words, text, flags=re.MULTILINE)
+            if count == 0:
+                raise SystemExit(f'tools/lists.py: {name} has no {pattern}')
+        yield TOP / name, text
+
+
+def check():
+    """The faults, and how many cases there are."""
+    faults, cases = [], 0
+    for path, text in made():
+        cases += 1
+        if not path.exists() or path.read_text(encoding='utf-8') != text:
+            faults.append(f'{path.relative_to(TOP)} is not what tools/lists.py --write makes')
+    for name, number, wanted in crates.numbers(Header()):
+        cases += 1
+        if number != wanted:
+            faults.append(f'{name}: nbt.h has {number}, the crates have {wanted}')
+    return faults, cases
+
+
+def main():
+    if sys.argv[1:] == ['--write']:
+        for path, text in made():
+            path.write_text(text, encoding='utf-8')
+    elif sys.argv[1:] == ['--check']:
+        faults, cases = check()
+        print(*(f'failed: {each}' for each in faults), f'{cases - len(faults)} passed, {len(faults)} failed', sep='\n')
+    else:
+        raise SystemExit(__doc__)
+
+
+main()

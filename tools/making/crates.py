@@ -1,0 +1,58 @@
+"""What the crates have of the numbers of nbt.h."""
+import re
+
+from .header import TOP
+
+CONSTANT = re.compile(r'const (\w+)(?:: \w+)? = (\w+);')
+WORD = re.compile(r'([0-9 |]+) => Some\("(\w+)"\)')
+KEYS = re.compile(r'number\(alloc, "keys", "N", help, (\w+)\)\.default_value\("(\w+)"\)')
+# By enumeration the files with its constants. Those that have other names there stand below.
+FILES = {'status': 'nb_c/src/statuses.rt', 'line_kind': 'nb_c/src/captures.rt', 'outcome': 'nb_c/src/taken.rt', 'record_type': 'nb_service/src/kinds.rt',
+         'datagram_flag': 'nb_datagram/src/limits.rt', 'datagram_type': 'nb_datagram/src/limits.rt', 'word': 'nb_service/src/flags.rt',
+         'name_flag': 'nb_service/src/flags.rt'}
+NAMES = {'UNIQUE': 'DIRECT_UNIQUE', 'GROUP': 'DIRECT_GROUP', 'ERROR': 'ERROR_TYPE', 'FIND': 'QUERY_REQUEST', 'FOUND': 'POSITIVE_RESPONSE',
+         'MISSING': 'NEGATIVE_RESPONSE'}
+# Those that are arms of a `match`, whose default has the other.
+ARMS = {'session_type': ('nb_session/src/kind.rt', r'Kind::(?P<name>\w+) => (?P<number>0x\w+),'),
+        'section': ('nb_c/src/service_reading.rt', r'Section::(?P<name>\w+)\) => (?P<number>\d)'),
+        'request': ('nb_c/src/service.rt', r'(?P<number>\d) => (?P<name>\w+?)(?:_request)?\(alloc')}
+LIMITS = {'MOST_LINE': ('nb_member/src/limits.rt', 'MAX_LINE'), 'MOST_DATAGRAM': ('nb_datagram/src/limits.rt', 'MAX_LENGTH'),
+          'MOST_BODY': ('nb_session/src/limits.rt', 'MAX_MESSAGE'), 'INPUT': ('nb_names/src/limits.rt', 'MAX_INPUT'),
+          'MOST_NAMES': ('nb_member/src/limits.rt', 'MAX_NAMES'), 'KEPT_FOR': ('nb_member/src/limits.rt', 'FRAGMENT_TIMEOUT'),
+          'TAKE_ROOM': ('nb_c/src/taken.rt', 'TAKE_ROOM')}
+
+
+def text_of(path):
+    return (TOP / 'crates' / path).read_text(encoding='utf-8')
+
+
+def constants(path):
+    return {name: int(digits, 0) for name, digits in CONSTANT.findall(text_of(path))}
+
+
+def words():
+    """The numbers of operations and results, by their words."""
+    return {word: [int(it) for it in numbers.split('|')] for numbers, word in WORD.findall(text_of('nb_text/src/words.rt'))}
+
+
+def numbers(header):
+    """A name of nbt.h, its number, and that which the crates have; of one that they have nowhere None."""
+    for enum, path in FILES.items():
+        found = constants(path)
+        for each in header.enums[enum]:
+            if each.name not in ('R', 'OPCODE', 'NM_FLAGS', 'RCODE', 'ONT'):
+                yield f'{enum} {each.name}', each.number, found.get(NAMES.get(each.name, each.name))
+    told = words()
+    for enum in 'operation', 'result_code':
+        for each in header.enums[enum]:
+            word = each.name if each.name.endswith('_ERR') else each.name.removeprefix('OTHER_').lower()
+            yield f'{enum} {each.name}', each.number, each.number if each.number in told.get(word, ()) else None
+    for enum, (path, pattern) in ARMS.items():
+        found = {it['name'].upper(): int(it['number'], 0) for it in re.finditer(pattern, text_of(path))}
+        for each in header.enums[enum]:
+            if each.name not in ('QUESTION', 'RELEASE'):
+                yield f'{enum} {each.name}', each.number, found.get(each.name)
+    for name, (path, constant) in LIMITS.items():
+        yield name, header.limits[name], constants(path).get(constant)
+    most, usual = KEYS.search(text_of('nbt/src/command_line.rt')).groups()
+    yield from (('MOST_KEYS', header.limits['MOST_KEYS'], int(most)), ('KEYS', header.limits['KEYS'], int(usual)))

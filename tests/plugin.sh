@@ -1,8 +1,9 @@
 #!/usr/bin/env bash
 # The plugin for Wireshark: what it is made of, that its phrases, faults and places are those of nbt_brief, its states those of
 # `nbt replay`, that tools print the same beside it, changed and cut captures, valgrind, and the samples of its page. Usage:
-# tests/plugin.sh [LIBRARY [PROGRAM]]; its last line is 'N passed, M failed, K skipped'. LIBRARY is a folder with libnbt.a and
-# libnbt.so.0, out/lib without it. Where tshark or Wireshark's headers aren't installed all of it is left out.
+# tests/plugin.sh [LIBRARY [PROGRAM [PART..]]]; its last line is 'N passed, M failed, K skipped'. LIBRARY is a folder with libnbt.a and
+# libnbt.so.0, out/lib without it. Of its parts those that are named are run: each wants `built`, and `page` wants `tools` too. Where
+# tshark or Wireshark's headers aren't installed all of it is left out.
 set -uo pipefail
 # What stands last in a pipe counts its cases here.
 shopt -s lastpipe
@@ -33,8 +34,8 @@ as=(env -u XDG_CONFIG_HOME -u WIRESHARK_CONFIG_DIR)
 commands() {
     local kind tool
     for kind in with without; do
-        mkdir -p "$room/$kind" "$room/home-$kind"
-        chmod 777 "$room/home-$kind"
+        mkdir -p "$room/$kind" "$room/home-$kind" "$room/states"
+        chmod 777 "$room/home-$kind" "$room/states"
         for tool in tshark sharkd; do
             printf '#!/bin/sh\nexec %s HOME=%s %s "$@"\n' "${as[*]}" "$room/home-$kind" "$(command -v $tool)" >"$room/$kind/$tool"
             chmod 755 "$room/$kind/$tool"
@@ -43,13 +44,12 @@ commands() {
     place=$(HOME=$room/home-with "$room/with/tshark" -G folders 2>/dev/null | sed -n 's/^Personal Plugins:[[:space:]]*//p')/epan
 }
 commands
+cp "$top"/examples/*.pcap "$room/states"
+"$here/lib/plugin_files.py" "$room/states"
+chmod 644 "$room/states"/*.pcap
 
-part built built
-part payloads said
-part states states
-part tools tools
-part bad bad
-part again again
-part valgrind under_valgrind
-part page page_samples
-finish
+for each in built payloads states streams tools shown bad again valgrind page; do
+    [ $# -lt 3 ] || [[ " ${*:3} " == *" $each "* ]] || continue
+    part $each part_$each
+done
+if [ $# -lt 3 ]; then finish; else total; fi

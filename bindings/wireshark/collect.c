@@ -60,7 +60,6 @@ void judge(struct payload *payload, const guint8 *bytes)
 {
     size_t length = (size_t)payload->length;
     struct nbt_service_header header;
-    struct nbt_datagram datagram;
     struct nbt_session session;
     payload->at = SIZE_MAX;
     payload->used = length;
@@ -70,8 +69,8 @@ void judge(struct payload *payload, const guint8 *bytes)
         if (payload->status == NBT_DONE) payload->used = header.used;
         break;
     case DATAGRAM_SERVICE:
-        payload->status = nbt_datagram_read(bytes, length, &datagram, &payload->at);
-        if (payload->status == NBT_DONE) payload->used = datagram.used;
+        payload->status = nbt_datagram_read(bytes, length, &payload->datagram, &payload->at);
+        if (payload->status == NBT_DONE) payload->used = payload->datagram.used;
         break;
     default:
         payload->status = nbt_session_read(bytes, length, &session, &payload->at);

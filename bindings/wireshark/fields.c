@@ -9,7 +9,7 @@ gint ett_nbt = -1, ett_fragments = -1;
 expert_field ei_refused = EI_INIT, ei_follow = EI_INIT, ei_state = EI_INIT, ei_spoilt = EI_INIT, ei_missing = EI_INIT,
              ei_names = EI_INIT;
 const char *station_names = "";
-wireshark_bool phrases_in_info = FALSE;
+wireshark_bool phrases_in_info = FALSE, keys_time_out = TRUE;
 
 static void register_fields(void)
 {
@@ -53,6 +53,9 @@ static void register_preferences(void)
     prefs_register_bool_preference(module, "info", "Phrases in the Info column",
                                    "What nbt says of a packet stands there in the place of what Wireshark says.",
                                    &phrases_in_info);
+    prefs_register_bool_preference(module, "timer", "Keys are dropped by the frames' times",
+                                   "Each second that begins drops the keys that are two seconds old. Without it none is dropped.",
+                                   &keys_time_out);
 }
 
 /* Before each file, also where it is read once more. */

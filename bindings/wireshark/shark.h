@@ -33,6 +33,7 @@ extern gint ett_nbt, ett_fragments;
 extern expert_field ei_refused, ei_follow, ei_state, ei_spoilt, ei_missing, ei_names;
 extern const char *station_names;       /* preference nbt.names */
 extern wireshark_bool phrases_in_info; /* preference nbt.info */
+extern wireshark_bool keys_time_out;   /* preference nbt.timer */
 
 void register_nbt(void);
 void hand_off_nbt(void);
@@ -49,7 +50,9 @@ struct payload {
     int whole;           /* how long it was sent, or 0 where that isn't known */
     guint32 status;      /* of its packet */
     size_t at, used;     /* the place that goes with the status, SIZE_MAX where there is none; the bytes of the packet */
+    size_t before;       /* how many of the packet's bytes earlier frames have, of port 139 */
     const char *phrase;  /* what was said of it before, where it isn't all in the tvb; else NULL */
+    struct nbt_datagram datagram; /* of port 138, where the status is NBT_DONE */
 };
 
 void hand_off_collecting(void);

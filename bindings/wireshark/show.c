@@ -44,13 +44,14 @@ static bool counts_in_name(guint32 status)
     return status == NBT_NAME_NOT_NETBIOS || status == NBT_SOURCE_NOT_NETBIOS || status == NBT_DESTINATION_NOT_NETBIOS;
 }
 
-/* The fault, at its byte; where that is past the end, at the last one. */
+/* The fault, at its byte; where that is past the end, at the last one; where it came with an earlier frame, at what came with this one. */
 static void show_refusal(packet_info *pinfo, proto_tree *tree, const struct payload *payload)
 {
     const char *words = words_of(pinfo->pool, payload->status);
-    bool in_name = counts_in_name(payload->status), placed = payload->at != SIZE_MAX, marked = placed && !in_name;
+    bool in_name = counts_in_name(payload->status), placed = payload->at != SIZE_MAX;
+    bool marked = placed && !in_name && payload->at >= payload->before;
     int last = MAX(payload->length - 1, 0);
-    int start = payload->start + (marked ? (int)MIN(payload->at, (size_t)last) : 0);
+    int start = payload->start + (marked ? (int)MIN(payload->at - payload->before, (size_t)last) : 0);
     int length = marked ? MIN(1, payload->length) : payload->length;
     proto_item *item = proto_tree_add_string(tree, hf_refused, payload->tvb, start, length, words);
     if (placed) {

@@ -41,23 +41,18 @@ static void show_joined(packet_info *pinfo, proto_tree *top, proto_tree *tree, t
 /* The data of a datagram that is one packet: Wireshark's dissector of datagrams has handed it on. */
 static void show_single(proto_tree *tree, const struct payload *payload)
 {
-    struct nbt_datagram packet;
-    size_t at;
-    const guint8 *bytes = tvb_get_ptr(payload->tvb, payload->start, payload->length);
-    if (nbt_datagram_read(bytes, (size_t)payload->length, &packet, &at) == NBT_DONE)
-        proto_tree_add_item(tree, hf_datagram, payload->tvb, payload->start + (int)packet.data, (int)packet.data_length, ENC_NA);
+    proto_tree_add_item(tree, hf_datagram, payload->tvb, payload->start + (int)payload->datagram.data,
+                        (int)payload->datagram.data_length, ENC_NA);
 }
 
 static void show_key(proto_tree *tree, wmem_allocator_t *scope, const struct payload *payload)
 {
-    struct nbt_datagram_front front;
-    size_t at;
-    const guint8 *bytes = tvb_get_ptr(payload->tvb, payload->start, payload->length);
-    if (nbt_datagram_front(bytes, (size_t)payload->length, &front, &at) != NBT_DONE) return;
+    const struct nbt_datagram *packet = &payload->datagram;
+    if (!proto_field_is_referenced(tree, hf_key)) return;
     proto_item_set_generated(proto_tree_add_string(
         tree, hf_key, payload->tvb, payload->start, payload->length,
-        wmem_strdup_printf(scope, "%u.%u.%u.%u:%u/%04x", front.address >> 24, front.address >> 16 & 255,
-                           front.address >> 8 & 255, front.address & 255, front.port, front.identifier)));
+        wmem_strdup_printf(scope, "%u.%u.%u.%u:%u/%04x", packet->address >> 24, packet->address >> 16 & 255,
+                           packet->address >> 8 & 255, packet->address & 255, packet->port, packet->identifier)));
 }
 
 static void show_datagram(packet_info *pinfo, proto_tree *top, proto_tree *tree, const struct payload *payload,

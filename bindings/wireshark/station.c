@@ -89,7 +89,7 @@ void look_at_clock(const packet_info *pinfo)
 {
     guint32 dropped = 0;
     guint64 now = moment_of(pinfo) / SECOND * SECOND;
-    if (PINFO_FD_VISITED(pinfo) || now <= second || known == NULL) return;
+    if (PINFO_FD_VISITED(pinfo) || !keys_time_out || now <= second || known == NULL) return;
     second = now;
     if (nbt_station_tick(&station, now, &dropped) == NBT_DONE && dropped > 0)
         g_hash_table_foreach_remove(known, is_dropped, &now);
@@ -119,16 +119,14 @@ static void append(struct datagram *datagram, struct fragment *fragment)
 }
 
 /* Enters a fragment that the station took. */
-static void enter(struct fragment *fragment, const struct nbt_taken *taken, guint64 moment, const guint8 *bytes, size_t length)
+static void enter(struct fragment *fragment, const struct nbt_taken *taken, guint64 moment, const struct nbt_datagram *packet,
+                  const guint8 *bytes)
 {
-    struct nbt_datagram packet;
-    size_t at;
     struct datagram *datagram = datagram_of(taken, moment);
     append(datagram, fragment);
-    if (nbt_datagram_read(bytes, length, &packet, &at) != NBT_DONE) return;
-    fragment->offset = packet.offset;
-    fragment->length = (guint16)packet.data_length;
-    fragment->more = (packet.flags & 1) != 0;
+    fragment->offset = packet->offset;
+    fragment->length = (guint16)packet->data_length;
+    fragment->more = (packet->flags & 1) != 0;
     if (taken->outcome == NBT_SPOILT) {
         datagram->spoilt_by = fragment;
         drop_data(datagram);
@@ -137,7 +135,7 @@ static void enter(struct fragment *fragment, const struct nbt_taken *taken, guin
     if (datagram->completed_by != NULL || datagram->spoilt_by != NULL) return;
     if (taken->outcome != NBT_KEPT) datagram->completed_by = fragment;
     if (taken->outcome == NBT_UNHEARD && all_are_heard) fragment->outcome = NBT_DELIVERED;
-    if (taken->outcome == NBT_KEPT || datagram->count > 1) keep_data(fragment, bytes + packet.data);
+    if (taken->outcome == NBT_KEPT || datagram->count > 1) keep_data(fragment, bytes + packet->data);
     if (datagram->completed_by == NULL) return;
     if (fragment->outcome == NBT_DELIVERED && datagram->count > 1) put_together(datagram);
     drop_data(datagram);
@@ -162,7 +160,8 @@ const struct fragment *take_payload(packet_info *pinfo, const struct payload *pa
     } else {
         fragment->outcome = taken.outcome;
         fragment->refusal = taken.refusal;
-        if (taken.outcome <= NBT_UNHEARD) enter(fragment, &taken, moment_of(pinfo), bytes, (size_t)payload->length);
+        if (taken.outcome <= NBT_UNHEARD && payload->status == NBT_DONE)
+            enter(fragment, &taken, moment_of(pinfo), &payload->datagram, bytes);
     }
     p_add_proto_data(wmem_file_scope(), pinfo, proto_nbt, key, fragment);
     return fragment;

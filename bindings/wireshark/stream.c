@@ -28,6 +28,7 @@ struct connection {
 /* A packet that was found. */
 struct found {
     int start, length;   /* in what TCP handed over; the part that is there */
+    int before;          /* how many bytes of it earlier frames have */
     int raw;             /* where that stands in the frame, or -1 where the frame hasn't its bytes */
     guint32 status;
     guint32 at, used;    /* UINT32_MAX where there is no place */
@@ -80,6 +81,7 @@ static void hold(struct direction *way, const guint8 *bytes, size_t length)
 struct bytes {
     const guint8 *data;
     size_t length, earlier;
+    bool begun;           /* an earlier frame told how much the packet at their front lacks */
     int base;             /* where what came with this frame begins, in what TCP handed over */
 };
 
@@ -90,6 +92,7 @@ static struct found *new_found(const struct bytes *bytes, size_t offset, const s
     size_t start = MAX(offset, bytes->earlier);
     found->start = bytes->base + (int)(start - bytes->earlier);
     found->length = (int)(end - MIN(start, end));
+    found->before = (int)(start - offset);
     found->status = judged->status;
     found->at = judged->at == SIZE_MAX ? UINT32_MAX : (guint32)judged->at;
     found->used = (guint32)judged->used;
@@ -106,7 +109,7 @@ static size_t find_packets(struct direction *way, const struct bytes *bytes, str
     while (offset < bytes->length) {
         struct payload judged = {.port = SESSION_SERVICE, .length = (int)(bytes->length - offset)};
         judge(&judged, bytes->data + offset);
-        if (judged.status != NBT_MORE || offset >= bytes->earlier) {
+        if (judged.status != NBT_MORE || offset > 0 || !bytes->begun) {
             *last = new_found(bytes, offset, &judged);
             last = &(*last)->next;
         }
@@ -149,7 +152,7 @@ static struct found *read_anew(struct direction *way, const struct bytes *bytes,
 static struct found *read_on(struct direction *way, const guint8 *data, size_t length, size_t earlier)
 {
     struct found *found = NULL;
-    struct bytes bytes = {.earlier = earlier};
+    struct bytes bytes = {.earlier = earlier, .begun = true};
     size_t end;
     g_byte_array_set_size(way->held, (guint)earlier);
     g_byte_array_append(way->held, data, (guint)length);
@@ -176,10 +179,12 @@ static struct found *read_bytes(struct direction *way, const guint8 *data, size_
     if (way->lost || (before < 0 && (size_t)-(gint64)before > held) ||
         (gint32)(sequence + (guint32)length - way->first) <= 0)
         return read_anew(way, &bytes, sequence);
+    /* What came before is repeated. */
+    if ((gint64)length - before <= (gint64)held) return NULL;
     if (before < 0) return read_on(way, data, length, (size_t)-(gint64)before);
-    if ((size_t)before >= length) return NULL;
     bytes.data += before;
     bytes.length -= (size_t)before;
+    bytes.begun = held > 0;
     bytes.base = before;
     end = find_packets(way, &bytes, &found);
     way->next += (guint32)end;
@@ -212,7 +217,7 @@ static void add_found(packet_info *pinfo, tvbuff_t *frame, tvbuff_t *joined, con
         bool in_frame = found->raw >= 0 && tvb_bytes_exist(frame, found->raw, found->length);
         bool is_joined = !in_frame && joined != NULL && tvb_bytes_exist(joined, found->start, found->length);
         struct payload payload = {.port = SESSION_SERVICE, .status = found->status, .used = found->used, .phrase = found->phrase,
-                                  .at = found->at == UINT32_MAX ? SIZE_MAX : found->at,
+                                  .at = found->at == UINT32_MAX ? SIZE_MAX : found->at, .before = (size_t)found->before,
                                   .tvb = is_joined ? joined : frame,
                                   .start = in_frame ? found->raw : is_joined ? found->start : 0,
                                   .length = in_frame || is_joined ? found->length : 0};

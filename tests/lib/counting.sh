@@ -137,9 +137,14 @@ page_sample() {
     count $? "$1: $2"
 }
 
+# The last line of a script, and its status.
+total() {
+    echo "$passed passed, $failed failed, $skipped skipped"
+    [ "$failed" -eq 0 ]
+}
+
 # Ends the script with its last line.
 finish() {
     enough $((passed + failed + skipped)) "$(least "$script" all)" all
-    echo "$passed passed, $failed failed, $skipped skipped"
-    [ "$failed" -eq 0 ]
+    total
 }

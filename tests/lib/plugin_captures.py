@@ -19,7 +19,7 @@ KEPT_MILLISECONDS = 2_000
 class Made:
     """One capture."""
 
-    def __init__(self, rng):
+    def __init__(self, rng, ticks=True):
         self.rng = rng
         self.frames = []            # time in microseconds, bytes, and how many of them the file has
         self.datagrams = {}         # of frames of port 138 that aren't cut, the line's number
@@ -27,7 +27,7 @@ class Made:
         self.drops = []             # the frames before which the clock was looked at, and the moment that it showed
         output = Output(quiet=True)
         self.lines = output.lines
-        self.capture = Capture(output, types.SimpleNamespace(bare=True, no_ticks=False))
+        self.capture = Capture(output, types.SimpleNamespace(bare=True, no_ticks=not ticks))
         self.now = 0
         payloads = list(self.payloads())
         for each in payloads:

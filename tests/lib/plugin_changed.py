@@ -67,7 +67,7 @@ def captures(folder, count, files):
         for snap in SNAPS:
             yield f'{name}, {snap} bytes', changed(source, os.path.join(folder, f'changed-{name}-{snap}'), ['-s', str(snap)])
         both = os.path.join(folder, f'changed-{name}-both')
-        subprocess.run(['mergecap', '-w', both, source, source], check=True, capture_output=True)
+        subprocess.run(['mergecap', '-I', 'none', '-w', both, source, source], check=True, capture_output=True)
         os.chmod(both, 0o644)
         yield f'{name}, twice', both
     for seed in range(1, count + 1):

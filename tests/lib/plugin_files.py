@@ -2,7 +2,8 @@
 """Captures that the plugin for Wireshark is tried with.  Usage: tests/lib/plugin_files.py FOLDER
 
 pieces.pcap has datagrams in many pieces, some lost, changed and repeated; sessions.pcap connections to port 139 in segments of all sizes,
-in order and not, with bytes of no packet, headers that ask for more than a packet has, and starts that the file lacks.
+in order and not, with bytes of no packet, headers that ask for more than a packet has, and starts that the file lacks. marked.pcap has refused
+packets, one of which comes in two segments, and an SMB echo in a datagram of two fragments.
 """
 import os
 import random
@@ -11,8 +12,8 @@ import sys
 
 sys.dont_write_bytecode = True
 from plugin_captures import Made
-from plugin_pcap import framed, write_pcap
-from wire import ACK, CLIENT, KEEPALIVE, OTHER, POSITIVE, REQUEST, SERVER, SHORT, SYN, TCP, ip
+from plugin_pcap import datagram_frame, framed, write_pcap
+from wire import ACK, CLIENT, FRED, JOE, KEEPALIVE, OTHER, POSITIVE, QUERY, REQUEST, SERVER, SHORT, SYN, TCP, ip
 
 LENGTHS = (1, 2, 3, 7, 40, 500, 1_400)
 
@@ -77,10 +78,21 @@ def sessions():
     return frames
 
 
+def marked():
+    """A query whose name is a pointer to itself, a call whose second name has too long a label, and the echo."""
+    call = REQUEST[:38] + b'\x40' + REQUEST[39:]
+    echo = b'\xffSMB\x2b' + bytes(27) + b'\x01\x01\0\x02\0hi'
+    head = (0x11, 3, 5, JOE, FRED)
+    frames = [datagram_frame(137, QUERY[:12] + b'\xc0\x0c' + QUERY[46:], CLIENT), segment(1_024, 1, call[:20]), segment(1_024, 21, call[20:]),
+              *(datagram_frame(138, Made.piece(head, echo, start, end), CLIENT) for start, end in ((0, 20), (20, len(echo))))]
+    return [(number * 1_000, frame, None) for number, frame in enumerate(frames)]
+
+
 def main():
     folder = sys.argv[1]
     write_pcap(os.path.join(folder, 'pieces.pcap'), pieces())
     write_pcap(os.path.join(folder, 'sessions.pcap'), sessions())
+    write_pcap(os.path.join(folder, 'marked.pcap'), marked())
 
 
 if __name__ == '__main__':

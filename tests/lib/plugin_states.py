@@ -5,7 +5,7 @@ Usage: tests/lib/plugin_states.py SHARKD TSHARK PROGRAM FOLDER COUNT [SEED]
 
 So many captures of fragments that are shuffled, lost, repeated and changed, with pauses, times that go back, packets of other kinds
 and ports and frames that are cut. All are read by one sharkd, which has the plugin, one after the other, for a station with names or
-for all; the program replays the same with the ticks of nbt-pcap2cap. Of each payload of port 138 the state, the key and the data have
+for all, with the timer or without it; the program replays the same with the ticks of nbt-pcap2cap or without. Of each payload of port 138 the state, the key and the data have
 to be those of the report, and the links and what is missing those of a plain model. sharkd shows the front of
 long data: of one capture in five tshark prints all of it. A case is a capture; the last line is 'N passed, M failed'.
 """
@@ -23,7 +23,8 @@ from plugin_pcap import fields_of, write_pcap
 COLUMNS = ('nbt.state', 'nbt.key', 'nbt.datagram', 'nbt.whole_in', 'nbt.spoilt_in', 'nbt.missing', 'nbt.fragment')
 # How sharkd shows no bytes, and of how many digits it shows the front.
 NO_BYTES, DIGITS = '<MISSING>', 72
-WHOLE_OF = 10
+WHOLE_OF, TIMER_OF = 10, 4
+BOOLEANS = ('FALSE', 'TRUE')
 SOME, ALL = ['FRED<20>', 'JOE<00>'], ['FRED<20>', 'JOE<00>', 'ANN<03>.A', 'BOB<20>']
 
 
@@ -92,9 +93,9 @@ def first_difference(made, rows, states):
     return ''
 
 
-def data_differ(tshark, path, asked, states):
+def data_differ(tshark, path, asked, timer, states):
     """The first frame whose data isn't that of the report, in words; '' where there is none."""
-    rows = fields_of(tshark, path, ['nbt.datagram'], '-o', 'nbt.names:' + ' '.join(asked))
+    rows = fields_of(tshark, path, ['nbt.datagram'], '-o', 'nbt.names:' + ' '.join(asked), '-o', f'nbt.timer:{BOOLEANS[timer]}')
     for frame, (_state, _key, data) in states.items():
         if ''.join(rows[frame - 1][0]).replace(NO_BYTES, '') != (data or ''):
             return f'frame {frame}: {rows[frame - 1]}, not {data}'
@@ -107,16 +108,18 @@ def main():
     sharkd = Sharkd(command)
     passed, seen = 0, {}
     for number in range(count):
-        made = Made(random.Random(f'{seed}-{number}'))
+        timer = number % TIMER_OF != TIMER_OF - 1
+        made = Made(random.Random(f'{seed}-{number}'), timer)
         path = os.path.join(folder, 'states.pcap')
         write_pcap(path, made.frames)
         asked = SOME if number % 2 else []
         sharkd.ask('setconf', name='nbt.names', value=' '.join(asked))
+        sharkd.ask('setconf', name='nbt.timer', value=BOOLEANS[timer])
         report = report_of(program, made.lines, asked or ALL)
         states = {frame: wanted_of(report[line]) for frame, line in made.datagrams.items()}
         difference = first_difference(made, sharkd.rows(path), states)
         if number % WHOLE_OF < 2:
-            difference = difference or data_differ(tshark, path, asked, states)
+            difference = difference or data_differ(tshark, path, asked, timer, states)
         passed += not difference
         for words in report.values():
             seen[words.split(' ')[0]] = seen.get(words.split(' ')[0], 0) + 1

@@ -119,7 +119,7 @@ def check_ending(made):
         expect(not made.errors, 'standard error at status 0')
     elif made.status == 2:
         expect(made.errors and not made.output, 'no text on standard error at status 2, or an output')
-    elif made.output != b'different\n' or made.errors:
+    elif not made.output.startswith(b'different\n') or made.errors:
         texts = TEXTS if made.status == 1 else MEMORY_OR_DEVICE
         expect(texts.fullmatch(made.errors), f'the text {made.errors!r}')
         expect(not made.output or made.words[0] not in SILENT, 'an output at a refusal')

@@ -11,14 +11,14 @@ program=$(realpath "${3:-$top/crates/nbt/out/nbt}")
 parts="${*:4}"
 packages=tshark,libwireshark-dev,libglib2.0-dev,gcc,libc6-dev,pkg-config,python3,valgrind,libc6-dbg
 
-# version: of the tshark that runs here. refuses PLUGIN: whether a tshark here says that it is for another version, and runs on.
+# version: of the tshark that runs here. refuses PLUGIN: whether a tshark here says that it can't load it, and runs on.
 cat >"$room/common" <<'COMMON'
 version() { tshark --version 2>/dev/null | head -n 1; }
 refuses() {
     export HOME=$room/home
     mkdir -p "$HOME" && place=$(tshark -G folders 2>/dev/null | sed -n 's/^Personal Plugins:[[:space:]]*//p')/epan
     install -D -m 644 "$1" "$place/nbt.so" && chown -R 65534:65534 "$HOME"
-    setpriv --reuid=65534 --regid=65534 --clear-groups tshark -n -r "$room/office.pcap" 2>&1 >"$room/list" | grep 'nbt\.so.*compiled for' && [ -s "$room/list" ]
+    setpriv --reuid=65534 --regid=65534 --clear-groups tshark -n -r "$room/office.pcap" 2>&1 >"$room/list" | grep "plugin.*nbt\.so" && [ -s "$room/list" ]
 }
 COMMON
 cat >"$room/there" <<'THERE'
@@ -36,6 +36,7 @@ chmod 755 "$room"
 env parts="$parts" top="$top" library="$library" program="$program" room="$room" unshare --mount --propagation private mmdebstrap --quiet --mode=root \
     --variant=apt --aptopt='Acquire::Retries "3"' --include=$packages \
     --customize-hook='mkdir -p "$1/nbt/room" && cd "$top" && cp -r bindings docs examples include tests tools "$1/nbt" &&
+        mkdir -p "$1/nbt/crates/nb_examples" && cp -r crates/nb_examples/examples "$1/nbt/crates/nb_examples" &&
         cp -rL "$library" "$1/nbt/library" && cp "$program" "$1/nbt/program" && cp "$room"/here.so "$room"/office.pcap "$room"/common "$room"/there "$1/nbt/room"' \
     --customize-hook='chroot "$1" bash /nbt/room/there $parts | tee "$room/output"; cp "$1"/nbt/room/there.so "$1"/nbt/room/said "$1"/nbt/room/version "$room"' "$suite" /dev/null
 count $? "a root of $suite"

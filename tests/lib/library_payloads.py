@@ -1,5 +1,5 @@
 #!/usr/bin/env python3
-"""Payloads for tests/lib/library.c, good and changed, a line each: a port and digits, or `empty`.
+"""Payloads for tests/library/payloads.c, good and changed, a line each: a port and digits, or `empty`.
 
 Usage: tests/lib/library_payloads.py [--seed N] [--longest BYTES] COUNT. They are made as those of tests/fuzz.py are;
 longer ones than --longest are left out.

@@ -101,11 +101,10 @@ all_calls() {
 # Each request for memory refused in turn, on each target: what is answered then is the same.
 refused() {
     local each
-    # A datagram in two pieces, a response, and a session request.
+    # A datagram in two pieces, and a response; each call is made with its samples, too.
     {
         ended "$program" build group 10.0.0.5:138/0001 'JOE<00>' 'FRED<20>' 68656c6c6f2c2046524544 6 | tac
         ended "$program" build response 0006 8500 'FRED<20>' 0020 300 60000a0000050000c0a80001
-        ended "$program" build request 'FRED<20>' 'JOE<00>.NETBIOS.COM'
     } | sed 's/ 0 / /' >"$room/few"
     asked "$room/few"
     every x86-64 "$room/calls"

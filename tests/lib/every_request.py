@@ -6,7 +6,7 @@ Usage: every_request.py FORM SHIM INPUT COMMAND [WORD]..
 The program reads INPUT. SHIM is tests/lib/refuse_memory.c, compiled. With ample memory the program writes and answers what is compared
 with, and with a request refused that no longer comes it has to do so too. What it may do where one is refused, the FORM says:
 
-- `again`: as with ample memory, but that its last line of standard error counts one refusal: tests/library/samples.c calls again.
+- `again`: as with ample memory, but that its last line of standard error counts one refusal: tests/library/payloads.c calls again.
 - `command`: end with status 3, `nbt: memory` and what the command leaves then: show and replay a front of the output that ends
   where a line does, the others nothing. Of words that are no command line it may also end as ever, but not at each request.
 - `digits`: the same, where the words have digits that are bad.

@@ -1,14 +1,12 @@
 #!/usr/bin/env python3
-"""Payloads for tests/library/samples.c, good and changed, a line each: a port and digits, or `empty`.
+"""Payloads for tests/library/payloads.c, good and changed, a line each: a port and digits, or `empty`.
 
 Usage: tests/lib/library_payloads.py [--seed N] [--longest BYTES] COUNT. They are made as those of tests/fuzz.py are;
 longer ones than --longest are left out.
 """
 import argparse
 import random
-import sys
 
-sys.path.insert(1, f'{sys.path[0]}/..')
 from fuzz_inputs import Maker, capture_lines, example_bytes, likely_port
 
 LONGEST = 131_000

@@ -25,6 +25,7 @@ import tempfile
 sys.path.insert(1, f'{sys.path[0]}/..')
 from compared import LONGEST_PRINTED, Cases
 from fuzz_inputs import ROOT, capture_lines, example_bytes
+from limits import NAMED
 from model.captures import cut_at_line_feeds
 from object_commands import Unknown, wanted
 from object_inputs import Inputs
@@ -153,11 +154,12 @@ def spelled_cases():
     with open(os.path.join(TESTS, 'program.sh'), encoding='utf-8') as script:
         spellings = dict(SPELLINGS.findall(script.read()))
     spellings['empty'] = spellings['empty'].replace('$joe', spellings['joe']).replace('$fred', spellings['fred'])
+    spellings |= {name.lower(): str(limit) for name, limit in NAMED.items()}
     for name in sorted(os.listdir(os.path.join(TESTS, 'cases'))):
         with open(os.path.join(TESTS, 'cases', name), encoding='utf-8') as cases:
             for line in cases:
                 if line.startswith('$ ') and re.search(r'\bnbt\b', line) and re.search(r'\b(show|replay|list)\b', line):
-                    yield re.sub(r'\{([A-Z]+)\}', lambda it: spellings[it[1].lower()], line[2:].rstrip('\n'))
+                    yield re.sub(r'\{([A-Z_]+)\}', lambda it: spellings[it[1].lower()], line[2:].rstrip('\n'))
 
 
 def recorded(program):

@@ -9,6 +9,12 @@ from nbt_pcap.header import KEYS, MOST_KEYS
 MANY = ['--keys', str(MOST_KEYS)]
 
 
+# What stands in tests/cases for a limit, and for one more.
+NAMED = {'KEYS': KEYS, 'OVER_KEYS': KEYS + 1, 'MOST_KEYS': MOST_KEYS, 'OVER_MOST_KEYS': MOST_KEYS + 1}
+
+
 def filled(line):
     """A line of tests/cases in which limits stand for their names."""
-    return line.replace(b'{KEYS}', b'%d' % KEYS).replace(b'{MOST_KEYS}', b'%d' % MOST_KEYS)
+    for name, limit in NAMED.items():
+        line = line.replace(b'{%s}' % name.encode(), b'%d' % limit)
+    return line

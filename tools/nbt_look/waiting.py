@@ -5,6 +5,8 @@ from dataclasses import dataclass, field
 
 from .vocabulary import ANSWERING, MOST_FRAMES, MOST_OF_ONE, MOST_WAITING, Front
 
+SECOND = 10**9
+
 
 @dataclass
 class Request:

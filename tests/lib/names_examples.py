@@ -62,6 +62,12 @@ def short_texts():
                 yield text_example(front + bytes(ending))
 
 
+def longest_scopes():
+    """The longest scope that a name may have, and one that is a byte longer."""
+    for last in (28, 29):
+        yield text_example(b'A<20>' + (b'.' + b'x' * 63) * 3 + b'.' + b'y' * last)
+
+
 def made_name(chance):
     """A name."""
     front = chance.choice([b'FRED', chance.randbytes(chance.randrange(16))])
@@ -120,7 +126,7 @@ def longest_way():
 def main():
     """Prints all of them."""
     chance = random.Random(1002)
-    texts = itertools.chain(short_texts(), made_texts(chance, 2000))
+    texts = itertools.chain(short_texts(), longest_scopes(), made_texts(chance, 2000))
     packets = itertools.chain(small_packets(chance, 400), made_packets(chance, 1500), longest_way())
     for example in itertools.chain(texts, packets):
         print(example)

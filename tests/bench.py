@@ -4,7 +4,7 @@
 Prints the lines of the first two tables of docs/PERFORMANCE.md. A row is a command and a workload: instructions a packet (counted by
 valgrind's cachegrind, where it is installed; they are the same from run to run), the peak of resident memory, how many times the instructions
 are those of the plain program of tests/plain/ on the same crates, or of the same packets as text, beside the most that they may be
-(tests/lib/bench_bars.py), and packets a second (the best of three runs). Then come rows on growth. A number that is more than 5 % past its
+(tests/bench/bench_bars.py), and packets a second (the best of three runs). Then come rows on growth. A number that is more than 5 % past its
 bar, or past what it is known to be, is a failure, and the last line counts them. With --small captures are a tenth as long.
 """
 import os
@@ -17,7 +17,7 @@ import tempfile
 import time
 
 sys.dont_write_bytecode = True
-sys.path.insert(1, f'{sys.path[0]}/lib')
+sys.path[1:1] = [f'{sys.path[0]}/{it}' for it in ('bench', 'lib')]
 import plain_program
 from bench_bars import GROWN, GROWTH, PER_SOURCE, PIECES, PLAIN, TEXT, WORST, Bars
 from bench_captures import (FRED, MOST_IN_A_CAPTURE, descending, labels, office, one_address, pointed, refused,

@@ -15,7 +15,7 @@ import tempfile
 
 sys.dont_write_bytecode = True
 HERE = os.path.dirname(os.path.abspath(__file__))
-sys.path.insert(1, f'{HERE}/lib')
+sys.path.insert(1, f'{HERE}/bench')
 from bench_rows import HEADING, Row
 
 # How many times tshark's own cost, and how many bytes a packet.

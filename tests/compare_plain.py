@@ -1,7 +1,7 @@
 #!/usr/bin/env python3
 """The program beside the same in plain Rust without proofs, tests/plain/.  Usage: tests/compare_plain.py [PROGRAM]
 
-Compiles the plain program twice: on std alone, and on the crates that nbt stands on (tests/lib/plain_program.py). Gives all three
+Compiles the plain program twice: on std alone, and on the crates that nbt stands on (tests/bench/plain_program.py). Gives all three
 programs small captures of each kind and those of tests/bench.py, and says where what they print, a line on standard error or a status
 differs: then its own status is 1. Prints the instructions a packet of each over the captures of tests/bench.py, where valgrind is
 installed, how many times those of the plain ones ours are, and the processor seconds of the best of five runs by turns.
@@ -15,6 +15,7 @@ import sys
 import tempfile
 
 sys.dont_write_bytecode = True
+sys.path[1:1] = [f'{sys.path[0]}/{it}' for it in ('bench', 'lib')]
 import bench
 import plain_program
 from bench_captures import FRED, JOE, MOST_IN_A_CAPTURE, line, office, one_address

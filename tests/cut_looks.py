@@ -1,7 +1,7 @@
 #!/usr/bin/env python3
 """What tools/nbt-look shows of packets that the snap length cut, beside a model.  Usage: tests/cut_looks.py    with python3-scapy
 
-The packets of tests/lib/cut_captures.py are cut at several lengths. Of each frame the object of --json has the members that
+The packets of tests/look/cut_captures.py are cut at several lengths. Of each frame the object of --json has the members that
 tests/model reads in the bytes that are left, the last line counts what is cut, and filters by name and kind choose those
 in which the name stands. Its last line is 'N passed, M failed', of lengths.
 """
@@ -13,7 +13,7 @@ import tempfile
 
 sys.dont_write_bytecode = True
 HERE = os.path.dirname(os.path.abspath(__file__))
-sys.path.insert(1, f'{HERE}/lib')
+sys.path[1:1] = [f'{HERE}/{it}' for it in ('captures', 'lib', 'look')]
 from cut_captures import capture, payloads
 from model.names import Refused, domain_text, read_labels
 from model.objects import SECTIONS, front_of, shown

@@ -12,14 +12,14 @@ ordinary() {
     "$here/join_examples.py" --check
     count $? 'the examples are joined (tests/join_examples.py)'
     enough "$(sed 's/ .*//' "$examples/../stdout")" "$(least nb_examples lines)" 'crates/nb_examples/stdout'
-    "$here/lib/rust_samples.py"
-    count $? 'the Rust samples of the pages stand in the sources (tests/lib/rust_samples.py)'
+    "$here/docs/rust_samples.py"
+    count $? 'the Rust samples of the pages stand in the sources (tests/docs/rust_samples.py)'
 
     # Names, texts and tables by the thousand, whose answers the model finds.
     for each in names tables; do
-        "$here/lib/${each}_examples.py" | ended "$program" >"$room/output"
+        "$here/examples/${each}_examples.py" | ended "$program" >"$room/output"
         [ $? -eq 0 ] && grep -qE '^[0-9]{5,} examples, 0 wrong$' "$room/output"
-        count $? "the examples of tests/lib/${each}_examples.py: $(tail -n 1 "$room/output")"
+        count $? "the examples of tests/examples/${each}_examples.py: $(tail -n 1 "$room/output")"
     done
 
     # Words that mean nothing have no answer, and an answer that differs is printed.
@@ -54,7 +54,7 @@ END
 
 # Of each call an example with another answer, one with a word more, and one with another last word: each is found wrong.
 changed() {
-    "$here/lib/changed_examples.py" <"$examples/../stdin" >"$room/input"
+    "$here/examples/changed_examples.py" <"$examples/../stdin" >"$room/input"
     ended "$program" <"$room/input" >"$room/output"
     [ $? -eq 1 ] && [ "$(grep -cE '^[a-z]+\.' "$room/output")" -eq "$(wc -l <"$room/input")" ]
     count $? "each of $(wc -l <"$room/input") changed examples is found wrong: $(tail -n 1 "$room/output")"
@@ -123,7 +123,7 @@ subject() {
     "$here/join_examples.py" "$1" | awk '!seen[$1]++' >"$room/input"
     "$program" <"$room/input" >"$room/output"
     count $? "$1: the first example of each call"
-    counted_by every_request.py examples "$room/refuse_memory.so" "$room/input" "$program"
+    counted_by lib/every_request.py examples "$room/refuse_memory.so" "$room/input" "$program"
 }
 
 subjects() {

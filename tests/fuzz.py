@@ -3,7 +3,7 @@
 
 Usage: tests/fuzz.py [--seconds N] [--seed N] [--inputs N] [PROGRAM]. They are made from the bytes of the examples of
 crates/nb_examples, the captures of examples/, packets that the program builds, and datagrams of made senders. The runs over
-each input are held against rules. Those on forms (tests/lib/fuzz_forms.py):
+each input are held against rules. Those on forms (tests/fuzz/fuzz_forms.py):
 
 - ends: within limits of time and memory, with a status of 0 to 3; standard error is empty at 0, one line `nbt: TEXT` at
   1 and 3, clap's text at 2; where they are refused `name`, `build`, `save`, `merge` and `list` print nothing;
@@ -15,7 +15,7 @@ each input are held against rules. Those on forms (tests/lib/fuzz_forms.py):
 - built: where a shown packet is one that `build` makes, `build` gives its bytes again;
 - named: what `name` spells is read as the same name.
 
-Those on answers (tests/lib/fuzz_answers.py), of which the model is tests/model, written from the pages alone:
+Those on answers (tests/fuzz/fuzz_answers.py), of which the model is tests/model, written from the pages alone:
 
 - shown, reported, saved, listed by the model: `show`, `replay`, `save` and `list` print what the model does, of any capture, with
   ticks and limits;
@@ -27,7 +27,7 @@ Those on answers (tests/lib/fuzz_answers.py), of which the model is tests/model,
 - streams cut, streams walked: of packets of port 139 in a row each front is shown as the pages say, and `used` leads from
   packet to packet, whatever follows.
 
-And those on a run that is repeated (tests/lib/fuzz_hostile.py):
+And those on a run that is repeated (tests/fuzz/fuzz_hostile.py):
 
 - the same answer twice: the same words and input give the same output, errors and status;
 - short reads: so they do over devices that move few bytes or are interrupted (tests/lib/devices.c);
@@ -47,7 +47,7 @@ import sys
 import tempfile
 import time
 
-sys.path.insert(1, f'{sys.path[0]}/lib')
+sys.path[1:1] = [f'{sys.path[0]}/{it}' for it in ('captures', 'fuzz', 'lib')]
 from fuzz_answers import Answers
 from fuzz_forms import Forms
 from fuzz_hostile import Hostile

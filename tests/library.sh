@@ -32,7 +32,7 @@ files() {
     local archive=$top/crates/nb_c/out/libnb_c.a
     if [ -n "${AFTER_RT_CI:-}" ]; then
         archive=$room/libnb_c.a
-        "$here/lib/archive" "$archive" "${MODULE:-$room/nbt.bc}"
+        "$here/library/archive" "$archive" "${MODULE:-$room/nbt.bc}"
     else
         (cd "$top/crates/nb_c" && rt lib)
     fi >"$room/log" 2>&1
@@ -79,7 +79,7 @@ examples() {
     count $? "the header in C++: $(head -n 1 "$room/log")"
 }
 
-# The examples under valgrind, which takes long to begin: they are linked into one program, tests/lib/examples.c, in which each is a
+# The examples under valgrind, which takes long to begin: they are linked into one program, tests/library/examples.c, in which each is a
 # process of its own.
 under_valgrind() {
     local each number name status list='' folder=$room/valgrind
@@ -90,10 +90,10 @@ under_valgrind() {
         count $? "$name.c, valgrind: $(head -n 1 "$room/log")"
         list+="EXAMPLE($name) "
     done
-    $CC "${strict[@]}" "-DEXAMPLES=$list" -o "$room/examples" "$here/lib/examples.c" "$folder"/*.o "$built/libnbt.a" >"$room/log" 2>&1 \
+    $CC "${strict[@]}" "-DEXAMPLES=$list" -o "$room/examples" "$here/library/examples.c" "$folder"/*.o "$built/libnbt.a" >"$room/log" 2>&1 \
         && ended valgrind -q --error-exitcode=99 --leak-check=full --read-inline-info=no "$room/examples" "$folder" \
             >"$folder/statuses" 2>"$folder/found"
-    count $? "tests/lib/examples.c, valgrind: $(cat "$room/log" "$folder/found" | head -n 1)"
+    count $? "tests/library/examples.c, valgrind: $(cat "$room/log" "$folder/found" | head -n 1)"
     for each in "$top"/bindings/c/*.c; do
         name=$(basename "$each" .c) number='' status=''
         IFS=' ' read -r number status < <(sed -n "s/ $name / /p" "$folder/statuses")
@@ -112,8 +112,8 @@ instructions() {
 # records that are 4 and 16 times as many, some 4 and 16 times as much.
 chains() {
     local each counted base
-    $CC "${strict[@]}" -O2 -o "$room/chain" "$here/lib/service_chain.c" "$built/libnbt.a" >"$room/log" 2>&1
-    count $? "tests/lib/service_chain.c: $(head -n 1 "$room/log")"
+    $CC "${strict[@]}" -O2 -o "$room/chain" "$here/library/service_chain.c" "$built/libnbt.a" >"$room/log" 2>&1
+    count $? "tests/library/service_chain.c: $(head -n 1 "$room/log")"
     base=$(instructions "$room/chain" 511 236)
     for each in 1 4 16; do
         counted=$(instructions "$room/chain" $((511 * each)) $((236 * each)))
@@ -138,10 +138,10 @@ worst() {
 
 # lines COUNT SEED [LONGEST]: payloads, of so many bytes at most, and what `nbt show` prints of them.
 lines() {
-    "$here/lib/library_payloads.py" --seed "$2" ${3:+--longest "$3"} "$1" >"$room/lines$2"
+    "$here/captures/library_payloads.py" --seed "$2" ${3:+--longest "$3"} "$1" >"$room/lines$2"
     sed 's/ / 0 /' "$room/lines$2" | ended "$program" show --input-limit 4294967296 >"$room/lines$2.wanted"
     [ $? -eq 0 ] && [ "$(grep -cE '^[0-9]+ 13[789] ' "$room/lines$2.wanted")" -eq "$1" ]
-    count $? "$1 payloads of tests/lib/library_payloads.py, and nbt show of each"
+    count $? "$1 payloads of tests/captures/library_payloads.py, and nbt show of each"
 }
 
 # objects LINES: the objects of payloads are those that `nbt show --json` prints, but for the members of their lines.
@@ -175,7 +175,7 @@ refused() {
     [ -f "$room/plain" ] || compiled plain
     lines 12 2 1000
     worst plain "$room/lines2" 2
-    counted_by every_request.py again "$room/refuse_memory.so" "$room/lines2" "$room/plain" 2
+    counted_by lib/every_request.py again "$room/refuse_memory.so" "$room/lines2" "$room/plain" 2
 }
 
 # hostile NAME OPTION..: a caller who goes to every limit of the header, compiled so; its calls answer the statuses listed there.
@@ -184,7 +184,7 @@ hostile() {
     count $? "tests/library/hostile.c, $1: $(head -n 1 "$room/log")"
     ended "$room/hostile" >"$room/statuses" 2>"$room/errors"
     count $? "tests/library/hostile.c, $1: $(grep -m 1 . "$room/errors")"
-    "$here/lib/statuses_reached.py" "$top/include/nbt.h" <"$room/statuses" >"$room/output" 2>&1
+    "$here/library/statuses_reached.py" "$top/include/nbt.h" <"$room/statuses" >"$room/output" 2>&1
     count $? "each call answers what the header lists, $1: $(head -n 3 "$room/output" | head -c 300)"
 }
 
@@ -221,7 +221,7 @@ limits() {
     hostile sanitized -fsanitize=address,undefined -fno-sanitize-recover=all
     $CC "${strict[@]}" -o "$room/bounds" "$here/library/bounds.c" "${rows[@]}" "$built/libnbt.a" >"$room/log" 2>&1
     count $? "tests/library/bounds.c: $(head -n 1 "$room/log")"
-    "$here/lib/library_payloads.py" --seed 5 500 | sed 's/ / 0 /' | ended "$room/bounds" >"$room/output" 2>"$room/errors"
+    "$here/captures/library_payloads.py" --seed 5 500 | sed 's/ / 0 /' | ended "$room/bounds" >"$room/output" 2>"$room/errors"
     count $? "the stack and the texts of calls: $(head -n 1 "$room/errors")"
     sed -n 's/: [0-9]* of 65536$//p' "$room/output" | sort | same "$(calls | sed 's/^nbt_//' | grep -vx station_free)" 'the stack of each call is measured'
     for each in create free list save take tick absorb; do
@@ -244,8 +244,8 @@ replayed() {
         $2 == "refused" { print $1, $2 ($(NF - 1) == "error" ? " error " $NF : ""); next }
         { print }' >"$room/replayed"
     $CC "${strict[@]}" -fsanitize=address,undefined -fno-sanitize-recover=all -o "$room/replay" \
-        "$here/lib/library_replay.c" "$built/libnbt.a" >"$room/log" 2>&1
-    count $? "tests/lib/library_replay.c: $(head -n 1 "$room/log")"
+        "$here/library/library_replay.c" "$built/libnbt.a" >"$room/log" 2>&1
+    count $? "tests/library/library_replay.c: $(head -n 1 "$room/log")"
     ended "$room/replay" 'FRED<20>' 'JOE<00>' <"$room/capture" >"$room/output" 2>"$room/errors"
     replays_alike 'in C'
 }
@@ -272,7 +272,7 @@ in_python() {
 
 # What payloads say, as values, and what stands of those that are refused: in C that of port 137.
 values() {
-    "$here/lib/values_payloads.py" --seed 11 "$values" >"$room/values"
+    "$here/captures/values_payloads.py" --seed 11 "$values" >"$room/values"
     grep '^137 ' "$room/values" >"$room/values137"
     said "$room/values"
     # Of those of port 137 the model says the same, but for the numbers of their lines.
@@ -282,10 +282,10 @@ values() {
     [ "$(grep -c ' whole$' "$room/values137.wanted")" -ge 4000 ] && [ "$(grep -c ' refused ' "$room/values137.wanted")" -ge 15000 ]
     count $? 'at least 19,000 payloads of port 137, of which some stand and many are refused'
     $CC "${strict[@]}" -fsanitize=address,undefined -fno-sanitize-recover=all -o "$room/service_values" \
-        "$here/lib/service_values.c" "$built/libnbt.a" >"$room/log" 2>&1
-    count $? "tests/lib/service_values.c: $(head -n 1 "$room/log")"
-    reads "$room/values137" tests/lib/service_values.c ended "$room/service_values"
-    reads "$room/values" tests/lib/values_in_python.py in_python "$here/lib/values_in_python.py"
+        "$here/library/service_values.c" "$built/libnbt.a" >"$room/log" 2>&1
+    count $? "tests/library/service_values.c: $(head -n 1 "$room/log")"
+    reads "$room/values137" tests/library/service_values.c ended "$room/service_values"
+    reads "$room/values" tests/library/values_in_python.py in_python "$here/library/values_in_python.py"
 }
 
 # The programs of examples/ in C and Python, over its pcaps; that in Rust is one of the part rust.
@@ -328,7 +328,7 @@ sys.stdout.write(nbt.list_table(bytes.fromhex(sys.stdin.read())))
 ' <"$room/table" >"$room/output" 2>"$room/errors"
     grep -q ' whole ' "$room/listed" && grep -q ' partial ' "$room/listed" && cmp -s "$room/listed" "$room/output"
     count $? "nbt.list_table prints what nbt list prints: $(tail -n 1 "$room/errors") $(diff "$room/listed" "$room/output" | head -c 300)"
-    in_python "$here/lib/library_replay.py" 'FRED<20>' 'JOE<00>' <"$room/capture" >"$room/output" 2>"$room/errors"
+    in_python "$here/library/library_replay.py" 'FRED<20>' 'JOE<00>' <"$room/capture" >"$room/output" 2>"$room/errors"
     replays_alike 'in Python'
 }
 
@@ -343,9 +343,9 @@ types() {
 
 # tools/nbt-station on sockets of the loopback interface.
 station() {
-    NBT_LIBRARY=$built/libnbt.so.0 "$timeout" -k 5 600 "$here/lib/station.py" "$top/tools/nbt-station" "$program" \
+    NBT_LIBRARY=$built/libnbt.so.0 "$timeout" -k 5 600 "$here/library/station.py" "$top/tools/nbt-station" "$program" \
         >"$room/cases" 2>"$room/errors"
-    count $? "tests/lib/station.py: $(tail -n 1 "$room/errors")"
+    count $? "tests/library/station.py: $(tail -n 1 "$room/errors")"
     while IFS= read -r each; do
         if [[ $each == skipped:* ]]; then
             skipped=$((skipped + 1))
@@ -527,7 +527,7 @@ block() {
 }
 
 part shims compile refuse_memory
-part readers counted_by packet_readers.py
+part readers counted_by library/packet_readers.py
 part files files
 part examples examples
 if command -v valgrind >/dev/null; then

@@ -4,7 +4,7 @@
 # left out.
 set -uo pipefail
 . "$(dirname "$0")/lib/counting.sh"
-. "$here/lib/cut_cases.sh"
+. "$here/look/cut_cases.sh"
 program=$(realpath "${1:-$here/../crates/nbt/out/nbt}")
 
 if ! command -v tshark >/dev/null; then
@@ -21,8 +21,8 @@ look() { ended nbt-look "$@"; }
 # looks WORD..: the words end well and say nothing on standard error; their output is in $room/output.
 looks() { look "$@" >"$room/output" 2>"$room/errors" && [ ! -s "$room/errors" ]; }
 
-# made WHAT: a capture of tests/lib/look_captures.py.
-made() { "$here/lib/look_captures.py" "$1" "$room/$1.pcap"; }
+# made WHAT: a capture of tests/captures/look_captures.py.
+made() { "$here/captures/look_captures.py" "$1" "$room/$1.pcap"; }
 
 # prints NAME WORD..: the words print what stands on standard input, and nothing on standard error, with status 0.
 prints() {
@@ -91,7 +91,7 @@ samba() {
     local length
     for length in 54 96 200 400; do editcap -s $length "$here/../examples/samba.pcap" "$room/samba-$length.pcap"; done
     editcap "$here/../examples/samba.pcap" "$room/samba-gaps.pcap" 30-40 113 137
-    counted_by look_counts.py "$here/../examples/samba.pcap" "$room"/samba*.pcap
+    counted_by look/look_counts.py "$here/../examples/samba.pcap" "$room"/samba*.pcap
     [ "$(look "$here/../examples/samba.pcap" | tail -n 2)" = '168 frames, 154 packets, 0 malformed, 0 left out
 14 frames without a packet: 10 TCP segments without data, 2 TCP segments of a packet that another frame completes, 2 frames of other ports and protocols' ]
     count $? 'the packets of Samba, and the frames that have none'
@@ -207,7 +207,7 @@ failed datagrams
 1 frame without a packet: 1 TCP segment without data
 END
     made life
-    prints 'a summary of what goes wrong' --summary "$room/life.pcap" <"$here/lib/look_summary.txt"
+    prints 'a summary of what goes wrong' --summary "$room/life.pcap" <"$here/look/look_summary.txt"
     look --summary --json --quiet "$room/life.pcap" >"$room/output" 2>"$room/errors"
     [ $? -eq 0 ] && [ ! -s "$room/errors" ] && python3 - "$room/output" <<'END'
 import json, sys
@@ -226,8 +226,8 @@ assert (found['frames'], found['packets'], found['frames_without_a_packet']) == 
 END
     count $? 'nbt-look --summary --json'
     made disputes
-    prints 'a summary of what is decided elsewhere, or not at all' --summary "$room/disputes.pcap" <"$here/lib/look_disputes.txt"
-    [ "$(look --summary --name joe "$room/disputes.pcap" | grep '^  JOE<00>  FRED')" = "$(grep '^  JOE<00>  FRED' "$here/lib/look_disputes.txt")" ]
+    prints 'a summary of what is decided elsewhere, or not at all' --summary "$room/disputes.pcap" <"$here/look/look_disputes.txt"
+    [ "$(look --summary --name joe "$room/disputes.pcap" | grep '^  JOE<00>  FRED')" = "$(grep '^  JOE<00>  FRED' "$here/look/look_disputes.txt")" ]
     count $? 'a session has all its packets where --name chooses it'
     looks --kind conflict "$room/disputes.pcap" && [ "$(head -n 2 "$room/output" | cut -c 1-5 | tr -d ' \n')" = 24 ] &&
         looks --kind conflict "$room/life.pcap" && [ "$(head -n 3 "$room/output" | cut -c 1-5 | tr -s ' \n' ' ')" = ' 2 3 22 ' ]
@@ -629,8 +629,8 @@ colours() {
     count $? 'a refused packet is red on a terminal'
     looks --color always "$room/life.pcap" && grep -q $'\x1b\[33m.*cut: .*\x1b\[0m' "$room/output"
     count $? 'nbt-look --color always'
-    python3 "$here/lib/summary_pictures.py" --check
-    count $? 'docs/summary-light.svg and docs/summary-dark.svg have these words: tests/lib/summary_pictures.py draws them'
+    python3 "$here/look/summary_pictures.py" --check
+    count $? 'docs/summary-light.svg and docs/summary-dark.svg have these words: tests/look/summary_pictures.py draws them'
 }
 
 # peak WORD..: the most memory of nbt-look itself, in kB; that of tshark and nbt comes from other processes.

@@ -207,7 +207,7 @@ offered_by_bash() {
     done
 }
 
-offered_by_zsh() { ended zsh -f "$here/lib/completed.zsh" "$here/../completions" "$@"; }
+offered_by_zsh() { ended zsh -f "$here/program/completed.zsh" "$here/../completions" "$@"; }
 
 # completion SHELL FILE: the shell offers these words, and tools/completions.py writes the file anew.
 completion() {
@@ -258,8 +258,8 @@ package_lint() {
 if command -v mandoc >/dev/null; then part mandoc lint; else lacks mandoc mandoc; fi
 part words words
 part refusals refusals
-part pages counted_by pages.py
-part surface counted_by surface.py
+part pages counted_by docs/pages.py
+part surface counted_by docs/surface.py
 part lists counted "$here/../tools/lists.py" --check
 part bash completion bash nbt.bash
 if command -v zsh >/dev/null; then part zsh completion zsh _nbt; else lacks zsh zsh; fi

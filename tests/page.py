@@ -15,7 +15,7 @@ import tempfile
 sys.dont_write_bytecode = True
 TESTS = os.path.dirname(os.path.abspath(__file__))
 TOP = os.path.realpath(f'{TESTS}/..')
-sys.path.insert(1, f'{TESTS}/lib')
+sys.path[1:1] = [f'{TESTS}/{it}' for it in ('captures', 'lib', 'look', 'page')]
 import page_files
 import page_program
 from page_access import AccessCases

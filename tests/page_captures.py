@@ -17,7 +17,7 @@ import sys
 import tempfile
 
 sys.dont_write_bytecode = True
-sys.path.insert(1, f'{sys.path[0]}/lib')
+sys.path[1:1] = [f'{sys.path[0]}/{it}' for it in ('captures', 'lib')]
 import random_pcap
 
 TOP = os.path.realpath(f'{sys.path[0]}/..')

@@ -8,7 +8,7 @@ set -uo pipefail
 # What stands last in a pipe counts its cases here.
 shopt -s lastpipe
 . "$(dirname "$0")/lib/counting.sh"
-. "$here/lib/plugin_cases.sh"
+. "$here/plugin/plugin_cases.sh"
 top=$(realpath "$here/..")
 library=$(realpath "${1:-$top/out/lib}")
 program=$(realpath "${2:-$top/crates/nbt/out/nbt}")
@@ -45,7 +45,7 @@ commands() {
 }
 commands
 cp "$top"/examples/*.pcap "$room/states"
-"$here/lib/plugin_files.py" "$room/states"
+"$here/plugin/plugin_files.py" "$room/states"
 chmod 644 "$room/states"/*.pcap
 
 for each in built payloads states streams tools shown bad again valgrind page; do

@@ -16,7 +16,7 @@ import sys
 import tempfile
 import time
 
-sys.path.insert(1, f'{sys.path[0]}/lib')
+sys.path[1:1] = [f'{sys.path[0]}/{it}' for it in ('lib', 'program')]
 from limits import MANY
 from process_inputs import CAPTURE, COMMANDS, FRED, READING, REPORT, captures, chained, repeated, roomy
 from process_runs import (TESTS, broken_pipe, bytes_of, closed, instructions, limited, lines_of, requests as counted_requests, rest_of,

@@ -86,27 +86,27 @@ saved() {
 
 # Three tables in every order and every grouping, beside a model that finds their join from the definitions.
 merges() {
-    counted_by random_merges.py "$program" "$room/refuse_memory.so"
+    counted_by program/random_merges.py "$program" "$room/refuse_memory.so"
 }
 
 # What `--json` prints, beside a model that makes the objects from payloads.
 objects() {
-    counted_by json_objects.py "$program"
+    counted_by program/json_objects.py "$program"
 }
 
 # What `--brief` says of packets, beside a model that makes the phrases from payloads.
 phrases() {
-    counted_by brief_phrases.py "$program"
+    counted_by program/brief_phrases.py "$program"
 }
 
 # What `--partial` prints of packets that are refused or cut, beside a model that reads what still stands.
 fronts() {
-    counted_by front_lines.py "$program"
+    counted_by program/front_lines.py "$program"
 }
 
 # An output that has room for fewer bytes than there are.
 rooms() {
-    counted_by output_rooms.py "$program" "$room/devices.so"
+    counted_by program/output_rooms.py "$program" "$room/devices.so"
 }
 
 # ---- Streams that can't be read or written; a closed standard error changes nothing.
@@ -239,7 +239,7 @@ streams() {
 remembers() {
     local form=command
     [ "${digits:-}" != bad ] || form=digits
-    counted_by every_request.py $form "$room/refuse_memory.so" "$input" "$program" "$@"
+    counted_by lib/every_request.py $form "$room/refuse_memory.so" "$input" "$program" "$@"
 }
 
 memory() {

@@ -14,7 +14,7 @@ import sys
 import tempfile
 
 sys.dont_write_bytecode = True
-sys.path.insert(1, f'{sys.path[0]}/lib')
+sys.path[1:1] = [f'{sys.path[0]}/{it}' for it in ('captures', 'lib')]
 from pcap_expected import Expected
 from pcap_reading import frames_of
 from random_pcap import pcap_of

@@ -3,7 +3,7 @@
 it, and nothing that happened is missing.
 
 Usage: tests/random_networks.py [--page | --changed] COUNT [SEED [PROGRAM]], with nbt on PATH for nbt-look, or PROGRAM in its place for the page. The
-networks are those of the seeds SEED and on (1). What is true is known from what was made to happen (tests/lib/story_network.py), by
+networks are those of the seeds SEED and on (1). What is true is known from what was made to happen (tests/look/story_network.py), by
 docs/SUMMARY.md. With --changed the captures are changed as nobody sends them, and both say the same, row for row. The last line is
 'N passed, M failed'; a capture that fails is kept in the folder of temporary files, and named.
 """
@@ -15,7 +15,7 @@ import sys
 import tempfile
 
 sys.dont_write_bytecode = True
-sys.path.insert(1, f'{os.path.dirname(os.path.abspath(__file__))}/lib')
+sys.path[1:1] = [f'{os.path.dirname(os.path.abspath(__file__))}/{it}' for it in ('captures', 'lib', 'look')]
 import summary
 from story_changes import changed
 from story_network import Network

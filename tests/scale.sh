@@ -4,7 +4,7 @@
 # 'N passed, M failed, K skipped'.
 set -uo pipefail
 . "$(dirname "$0")/lib/counting.sh"
-. "$here/lib/cluster_cases.sh"
+. "$here/scale/cluster_cases.sh"
 program=$(realpath "${1:-$here/../crates/nbt/out/nbt}")
 tools=$(realpath "$here/../tools")
 cd "$room" || exit
@@ -171,7 +171,7 @@ fills_disk() {
 inputs() {
     local each
     for each in many keys gaps flow ever wide rubbish; do
-        python3 "$here/lib/scale_capture.py" $each "$room"
+        python3 "$here/scale/scale_capture.py" $each "$room"
     done
     cp many bad && sed -i '54321s/.*/138 0 xyz/' bad
 

@@ -9,7 +9,7 @@ trap 'rm -rf "$room"' EXIT
 cd "$room"
 many=$(sed -n 's/^#define NBT_MOST_KEYS //p' "$here/../include/nbt.h")
 copies=16
-python3 "$here/lib/scale_capture.py" few "$room"
+python3 "$here/scale/scale_capture.py" few "$room"
 for ((i = 0; i < copies; i++)); do cat few; done >capture
 size=$(($(stat -c %s capture) >> 20))
 

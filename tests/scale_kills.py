@@ -16,6 +16,7 @@ import time
 
 HERE = pathlib.Path(__file__).resolve().parent
 sys.path.insert(1, str(HERE / 'lib'))
+sys.path.insert(1, f'{sys.path[0]}/lib')
 from limits import MANY
 
 ENGINES = {'nbt-parallel': ['--jobs', '2'], 'nbt-dask': ['--workers', '2']}
@@ -49,7 +50,7 @@ class Runs:
     def __init__(self, folder, options):
         self.folder, self.out, self.late = folder, folder / 'out', 0
         program = os.path.abspath(options.program)
-        subprocess.run([HERE / 'lib/scale_capture.py', 'gaps', folder], check=True)
+        subprocess.run([HERE / 'scale/scale_capture.py', 'gaps', folder], check=True)
         capture = (folder / 'gaps').read_bytes()
         self.table = subprocess.run([program, 'save', *MANY], input=capture, capture_output=True, check=True).stdout
         self.command = [HERE.parent / 'tools' / options.engine, '--program', program, '--shard-bytes', '262201', 'gaps', 'out',

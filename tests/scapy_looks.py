@@ -1,5 +1,5 @@
 #!/usr/bin/env python3
-"""Random captures that scapy makes, through tools/nbt-look, beside the fields of tshark (tests/lib/look_counts.py).
+"""Random captures that scapy makes, through tools/nbt-look, beside the fields of tshark (tests/look/look_counts.py).
 
 Usage: tests/scapy_looks.py COUNT [SEED]    with python3-scapy
 
@@ -19,7 +19,7 @@ import tempfile
 
 logging.getLogger('scapy').setLevel(logging.ERROR)
 sys.dont_write_bytecode = True
-sys.path.insert(1, f'{sys.path[0]}/lib')
+sys.path[1:1] = [f'{sys.path[0]}/{it}' for it in ('captures', 'lib', 'look')]
 from look_captures import pcap
 from look_counts import first_difference
 from scapy.layers.inet import IP, TCP, UDP, fragment

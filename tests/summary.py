@@ -14,7 +14,7 @@ import tempfile
 
 sys.dont_write_bytecode = True
 HERE = os.path.dirname(os.path.abspath(__file__))
-sys.path.insert(1, f'{HERE}/lib')
+sys.path[1:1] = [f'{HERE}/{it}' for it in ('captures', 'lib', 'look')]
 import summary_cases
 
 TOOL = f'{HERE}/../tools/nbt-look'

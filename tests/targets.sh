@@ -10,7 +10,7 @@ shopt -s lastpipe
 program=$(realpath "${1:-$here/../crates/nbt/out/nbt}")
 top=$(realpath "$here/..")
 out=${OUT:-$room/out}
-. "$here/lib/package_cases.sh"
+. "$here/library/package_cases.sh"
 strict=(-std=c11 -O1 -g -Wall -Wextra -Wpedantic -Werror "-I$top/include")
 payloads=3000
 # What the programs over the rows of tests/library/calls.def have alike.
@@ -42,7 +42,7 @@ files() {
     if [ -s "$module.a" ]; then
         "$top/tools/library" "$module.a" "$out/lib"
     else
-        "$here/lib/x86_64" "$module" "$out/lib"
+        "$here/library/x86_64" "$module" "$out/lib"
     fi >"$room/log" 2>&1
     count $? "the library for x86-64: $(tail -n 1 "$room/log")"
     aarch64-linux-gnu-nm -D --defined-only "$arm/libnbt.so.0" | awk '{ print $3 }' | sort | same "$(calls)" 'libnbt.so.0 of aarch64 exports the calls of the header'
@@ -61,8 +61,8 @@ files() {
 
 # lines COUNT SEED [LONGEST]: payloads, of so many bytes at most.
 lines() {
-    "$here/lib/library_payloads.py" --seed "$2" ${3:+--longest "$3"} "$1" >"$room/lines$2"
-    count $? "$1 payloads of tests/lib/library_payloads.py"
+    "$here/captures/library_payloads.py" --seed "$2" ${3:+--longest "$3"} "$1" >"$room/lines$2"
+    count $? "$1 payloads of tests/captures/library_payloads.py"
 }
 
 # compiled NAME SOURCE OPTION..: a program in C for aarch64, with the library in it, as $room/NAME.arm; and for x86-64, as $room/NAME.
@@ -131,7 +131,7 @@ worst() {
     sed 's/ / 0 /' "$room/lines12" | ended "$program" show --input-limit 4294967296 >"$room/lines12.wanted"
     count $? "nbt show of $payloads payloads"
     alike 'tests/library/payloads.c on aarch64' "$room/lines12.wanted" "${qemu[@]}" "$room/worst.arm" 8 <"$room/lines12"
-    alike 'show in WebAssembly' "$room/lines12.wanted" "${node[@]}" "$here/lib/targets.mjs" "$out" show <"$room/lines12"
+    alike 'show in WebAssembly' "$room/lines12.wanted" "${node[@]}" "$here/library/targets.mjs" "$out" show <"$room/lines12"
 }
 
 # A capture by a station on each target, and its table, beside the program.
@@ -143,14 +143,14 @@ stations() {
         { print }' >"$room/replayed"
     grep -q ' delivered ' "$room/replayed"
     count $? 'nbt replay delivers a datagram'
-    compiled replay "$here/lib/library_replay.c"
+    compiled replay "$here/library/library_replay.c"
     alike 'a station on aarch64' "$room/replayed" "${qemu[@]}" "$room/replay.arm" 'FRED<20>' 'JOE<00>' <"$room/capture"
-    alike 'a station in JavaScript' "$room/replayed" "${node[@]}" "$here/lib/targets.mjs" "$out" replay 'FRED<20>' 'JOE<00>' <"$room/capture"
+    alike 'a station in JavaScript' "$room/replayed" "${node[@]}" "$here/library/targets.mjs" "$out" replay 'FRED<20>' 'JOE<00>' <"$room/capture"
     grep -v '^tick' "$room/capture" | ended "$program" save --keys "$many" >"$room/table"
     ended "$program" list --keys "$many" <"$room/table" >"$room/listed"
     grep -q ' whole ' "$room/listed" && grep -q ' partial ' "$room/listed"
     count $? 'nbt list has a whole key, and one that is not'
-    alike 'list in JavaScript' "$room/listed" "${node[@]}" "$here/lib/targets.mjs" "$out" list <"$room/table"
+    alike 'list in JavaScript' "$room/listed" "${node[@]}" "$here/library/targets.mjs" "$out" list <"$room/table"
 }
 
 # wanted FILE: what an example prints, which its last comment says.

@@ -4,8 +4,8 @@
 # 'N passed, M failed, K skipped'. Where tshark isn't installed all of it is left out.
 set -uo pipefail
 . "$(dirname "$0")/lib/counting.sh"
-. "$here/lib/pcap_cases.sh"
-. "$here/lib/live_cases.sh"
+. "$here/wireshark/pcap_cases.sh"
+. "$here/wireshark/live_cases.sh"
 program=$(realpath "${1:-$here/../crates/nbt/out/nbt}")
 
 if ! command -v tshark >/dev/null; then
@@ -26,7 +26,7 @@ fields() {
     ended tshark -n -r "$file" -o tcp.reassemble_out_of_order:TRUE -Y "$filter" -T fields "${@/#/-e}" 2>"$room/errors"
 }
 
-# ---- The packets of `nbt build`, by the cases of tests/lib/dissected.txt.
+# ---- The packets of `nbt build`, by the cases of tests/wireshark/dissected.txt.
 
 label=$(printf 'L%.0s' {1..63})
 
@@ -66,7 +66,7 @@ built() {
         '' | '#'*) ;;
         *) told[-1]+=$(spelled "$line" | shortened)$'\n' ;;
         esac
-    done <"$here/lib/dissected.txt"
+    done <"$here/wireshark/dissected.txt"
 
     # Empty fields are left out, and so are the words that tshark adds to a name's text.
     cap2pcap <"$room/built" >"$room/built.pcap"
@@ -113,7 +113,7 @@ snapped() {
     done
 }
 
-# ---- A network's packets, by tests/lib/network.py.
+# ---- A network's packets, by tests/captures/network.py.
 
 payloads() { awk '$1 ~ /^13/ { print $1, $3 }' "$1"; }
 
@@ -125,7 +125,7 @@ summary+='with other bytes, 2 of a TCP stream whose start is missing, 1 with RST
 summary+='1 a length that the packet lacks'
 
 network() {
-    "$here/lib/network.py" "$room/network.pcap" >"$room/expected"
+    "$here/captures/network.py" "$room/network.pcap" >"$room/expected"
     mkdir "$room/own" && echo 'ip.defragment: FALSE' >"$room/own/preferences" && echo udp >"$room/own/disabled_protos"
     WIRESHARK_CONFIG_DIR=$room/own pcap2cap "$room/network.pcap" >"$room/capture" 2>"$room/errors"
     [ $? -eq 0 ] && diff "$room/expected" "$room/capture" && [ "$(cat "$room/errors")" = "$summary" ]

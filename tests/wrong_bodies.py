@@ -26,7 +26,8 @@ from concurrent.futures import ThreadPoolExecutor
 from dataclasses import dataclass, field
 from pathlib import Path
 
-from lib.left_out import leave_out_bodies
+sys.path.insert(1, f'{sys.path[0]}/wrong_bodies')
+from left_out import leave_out_bodies
 
 ROOT = Path(__file__).resolve().parent.parent
 # How long a check may take: they take half a minute to six.
@@ -190,7 +191,7 @@ class Check:
             self.output = self.plant(room)
             if self.output:
                 return
-            words = subprocess.run([ROOT / 'tests/lib/crate_words', self.crate], stdout=subprocess.PIPE, text=True, check=True)
+            words = subprocess.run([ROOT / 'tests/wrong_bodies/crate_words', self.crate], stdout=subprocess.PIPE, text=True, check=True)
             only = [word for it in self.only() for word in ('--only', it)]
             root = next(it for it in ('src/main.rt', 'src/lib.rt') if Path(room, it).exists())
             command = ['timeout', LONGEST, 'rattle', 'check', *words.stdout.split(), *kept, *only, '--allow-holes', root]

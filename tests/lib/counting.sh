@@ -91,8 +91,8 @@ counted() {
     fi
 }
 
-# counted_by SCRIPT WORD..: those of a script of tests/lib.
-counted_by() { counted "$here/lib/$1" "${@:2}"; }
+# counted_by SCRIPT WORD..: those of a script of tests/.
+counted_by() { counted "$here/$1" "${@:2}"; }
 
 # with_tools PROGRAM: $room/bin has the program and the tools that read a pcap, and the one that leads back, by the names that they
 # have once installed. tshark has no user's settings.

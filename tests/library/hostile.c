@@ -1,6 +1,6 @@
 /* A caller of the library who goes to every limit that include/nbt.h leaves: each sample of samples.c, its inputs cut at each length and
  * with each byte changed, its numbers at their least and greatest, in each room, between pages that can't be touched, and with requests
- * for memory refused. Prints which statuses each call answered, for tests/lib/statuses_reached.py. Status other than 0, with the call on
+ * for memory refused. Prints which statuses each call answered, for tests/library/statuses_reached.py. Status other than 0, with the call on
  * standard error, where one does what the header doesn't say. */
 #include "harness.h"
 #include <stdio.h>

@@ -1,5 +1,5 @@
 //! Commands of `nbt` in plain Rust without proofs: a program that docs/PERFORMANCE.md compares with.
-//! `tests/lib/plain_program.py` has it compiled in two forms, on std alone and on the crates that `nbt`
+//! `tests/bench/plain_program.py` has it compiled in two forms, on std alone and on the crates that `nbt`
 //! stands on. It is no part of the gate.
 //!
 //! usage: plain replay [--keys N] [--per-source N] NAME..

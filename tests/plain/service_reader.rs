@@ -1,5 +1,5 @@
 //! A reader of port 137 in plain Rust, on std alone: judges a packet and lists where its questions and records stand, and then
-//! reads each. Usage: service ROUNDS <CAPTURE. Prints what tests/lib/service_loop.c does: the sum of what was read, and the
+//! reads each. Usage: service ROUNDS <CAPTURE. Prints what tests/bench/service_loop.c does: the sum of what was read, and the
 //! nanoseconds of processor time that it took.
 
 use std::io::{self, BufRead};

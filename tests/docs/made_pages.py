@@ -1,0 +1,121 @@
+"""The pages that are made of the sources: docs/LAWS.md, docs/CALLS.md and docs/DEFINITIONS.md; for tests/docs/pages.py."""
+import re
+
+from sources import CRATES, ROOT, functions, heading, law_files, public
+
+DOCS = ROOT / 'docs'
+LAWS_HEAD = '''# Laws of the definitions
+
+Each is the contract of a function that does nothing, and is proved. They say that the definitions mean what they are called;
+docs/DEFINITIONS.md has their words, and docs/REASSEMBLY.md says how those of the table hang together. tests/docs/pages.py makes this
+page of the sources.
+'''
+CALLS_HEAD = '''# Calls
+
+Each public call of the libraries, and each function of the command that has a contract: the comment that stands above it, its errors, and
+the labels of the clauses of its contract, which is proved. A clause without a label is `one`; what `requires` says a caller owes.
+docs/PROMISES.md says what these amount to. tests/docs/pages.py makes this page of the sources.
+'''
+DEFINITIONS_HEAD = '''# Definitions
+
+What the words of the contracts mean: the lines that stand above each public definition of `specs/`, file by file, in the order in which a crate
+lists them. A name that begins with a capital is a fact or a type, any other a value. What is proved of them stands in docs/LAWS.md.
+tests/docs/pages.py makes this page of the sources.
+'''
+# Traits whose calls have no rows of their own: their laws, texts and conversions are ghost members.
+PLAIN_TRAITS = ('From', 'fmt', 'Ord', 'PartialOrd', 'Eq', 'Flags', 'Facts', 'Iterator')
+LINKED = re.compile(r'\[(`[^`]+`)\](?:\([^)]*\))?')
+DEFINITION = re.compile(r'^(?:abbrev pub|pub (?:data|record|abbrev)|pub(?! mod| use)) +([^\s:({]+)')
+
+
+def plain(text):
+    """A comment in one line, without links, as a cell of a table has it."""
+    return LINKED.sub(r'\1', text).replace('|', '\\|')
+
+
+def law_of(function):
+    """The line of a law."""
+    return f'- `{function.name}`: ' + re.sub(r'\[(`[^`]+`)\]', r'\1', function.doc)
+
+
+def laws(crates):
+    """The page of the laws."""
+    lines = [LAWS_HEAD]
+    for crate in crates:
+        found = {path: [law_of(it) for it in functions(path) if it.is_public] for path in law_files(crate)}
+        lines += [f'## {crate}\n'] if any(found.values()) else []
+        for path, of_file in found.items():
+            lines += [heading(path), '', *of_file, ''] if of_file else []
+    return '\n'.join(lines)
+
+
+def calls(crate):
+    """The calls of a crate that have a row: those that are public, and of the command each function with a contract."""
+    law = law_files(crate)
+    if crate != 'nbt':
+        return [it for it in public(crate) if it.path not in law and it.trait not in PLAIN_TRAITS and (it.doc or it.clauses)]
+    paths = sorted(it for it in (CRATES / crate / 'src').rglob('*.rt') if it not in law)
+    return [it for path in paths for it in functions(path) if it.is_public and not it.trait and it.clauses]
+
+
+def row(function):
+    """The row of a call: its name, its comment with the errors, and the labels of its clauses."""
+    name = f'{function.owner}::{function.name}' if function.owner else function.name
+    says = [function.doc or f'As `{function.trait}` has it.', *([f'Errors: {function.errors}'] if function.errors else [])]
+    owed = [f'requires `{words}`' for kind, words in function.clauses if kind == 'requires']
+    labels = [f'`{label}`' if label else 'one' for label, _ in function.clauses if label != 'requires']
+    return f'| `{name}` | {plain(" ".join(says))} | {plain(", ".join(dict.fromkeys(owed + labels)))} |'
+
+
+def calls_page(crates):
+    """The page of the calls."""
+    lines = [CALLS_HEAD]
+    for crate in crates:
+        lines += [f'## {crate}\n', '| Call | What it says | Clauses |', '|---|---|---|', *map(row, calls(crate)), '']
+    return '\n'.join(lines)
+
+
+def spec_files(crate):
+    """The files of a crate's definitions, in the order in which it lists them, but for lemmas and the words of its own loops."""
+    specs = CRATES / crate / 'specs'
+    listed = re.findall(r'^pub mod (\w+)', (specs / 'Lib.antt').read_text(encoding='utf-8'), re.MULTILINE)
+    return [specs / f'{it}.antt' for it in listed if it not in ('Code', 'Shared') and not it.endswith('Facts')]
+
+
+def comment(lines):
+    """The words of lines of comment; where its first paragraph is meant, up to an empty one."""
+    return ' '.join(it.removeprefix('--').strip() for it in lines)
+
+
+def definitions_of(text):
+    """The name and the comment of each public definition of a file."""
+    above = []
+    for line in text.splitlines():
+        if line.startswith('-- ----'):
+            above = []
+        elif line.startswith('--'):
+            above.append(line)
+        elif found := DEFINITION.match(line):
+            yield found[1], comment(above)
+            above = []
+        elif not line.strip() or line.startswith(('use ', 'pub use ', 'pub mod ')):
+            above = []
+
+
+def definitions(crates):
+    """The page of the definitions."""
+    lines = [DEFINITIONS_HEAD]
+    for crate in crates:
+        lines.append(f'## {crate}\n')
+        for path in spec_files(crate):
+            text = path.read_text(encoding='utf-8')
+            head = comment(re.match(r'(?:--[^\n]*\n)*', text)[0].replace('\n--\n', '\n\n').split('\n\n')[0].splitlines())
+            found = [f'- `{name}`: {words}' for name, words in definitions_of(text) if words]
+            lines += [f'### {path.stem}\n', head, '', *found, ''] if found else []
+    return '\n'.join(lines)
+
+
+def made(libraries):
+    """Each page that is made, with what it has to be."""
+    crates = (*libraries, 'nbt')
+    return {DOCS / 'LAWS.md': laws(crates), DOCS / 'CALLS.md': calls_page(crates), DOCS / 'DEFINITIONS.md': definitions(crates)}

@@ -1,0 +1,206 @@
+#!/usr/bin/env python3
+"""The pages beside the sources: what they name is there, and what they list is all.
+
+Usage: tests/docs/pages.py, whose last line is 'N passed, M failed'; --write writes the pages that are made of the sources anew
+(made_pages.py), --wrong-bodies prints what the files of must-fail/ and wrong-bodies/ say. A case is
+
+- a file, a folder, or a name of the sources in backticks, on a page;
+- a call in a row of docs/PROMISES.md, which is there, and each clause of such a row, which is one of its calls';
+- a public call, and a public definition, which has a comment; docs/CALLS.md, DEFINITIONS.md and LAWS.md, which are what the sources say;
+- a file of wrong-bodies/, which says what is wrong, why and where it is refused, and whose old lines stand once in the file that it changes;
+  a file of must-fail/, which says what is wrong and why, and stands in the table of named wrong bodies in docs/PROOFS.md, and each that
+  stands there;
+- the crates of the table of costs in docs/PROOFS.md;
+- how many words README.md has, and all pages that aren't made of the sources.
+"""
+import functools
+import re
+import subprocess
+import sys
+
+from made_pages import calls, definitions_of, made, spec_files
+from sources import CRATES, ROOT, aliases, functions, law_files, sources
+
+LISTED = re.findall(r'^(\w+)\b[^:#\n]*:', (ROOT / 'crates.txt').read_text(encoding='utf-8'), re.MULTILINE)
+LIBRARIES = [it for it in LISTED if it != 'nbt' and not it.startswith('nb_examples')]
+TICKED = re.compile(r'`([^`\n]+)`')
+FILE = re.compile(r'(?<![\w./-])(?:[\w.-]+/)*[\w-]+\.(?:antt|rt|py|sh|md|mjs|mts|edit|pcap|toml|bash|zsh)\b')
+FOLDER = re.compile(r'(?<![\w./*-])(?:crates|docs|tests|tools|bindings|examples|include|man|completions|nb_\w+|nbt)/[\w./-]*\w')
+# What pages name without its being a file here: words for names, and what a command makes.
+ELSEWHERE = {'CALL-what_the_wrong_body_does.edit', 'proofs/SUBJECTLemmas.antt', 'crates/first', 'out/nbt.mjs', 'big.pcap', 'serde_json'}
+WITH_NAMES = re.compile(r'\.(?:antt|rt|py|sh|c|h|rs|mjs|mts|txt|edit|1|ts|toml)$|/Makefile$|/tools/[\w-]+$|/archive$|/x86_64$')
+
+
+@functools.lru_cache(None)
+def tracked():
+    """The files and folders of the repository."""
+    files = subprocess.run(['git', '-C', ROOT, 'ls-files', '-co', '--exclude-standard'], capture_output=True, text=True, check=True)
+    return {'/' + '/'.join(it.split('/')[:depth]) for it in files.stdout.splitlines() for depth in range(1, it.count('/') + 2)}
+
+
+@functools.lru_cache(None)
+def endings():
+    """Each path of the repository, and each ending of one at a slash."""
+    return {it[place:] for it in tracked() for place in range(len(it)) if it[place] == '/'}
+
+
+@functools.lru_cache(None)
+def named():
+    """Each name that stands in a source, a script or a header."""
+    found = {it[1:] for it in endings() if '/' not in it[1:]}
+    for path in (ROOT / it[1:] for it in tracked() if WITH_NAMES.search(it)):
+        if path.is_file():
+            found |= set(re.findall(r'\w+', path.read_text(encoding='utf-8', errors='replace')))
+    return found
+
+
+def pages():
+    """The pages, without their samples."""
+    others = [path for folder in ('docs/*.md', 'crates/*/README.md', 'bindings/*/README.md', 'page/README.md') for path in sorted(ROOT.glob(folder))]
+    for path in (ROOT / 'README.md', ROOT / 'CONTRIBUTING.md', ROOT / 'CHANGELOG.md', *others):
+        yield path, re.sub(r'^```.*?^```$', '', path.read_text(encoding='utf-8'), flags=re.MULTILINE | re.DOTALL)
+
+
+def places():
+    """Whether each file and each folder on a page is there."""
+    for path, text in pages():
+        for place in sorted(set(FILE.findall(text)) | set(FOLDER.findall(text))):
+            ending = '/' + place.removeprefix('../')
+            is_there = place in ELSEWHERE or not {ending, f'{ending}.antt'}.isdisjoint(endings())
+            yield is_there, f'{path.relative_to(ROOT)} names {place}'
+
+
+def names():
+    """Whether each name of the sources in backticks, one with `_` or a capital inside, stands in one."""
+    for path, text in pages():
+        for ticked in sorted(set(TICKED.findall(text))):
+            if re.fullmatch(r'(?:\w+/)?\w+-[a-z0-9]+(?:_[a-z0-9]+)+', ticked):
+                name = ticked.split('/')[-1]
+                is_there = not {f'/wrong-bodies/{name}.edit', f'/must-fail/{name}.edit'}.isdisjoint(endings())
+                yield is_there, f'{path.relative_to(ROOT)} names the wrong body `{ticked}`'
+            elif re.fullmatch(r'(?:\w+::)*(?:[A-Za-z]\w*_\w+|[A-Z][a-z]+[A-Z]\w*)|\w+(?:::\w+)+', ticked):
+                yield ticked in ELSEWHERE or all(it in named() for it in ticked.split('::')), f'{path.relative_to(ROOT)} names `{ticked}`'
+
+
+def rows(text):
+    """The cells of the rows of tables, without the rows that head them."""
+    for line in text.splitlines():
+        if line.startswith('| ') and not re.match(r'\| (?:Call|Function|Word|What|Crate) ', line):
+            yield [it.strip() for it in re.split(r'(?<!\\)\|', line)[1:-1]]
+
+
+def called(name):
+    """The crate, the type and the function of a call as docs/PROMISES.md names it."""
+    crate, *owner, function = name.split('::')
+    return crate, owner[-1] if owner else '', function
+
+
+def calls_of(name):
+    """The functions that a call of docs/PROMISES.md names."""
+    crate, owner, function = called(name)
+    types = {owner, aliases(crate).get(owner)}
+    paths = [it for it in sources(crate) if it not in law_files(crate)]
+    return [it for path in paths for it in functions(path) if it.name == function and (it.owner in types if owner[:1].isupper() else not it.owner)]
+
+
+def promises():
+    """Whether the calls of a group in docs/PROMISES.md are there, and each of its clauses is one of theirs."""
+    text = (ROOT / 'docs' / 'PROMISES.md').read_text(encoding='utf-8').partition('\n## By group\n')[2].partition('\n## ')[0]
+    for cells in rows(text):
+        names = TICKED.findall(cells[0])
+        for it in names:
+            yield bool(calls_of(it)), f'PROMISES.md: {it} is a call'
+        labels = {label for name in names for it in calls_of(name) for label, _ in it.clauses}
+        for it in TICKED.findall(cells[2]):
+            yield it in labels, f'PROMISES.md: {it} is a clause of {cells[0]}'
+
+
+def commented():
+    """Whether each public call, each law and each public definition has words of its own, of which docs/CALLS.md and its like are made."""
+    for crate in (*LIBRARIES, 'nbt'):
+        for it in calls(crate):
+            yield bool(it.doc) or it.trait != '', f'{crate}: {it.owner} {it.name} has a comment'
+        for path in spec_files(crate):
+            for name, words in definitions_of(path.read_text(encoding='utf-8')):
+                yield bool(words) or name.startswith(('key_cmp_', 'lines_held')), f'{crate}: {name} of {path.name} has a comment'
+
+
+def edits():
+    """Each file of must-fail/ and wrong-bodies/, by its path in crates/, with its lines."""
+    for path in sorted(it for folder in ('must-fail', 'wrong-bodies') for it in CRATES.glob(f'*/{folder}/*.edit')):
+        lines = (line.removeprefix('# ').partition(':') for line in path.read_text(encoding='utf-8').splitlines())
+        yield path.relative_to(CRATES), [(head, rest.removeprefix(' ')) for head, _, rest in lines]
+
+
+def is_planted(crate, fields):
+    """Whether each old line stands once in its file, as the changes before it leave that."""
+    texts, file, old = {}, None, None
+    for head, rest in fields:
+        if head == 'file':
+            file = CRATES / crate / rest
+            texts.setdefault(file, file.read_text(encoding='utf-8') if file.is_file() else '')
+        elif head == 'old':
+            if texts.get(file, '').count(rest) != 1:
+                return False
+            old = rest
+        elif head == 'new':
+            texts[file] = texts[file].replace(old, rest)
+    return old is not None
+
+
+def wrong_bodies():
+    """Whether each such file says what is wrong and why, and its old lines stand once where it changes them."""
+    for path, fields in edits():
+        heads = {'what', 'why', 'file'} | ({'refused'} if 'wrong-bodies' in path.parts else set())
+        is_right = heads <= {it for it, _ in fields} and is_planted(path.parts[0], fields)
+        yield is_right, f'{path}: {", ".join(sorted(heads))}, old lines'
+        why = dict(fields).get('why', '')
+        unknown = [it for it in re.findall(r'`(\w+(?:::\w+)*)`', why) if any(each not in named() for each in it.split('::'))]
+        yield not unknown, f'{path} names {unknown}'
+
+
+def named_bodies():
+    """Whether the table of named wrong bodies in docs/PROOFS.md has each file of must-fail/, and no other."""
+    stated = set(re.findall(r'`(nb\w*/must-fail/[\w-]+\.edit)`', (ROOT / 'docs' / 'PROOFS.md').read_text(encoding='utf-8')))
+    there = {str(path) for path, _ in edits() if path.parts[1] == 'must-fail'}
+    for it in sorted(stated | there):
+        yield it in stated & there, f'PROOFS.md has the named wrong body {it}' if it in there else f'{it}, a named wrong body, is there'
+
+
+def costs():
+    """Whether the table of costs in docs/PROOFS.md has each crate, in order, and no other."""
+    text = (ROOT / 'docs' / 'PROOFS.md').read_text(encoding='utf-8')
+    found = [it[0] for it in rows(text) if len(it) == 3 and re.fullmatch(r'[0-9,]+', it[1])]
+    yield found == [*LISTED, 'all'], f'PROOFS.md has what each crate costs, and all: {found}'
+
+
+def sizes():
+    """Whether README.md has at most 900 words, and all pages that are written by hand at most 45,000, with their samples."""
+    by_hand = {ROOT / it[1:] for it in tracked() if it.endswith('.md')} - set(made(LIBRARIES))
+    words = {it: len(it.read_text(encoding='utf-8').split()) for it in by_hand if it.is_file()}
+    yield words[ROOT / 'README.md'] <= 900, f'README.md has {words[ROOT / "README.md"]} words, of 900 at most'
+    yield sum(words.values()) <= 45_000, f'the pages by hand have {sum(words.values())} words, of 45,000 at most'
+
+
+def main(word=''):
+    """Counts the cases that are right."""
+    if word == '--write':
+        for path, text in made(LIBRARIES).items():
+            path.write_text(text, encoding='utf-8')
+        return
+    if word == '--wrong-bodies':
+        for path, fields in edits():
+            print(f'{path.parts[0]}/{path.stem}: {dict(fields)["what"]}\n    {dict(fields)["why"]}')
+        return
+    cases = [it for check in (places, names, promises, commented, wrong_bodies, named_bodies, costs, sizes) for it in check()]
+    for path, text in made(LIBRARIES).items():
+        cases.append((path.exists() and path.read_text(encoding='utf-8') == text, f'docs/{path.name} is what tests/docs/pages.py --write makes'))
+    for is_right, case in cases:
+        if not is_right:
+            print(f'failed: {case}')
+    failed = sum(not is_right for is_right, _ in cases)
+    print(f'{len(cases) - failed} passed, {failed} failed')
+
+
+if __name__ == '__main__':
+    main(*sys.argv[1:])

@@ -1,0 +1,173 @@
+"""What the sources of the crates say of their functions: owners, clauses, answers, first words of their docs; for tests/docs/pages.py."""
+import collections
+import functools
+import pathlib
+import re
+
+ROOT = pathlib.Path(__file__).resolve().parents[2]
+CRATES = ROOT / 'crates'
+Function = collections.namedtuple('Function', 'owner trait name is_public head clauses doc path errors')
+
+QUOTED = re.compile(r'"(?:\\.|[^"\\])*"|\'(?:\\.|[^\'\\])\'')
+COMMENT = re.compile(r'//[^\n]*')
+PRIVATE_TRAIT = re.compile(r'^(?:pub\(\w+\) )?trait (\w+)', re.MULTILINE)
+BLOCK = re.compile(r'\b(?:unsafe\s+)?impl\b|\b(?:pub(?:\(\w+\))?\s+)?trait\s+\w+')
+FUNCTION = re.compile(r'\b(?:(pub(?:\(\w+\))?)\s+)?(?:unsafe\s+|extern\s+)*fn\s+(\w+)')
+CLAUSE = re.compile(r'\s*(requires|ensures)\*?\s*([\w-]*)\s*(?=\{)')
+GHOST = re.compile(r'\bghost\s+(\w+)\s*=\s*(?=\{)')
+DOC = re.compile(r'((?:^ *///[^\n]*\n)+)(?:^ *#\[[^\n]*\n)*^ *[^\n]*\Z', re.MULTILINE)
+
+
+def blank(text, pattern):
+    """The text with spaces in place of what matches, as long as it was."""
+    return pattern.sub(lambda it: ' ' * len(it[0]), text)
+
+
+def closed(text, start):
+    """The place after the brace that closes the one at the start."""
+    depth = 0
+    for place in range(start, len(text)):
+        depth += {'{': 1, '}': -1}.get(text[place], 0)
+        if depth == 0:
+            return place + 1
+    raise ValueError(f'no brace closes {text[start:start + 60]!r}')
+
+
+def type_name(text):
+    """The name of a type, without references and parameters."""
+    found = re.search(r'[A-Za-z]\w*', re.sub(r"&|'\w+|\bmut\b", '', text))
+    return found[0] if found else ''
+
+
+def owner_of(head):
+    """The type and the trait of an `impl`, or the trait alone."""
+    if head.split()[-2:-1] == ['trait']:
+        return head.split()[-1], head.split()[-1]
+    rest = re.sub(r'^(unsafe\s+)?impl\s*', '', head)
+    if rest.startswith('<'):
+        depth = 0
+        for place, each in enumerate(rest):
+            depth += {'<': 1, '>': -1}.get(each, 0)
+            if depth == 0:
+                rest = rest[place + 1:]
+                break
+    trait, is_of, of = re.split(r'\bwhere\b', rest)[0].partition(' for ')
+    return (type_name(of), type_name(trait)) if is_of else (type_name(trait), '')
+
+
+def blocks(code):
+    """Where each `impl` and each trait begins and ends, with its type and its trait."""
+    for found in BLOCK.finditer(code):
+        brace = code.find('{', found.start())
+        if brace < 0 or ';' in code[found.start():brace] or re.search(r'[(,:<]\s*(?:&\S*\s*)?$|->\s*$', code[:found.start()][-20:]):
+            continue
+        head = found[0] if 'trait' in found[0] else code[found.start():brace]
+        yield brace, closed(code, brace), owner_of(' '.join(head.split()))
+
+
+def end_of_head(code, start):
+    """Where the signature of a function ends: at its first clause, its body or its semicolon."""
+    depth = 0
+    for place in range(start, len(code)):
+        each = code[place]
+        depth += {'(': 1, '[': 1, ')': -1, ']': -1}.get(each, 0)
+        if depth == 0 and (each in '{;' or re.match(r'\s(?:requires|ensures)\b', code[place:place + 10])):
+            return place
+    return len(code)
+
+
+def clauses_at(code, text, place):
+    """The names and the words of a function's clauses; what it requires has no name."""
+    found = []
+    while clause := CLAUSE.match(code, place):
+        place = closed(code, clause.end())
+        found.append((clause[1] if clause[1] == 'requires' else clause[2], ' '.join(text[clause.end() + 1:place - 1].split())))
+    return found
+
+
+def doc_before(text, start):
+    """The first paragraph of the doc that stands before a place, and that of its errors."""
+    found = DOC.search(text[:start])
+    lines = [it.strip()[3:].strip() for it in found[1].splitlines()] if found else []
+    errors = lines[lines.index('# Errors') + 1:] if '# Errors' in lines else []
+    errors = errors[1:] if errors[:1] == [''] else errors
+    return [' '.join(it[:it.index('')] if '' in it else it) for it in (lines, errors)]
+
+
+@functools.lru_cache(None)
+def functions(path):
+    """The functions of a source file."""
+    text = path.read_text(encoding='utf-8')
+    code = blank(blank(text, COMMENT), QUOTED)
+    owners = list(blocks(code))
+    found = []
+    for it in FUNCTION.finditer(code):
+        around = [owner for begin, end, owner in owners if begin < it.start() < end]
+        owner, trait = around[-1] if around else ('', '')
+        end = end_of_head(code, it.end())
+        is_public = it[1] == 'pub' or trait != ''
+        doc, errors = doc_before(text, it.start())
+        found.append(Function(owner, trait, it[2], is_public, ' '.join(text[it.start():end].split()), clauses_at(code, text, end),
+                              doc, path, errors))
+    return found
+
+
+def sources(crate):
+    """The source files of a crate."""
+    return sorted((CRATES / crate / 'src').rglob('*.rt'))
+
+
+@functools.lru_cache(None)
+def ghosts(crate):
+    """The ghost members of a crate's types, as type, trait and name."""
+    found = set()
+    for path in sources(crate):
+        code = blank(blank(path.read_text(encoding='utf-8'), COMMENT), QUOTED)
+        for begin, end, (owner, trait) in blocks(code):
+            found |= {(owner, trait, it[1]) for it in GHOST.finditer(code, begin, end)}
+    return found
+
+
+@functools.lru_cache(None)
+def aliases(crate):
+    """The types that names of types stand for, by these names."""
+    text = '\n'.join(it.read_text(encoding='utf-8') for it in sources(crate))
+    return dict(re.findall(r'^pub(?:\(\w+\))? type (\w+)[^=;]*= (\w+)', text, re.MULTILINE))
+
+
+@functools.lru_cache(None)
+def handed_out(crate):
+    """The names that a crate hands out, and the files of its public modules."""
+    top = next(it for it in (CRATES / crate / 'src' / 'lib.rt', CRATES / crate / 'src' / 'main.rt') if it.exists())
+    names, files, left = set(), set(), [(top, top.parent)]
+    while left:
+        path, folder = left.pop()
+        files.add(path)
+        code = blank(path.read_text(encoding='utf-8'), COMMENT)
+        for used in re.findall(r'^pub use ([^;]+);', code, re.MULTILINE):
+            names |= set(re.findall(r'\w+', used))
+        for module in re.findall(r'^pub mod (\w+);', code, re.MULTILINE):
+            left.append((folder / f'{module}.rt', folder / module))
+    return names, files
+
+
+def public(crate):
+    """The public calls of a crate: those of its public modules, and of what it hands out, but for those of private traits."""
+    names, files = handed_out(crate)
+    private = {name for path in sources(crate) for name in PRIVATE_TRAIT.findall(path.read_text(encoding='utf-8'))}
+    for path in sources(crate):
+        for it in functions(path):
+            if it.is_public and it.trait not in private and (path in files or (it.owner or it.name) in names):
+                yield it
+
+
+def law_files(crate):
+    """The files with a crate's laws, each of whose public functions does nothing."""
+    src = CRATES / crate / 'src'
+    return [it for it in sources(crate) if it.parent == src / 'laws' or it.parent == src and it.stem.endswith('laws')]
+
+
+def heading(path):
+    """The first paragraph of a file's own doc."""
+    lines = [it[3:].strip() for it in path.read_text(encoding='utf-8').splitlines() if it.startswith('//!')]
+    return ' '.join(lines[:lines.index('')] if '' in lines else lines)

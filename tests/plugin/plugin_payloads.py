@@ -1,0 +1,89 @@
+#!/usr/bin/env python3
+"""What the plugin for Wireshark says of payloads, beside what nbt_brief says of them.
+
+Usage: NBT_LIBRARY=FILE tests/plugin/plugin_payloads.py TSHARK FOLDER COUNT [SEED]
+
+So many payloads of each port, good, changed and made by chance, each in a frame of its own; of port 139 in a connection of its
+own, in which the packets of a payload are told one by one. The phrase, the fault and the place have to be those of nbt_brief.
+TSHARK has the plugin. A case is a payload; the last line is 'N passed, M failed'.
+"""
+import os
+import random
+import re
+import sys
+
+sys.dont_write_bytecode = True
+sys.path[1:1] = [f'{sys.path[0]}/../{it}' for it in ('.', 'captures', 'lib')] + [f'{sys.path[0]}/../../bindings/python']
+import nbt
+from fuzz_inputs import capture_lines, example_bytes
+from object_inputs import LONGEST_PAYLOAD, Inputs
+from plugin_pcap import datagram_frame, fields_of, segment_frame, write_pcap
+
+REFUSED = re.compile(r'refused: (.*?)(?:, at byte (\d+)(?: of the name)?)?')
+
+
+def payloads(rng, port, count):
+    """Payloads that came to this port. Wireshark hands no empty ones on."""
+    inputs = Inputs(rng, [each for each in example_bytes() if len(each) <= LONGEST_PAYLOAD], list(capture_lines()))
+    found = []
+    while len(found) < count:
+        fits, payload = inputs.payload()
+        if fits == port and 0 < len(payload) < 60_000:
+            found.append(payload)
+    return found
+
+
+def told(port, payload):
+    """The phrases of a payload."""
+    if port != 139:
+        return [nbt.brief(port, payload)]
+    phrases, offset = [], 0
+    while offset < len(payload):
+        try:
+            size = nbt.SessionPacket.read(payload, offset).used
+        except nbt.NbtError:
+            size = len(payload) - offset
+        phrases.append(nbt.brief(139, payload[offset:offset + size]))
+        offset += size
+        if REFUSED.fullmatch(phrases[-1]):
+            break
+    return phrases
+
+
+def expected(port, payload):
+    """What is wanted of the three fields."""
+    phrases = told(port, payload)
+    faults = [match for match in map(REFUSED.fullmatch, phrases) if match]
+    return [phrases, [match[1] for match in faults], [match[2] for match in faults if match[2]]]
+
+
+def frame_of(port, number, payload):
+    source = bytes([10, 2 + number // 60_000, number >> 8 & 255, number & 255])
+    return segment_frame(number, payload, source) if port == 139 else datagram_frame(port, payload, source)
+
+
+def main():
+    tshark, folder, count = sys.argv[1], sys.argv[2], int(sys.argv[3])
+    rng = random.Random(int(sys.argv[4]) if len(sys.argv) > 4 else 1)
+    passed = failed = 0
+    for port in (137, 138, 139):
+        sent = payloads(rng, port, count)
+        path = os.path.join(folder, f'payloads-{port}.pcap')
+        write_pcap(path, [(number * 3_000, frame_of(port, number, each), None) for number, each in enumerate(sent)])
+        rows = fields_of(tshark, path, ['nbt.says', 'nbt.refused', 'nbt.place'])
+        if len(rows) != count:
+            print(f'failed: {len(rows)} rows of {count} frames of port {port}')
+            failed += 1
+        for payload, row in zip(sent, rows):
+            wanted = expected(port, payload)
+            passed += row == wanted
+            failed += row != wanted
+            if row != wanted and failed < 20:
+                print(f'failed: {port} {payload.hex() or "empty"}: {row}, not {wanted}')
+        print(f'port {port}: {sum(len(row[1]) for row in rows)} refused, {sum(len(row[0]) for row in rows)} phrases')
+    print(f'{passed} passed, {failed} failed')
+    return failed > 0
+
+
+if __name__ == '__main__':
+    sys.exit(main())

@@ -1,0 +1,138 @@
+#!/usr/bin/env python3
+"""What the plugin for Wireshark says of datagrams, beside the report of `nbt replay`.
+
+Usage: tests/plugin/plugin_states.py SHARKD TSHARK PROGRAM FOLDER COUNT [SEED]
+
+So many captures of fragments that are shuffled, lost, repeated and changed, with pauses, times that go back, packets of other kinds
+and ports and frames that are cut. All are read by one sharkd, which has the plugin, one after the other, for a station with names or
+for all, with the timer or without it; the program replays the same with the ticks of nbt-pcap2cap or without. Of each payload of port 138 the state, the key and the data have
+to be those of the report, and the links and what is missing those of a plain model. sharkd shows the front of
+long data: of one capture in five tshark prints all of it. A case is a capture; the last line is 'N passed, M failed'.
+"""
+import json
+import os
+import random
+import subprocess
+import sys
+
+sys.dont_write_bytecode = True
+sys.path.insert(1, f'{sys.path[0]}/../lib')
+from limits import MANY
+from plugin_captures import Made
+from plugin_pcap import fields_of, write_pcap
+
+COLUMNS = ('nbt.state', 'nbt.key', 'nbt.datagram', 'nbt.whole_in', 'nbt.spoilt_in', 'nbt.missing', 'nbt.fragment')
+# How sharkd shows no bytes, and of how many digits it shows the front.
+NO_BYTES, DIGITS = '<MISSING>', 72
+WHOLE_OF, TIMER_OF = 10, 4
+BOOLEANS = ('FALSE', 'TRUE')
+SOME, ALL = ['FRED<20>', 'JOE<00>'], ['FRED<20>', 'JOE<00>', 'ANN<03>.A', 'BOB<20>']
+
+
+class Sharkd:
+    """sharkd as a process: requests, and their answers."""
+
+    def __init__(self, command):
+        self.process = subprocess.Popen([command, '-'], stdin=subprocess.PIPE, stdout=subprocess.PIPE, stderr=subprocess.DEVNULL, text=True)
+        self.count = 0
+
+    def ask(self, method, **words):
+        self.count += 1
+        request = {'jsonrpc': '2.0', 'id': self.count, 'method': method}
+        if words:
+            request['params'] = words
+        self.process.stdin.write(json.dumps(request) + '\n')
+        self.process.stdin.flush()
+        while line := self.process.stdout.readline():
+            answer = json.loads(line)
+            if answer.get('id') == self.count:
+                if 'error' in answer:
+                    raise ValueError(f'{method}: {answer["error"]}')
+                return answer['result']
+        raise ValueError(f'{method}: sharkd ended with status {self.process.wait()}')
+
+    def rows(self, path):
+        """Of each frame the columns."""
+        self.ask('load', file=path)
+        columns = {f'column{number}': each + ':0' for number, each in enumerate(COLUMNS)}
+        return {frame['num']: frame['c'] for frame in self.ask('frames', **columns)}
+
+    def end(self):
+        self.process.stdin.close()
+        return self.process.wait(timeout=60)
+
+
+def report_of(program, lines, names):
+    """What is reported of each line, by its number."""
+    done = subprocess.run([program, 'replay', *MANY, *names], input='\n'.join([*lines, '']), capture_output=True, text=True, check=True)
+    return {int(number): words for number, _, words in (line.partition(' ') for line in done.stdout.splitlines())}
+
+
+def wanted_of(words):
+    """State, key and data by a report."""
+    kind, *rest = words.split(' ')
+    if kind not in ('kept', 'spoilt', 'delivered', 'unheard'):
+        return [kind, '', None]
+    return [kind, rest[0], rest[-1].replace('empty', '') if kind == 'delivered' else None]
+
+
+def shown(data):
+    """Data as sharkd shows it."""
+    if data is None:
+        return ''
+    return data[:DIGITS] + '…' if len(data) > DIGITS else data or NO_BYTES
+
+
+def first_difference(made, rows, states):
+    """The first frame that isn't as wanted, in words; '' where there is none."""
+    links = made.links({frame: state[0] for frame, state in states.items()})
+    for frame in range(1, made.count + 1):
+        state, key, data = states.get(frame, ['', '', None])
+        wanted = [state, key, shown(data), *links.get(frame, ['', '', '', ''])]
+        if rows[frame] != wanted:
+            return f'frame {frame}: {rows[frame]}, not {wanted}'
+    return ''
+
+
+def data_differ(tshark, path, asked, timer, states):
+    """The first frame whose data isn't that of the report, in words; '' where there is none."""
+    rows = fields_of(tshark, path, ['nbt.datagram'], '-o', 'nbt.names:' + ' '.join(asked), '-o', f'nbt.timer:{BOOLEANS[timer]}')
+    for frame, (_state, _key, data) in states.items():
+        if ''.join(rows[frame - 1][0]).replace(NO_BYTES, '') != (data or ''):
+            return f'frame {frame}: {rows[frame - 1]}, not {data}'
+    return ''
+
+
+def main():
+    command, tshark, program, folder, count = *sys.argv[1:5], int(sys.argv[5])
+    seed = sys.argv[6] if len(sys.argv) > 6 else 'states'
+    sharkd = Sharkd(command)
+    passed, seen = 0, {}
+    for number in range(count):
+        timer = number % TIMER_OF != TIMER_OF - 1
+        made = Made(random.Random(f'{seed}-{number}'), timer)
+        path = os.path.join(folder, 'states.pcap')
+        write_pcap(path, made.frames)
+        asked = SOME if number % 2 else []
+        sharkd.ask('setconf', name='nbt.names', value=' '.join(asked))
+        sharkd.ask('setconf', name='nbt.timer', value=BOOLEANS[timer])
+        report = report_of(program, made.lines, asked or ALL)
+        states = {frame: wanted_of(report[line]) for frame, line in made.datagrams.items()}
+        difference = first_difference(made, sharkd.rows(path), states)
+        if number % WHOLE_OF < 2:
+            difference = difference or data_differ(tshark, path, asked, timer, states)
+        passed += not difference
+        for words in report.values():
+            seen[words.split(' ')[0]] = seen.get(words.split(' ')[0], 0) + 1
+        if difference:
+            kept = os.path.join(folder, f'states-{seed}-{number}.pcap')
+            os.rename(path, kept)
+            print(f'failed: {seed}-{number}: {difference} ({kept})')
+    print(', '.join(f'{number} {each}' for each, number in sorted(seen.items())))
+    passed += sharkd.end() == 0
+    print(f'{passed} passed, {count + 1 - passed} failed')
+    return passed <= count
+
+
+if __name__ == '__main__':
+    sys.exit(main())

@@ -1,0 +1,178 @@
+#!/usr/bin/env python3
+"""A pcap file of what networks seldom send, and what tools/pcap2cap has to print of it, the summary at the end.
+
+Usage: tests/wireshark/odd_network.py PART PCAP >EXPECTED, where PART is tunnels, aggregates, ports_again, fragments or counts
+"""
+import struct
+import sys
+
+sys.dont_write_bytecode = True
+sys.path[1:1] = [f'{sys.path[0]}/../{it}' for it in ('captures', 'lib')]
+from network import Network, Side
+from wire import *
+
+WIFI = 105
+TUNNEL = b'\x08' + bytes(7 + 12) + b'\x08\x00'
+DAY = 86_400_000
+
+
+def tunnels(network):
+    """VXLAN, cut at the end of the inner UDP header and inside it; the outer packet may be IPv6."""
+    query = ip(UDP, udp(137, 137, QUERY))
+    for wrap, header in ((ip, 34), (ip6, 54)):
+        outer = wrap(UDP, udp(50_000, 4789, TUNNEL + query))
+        whole = header + 8 + len(TUNNEL) + len(query)
+        network.frame(0, outer, inner=query)
+        network.gives((137, 0, QUERY))
+        network.frame(0, outer, whole - len(QUERY))
+        network.gives(('# frame %d is left out: its UDP length is %d, and the file has 0 bytes of its payload'
+                       % (network.number, 8 + len(QUERY)),))
+        network.frame(0, outer, whole - len(QUERY) - 6)
+        network.gives(('# frame %d is left out: the file ends before its ports' % network.number,))
+    segment = ip(TCP, struct.pack('>HHLLBBHHH', 1025, 139, 0, 0, 0x50, ACK, 65_535, 0, 0) + SHORT)
+    network.frame(0, ip(UDP, udp(50_000, 4789, TUNNEL + segment)), captured=34 + 8 + len(TUNNEL) + 20 + 8)
+    network.gives(('# frame 7 is left out: the file ends inside its TCP header',))
+    print('7 frames, 5 of these ports, 5 left out: 5 cut by the snap length')
+
+
+def aggregate(*packets):
+    """A frame of 802.11 with several packets (A-MSDU)."""
+    front = b'\x88\x01' + bytes(2) + bytes(18) + bytes(2) + b'\x80\x00'
+    parts = []
+    for packet in packets:
+        body = b'\xaa\xaa\x03\0\0\0\x08\0' + packet
+        parts.append(bytes(12) + struct.pack('>H', len(body)) + body)
+    return front + b''.join(part + bytes(-len(part) % 4) for part in parts[:-1]) + parts[-1]
+
+
+def aggregates(network):
+    """Several packets in a frame: all of these ports, beside others, beside an ICMP error, after what tshark can't read, cut."""
+    query, response = ip(UDP, udp(137, 137, QUERY)), ip(UDP, udp(137, 138, RESPONSE), SERVER, CLIENT)
+    other = ip(UDP, udp(9_999, 9_999, b'other'))
+    quoting = ip(ICMP, struct.pack('>BBHL', 3, 3, 0, 0) + query[:28])
+    whole = aggregate(query, response)
+    for packets in ((query, response), (other, query, response)):
+        network.record(0, aggregate(*packets))
+        for packet, payload in ((query, QUERY), (response, RESPONSE)):
+            network.tells(0, packet)
+            network.gives((137, 0, payload))
+    network.record(0, aggregate(quoting, query))
+    network.gives(("# frame 3 is left out: it isn't known which of its ports and payloads belong together",))
+    network.record(0, aggregate(ip(UDP, udp(53, 53, b'bad')), query))
+    network.gives(('# frame 4: tshark stopped before the end of its aggregate of packets',))
+    network.record(0, whole, len(whole) - 1)
+    network.tells(0, query)
+    network.gives((137, 0, QUERY), ('# frame 5 is left out: its UDP length is %d, and the file has %d bytes of its payload'
+                                    % (8 + len(RESPONSE), len(RESPONSE) - 1),))
+    print('5 frames, 4 of these ports, 3 left out: 1 headers that do not pair, 1 where tshark stopped, 1 cut by the snap length')
+
+
+def ports_again(network):
+    """After the end of a stream its bytes again, and then a stream of the same ports whose start isn't captured."""
+    client = Side(network, 1025, 139, 10_000)
+    client.sends(0, -1, b'', SYN)
+    client.sends(1, 0, SHORT)
+    network.gives((139, 1, SHORT))
+    client.sends(2, len(SHORT), OTHER, FIN | ACK)
+    network.gives((139, 2, OTHER))
+    client.sends(3, 0, SHORT + OTHER)
+    client.sends(4, -1, b'', SYN)
+    client.sends(5, -1_000, OTHER)
+    network.gives(('# stream 0 from 10.0.0.5 port 1025: frame 6 is taken for its start, which the file lacks',), (139, 5, OTHER))
+    client.sends(6, -1_000 + len(OTHER), SHORT)
+    network.gives((139, 6, SHORT))
+    print('7 frames, 7 of these ports, 0 left out')
+
+
+class Fragments:
+    """Fragments of datagrams of IPv4 or IPv6, that have one identifier."""
+
+    def __init__(self, network, six):
+        self.network, self.six = network, six
+
+    def piece(self, moment, whole, start, end):
+        more = end < len(whole)
+        if self.six:
+            packet = ip6(44, struct.pack('>BBHL', UDP, 0, start | more, 7) + whole[start:end])
+        else:
+            packet = ip(UDP, whole[start:end], fragment=start // 8 | (0x2000 if more else 0), identifier=7)
+        self.network.frame(moment, packet)
+        self.network.tells(moment, (ip6 if self.six else ip)(UDP, whole))
+
+    def left_out(self, why):
+        self.network.gives(('# frame %d is left out: its fragments %s' % (self.network.number, why),))
+
+
+def fragments(network):
+    """A port that is mirrored, with the same identifier a day later; fragments a minute apart, and others that differ, some or all."""
+    one, other = udp(138, 138, b'A' * 40), udp(138, 138, b'B' * 40)
+    longer = one + b'A' * 40
+    moment = 0
+    for six in (False, True):
+        sent = Fragments(network, six)
+        for start, end in ((0, 24), (0, 24), (24, 48)):
+            sent.piece(moment, one, start, end)
+        network.gives((138, moment, b'A' * 40))
+        sent.piece(moment, one, 24, 48)
+        moment += DAY
+        sent.piece(moment, other, 0, 24)
+        sent.left_out('lie more than 60 s apart')
+        for start, end in ((0, 24), (24, 48)):
+            sent.piece(moment, other, start, end)
+        network.gives((138, moment, b'B' * 40))
+        for pause in (60_000, 60_001):
+            sent.piece(moment, one, 0, 24)
+            moment += pause
+            sent.piece(moment, one, 24, 48)
+            if pause == 60_000:
+                network.gives((138, moment, b'A' * 40))
+        sent.left_out('lie more than 60 s apart')
+        for pieces in (((one, 0, 24), (other, 16, 40), (one, 24, 48)), ((longer, 0, 56), (other, 24, 48))):
+            for whole, start, end in pieces:
+                sent.piece(moment, whole, start, end)
+            sent.left_out('differ where they overlap')
+    print('32 frames, 14 of these ports, 8 left out: 8 fragments of IP that come late or differ')
+
+
+def counts(network):
+    """Frames of which bytes are in no line, each counted once: a segment around an early one, one that is cut past missing
+    bytes, one that came otherwise; and what has no bytes: a bare SYN that the file cuts, a byte that keeps alive."""
+    client = Side(network, 1025, 139, 0)
+    sent = SHORT + OTHER + KEEPALIVE + SHORT
+    title = 'stream %d from 10.0.0.5 port 1025'
+    client.sends(0, -1, b'', SYN, captured=14 + 20 + 8)
+    client.sends(0, -1, b'', SYN)
+    client.sends(0, 20, sent[20:24])
+    client.sends(0, 16, sent[16:30])
+    client.sends(0, 34, sent[34:40], captured=54 + 2)
+    network.gives(('# frame 5: the file has 2 of the 6 bytes of its segment',))
+    client.sends(0, 35, b'\xff')
+    client.sends(0, 18, b'\xff')
+    network.gives(('# frame 7: 1 bytes of %s came before with other values, which are kept' % title % 0,))
+    client.sends(0, 18, b'\xff\xff')
+    network.gives(('# frame 8: 2 bytes of %s came before with other values, which are kept' % title % 0,))
+    client.sends(0, 0, b'', RST)
+    network.gives(('# %s: bytes left over: 0, then missing: 16, then captured: 16' % title % 0,))
+    other = Side(network, 1026, 139, 0)
+    other.sends(0, -1, b'', SYN)
+    other.sends(0, 0, b'\x86\0\0\0' + FOREIGN[:4])
+    network.gives((139, 0, b'\x86\0\0\0'))
+    other.sends(0, 8, FOREIGN[4:])
+    other.sends(0, 4, FOREIGN)
+    other.sends(0, 0, b'\x86\0\0\0')
+    network.gives(('# %s: bytes left over: 16 (%s)' % ((title % 1).replace('1025', '1026'), FOREIGN.hex()),))
+    print('14 frames, 14 of these ports, 7 left out: 2 sent again with other bytes, 2 after a gap in TCP, '
+          '2 where no session packet begins, 1 cut by the snap length')
+
+
+PARTS = {each.__name__: (each, WIFI if each is aggregates else 1) for each in (tunnels, aggregates, ports_again, fragments, counts)}
+
+
+def main():
+    part, link = PARTS[sys.argv[1]]
+    with open(sys.argv[2], 'wb') as pcap:
+        part(Network(pcap, link))
+
+
+if __name__ == '__main__':
+    main()

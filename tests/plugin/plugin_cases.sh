@@ -15,7 +15,7 @@ part_built() {
     local version
     "$top/tools/plugin" make "$library" "$room/nbt.so" 2>"$room/errors"
     count $? "tools/plugin make: $(head -n 1 "$room/errors")"
-    nm -D --defined-only "$room/nbt.so" | awk '{ print $3 }' | sort | xargs |
+    nm -D --defined-only "$room/nbt.so" | awk '{ print $3 }' | grep -v '^plugin_describe$' | sort | xargs |
         same 'plugin_register plugin_version plugin_want_major plugin_want_minor' 'what nbt.so shows of itself'
     PLUGINS=$place "$top/tools/plugin" put "$room/nbt.so" | same "$place/nbt.so" 'tools/plugin put'
     chmod -R a+rX "$room/home-with"
@@ -35,9 +35,10 @@ part_built() {
 
 # The same sources for a later version: its number stands in a header.
 refused_by_others() {
-    local home=$room/home-other
+    local home=$room/home-other minor
+    minor=$(pkg-config --modversion wireshark | cut -d . -f 2)
     mkdir -p "$room/other" "$home/${place#"$room/home-with/"}"
-    sed -E 's/^(#define (WIRESHARK_)?VERSION_MINOR) .*/\1 1/' "$(pkg-config --variable=includedir wireshark)/wireshark/ws_version.h" >"$room/other/ws_version.h"
+    sed -E "s/^(#define (WIRESHARK_)?VERSION_MINOR) .*/\\1 $((minor + 1))/" "$(pkg-config --variable=includedir wireshark)/wireshark/ws_version.h" >"$room/other/ws_version.h"
     CFLAGS="-O0 -I$room/other" "$top/tools/plugin" make "$library" "$home/${place#"$room/home-with/"}/nbt.so" 2>"$room/errors"
     count $? "tools/plugin make, by a later version's number: $(head -n 1 "$room/errors")"
     chmod -R a+rX "$home"

@@ -77,10 +77,10 @@ def wanted_of(words):
 
 
 def shown(data):
-    """Data as sharkd shows it."""
+    """The texts of which sharkd shows one for data: the second is that of Wireshark 4.0."""
     if data is None:
-        return ''
-    return data[:DIGITS] + '…' if len(data) > DIGITS else data or NO_BYTES
+        return ('',)
+    return data or NO_BYTES, data[:DIGITS] + '…' if len(data) > DIGITS else data or NO_BYTES
 
 
 def first_difference(made, rows, states):
@@ -88,9 +88,9 @@ def first_difference(made, rows, states):
     links = made.links({frame: state[0] for frame, state in states.items()})
     for frame in range(1, made.count + 1):
         state, key, data = states.get(frame, ['', '', None])
-        wanted = [state, key, shown(data), *links.get(frame, ['', '', '', ''])]
-        if rows[frame] != wanted:
-            return f'frame {frame}: {rows[frame]}, not {wanted}'
+        wanted = [[state, key, text, *links.get(frame, ['', '', '', ''])] for text in shown(data)]
+        if rows[frame] not in wanted:
+            return f'frame {frame}: {rows[frame]}, not {wanted[-1]}'
     return ''
 
 

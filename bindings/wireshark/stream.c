@@ -148,14 +148,13 @@ static struct found *read_anew(struct direction *way, const struct bytes *bytes,
     return found;
 }
 
-/* Reads bytes that follow those that are held. */
-static struct found *read_on(struct direction *way, const guint8 *data, size_t length, size_t earlier)
+/* Reads bytes that follow those that are held; `known` of them stand at the front once more. */
+static struct found *read_on(struct direction *way, const guint8 *data, size_t length, size_t known)
 {
     struct found *found = NULL;
-    struct bytes bytes = {.earlier = earlier, .begun = true};
+    struct bytes bytes = {.earlier = way->held->len, .begun = true, .base = (int)known};
     size_t end;
-    g_byte_array_set_size(way->held, (guint)earlier);
-    g_byte_array_append(way->held, data, (guint)length);
+    g_byte_array_append(way->held, data + known, (guint)(length - known));
     bytes.data = way->held->data;
     bytes.length = way->held->len;
     end = find_packets(way, &bytes, &found);
@@ -164,24 +163,25 @@ static struct found *read_on(struct direction *way, const guint8 *data, size_t l
     return found;
 }
 
-/* Reads what TCP handed over, from this number on. */
+/* Reads what TCP handed over, from this number on. Of bytes that came before the values that came first count. */
 static struct found *read_bytes(struct direction *way, const guint8 *data, size_t length, guint32 sequence)
 {
     struct bytes bytes = {.data = data, .length = length};
     struct found *found = NULL;
     gint32 before = (gint32)(way->next - sequence);
     size_t held = way->held != NULL ? way->held->len : 0, end;
+    gint64 known;
     if (!way->begun) {
         way->begun = true;
         way->first = way->next = sequence;
         before = 0;
     }
-    if (way->lost || (before < 0 && (size_t)-(gint64)before > held) ||
-        (gint32)(sequence + (guint32)length - way->first) <= 0)
+    known = (gint64)held + before;
+    if (way->lost || known < 0 || (gint32)(sequence + (guint32)length - way->first) <= 0)
         return read_anew(way, &bytes, sequence);
-    /* What came before is repeated. */
-    if ((gint64)length - before <= (gint64)held) return NULL;
-    if (before < 0) return read_on(way, data, length, (size_t)-(gint64)before);
+    if ((gint64)length <= known) return NULL;
+    if (before < 0 || (held > 0 && memcmp(data + before, way->held->data, held) != 0))
+        return read_on(way, data, length, (size_t)known);
     bytes.data += before;
     bytes.length -= (size_t)before;
     bytes.begun = held > 0;

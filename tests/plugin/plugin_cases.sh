@@ -90,6 +90,9 @@ part_shown() {
     count $? 'the list is left as it is'
     places | same '54 38' 'bytes that are marked, in the frame and in segments that TCP joined'
     places -o tcp.desegment_tcp_streams:FALSE | same '54 72' 'bytes that are marked, in the second segment'
+    with tshark -n -r "$room/states/overlaps.pcap" -o tcp.desegment_tcp_streams:FALSE -o tcp.analyze_sequence_numbers:FALSE -T fields \
+        -e nbt.says 2>/dev/null | same $'begins a packet that lacks 42 bytes\n\n\ncalls FRED<20> as JOE<00>\nkeeps the session alive' \
+        'of bytes that come again the first ones count'
     with tshark -n -r "$file" -Y smb -T fields -e frame.number -e smb.cmd -e nbt.fragment 2>/dev/null | same $'5\t0x2b\t4,5' 'SMB in a datagram of two fragments'
     with tshark -n -q -r "$file" -z nbt,tree 2>/dev/null | awk -F '  +' '$2 ~ /^[0-9]+$/ { print $1 ": " $2 }' | sort >"$room/counts"
     sort <<'ROWS' | diff "$room/counts" -

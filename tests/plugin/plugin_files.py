@@ -3,7 +3,8 @@
 
 pieces.pcap has datagrams in many pieces, some lost, changed and repeated; sessions.pcap connections to port 139 in segments of all sizes,
 in order and not, with bytes of no packet, headers that ask for more than a packet has, and starts that the file lacks. marked.pcap has refused
-packets, one of which comes in two segments, and an SMB echo in a datagram of two fragments.
+packets, one of which comes in two segments, and an SMB echo in a datagram of two fragments; overlaps.pcap segments that come again with
+other bytes.
 """
 import os
 import random
@@ -89,11 +90,19 @@ def marked():
     return [(number * 1_000, frame, None) for number, frame in enumerate(frames)]
 
 
+def overlaps():
+    """A call in segments that bring bytes once more with other values, to the end of what came and past it."""
+    changed = bytes(byte ^ 1 for byte in REQUEST)
+    parts = ((0, REQUEST[:30]), (0, changed[:30]), (20, changed[20:30] + REQUEST[30:50]), (0, changed[:50] + REQUEST[50:]), (72, KEEPALIVE))
+    return [(number * 1_000, segment(1_024, 1 + start, data), None) for number, (start, data) in enumerate(parts)]
+
+
 def main():
     folder = sys.argv[1]
     write_pcap(os.path.join(folder, 'pieces.pcap'), pieces())
     write_pcap(os.path.join(folder, 'sessions.pcap'), sessions())
     write_pcap(os.path.join(folder, 'marked.pcap'), marked())
+    write_pcap(os.path.join(folder, 'overlaps.pcap'), overlaps())
 
 
 if __name__ == '__main__':

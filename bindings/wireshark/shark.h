@@ -110,8 +110,8 @@ struct datagram {
 void begin_station(void);
 void end_station(void);
 
-/* Before each frame: the first one has the time from which moments count, and one with the number of the one before says that
- * that was left out. */
+/* Before each frame: the first one that has a time has that from which moments count, and one with the number of the one before
+ * says that that was left out. */
 void begin_frame(const packet_info *pinfo);
 
 /* Shows the clock the frame's time: a packet came. */

@@ -17,7 +17,9 @@ static bool all_are_heard;     /* no name is asked for */
 static const char *names_fault;
 static guint8 *room;
 static guint64 second;         /* the last one that the clock was shown */
-static nstime_t first_time;
+static bool timed;             /* a frame had a time */
+static nstime_t first_time;    /* of the first one that had */
+static guint64 moment;         /* of the frame that was read last, in milliseconds since then; 0 before it */
 static guint32 latest_number;  /* of the frame that was read last for the first time; 0 before the first */
 static struct fragment *latest; /* those of that frame */
 
@@ -50,6 +52,8 @@ void begin_station(void)
     known = g_hash_table_new_full(g_int64_hash, g_int64_equal, g_free, forget);
     room = g_malloc(NBT_TAKE_ROOM);
     second = 0;
+    timed = false;
+    moment = 0;
     latest_number = 0;
     latest = NULL;
 }
@@ -63,21 +67,24 @@ void end_station(void)
     names_fault = NULL;
 }
 
+/* Where a frame has no time that of the frame before counts. */
+static void read_time(const packet_info *pinfo)
+{
+    nstime_t since;
+    if ((pinfo->presence_flags & PINFO_HAS_TS) == 0) return;
+    if (!timed) first_time = pinfo->abs_ts;
+    timed = true;
+    nstime_delta(&since, &pinfo->abs_ts, &first_time);
+    moment = since.secs < 0 || since.nsecs < 0 ? 0 : (guint64)since.secs * 1000 + (guint64)since.nsecs / 1000000;
+}
+
 void begin_frame(const packet_info *pinfo)
 {
     if (PINFO_FD_VISITED(pinfo)) return;
-    if (latest_number == 0) first_time = pinfo->abs_ts;
+    read_time(pinfo);
     for (; pinfo->num == latest_number && latest != NULL; latest = latest->beside) latest->frame = 0;
     latest_number = pinfo->num;
     latest = NULL;
-}
-
-/* Milliseconds since the file's first frame; 0 before it. */
-static guint64 moment_of(const packet_info *pinfo)
-{
-    nstime_t since;
-    nstime_delta(&since, &pinfo->abs_ts, &first_time);
-    return since.secs < 0 || since.nsecs < 0 ? 0 : (guint64)since.secs * 1000 + (guint64)since.nsecs / 1000000;
 }
 
 static gboolean is_dropped(gpointer key _U_, gpointer datagram, gpointer now)
@@ -88,14 +95,14 @@ static gboolean is_dropped(gpointer key _U_, gpointer datagram, gpointer now)
 void look_at_clock(const packet_info *pinfo)
 {
     guint32 dropped = 0;
-    guint64 now = moment_of(pinfo) / SECOND * SECOND;
+    guint64 now = moment / SECOND * SECOND;
     if (PINFO_FD_VISITED(pinfo) || !keys_time_out || now <= second || known == NULL) return;
     second = now;
     if (nbt_station_tick(&station, now, &dropped) == NBT_DONE && dropped > 0)
         g_hash_table_foreach_remove(known, is_dropped, &now);
 }
 
-static struct datagram *datagram_of(const struct nbt_taken *taken, guint64 moment)
+static struct datagram *datagram_of(const struct nbt_taken *taken)
 {
     gint64 key = (gint64)((guint64)taken->address << 32 | (guint64)taken->port << 16 | taken->identifier);
     struct datagram *datagram = g_hash_table_lookup(known, &key);
@@ -119,10 +126,9 @@ static void append(struct datagram *datagram, struct fragment *fragment)
 }
 
 /* Enters a fragment that the station took. */
-static void enter(struct fragment *fragment, const struct nbt_taken *taken, guint64 moment, const struct nbt_datagram *packet,
-                  const guint8 *bytes)
+static void enter(struct fragment *fragment, const struct nbt_taken *taken, const struct nbt_datagram *packet, const guint8 *bytes)
 {
-    struct datagram *datagram = datagram_of(taken, moment);
+    struct datagram *datagram = datagram_of(taken);
     append(datagram, fragment);
     fragment->offset = packet->offset;
     fragment->length = (guint16)packet->data_length;
@@ -153,15 +159,14 @@ const struct fragment *take_payload(packet_info *pinfo, const struct payload *pa
     fragment->frame = pinfo->num;
     fragment->beside = latest;
     latest = fragment;
-    fragment->refusal = nbt_station_take(&station, moment_of(pinfo), bytes, (size_t)payload->length, &taken, room, NBT_TAKE_ROOM,
-                                         &used);
+    fragment->refusal = nbt_station_take(&station, moment, bytes, (size_t)payload->length, &taken, room, NBT_TAKE_ROOM, &used);
     if (fragment->refusal != NBT_DONE) {
         fragment->outcome = TAKEN_NOT;
     } else {
         fragment->outcome = taken.outcome;
         fragment->refusal = taken.refusal;
         if (taken.outcome <= NBT_UNHEARD && payload->status == NBT_DONE)
-            enter(fragment, &taken, moment_of(pinfo), &payload->datagram, bytes);
+            enter(fragment, &taken, &payload->datagram, bytes);
     }
     p_add_proto_data(wmem_file_scope(), pinfo, proto_nbt, key, fragment);
     return fragment;

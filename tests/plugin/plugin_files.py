@@ -4,7 +4,7 @@
 pieces.pcap has datagrams in many pieces, some lost, changed and repeated; sessions.pcap connections to port 139 in segments of all sizes,
 in order and not, with bytes of no packet, headers that ask for more than a packet has, and starts that the file lacks. marked.pcap has refused
 packets, one of which comes in two segments, and an SMB echo in a datagram of two fragments; overlaps.pcap segments that come again with
-other bytes.
+other bytes; untimed.pcap frames without a time.
 """
 import os
 import random
@@ -97,12 +97,31 @@ def overlaps():
     return [(number * 1_000, segment(1_024, 1 + start, data), None) for number, (start, data) in enumerate(parts)]
 
 
+def block(kind, body):
+    """A block of pcapng."""
+    body += bytes(-len(body) % 4)
+    return struct.pack('<LL', kind, len(body) + 12) + body + struct.pack('<L', len(body) + 12)
+
+
+def untimed():
+    """A pcapng file of a datagram in three fragments, of which the first and the last have no time."""
+    head = (0x11, 3, 5, JOE, FRED)
+    frames = [datagram_frame(138, Made.piece(head, bytes(60), start, start + 20), CLIENT) for start in (0, 20, 40)]
+    second = 1_700_000_000_000_000
+    return b''.join((block(0x0a0d0d0a, struct.pack('<LHHq', 0x1a2b3c4d, 1, 0, -1)), block(1, struct.pack('<HHL', 1, 0, 0)),
+                     block(3, struct.pack('<L', len(frames[0])) + frames[0]),
+                     block(6, struct.pack('<LLLLL', 0, second >> 32, second % 2**32, len(frames[1]), len(frames[1])) + frames[1]),
+                     block(3, struct.pack('<L', len(frames[2])) + frames[2])))
+
+
 def main():
     folder = sys.argv[1]
     write_pcap(os.path.join(folder, 'pieces.pcap'), pieces())
     write_pcap(os.path.join(folder, 'sessions.pcap'), sessions())
     write_pcap(os.path.join(folder, 'marked.pcap'), marked())
     write_pcap(os.path.join(folder, 'overlaps.pcap'), overlaps())
+    with open(os.path.join(folder, 'untimed.pcap'), 'wb') as file:
+        file.write(untimed())
 
 
 if __name__ == '__main__':

@@ -19,7 +19,7 @@ GROWN = 1.1
 # How far a number may be past its bar, or past what it is known to be.
 ALLOWED = 1.05
 # The row that misses its bar, with its number, and that over captures a tenth as long.
-KNOWN = {('show', '10,800 to 111 labels'): (97.2, 78.0)}
+KNOWN = {('show', '10,800 to 111 labels'): (56.9, 45.6)}
 
 
 class Bars:

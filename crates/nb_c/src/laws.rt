@@ -112,7 +112,7 @@ pub fn a_datagram_in_bytes()
         ++ (to_be_bytes w16 (length bytes) ++ bytes)))))) }
 {}
 
-/// What is told of a line of a capture, as numbers and bytes: 0 and zeros of one that says nothing;
+/// What a line of a capture says, as numbers and bytes: 0 and zeros of one that says nothing;
 /// 1, the port, the moment and the payload of a packet; 2 and what the clock shows of a tick.
 pub fn a_line_in_numbers()
     ensures nothing { line_told None

@@ -1,9 +1,8 @@
 -- A payload's object and its phrase are all that is said of it.
-use Rattle.std.proofs.Common.{◌≡◌, ℕ, List, Result, Ok, Err, IfOk, length, sym, ap, ◌∙◌}
+use Rattle.std.proofs.Common.{◌≡◌, ℕ, List, Result, Ok, Err, IfOk, sym, ap, ◌∙◌}
 use Rattle.nb_names.specs.declared.bytes.NoMemory.{NoMemory}
 use Rattle.nb_telling.specs.Fields.{Field}
 use Rattle.nb_telling.specs.Tokens.{object_of}
-use Rattle.nb_text.specs.Said.{said}
 use Rattle.nb_text.specs.SaysPacket.{IsSaid}
 use Rattle.nb_text.specs.Tells.{IsObject, Tells}
 use Rattle.nb_c.specs.declared.refusal.Refusal.{Refusal}
@@ -19,11 +18,11 @@ one_object payload port one (Ok a) (Ok b) h k = ap Ok (h.is ∙ ap object_of (on
 one_object payload port one (Ok a) (Err b) h k = absurd k
 one_object payload port one (Err a) b h k = absurd h
 
-pub one_phrase : (payload : List ℕ) (port : ℕ) → OneList payload port → HasOne (Phrases payload port)
-one_phrase payload port one (Ok a) (Ok b) h k =
-    ap Ok (h.is ∙ ap (λ fields. said fields (length payload)) (one h.fields k.fields h.tells k.tells) ∙ sym k.is)
-one_phrase payload port one (Ok a) (Err b) h k = absurd k
-one_phrase payload port one (Err a) b h k = absurd h
+pub one_said : (payload : List ℕ) (port : ℕ) → ((phrase other : List ℕ) → IsSaid payload port phrase → IsSaid payload port other → phrase ≡ other)
+    → HasOne (Phrases payload port)
+one_said payload port one (Ok a) (Ok b) h k = ap Ok (one a b h k)
+one_said payload port one (Ok a) (Err b) h k = absurd k
+one_said payload port one (Err a) b h k = absurd h
 
 -- it is answered, unless memory runs out
 pub judged_phrase : (payload : List ℕ) (port : ℕ) (made : Result (List ℕ) NoMemory) → IfOk made (IsSaid payload port)

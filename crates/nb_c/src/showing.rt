@@ -1,16 +1,16 @@
 //! The texts of packets, their phrases, and their JSON objects.
-ghost use Rattle.std.specs.Prelude.{IfOk, OnOk, string_bytes};
+ghost use Rattle.std.specs.Prelude.{IfOk};
 ghost use Rattle.nb_c.specs.Outputs.{Answers, Does, none_late, of_memory};
 ghost use Rattle.nb_c.specs.Showing.{Objects, Phrases, Shows};
-ghost use Rattle.nb_text.specs.SaysPacket.{AddsSaid, IsSaid};
+ghost use Rattle.nb_text.specs.SaysPacket.{IsSaid};
 ghost use Rattle.nb_text.specs.Shown.{Shown};
 
 use crate::output::{put, write_bytes};
 use crate::statuses::NO_MEMORY;
 use nb_names::{Bytes, NoMemory};
 use nb_telling::JsonRoom;
-use nb_text::laws::{one_list_of_fields, one_text};
-use nb_text::{BriefSink, packet_object, push_brief, push_packet};
+use nb_text::laws::{one_list_of_fields, one_phrase, one_text};
+use nb_text::{packet_object, push_brief, push_packet};
 use std::alloc::Global;
 
 /// Writes the text of a payload that came to a port, as `nbt show` prints it.
@@ -57,8 +57,8 @@ pub extern "C" fn nbt_brief(
         (record { buffer = into.old; used = used.old; place = 0 })
         (record { buffer = into.new; used = used.new; place = 0 }) result }
 {
-    // For the clause: a payload has one list of fields. The call does nothing.
-    one_list_of_fields();
+    // For the clause: a payload has one phrase. The call does nothing.
+    one_phrase();
     write_bytes(phrase(alloc, port, payload), into, used)
 }
 
@@ -67,16 +67,8 @@ fn phrase(alloc: Global, port: u16, payload: &[u8]) -> Result<Bytes, NoMemory>
     ensures { IfOk result (IsSaid payload.now port) }
 {
     let mut text = String::new(alloc);
-    push_phrase(alloc, port, payload, &mut text)?;
+    push_brief(port, payload, &mut text)?;
     Ok(Bytes::from_vec(text.into_bytes()))
-}
-
-/// Adds the phrase of a payload.
-fn push_phrase(alloc: Global, port: u16, payload: &[u8], text: &mut String) -> Result<(), NoMemory>
-    ensures { OnOk result
-        (AddsSaid payload.now port (string_bytes text.old) (string_bytes text.new)) }
-{
-    push_brief(port, payload, &mut BriefSink::new(alloc), text)
 }
 
 /// Writes the JSON object of a payload that came to a port: the members that `nbt show --json`

@@ -18,8 +18,8 @@ use Rattle.nb_datagram.specs.Header.{header_bytes, IsKey, error_type, query_type
 use Rattle.nb_datagram.specs.Packet.{Packet, name_bytes, direct_bytes, packet_bytes, IsPacket}
 use Rattle.nb_datagram.specs.DatagramFaults.{HasType, NamesFail, in_source, in_destination, DirectFails, no_fields, no_data, in_names, PacketFails, no_header, no_type, direct_fails, no_code, query_fails}
 use Rattle.nb_datagram.proofs.StandsLemmas.{stands_front, stands_back, stands_begun}
-use Rattle.nb_datagram.proofs.ReadingLemmas.{header_long}
-use Rattle.nb_datagram.proofs.PacketLemmas.{NameLaws, kind_range, query_range, packet_within}
+use Rattle.nb_datagram.proofs.ReadingLemmas.{header_long, kind_range, query_range}
+use Rattle.nb_datagram.proofs.PacketLemmas.{NameLaws, packet_within}
 
 -- ---- types
 

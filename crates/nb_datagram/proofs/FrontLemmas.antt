@@ -2,14 +2,16 @@
 use Rattle.std.proofs.Common.{◌≡◌, ℕ, ◌+◌, List, take, Option, Some, refl, ap, sym, subst, ◌∙◌}
 use Rattle.nb_names.specs.declared.fault.NameFault.{NameFault}
 use Rattle.nb_names.specs.declared.pointers.Pointers.TheVariants.{Refused}
-use Rattle.nb_names.specs.Labels.{StandsAt, NameAt}
+use Rattle.nb_names.specs.Labels.{NameAt}
 use Rattle.nb_names.specs.Name.{NetbiosName, IsName, labels_of_name}
 use Rattle.nb_names.specs.NameFaults.{NetbiosFaultAt}
 use Rattle.nb_names.specs.PacketFacts.{stands_same, one_number_16}
 use Rattle.nb_datagram.specs.declared.front.FragmentFront.{FragmentFront}
 use Rattle.nb_datagram.specs.declared.front.Front.{Front}
+use Rattle.nb_datagram.specs.declared.header.Header.{Header}
+use Rattle.nb_datagram.specs.Code.Reading.{HasHeader}
 use Rattle.nb_datagram.specs.Fronts.{NamesStand, no_name, source_alone, both_names, FragmentStands, RestStands, of_fragment, of_another, HasFront}
-use Rattle.nb_datagram.specs.Header.{header_bytes, IsKey}
+use Rattle.nb_datagram.specs.Header.{header_bytes}
 use Rattle.nb_datagram.proofs.PacketLemmas.{keys_same}
 use Rattle.nb_datagram.proofs.ReadingLemmas.{header_long}
 
@@ -67,13 +69,7 @@ module _ (laws : NameLaws) where
       let rest = one_rest bytes g.message_type f.fragment g.fragment moved y.rest in
       λ i. record { message_type = same.0 i; flags = same.1 i; key = same.2 i; fragment = rest i }
 
--- what was read makes a front
-pub front_there : (bytes : List ℕ) (front : Front) (type : ℕ) (rest : Option FragmentFront) → IsKey front.key
-    → StandsAt bytes 0 (header_bytes front.message_type front.flags front.key) → front.message_type ≡ type → front.fragment ≡ rest
-    → RestStands bytes type rest → HasFront bytes front
-front_there bytes front type rest key stands same is there = record {
-  key = key;
-  stands = stands;
-  rest = subst (λ (t : ℕ). RestStands bytes t front.fragment) (sym same)
-      (subst (λ (r : Option FragmentFront). RestStands bytes type r) (sym is) there);
-}
+-- a header, and what stands after it, are a front
+pub front_there : (bytes : List ℕ) (h : Header) (rest : Option FragmentFront) → HasHeader bytes h → RestStands bytes h.message_type rest →
+    HasFront bytes (record { message_type = h.message_type; flags = h.flags; key = h.key; fragment = rest })
+front_there bytes h rest there stands = record { key = there.key; stands = there.stands; rest = stands }

@@ -13,7 +13,6 @@ use Rattle.nb_datagram.specs.declared.fault.DatagramFault.{DatagramFault}
 use Rattle.nb_datagram.specs.DatagramFaults.{PacketFails}
 use Rattle.nb_datagram.specs.declared.key.Key.{Key}
 use Rattle.nb_datagram.specs.declared.kind.Kind.{Kind}
-use Rattle.nb_datagram.specs.declared.kind.Kind.TheVariants.{Unique, Group, Broadcast}
 use Rattle.nb_datagram.specs.declared.packet.Packet.TheVariants.{Direct, Error, Query}
 use Rattle.nb_datagram.specs.declared.packet.QueryKind.{QueryKind}
 use Rattle.nb_datagram.specs.declared.packet.QueryKind.TheVariants.{Request, Positive, Negative}
@@ -21,7 +20,7 @@ use Rattle.nb_datagram.specs.Fragment.{FragmentParts, named_length}
 use Rattle.nb_datagram.specs.Kind.{type_of, kind_of, kind_back}
 use Rattle.nb_datagram.specs.Header.{header_bytes, IsKey, error_type, query_type}
 use Rattle.nb_datagram.specs.Packet.{Packet, name_bytes, direct_bytes, packet_bytes, FitsDirect, Fits, IsPacket}
-use Rattle.nb_datagram.proofs.ReadingLemmas.{header_long}
+use Rattle.nb_datagram.proofs.ReadingLemmas.{header_long, kind_range, query_range}
 
 -- what the laws of nb_names say of names whose pointers are refused
 pub record NameLaws : Type 0 where
@@ -78,16 +77,6 @@ headers_same type flags key kind bits other x y bytes more others f g p q =
     (same.0, same.1, same.2, parts.1)
 
 -- ---- each kind of packet is one
-
-pub kind_range : (k : Kind) → (16 ≤ type_of k) × (type_of k ≤ 18)
-kind_range Unique = (omega arith, omega arith)
-kind_range Group = (omega arith, omega arith)
-kind_range Broadcast = (omega arith, omega arith)
-
-pub query_range : (k : QueryKind) → (20 ≤ query_type k) × (query_type k ≤ 22)
-query_range Request = (omega arith, omega arith)
-query_range Positive = (omega arith, omega arith)
-query_range Negative = (omega arith, omega arith)
 
 one_kind : (a b : Kind) → type_of a ≡ type_of b → a ≡ b
 one_kind a b e = sym (kind_back a) ∙ ap kind_of e ∙ kind_back b

@@ -1,5 +1,5 @@
 -- What a reading has found makes a packet.
-use Rattle.std.proofs.Common.{◌≡◌, ℕ, ◌+◌, ◌≤◌, List, [], ◌∷◌, ◌++◌, length, take, drop, get_or, ap, sym, subst, arith, length-append, length-drop}
+use Rattle.std.proofs.Common.{◌≡◌, ℕ, ◌+◌, ◌≤◌, List, [], ◌∷◌, ◌++◌, length, take, drop, get_or, sym, subst, arith, length-append, length-drop}
 use Rattle.std.proofs.lemmas.List.{length-take-le, take_all}
 use Rattle.std.specs.Int.{w16, to_be_bytes}
 use Rattle.nb_names.specs.declared.pointers.Pointers.TheVariants.{Refused}
@@ -8,7 +8,6 @@ use Rattle.nb_names.specs.Name.{NetbiosName, IsName, labels_of_name}
 use Rattle.nb_names.specs.Numbers.{NumberAt}
 use Rattle.nb_names.specs.NameFaults.{NetbiosFaultAt}
 use Rattle.nb_names.specs.declared.fault.NameFault.{NameFault}
-use Rattle.nb_datagram.specs.declared.form.Form.TheVariants.{Direct, Error, Query}
 use Rattle.nb_datagram.specs.declared.header.Header.{Header}
 use Rattle.nb_datagram.specs.declared.key.Key.{Key}
 use Rattle.nb_datagram.specs.declared.kind.Kind.{Kind}
@@ -23,14 +22,14 @@ use Rattle.nb_datagram.specs.declared.fault.DatagramFault.TheVariants.{Destinati
 use Rattle.nb_datagram.specs.declared.kind.Kind.TheVariants.{Unique, Group, Broadcast}
 use Rattle.nb_datagram.specs.declared.packet.QueryKind.TheVariants.{Request, Positive, Negative}
 use Rattle.nb_datagram.specs.DatagramFaults.{HasType, DirectFails, PacketFails, direct_fails, query_fails}
-use Rattle.nb_datagram.specs.Code.Reading.{number_of, HasHeader}
+use Rattle.nb_datagram.specs.Code.Reading.{HasHeader}
 use Rattle.nb_datagram.proofs.StandsLemmas.{stands_then, stands_front, stands_whole, stands_one, stands_in_all, spelled_at}
 
 -- a header has its type
-pub header_type : (bytes : List ℕ) (h : Header) → HasHeader bytes h → HasType bytes (number_of h.form)
+pub header_type : (bytes : List ℕ) (h : Header) → HasHeader bytes h → HasType bytes h.message_type
 header_type bytes h there = record {
   whole = there.whole;
-  first = stands_front bytes 0 (number_of h.form ∷ []) (h.flags ∷ (to_be_bytes w16 h.key.id ++ (h.key.ip ++ to_be_bytes w16 h.key.port))) there.stands;
+  first = stands_front bytes 0 (h.message_type ∷ []) (h.flags ∷ (to_be_bytes w16 h.key.id ++ (h.key.ip ++ to_be_bytes w16 h.key.port))) there.stands;
 }
 
 -- the bytes of a header are ten
@@ -38,21 +37,21 @@ pub header_long : (type flags : ℕ) (key : Key) → length key.ip ≡ 4 → len
 header_long type flags key four = omega (arith, length-append key.ip (to_be_bytes w16 key.port), four)
 
 -- what stands after a header stands with it
-pub behind_header : (bytes : List ℕ) (h : Header) (type : ℕ) (more : List ℕ) → HasHeader bytes h → number_of h.form ≡ type → StandsAt bytes 10 more →
+pub behind_header : (bytes : List ℕ) (h : Header) (type : ℕ) (more : List ℕ) → HasHeader bytes h → h.message_type ≡ type → StandsAt bytes 10 more →
     StandsAt bytes 0 (header_bytes type h.flags h.key ++ more)
 behind_header bytes h type more there is g =
-    let long = header_long (number_of h.form) h.flags h.key there.key.ip in
-    let place : 10 ≡ 0 + length (header_bytes (number_of h.form) h.flags h.key) = omega (arith, long) in
+    let long = header_long h.message_type h.flags h.key there.key.ip in
+    let place : 10 ≡ 0 + length (header_bytes h.message_type h.flags h.key) = omega (arith, long) in
     subst (λ (t : ℕ). StandsAt bytes 0 (header_bytes t h.flags h.key ++ more)) is
-    (stands_then bytes 0 (header_bytes (number_of h.form) h.flags h.key) more there.stands
+    (stands_then bytes 0 (header_bytes h.message_type h.flags h.key) more there.stands
     (subst (λ (n : ℕ). StandsAt bytes n more) place g))
 
 -- an error packet
-pub error_there : (bytes : List ℕ) (h : Header) → HasHeader bytes h → h.form ≡ Error → 11 ≤ length bytes →
+pub error_there : (bytes : List ℕ) (h : Header) → HasHeader bytes h → h.message_type ≡ error_type → 11 ≤ length bytes →
     IsPacket bytes (packets.Error (record { flags = h.flags; key = h.key; code = get_or bytes 10 0 })) 11
 error_there bytes h there is fits =
     let all : List ℕ = header_bytes error_type h.flags h.key ++ get_or bytes 10 0 ∷ [] in
-    let stands : StandsAt bytes 0 all = behind_header bytes h error_type (get_or bytes 10 0 ∷ []) there (ap number_of is) (stands_one bytes 10 (omega arith)) in
+    let stands : StandsAt bytes 0 all = behind_header bytes h error_type (get_or bytes 10 0 ∷ []) there is (stands_one bytes 10 (omega arith)) in
     record {
       fits = there.key;
       rest = drop (length all) bytes;
@@ -61,12 +60,12 @@ error_there bytes h there is fits =
     }
 
 -- a query packet
-pub query_there : (bytes : List ℕ) (h : Header) (kind : QueryKind) (name : NetbiosName) (used : ℕ) → HasHeader bytes h → h.form ≡ Query kind → IsName name → NameAt bytes Refused 10 (labels_of_name name) used →
+pub query_there : (bytes : List ℕ) (h : Header) (kind : QueryKind) (name : NetbiosName) (used : ℕ) → HasHeader bytes h → h.message_type ≡ query_type kind → IsName name → NameAt bytes Refused 10 (labels_of_name name) used →
     IsPacket bytes (packets.Query (record { kind = kind; flags = h.flags; key = h.key; destination = name })) used
 query_there bytes h kind name used there is formed named =
     let spelled = spelled_at bytes 10 10 (labels_of_name name) used named in
     let all : List ℕ = header_bytes (query_type kind) h.flags h.key ++ name_bytes name in
-    let stands : StandsAt bytes 0 all = behind_header bytes h (query_type kind) (name_bytes name) there (ap number_of is) spelled.0 in
+    let stands : StandsAt bytes 0 all = behind_header bytes h (query_type kind) (name_bytes name) there is spelled.0 in
     record {
       fits = (there.key, formed);
       rest = drop (length all) bytes;
@@ -126,7 +125,7 @@ direct_there bytes size offset source destination behind start f =
 
 -- a fragment
 pub fragment_there : (bytes : List ℕ) (h : Header) (kind : Kind) (size offset : ℕ) (source destination : NetbiosName) (behind start : ℕ) →
-    HasHeader bytes h → h.form ≡ Direct kind → HasFragment bytes size offset source destination behind start →
+    HasHeader bytes h → h.message_type ≡ type_of kind → HasFragment bytes size offset source destination behind start →
     IsPacket bytes (packets.Direct (record { kind = kind; flags = h.flags; key = h.key; offset = offset; source = source; destination = destination; bytes = data_of bytes size start })) (14 + size)
 fragment_there bytes h kind size offset source destination behind start there is f =
     let carried : List ℕ = data_of bytes size start in
@@ -136,7 +135,7 @@ fragment_there bytes h kind size offset source destination behind start there is
     (direct_there bytes size offset source destination behind start f) in
     let body : List ℕ = to_be_bytes w16 (named_length source destination carried) ++ (to_be_bytes w16 offset ++ (name_bytes source ++ (name_bytes destination ++ carried))) in
     let all : List ℕ = header_bytes (type_of kind) h.flags h.key ++ body in
-    let stands : StandsAt bytes 0 all = behind_header bytes h (type_of kind) body there (ap number_of is) behind_it in
+    let stands : StandsAt bytes 0 all = behind_header bytes h (type_of kind) body there is behind_it in
     let small = f.size_there.fits in
     record {
       fits = record { key = there.key; offset = f.offset_there.fits; source = f.source_name; destination = f.destination_name; short = omega (arith, count, small) };
@@ -154,23 +153,23 @@ fragment_there bytes h kind size offset source destination behind start there is
 
 -- ---- faults
 
+pub kind_range : (k : Kind) → IsDirectType (type_of k)
+kind_range Unique = (omega arith, omega arith)
+kind_range Group = (omega arith, omega arith)
+kind_range Broadcast = (omega arith, omega arith)
+
+pub query_range : (k : QueryKind) → IsQueryType (query_type k)
+query_range Request = (omega arith, omega arith)
+query_range Positive = (omega arith, omega arith)
+query_range Negative = (omega arith, omega arith)
+
 -- a query packet's name has this fault
-pub query_named : (bytes : List ℕ) (h : Header) (kind : QueryKind) (fault : NameFault) → HasHeader bytes h → h.form ≡ Query kind → NetbiosFaultAt bytes Refused 10 fault →
+pub query_named : (bytes : List ℕ) (h : Header) (kind : QueryKind) (fault : NameFault) → HasHeader bytes h → h.message_type ≡ query_type kind → NetbiosFaultAt bytes Refused 10 fault →
     PacketFails bytes (DestinationName fault)
 query_named bytes h kind fault there is fails =
-    query_fails (query_type kind) fault (subst (HasType bytes) (ap number_of is) (header_type bytes h there)) (range kind) fails
-  where
-    range : (k : QueryKind) → IsQueryType (query_type k)
-    range Request = (omega arith, omega arith)
-    range Positive = (omega arith, omega arith)
-    range Negative = (omega arith, omega arith)
+    query_fails (query_type kind) fault (subst (HasType bytes) is (header_type bytes h there)) (query_range kind) fails
 
 -- a fragment's packet has this fault
-pub direct_failed : (bytes : List ℕ) (h : Header) (kind : Kind) (fault : DatagramFault) → HasHeader bytes h → h.form ≡ Direct kind → DirectFails bytes fault → PacketFails bytes fault
+pub direct_failed : (bytes : List ℕ) (h : Header) (kind : Kind) (fault : DatagramFault) → HasHeader bytes h → h.message_type ≡ type_of kind → DirectFails bytes fault → PacketFails bytes fault
 direct_failed bytes h kind fault there is fails =
-    direct_fails (type_of kind) (subst (HasType bytes) (ap number_of is) (header_type bytes h there)) (range kind) fails
-  where
-    range : (k : Kind) → IsDirectType (type_of k)
-    range Unique = (omega arith, omega arith)
-    range Group = (omega arith, omega arith)
-    range Broadcast = (omega arith, omega arith)
+    direct_fails (type_of kind) (subst (HasType bytes) is (header_type bytes h there)) (kind_range kind) fails

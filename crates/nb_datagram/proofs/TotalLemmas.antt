@@ -1,5 +1,5 @@
 -- Each row of bytes begins with a packet or has a fault.
-use Rattle.std.proofs.Common.{◌≡◌, ◌⊎◌, ℕ, zero, suc, ◌+◌, ◌<◌, ◌≤◌, inl, inr, List, [], ◌∷◌, ◌++◌, length, take, drop, get_or, refl, ap, sym, subst, arith, length-drop}
+use Rattle.std.proofs.Common.{◌≡◌, ◌⊎◌, ℕ, zero, suc, ◌+◌, ◌<◌, ◌≤◌, inl, inr, List, [], ◌∷◌, ◌++◌, length, take, drop, get_or, refl, sym, subst, ◌∙◌, arith, length-drop}
 use Rattle.std.proofs.lemmas.Bool.{cases_lt}
 use Rattle.std.proofs.lemmas.List.{length-take-le}
 use Rattle.std.proofs.lemmas.Nat.{be_bytes_2}
@@ -21,7 +21,7 @@ use Rattle.nb_datagram.specs.declared.key.Key.{Key}
 use Rattle.nb_datagram.specs.declared.kind.Kind.{Kind}
 use Rattle.nb_datagram.specs.declared.kind.Kind.TheVariants.{Unique, Group, Broadcast}
 use Rattle.nb_datagram.specs.declared.packet.QueryKind.TheVariants.{Request, Positive, Negative}
-use Rattle.nb_datagram.specs.Header.{header_bytes}
+use Rattle.nb_datagram.specs.Kind.{type_of}
 use Rattle.nb_datagram.specs.Packet.{Packet, IsPacket}
 use Rattle.nb_datagram.specs.DatagramFaults.{HasType, in_source, in_destination, no_fields, no_data, in_names, PacketFails, no_header, no_type, no_code}
 use Rattle.nb_datagram.specs.Code.Reading.{number_of, HasHeader}
@@ -89,10 +89,10 @@ form_there type low high = elim (cases_lt type 17) [
   ]
 ]
 
--- ten bytes whose first is a type are a header
-header_there : (bytes : List ℕ) (form : Form) → AreBytes bytes → 10 ≤ length bytes → number_of form ≡ get_or bytes 0 0 →
-    (header : Header) × HasHeader bytes header × (header.form ≡ form)
-header_there bytes form each fits is =
+-- ten bytes are a header
+header_there : (bytes : List ℕ) → AreBytes bytes → 10 ≤ length bytes →
+    (header : Header) × HasHeader bytes header × (header.message_type ≡ get_or bytes 0 0)
+header_there bytes each fits =
     let type : ℕ = get_or bytes 0 0 in
     let flags : ℕ = get_or bytes 1 0 in
     let id = number_there bytes 2 each (omega arith) in
@@ -105,18 +105,18 @@ header_there bytes form each fits is =
     let tail = stands_then bytes 2 (to_be_bytes w16 id.0) (ip ++ to_be_bytes w16 port.0) id.1.bytes (stands_then bytes 4 ip (to_be_bytes w16 port.0) address.1 last) in
     let whole = stands_then bytes 0 (type ∷ []) (flags ∷ (to_be_bytes w16 id.0 ++ (ip ++ to_be_bytes w16 port.0))) (stands_one bytes 0 (omega arith))
     (stands_then bytes 1 (flags ∷ []) (to_be_bytes w16 id.0 ++ (ip ++ to_be_bytes w16 port.0)) (stands_one bytes 1 (omega arith)) tail) in (
-      record { form = form; flags = flags; key = key },
+      record { message_type = type; flags = flags; key = key },
       record {
         key = record { ip = address.0; port = port.1.fits; id = id.1.fits };
         whole = fits;
-        stands = subst (λ (t : ℕ). StandsAt bytes 0 (header_bytes t flags key)) (sym is) whole;
+        stands = whole;
       },
       refl,
     )
 
 -- ---- what stands after it
 
-names_or_fault : NameOrFault → (bytes : List ℕ) (header : Header) (kind : Kind) (size : ℕ) → AreBytes bytes → HasHeader bytes header → header.form ≡ Direct kind →
+names_or_fault : NameOrFault → (bytes : List ℕ) (header : Header) (kind : Kind) (size : ℕ) → AreBytes bytes → HasHeader bytes header → header.message_type ≡ type_of kind →
     NumberAt bytes 10 w16 size → 14 + size ≤ length bytes → Outcome bytes
 names_or_fault total bytes header kind size each there is number fits =
     let packet : List ℕ = take (14 + size) bytes in
@@ -145,7 +145,7 @@ names_or_fault total bytes header kind size each there is number fits =
       ]
     ]
 
-behind_header : NameOrFault → (bytes : List ℕ) (header : Header) (form : Form) → AreBytes bytes → HasHeader bytes header → header.form ≡ form → Outcome bytes
+behind_header : NameOrFault → (bytes : List ℕ) (header : Header) (form : Form) → AreBytes bytes → HasHeader bytes header → header.message_type ≡ number_of form → Outcome bytes
 behind_header total bytes header (Direct kind) each there is = elim (cases_lt (length bytes) 14) [
   | inl low ↦ inr (Truncated (length bytes), direct_failed bytes header kind (Truncated (length bytes)) there is (no_fields low))
   | inr enough ↦ (let size = number_there bytes 10 each (omega arith) in
@@ -155,7 +155,7 @@ behind_header total bytes header (Direct kind) each there is = elim (cases_lt (l
       ])
 ]
 behind_header total bytes header Error each there is = elim (cases_lt (length bytes) 11) [
-  | inl low ↦ inr (Truncated (length bytes), no_code (subst (HasType bytes) (ap number_of is) (header_type bytes header there)) low)
+  | inl low ↦ inr (Truncated (length bytes), no_code (subst (HasType bytes) is (header_type bytes header there)) low)
   | inr fits ↦ inl (_, 11, error_there bytes header there is fits)
 ]
 behind_header total bytes header (Query kind) each there is = elim (total bytes 10 each) [
@@ -166,8 +166,8 @@ behind_header total bytes header (Query kind) each there is = elim (total bytes 
 known_type : NameOrFault → (bytes : List ℕ) → AreBytes bytes → 10 ≤ length bytes → 16 ≤ get_or bytes 0 0 → get_or bytes 0 0 ≤ 22 → Outcome bytes
 known_type total bytes each fits low high =
     let form = form_there (get_or bytes 0 0) low high in
-    let header = header_there bytes form.0 each fits form.1 in
-    behind_header total bytes header.0 form.0 each header.1 header.2
+    let header = header_there bytes each fits in
+    behind_header total bytes header.0 form.0 each header.1 (header.2 ∙ sym form.1)
 
 unknown_type : (bytes : List ℕ) → 10 ≤ length bytes → (get_or bytes 0 0 < 16) ⊎ (22 < get_or bytes 0 0) → Outcome bytes
 unknown_type bytes fits unknown =

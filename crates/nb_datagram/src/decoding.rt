@@ -2,11 +2,13 @@
 ghost use Rattle.std.specs.Prelude.{◌≡◌, ◌≤◌, ℕ, length, IfOk, IfErr, IsOkAnd};
 ghost use Rattle.nb_names.specs.Name.{NetbiosName};
 ghost use Rattle.nb_datagram.specs.DatagramFaults.{DirectFails, PacketFails};
+ghost use Rattle.nb_datagram.specs.Header.{error_type, query_type};
+ghost use Rattle.nb_datagram.specs.Kind.{type_of};
 ghost use Rattle.nb_datagram.specs.Packet.{IsPacket};
 ghost use Rattle.nb_datagram.specs.Code.Reading.{HasHeader};
 
 use crate::fault::DatagramFault;
-use crate::form::Form;
+use crate::form::{Form, form_of};
 use crate::fragment::LentFragment;
 use crate::header::{Header, read_header};
 use crate::kind::Kind;
@@ -23,7 +25,7 @@ fn read_direct<'a>(
     kind: Kind,
 ) -> Result<(LentPacket<'a>, usize), DatagramFault>
     requires header { HasHeader bytes.now header.now }
-    requires form { header.now.form ≡ Form.Direct kind }
+    requires form { header.now.message_type ≡ type_of kind }
     ensures found { IfOk result (λ read. IsPacket bytes.now read.0 read.1) }
     ensures fault { IfErr result (DirectFails bytes.now) }
 {
@@ -61,7 +63,7 @@ fn read_error<'a>(
     header: &Header,
 ) -> Result<(LentPacket<'a>, usize), DatagramFault>
     requires header { HasHeader bytes.now header.now }
-    requires form { header.now.form ≡ Form.Error }
+    requires form { header.now.message_type ≡ error_type }
     ensures found { IfOk result (λ read. IsPacket bytes.now read.0 read.1) }
     ensures fault { IfErr result (PacketFails bytes.now) }
 {
@@ -83,7 +85,7 @@ fn read_query<'a>(
     kind: QueryKind,
 ) -> Result<(LentPacket<'a>, usize), DatagramFault>
     requires header { HasHeader bytes.now header.now }
-    requires form { header.now.form ≡ Form.Query kind }
+    requires form { header.now.message_type ≡ query_type kind }
     ensures found { IfOk result (λ read. IsPacket bytes.now read.0 read.1) }
     ensures fault { IfErr result (PacketFails bytes.now) }
 {
@@ -98,6 +100,22 @@ fn read_query<'a>(
             Ok((LentPacket::Query(query), used))
         }
         Err(fault) => Err(DatagramFault::DestinationName(fault)),
+    }
+}
+
+/// The packet at the front of bytes, and its length.
+fn read_packet<'a>(bytes: &'a [u8]) -> Result<(LentPacket<'a>, usize), DatagramFault>
+    ensures found { IfOk result (λ read. IsPacket bytes.now read.0 read.1) }
+    ensures fault { IfErr result (PacketFails bytes.now) }
+{
+    let Some(header) = read_header(bytes) else {
+        return Err(DatagramFault::Truncated(bytes.len()));
+    };
+    match form_of(header.message_type) {
+        Some(Form::Direct(kind)) => read_direct(bytes, &header, kind),
+        Some(Form::Error) => read_error(bytes, &header),
+        Some(Form::Query(kind)) => read_query(bytes, &header, kind),
+        None => Err(DatagramFault::UnknownType),
     }
 }
 
@@ -122,12 +140,7 @@ pub fn decode_lent<'a>(bytes: &'a [u8]) -> Result<(LentPacket<'a>, usize), Datag
     // The laws on which the clause `only` stands; the calls do nothing.
     one_packet();
     one_datagram_fault();
-    let header = read_header(bytes)?;
-    match header.form {
-        Form::Direct(kind) => read_direct(bytes, &header, kind),
-        Form::Error => read_error(bytes, &header),
-        Form::Query(kind) => read_query(bytes, &header, kind),
-    }
+    read_packet(bytes)
 }
 
 /// Decodes the packet at the front of bytes, and how many of them it takes up.

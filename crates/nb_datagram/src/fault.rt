@@ -1,6 +1,6 @@
 //! Why bytes begin with no packet.
 ghost use Rattle.std.specs.Prelude.{◌≡◌};
-ghost use Rattle.nb_datagram.specs.FaultTexts.{datagram_fault_place};
+ghost use Rattle.nb_datagram.specs.FaultTexts.{datagram_fault_place, datagram_fault_subject, datagram_fault_words};
 
 use nb_names::NameFault;
 use std::error::Error;
@@ -37,6 +37,30 @@ impl DatagramFault {
             }
         }
     }
+
+    /// Which name is wrong, where one is, else nothing: the words with which its text begins.
+    pub fn subject(self) -> &'static str
+        ensures { result.now ≡ datagram_fault_subject self }
+    {
+        match self {
+            DatagramFault::SourceName(_) => "source name: ",
+            DatagramFault::DestinationName(_) => "destination name: ",
+            DatagramFault::Truncated(_) | DatagramFault::UnknownType => "",
+        }
+    }
+
+    /// What is wrong, in words: its text between the subject and the place.
+    pub fn words(self) -> &'static str
+        ensures { result.now ≡ datagram_fault_words self }
+    {
+        match self {
+            DatagramFault::Truncated(_) => "truncated",
+            DatagramFault::UnknownType => "unknown type",
+            DatagramFault::SourceName(fault) | DatagramFault::DestinationName(fault) => {
+                fault.words()
+            }
+        }
+    }
 }
 
 impl fmt::Display for DatagramFault {
@@ -46,11 +70,11 @@ impl fmt::Display for DatagramFault {
     ghost output = { λ fault. Some (datagram_fault_text fault) };
 
     fn fmt<W: fmt::Write>(&self, f: &mut fmt::Formatter<W>) -> fmt::Result {
-        match self {
-            DatagramFault::Truncated(at) => write!(f, "truncated {at}"),
-            DatagramFault::UnknownType => f.write_str("unknown type"),
-            DatagramFault::SourceName(fault) => write!(f, "source name: {fault}"),
-            DatagramFault::DestinationName(fault) => write!(f, "destination name: {fault}"),
+        f.write_str(self.subject())?;
+        f.write_str(self.words())?;
+        match self.place() {
+            Some(place) => write!(f, " {place}"),
+            None => Ok(()),
         }
     }
 }

@@ -1,11 +1,11 @@
 //! What still stands at the front of bytes that begin with no packet.
-ghost use Rattle.std.specs.Prelude.{◌≡◌, ◌≤◌, ◌↔◌, IsTrue, length, take, slice_index_or, IsSomeAnd, MatchOption};
-ghost use Rattle.nb_names.specs.Labels.{StandsAt};
+ghost use Rattle.std.specs.Prelude.{◌≡◌, ◌<◌, ◌↔◌, IsTrue, length, take, IsSomeAnd, MatchOption};
 ghost use Rattle.nb_datagram.specs.declared.front.Front.{Front as FrontValue};
-ghost use Rattle.nb_datagram.specs.declared.limits.TheConstants.{HEADER_LENGTH, DIRECT_HEADER_LENGTH};
+ghost use Rattle.nb_datagram.specs.declared.limits.TheConstants.{DIRECT_HEADER_LENGTH};
 ghost use Rattle.nb_datagram.specs.Fronts.{FragmentStands, HasFront, LacksHeader, NamesStand};
-ghost use Rattle.nb_datagram.specs.Header.{IsDirectType, IsKey, header_bytes};
+ghost use Rattle.nb_datagram.specs.Header.{IsDirectType};
 
+use crate::header::read_header;
 use crate::key::Key;
 use crate::laws::one_front;
 use crate::limits::{BROADCAST, DIRECT_HEADER_LENGTH, DIRECT_UNIQUE, HEADER_LENGTH};
@@ -52,16 +52,18 @@ pub fn read_front<'a>(bytes: &'a [u8]) -> Option<Front<'a>>
 {
     // The law on which the clause `only` stands; the call does nothing.
     one_front();
-    if bytes.len() < HEADER_LENGTH {
-        return None;
-    }
-    if !is_fragment(bytes[0]) {
-        return Some(front_with(bytes, None));
-    }
-    if bytes.len() < DIRECT_HEADER_LENGTH {
-        return None;
-    }
-    Some(front_with(bytes, Some(read_fragment(bytes))))
+    let header = read_header(bytes)?;
+    let fragment = if is_fragment(header.message_type) {
+        Some(read_fragment(bytes)?)
+    } else {
+        None
+    };
+    Some(Front {
+        message_type: header.message_type,
+        flags: header.flags,
+        key: header.key,
+        fragment,
+    })
 }
 
 /// Whether packets of a MSG_TYPE are fragments.
@@ -71,40 +73,21 @@ fn is_fragment(message_type: u8) -> bool
     DIRECT_UNIQUE <= message_type && message_type <= BROADCAST
 }
 
-/// The header at the front of bytes, with what stands after it.
-fn front_with<'a>(bytes: &[u8], fragment: Option<FragmentFront<'a>>) -> Front<'a>
-    requires { HEADER_LENGTH ≤ length bytes.now }
-    ensures key { IsKey result.key }
-    ensures stands { StandsAt bytes.now 0
-        (header_bytes result.message_type result.flags result.key) }
-    ensures kind { result.message_type ≡ slice_index_or bytes.now 0 0 }
-    ensures rest { result.fragment ≡ fragment.entry }
+/// What stands after the first ten bytes of a fragment's packet, where its header is whole.
+fn read_fragment<'a>(bytes: &'a [u8]) -> Option<FragmentFront<'a>>
+    ensures { MatchOption result (length bytes.now < DIRECT_HEADER_LENGTH)
+        (FragmentStands bytes.now) }
 {
-    let key = Key {
-        ip: [bytes[4], bytes[5], bytes[6], bytes[7]],
-        port: number_16(bytes, 8),
-        id: number_16(bytes, 2),
-    };
-    Front {
-        message_type: bytes[0],
-        flags: bytes[1],
-        key,
-        fragment,
+    if bytes.len() < DIRECT_HEADER_LENGTH {
+        return None;
     }
-}
-
-/// What stands after the first ten bytes of a fragment's packet.
-fn read_fragment<'a>(bytes: &'a [u8]) -> FragmentFront<'a>
-    requires { DIRECT_HEADER_LENGTH ≤ length bytes.now }
-    ensures { FragmentStands bytes.now result }
-{
     let size = number_16(bytes, HEADER_LENGTH) as usize;
     let (source, destination) = read_names(front_of(bytes, DIRECT_HEADER_LENGTH + size));
-    FragmentFront {
+    Some(FragmentFront {
         offset: number_16(bytes, HEADER_LENGTH + 2),
         source,
         destination,
-    }
+    })
 }
 
 /// So many bytes of some, or all where there are fewer.

@@ -6,6 +6,7 @@ mod cutting;
 mod data;
 pub mod datagrams;
 mod devices;
+mod faults;
 pub mod fragments;
 mod labels;
 mod names;
@@ -48,13 +49,14 @@ fn answer_of_names(line: &mut Line<'_>, call: &str) {
     }
 }
 
-/// Says what a call of nb_names answers that takes labels, or data.
+/// Says what a call of nb_names answers that takes labels or data, or has a fault.
 fn answer_of_labels(line: &mut Line<'_>, call: &str) {
     match call {
         "labels" => labels::labels(line),
         "push" => labels::pushed(line),
         "push_scope" => labels::pushed_to_scope(line),
         "from_domain" => labels::from_domain(line),
+        "fault" => faults::of_name(line),
         "domain_text" => labels::written(line),
         "data_in" => data::read(line),
         _ => answer_of_values(line, call),
@@ -85,6 +87,7 @@ fn answer_of_values(line: &mut Line<'_>, call: &str) {
 fn answer_of_service(line: &mut Line<'_>, call: &str) {
     match call {
         "decode" => service::decoded(line),
+        "fault" => faults::of_service(line),
         "items" => service_items::items(line),
         "push" => service::pushed(line),
         "word" => service::word(line),
@@ -116,6 +119,7 @@ fn answer_of_session(line: &mut Line<'_>, call: &str) {
     match call {
         "header" => sessions::header(line),
         "parse" => sessions::parsed(line),
+        "fault" => faults::of_session(line),
         "same" => sessions::same(line),
         "debug" => sessions::debug(line),
         "read" => sessions::read(line),
@@ -137,6 +141,7 @@ fn answer_of_datagram(line: &mut Line<'_>, call: &str) {
         "decode" => datagrams::decoded(line, false),
         "decode_lent" => datagrams::decoded(line, true),
         "front" => datagrams::front(line),
+        "fault" => faults::of_datagram(line),
         "parts" => fragments::parts(line),
         "again" => cutting::encoded_again(line),
         "datagram" => cutting::made(line),

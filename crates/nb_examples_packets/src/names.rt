@@ -8,7 +8,7 @@ use nb_names::{
 };
 
 /// The next word, as what is done at pointers: `followed` or `refused`.
-fn pointers(line: &mut Line<'_>) -> Pointers {
+pub fn pointers(line: &mut Line<'_>) -> Pointers {
     match line.word() {
         "followed" => return Pointers::Followed,
         "refused" => {}

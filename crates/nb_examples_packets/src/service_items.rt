@@ -1,10 +1,12 @@
 //! Packets of port 137, read item by item.
+ghost use Rattle.std.specs.Prelude.{◌≡◌};
+ghost use Rattle.nb_service.specs.Items.{PacketItem, Sees, section_of};
 
 use crate::service_texts::{say_question, say_record};
 use nb_examples_words::line::Line;
 use nb_names::NameReader;
 use nb_service::limits::{HEADER_LENGTH, MAX_ENTRIES};
-use nb_service::{Extent, Header, Item, Section, read_header, read_item};
+use nb_service::{Header, Section, Seen, read_header, see_item};
 
 /// `items BYTES`: the identifier and the flag word of the header that the bytes begin with, then
 /// each item that stands whole, one after another, where its RDATA begins and where it ends; then
@@ -44,10 +46,10 @@ fn next_item(
     at: usize,
 ) -> Option<usize> {
     line.begin();
-    let answer = read_item(names, header, number, at);
+    let answer = see_item(names, header, number, at);
     line.end();
     match answer {
-        Ok(Some((item, extent))) => return Some(say_item(line, &item, extent)),
+        Ok(Some((section, seen))) => return Some(say_item(line, names, section, &seen)),
         Ok(None) => line.say("no further one"),
         Err(fault) => line.say_with("", fault),
     }
@@ -55,14 +57,22 @@ fn next_item(
 }
 
 /// Says an item, and how far it reaches; the offset after it.
-fn say_item(line: &mut Line<'_>, item: &Item<'_>, extent: Extent) -> usize {
-    match item {
-        Item::Question(question) => say_question(line, question),
-        Item::Record(section, record) => {
-            line.say(section_word(*section));
-            say_record(line, record);
+fn say_item(
+    line: &mut Line<'_>,
+    names: &NameReader<'_, '_>,
+    section: Option<Section>,
+    seen: &Seen,
+) -> usize
+    requires { (item : PacketItem) × Sees names.now item seen.now × (section ≡ section_of item) }
+{
+    match section {
+        None => say_question(line, &seen.question(names)),
+        Some(section) => {
+            line.say(section_word(section));
+            say_record(line, &seen.record(names));
         }
     }
+    let extent = seen.fields.extent;
     line.say_with("", extent.rdata);
     line.say_with(" ", extent.next);
     line.say("; ");

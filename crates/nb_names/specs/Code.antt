@@ -5,6 +5,5 @@ pub mod Kept
 pub mod LengthByte
 pub mod PointerEnds
 pub mod Digits
-pub mod FaultWords
 pub mod TextSteps
 pub mod Collected

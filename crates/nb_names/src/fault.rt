@@ -1,7 +1,6 @@
 //! Why no name was read.
 ghost use Rattle.std.specs.Prelude.{◌≡◌};
-ghost use Rattle.nb_names.specs.FaultTexts.{name_fault_place};
-ghost use Rattle.nb_names.specs.Code.FaultWords.{name_fault_words};
+ghost use Rattle.nb_names.specs.FaultTexts.{name_fault_place, name_fault_words};
 
 use std::error::Error;
 use std::fmt;
@@ -47,8 +46,8 @@ impl NameFault {
         }
     }
 
-    /// The words with which its text begins.
-    fn words(self) -> &'static str
+    /// What is wrong, in words: its text without the place.
+    pub fn words(self) -> &'static str
         ensures { result.now ≡ name_fault_words self }
     {
         match self {

@@ -9,8 +9,6 @@ use Rattle.nb_names.specs.Skipped.{IsSkipped}
 use Rattle.nb_service.specs.declared.extent.Extent.{Extent}
 use Rattle.nb_service.specs.declared.fault.ServiceFault.{ServiceFault}
 use Rattle.nb_service.specs.declared.fields.Fields.{Fields}
-use Rattle.nb_service.specs.declared.item.Item.{Item}
-use Rattle.nb_service.specs.declared.item.Item.TheVariants as declared
 use Rattle.nb_service.specs.declared.limits.TheConstants.{HEADER_LENGTH}
 use Rattle.nb_service.specs.declared.question.Question.{Question}
 use Rattle.nb_service.specs.declared.section.Section.{Section}
@@ -25,11 +23,6 @@ use Rattle.nb_service.specs.ServiceFaults.{QuestionFails, RdataBegins, RecordFai
 pub data PacketItem : Type 0 where
   asked : Question → PacketItem
   told : Section → ResourceRecord → PacketItem
-
--- the item that a value of the code stands for
-abbrev pub item_of : Item → PacketItem
-item_of (declared.Question question) = asked question
-item_of (declared.Record section entry) = told section entry
 
 -- the section of a record; a question has none
 abbrev pub section_of : PacketItem → Option Section

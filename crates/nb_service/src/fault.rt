@@ -1,6 +1,6 @@
 //! Why bytes could not be decoded.
 ghost use Rattle.std.specs.Prelude.{◌≡◌};
-ghost use Rattle.nb_service.specs.FaultTexts.{service_fault_place};
+ghost use Rattle.nb_service.specs.FaultTexts.{service_fault_place, service_fault_subject, service_fault_words};
 
 use nb_names::{NameFault, NoMemory};
 use std::error::Error;
@@ -35,6 +35,28 @@ impl ServiceFault {
             ServiceFault::NoMemory => None,
         }
     }
+
+    /// Which name is wrong, where one is, else nothing: the words with which its text begins.
+    pub fn subject(self) -> &'static str
+        ensures { result.now ≡ service_fault_subject self }
+    {
+        match self {
+            ServiceFault::Name(_) => "name: ",
+            ServiceFault::Truncated(_) | ServiceFault::NameRdata(_) | ServiceFault::NoMemory => "",
+        }
+    }
+
+    /// What is wrong, in words: its text between the subject and the place.
+    pub fn words(self) -> &'static str
+        ensures { result.now ≡ service_fault_words self }
+    {
+        match self {
+            ServiceFault::Truncated(_) => "truncated",
+            ServiceFault::Name(fault) => fault.words(),
+            ServiceFault::NameRdata(_) => "name rdata",
+            ServiceFault::NoMemory => "memory",
+        }
+    }
 }
 
 impl fmt::Display for ServiceFault {
@@ -44,11 +66,11 @@ impl fmt::Display for ServiceFault {
     ghost output = { λ fault. Some (service_fault_text fault) };
 
     fn fmt<W: fmt::Write>(&self, f: &mut fmt::Formatter<W>) -> fmt::Result {
-        match self {
-            ServiceFault::Truncated(at) => write!(f, "truncated {at}"),
-            ServiceFault::Name(fault) => write!(f, "name: {fault}"),
-            ServiceFault::NameRdata(at) => write!(f, "name rdata {at}"),
-            ServiceFault::NoMemory => f.write_str("memory"),
+        f.write_str(self.subject())?;
+        f.write_str(self.words())?;
+        match self.place() {
+            Some(place) => write!(f, " {place}"),
+            None => Ok(()),
         }
     }
 }

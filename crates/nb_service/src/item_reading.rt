@@ -1,13 +1,11 @@
 //! Items of a packet, read one by one where they stand.
 ghost use Rattle.std.specs.Prelude.{◌≡◌, ◌≤◌, ℕ, length, IfOk, IfErr, IfSome, IsOkAnd, IsSomeAnd, MatchOption};
 ghost use Rattle.nb_service.specs.Header.{header_value};
-ghost use Rattle.nb_service.specs.Items.{IsExtent, IsRecordOf, ItemAt, ItemFails, PacketItem, Sees, item_of, section_of};
+ghost use Rattle.nb_service.specs.Items.{IsRecordOf, ItemAt, ItemFails, PacketItem, Sees, section_of};
 ghost use Rattle.nb_service.specs.ServiceFaults.{item_count};
 
-use crate::extent::Extent;
 use crate::fault::ServiceFault;
 use crate::header::Header;
-use crate::item::Item;
 use crate::laws::one_item;
 use crate::section::Section;
 use crate::seeing::{see_question, see_record};
@@ -84,41 +82,4 @@ pub fn see_item(
     };
     let seen = see_record(names, at)?;
     Ok(Some((Some(section), seen)))
-}
-
-/// The item of a number, counted from 0, that stands at an offset of a packet of this header, and
-/// how far it reaches; none where the header says that there are no more. No memory is taken.
-///
-/// It is seen as by [`see_item`], and made.
-///
-/// # Errors
-///
-/// Those of [`see_item`].
-///
-/// RFC 1002 section 4.2.1.
-pub fn read_item<'a>(
-    names: &NameReader<'a, '_>,
-    header: &Header,
-    number: usize,
-    at: usize,
-) -> Result<Option<(Item<'a>, Extent)>, ServiceFault>
-    // What is answered stands there, and what stands there is answered.
-    ensures found { IfOk result (λ read. MatchOption read
-        (item_count (header_value header.now) ≤ number) (λ seen.
-        ItemAt names.now (header_value header.now) number at (item_of seen.0) seen.1.next)) }
-    ensures reaches { IfOk result (λ read. IfSome read
-        (λ seen. IsExtent names.now at (item_of seen.0) seen.1)) }
-    ensures only { (item : PacketItem) (next : ℕ) →
-        ItemAt names.now (header_value header.now) number at item next →
-        IsOkAnd result (λ read. IsSomeAnd read
-        (λ seen. (item_of seen.0 ≡ item) × (seen.1.next ≡ next))) }
-    ensures within { IfOk result (λ read. IfSome read (λ seen. seen.1.next ≤ length names.now)) }
-
-    // Which fault it is, and where.
-    ensures fault { IfErr result (ItemFails names.now (header_value header.now) number at) }
-{
-    let Some((section, seen)) = see_item(names, header, number, at)? else {
-        return Ok(None);
-    };
-    Ok(Some((seen.item(section, names), seen.fields.extent)))
 }

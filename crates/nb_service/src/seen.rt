@@ -1,16 +1,14 @@
 //! Questions and records that were judged where they stand in a packet.
 ghost use Rattle.std.specs.Prelude.{◌≡◌};
 ghost use Rattle.nb_service.specs.declared.question.Question.{Question as QuestionValue};
-ghost use Rattle.nb_service.specs.Items.{PacketItem, Sees, SeesQuestion, SeesRecord, item_of, section_of};
+ghost use Rattle.nb_service.specs.Items.{SeesQuestion, SeesRecord};
 ghost use Rattle.nb_service.specs.Record.{ResourceRecord, rdata_of};
 
 use crate::fields::Fields;
-use crate::item::Item;
 use crate::kinds::NS;
 use crate::question::Question;
 use crate::rdata::Rdata;
 use crate::record::Record;
-use crate::section::Section;
 use nb_names::{NameReader, Pointers, Skipped};
 
 /// What was seen of a question or a record that stands in a packet. It was judged whole, its names
@@ -67,19 +65,5 @@ impl Seen {
         }
         let (domain, _) = names.read_domain(extent.rdata, Pointers::Followed).unwrap();
         Rdata::Domain(domain)
-    }
-
-    /// The item, a record of this section, or a question. No memory is taken.
-    #[inline]
-    pub fn item<'a>(&self, section: Option<Section>, names: &NameReader<'a, '_>) -> Item<'a>
-        requires { (item : PacketItem) × Sees names.now item self.now
-            × (section ≡ section_of item) }
-        ensures { (item : PacketItem) → Sees names.now item self.now →
-            section ≡ section_of item → item_of result ≡ item }
-    {
-        match section {
-            None => Item::Question(self.question(names)),
-            Some(section) => Item::Record(section, self.record(names)),
-        }
     }
 }

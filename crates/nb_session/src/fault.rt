@@ -1,6 +1,6 @@
 //! Why bytes are no session packet.
 ghost use Rattle.std.specs.Prelude.{◌≡◌};
-ghost use Rattle.nb_session.specs.FaultTexts.{session_fault_place};
+ghost use Rattle.nb_session.specs.FaultTexts.{session_fault_place, session_fault_subject, session_fault_words};
 
 use nb_names::NameFault;
 use std::error::Error;
@@ -39,6 +39,32 @@ impl SessionFault {
             SessionFault::TrailingBytes(at) => Some(at),
         }
     }
+
+    /// Which name is wrong, where one is, else nothing: the words with which its text begins.
+    pub fn subject(self) -> &'static str
+        ensures { result.now ≡ session_fault_subject self }
+    {
+        match self {
+            SessionFault::Name(_) => "name: ",
+            SessionFault::UnknownType
+            | SessionFault::ReservedFlags
+            | SessionFault::BadLength
+            | SessionFault::TrailingBytes(_) => "",
+        }
+    }
+
+    /// What is wrong, in words: its text between the subject and the place.
+    pub fn words(self) -> &'static str
+        ensures { result.now ≡ session_fault_words self }
+    {
+        match self {
+            SessionFault::UnknownType => "unknown type",
+            SessionFault::ReservedFlags => "reserved flags",
+            SessionFault::BadLength => "bad length",
+            SessionFault::Name(fault) => fault.words(),
+            SessionFault::TrailingBytes(_) => "trailing bytes",
+        }
+    }
 }
 
 impl fmt::Display for SessionFault {
@@ -48,12 +74,11 @@ impl fmt::Display for SessionFault {
     ghost output = { λ fault. Some (session_fault_text fault) };
 
     fn fmt<W: fmt::Write>(&self, f: &mut fmt::Formatter<W>) -> fmt::Result {
-        match self {
-            SessionFault::UnknownType => f.write_str("unknown type"),
-            SessionFault::ReservedFlags => f.write_str("reserved flags"),
-            SessionFault::BadLength => f.write_str("bad length"),
-            SessionFault::Name(fault) => write!(f, "name: {fault}"),
-            SessionFault::TrailingBytes(at) => write!(f, "trailing bytes {at}"),
+        f.write_str(self.subject())?;
+        f.write_str(self.words())?;
+        match self.place() {
+            Some(place) => write!(f, " {place}"),
+            None => Ok(()),
         }
     }
 }

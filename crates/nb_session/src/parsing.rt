@@ -8,7 +8,7 @@ ghost use Rattle.nb_session.specs.Packet.{IsPacket};
 ghost use Rattle.nb_session.specs.Parsing.{RequestFails, Parses};
 
 use crate::fault::SessionFault;
-use crate::header::{Header, read_header};
+use crate::header::{Header, front_header};
 use crate::kind::Kind;
 use crate::laws::one_answer;
 use crate::limits::HEADER_LENGTH;
@@ -89,10 +89,9 @@ pub(crate) fn read_packet_of<'a>(
 fn parse_front<'a>(bytes: &'a [u8]) -> LentParsed<'a>
     ensures { Parses bytes.now result }
 {
-    if bytes.len() < HEADER_LENGTH {
+    let Some(header) = front_header(bytes) else {
         return Parsed::More(HEADER_LENGTH - bytes.len());
-    }
-    let header = read_header(bytes);
+    };
     let kind = match header.judge() {
         Ok(kind) => kind,
         Err(fault) => return Parsed::Refused(fault),

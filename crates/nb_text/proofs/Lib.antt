@@ -22,11 +22,9 @@ pub mod DatagramTells
 pub mod ServiceTells
 pub mod WordLemmas
 pub mod SaidLemmas
-pub mod TextTests
 pub mod PhraseLemmas
-pub mod SaidPackets
-pub mod FirstNames
-pub mod PushLemmas
+pub mod HeardLemmas
+pub mod FirstLemmas
 pub mod FrontMembers
 pub mod ItemParts
 pub mod OneFront

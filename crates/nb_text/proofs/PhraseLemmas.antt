@@ -1,117 +1,121 @@
 -- The phrases of packets, by what the packets' values say.
-use Rattle.std.proofs.Common.{◌≡◌, ◌==◌, ℕ, ◌-◌, ◌^◌, ◌<◌, nat_lt, Bool, true, false, List, [], ◌∷◌, ◌++◌, length, take, slice_index, codes, Some, refl, sym, ap, ap₂, ◌∙◌, arith, if◌then◌else◌}
+use Rattle.std.proofs.Common.{◌≡◌, ◌==◌, ℕ, ◌-◌, ◌^◌, ◌<◌, nat_lt, Bool, true, false, List, [], ◌∷◌, ◌++◌, length, codes, Some, ap, ap₂, ◌∙◌, arith, if◌then◌else◌}
 use Rattle.std.specs.Fmt.{decimal}
 use Rattle.std.specs.Int.{w16, from_be_bytes, to_be_bytes}
 use Rattle.std.proofs.lemmas.Bool.Decides.{nat_tests}
-use Rattle.std.proofs.lemmas.List.{append_assoc, append-nil, length-append}
 use Rattle.std.proofs.lemmas.Nat.{from_be_bytes-to_be_bytes_2}
+use Rattle.nb_names.specs.Addresses.{address_text}
 use Rattle.nb_names.specs.Name.{NetbiosName, IsName, labels_of_name}
-use Rattle.nb_names.specs.NameText.{labels_written, scope_text_of, trimmed, items_of, digits_of, written}
-use Rattle.nb_names.specs.declared.limits.TheConstants.{FRONT_LENGTH}
-use Rattle.nb_names.specs.Ascii.{less_than, greater_than}
+use Rattle.nb_names.specs.NameText.{labels_written, written}
+use Rattle.nb_datagram.specs.declared.kind.Kind.{Kind}
+use Rattle.nb_service.specs.declared.question.Question.{Question}
+use Rattle.nb_service.specs.declared.kinds.TheConstants.{NBSTAT}
+use Rattle.nb_service.specs.Packet.{ServicePacket, records_of}
+use Rattle.nb_service.specs.Requests.{query_packet, status_packet, registration_packet, refresh_packet, release_packet}
+use Rattle.nb_session.specs.Packet.{Packet as SessionPacket}
+use Rattle.nb_session.specs.declared.parsing.Parsed.TheVariants.{Whole}
 use Rattle.nb_text.proofs.LabelLemmas.{name_written}
-use Rattle.nb_text.specs.Noted.{first_text}
-use Rattle.nb_text.specs.Said.{follow_said, follow_word, name_said}
+use Rattle.nb_text.proofs.SaidLemmas.{phrase_both, phrase_more}
+use Rattle.nb_text.specs.Forms.{form_of, is_type}
+use Rattle.nb_text.specs.Said.{bytes_word, follow_said, follow_word, kind_words, offset_said, parsed_said, phrase, session_said}
+use Rattle.nb_text.specs.ServiceSaid.{about_first, ending_said, said_of, service_said, told_of, type_of}
 use Rattle.nb_text.specs.Words.{is_set}
 
--- ---- tests
+-- ---- port 137
 
-pub if_true : {A : Type 0} (b : Bool) (x y : A) → b ≡ true → (if b then x else y) ≡ x
-if_true true x y h = refl
-if_true false x y h = absurd (cc)
+-- a phrase of a name, with an end or none
+pub named : (lead ending : List ℕ) (name : NetbiosName) → IsName name
+    → lead ++ (labels_written (labels_of_name name) ++ ending) ≡ lead ++ (written name ++ ending)
+named lead ending name is = ap (λ (t : List ℕ). lead ++ (t ++ ending)) (name_written name is)
 
-pub if_false : {A : Type 0} (b : Bool) (x y : A) → b ≡ false → (if b then x else y) ≡ y
-if_false true x y h = absurd (cc)
-if_false false x y h = refl
+pub named_last : (lead : List ℕ) (name : NetbiosName) → IsName name → lead ++ labels_written (labels_of_name name) ≡ lead ++ written name
+named_last lead name is = ap (λ (t : List ℕ). lead ++ t) (name_written name is)
 
-not_empty : (text : List ℕ) → 0 < length text → (length text == 0) ≡ false
-not_empty text some = grind (arith, nat_tests, some)
+-- what is said of a group, or of one node, where these are the flags
+abbrev pub by_group : List ℕ → List ℕ → ℕ → List ℕ
+by_group group one flags = if is_set flags (2 ^ 15) then group else one
 
-pub not_zero : (n : ℕ) → 0 < n → (n == 0) ≡ false
-not_zero n some = grind (arith, nat_tests, some)
+-- a phrase of a name, its holder and an end
+pub held : (lead group one ending : List ℕ) (name : NetbiosName) (flags : ℕ) → IsName name → flags < 2 ^ 16
+    → lead ++ (labels_written (labels_of_name name) ++ (by_group group one (from_be_bytes w16 (to_be_bytes w16 flags)) ++ ending))
+    ≡ lead ++ (written name ++ (by_group group one flags ++ ending))
+held lead group one ending name flags is low =
+    ap₂ (λ (t : List ℕ) (n : ℕ). lead ++ (t ++ (by_group group one n ++ ending))) (name_written name is) (from_be_bytes-to_be_bytes_2 flags low)
 
--- ---- what follows
+-- the bytes of an address entry
+abbrev pub entry_for : ℕ → ℕ → ℕ → ℕ → ℕ → List ℕ
+entry_for flags a b c d = to_be_bytes w16 flags ++ a ∷ b ∷ c ∷ d ∷ []
 
-not_below : (n : ℕ) → nat_lt n n ≡ false
-not_below n = grind (arith, nat_tests)
+-- for whom a name is registered
+abbrev pub holder : ℕ → List ℕ
+holder = by_group (codes " as a group for ") (codes " for ")
 
--- no bytes follow
-pub whole : (text : List ℕ) (n : ℕ) → text ++ follow_said (Some n) n ≡ text
-whole text n = ap (λ (t : List ℕ). text ++ t) (if_false (nat_lt n n) _ [] (not_below n)) ∙ append-nil text
+-- an address, and for how long it holds
+abbrev pub lasting : List ℕ → ℕ → List ℕ
+lasting address ttl = address_text address ++ (codes ", for " ++ (decimal ttl ++ codes " s"))
 
--- some do
-pub follows : (text : List ℕ) (used size : ℕ) → used < size
-    → text ++ follow_said (Some used) size ≡ text ++ (codes ", " ++ (decimal (size - used) ++ follow_word (size - used)))
-follows text used size h =
-    let test : nat_lt used size ≡ true = grind (arith, nat_tests, h) in
-    ap (λ (t : List ℕ). text ++ t) (if_true (nat_lt used size) (codes ", " ++ (decimal (size - used) ++ follow_word (size - used))) [] test)
+-- registered lead name flags address ttl: a name that is registered
+abbrev pub registered : List ℕ → NetbiosName → ℕ → List ℕ → ℕ → List ℕ
+registered lead name flags address ttl = lead ++ (written name ++ (holder flags ++ lasting address ttl))
 
--- the phrase of a packet after which bytes follow, beside that of one that is all of its payload
-pub behind : (text : List ℕ) (used size : ℕ) → used < size
-    → text ++ follow_said (Some used) size ≡ (text ++ follow_said (Some used) used) ++ (codes ", " ++ (decimal (size - used) ++ follow_word (size - used)))
-behind text used size low =
-    follows text used size low ∙ ap (λ (t : List ℕ). t ++ (codes ", " ++ (decimal (size - used) ++ follow_word (size - used)))) (sym (whole text used))
+pub query_said : (id : ℕ) (name : NetbiosName) (broadcast : Bool) → IsName name
+    → phrase (service_said (query_packet id name broadcast)) ≡ codes "asks for " ++ written name
+query_said id name true is = named_last (codes "asks for ") name is
+query_said id name false is = named_last (codes "asks for ") name is
 
--- ---- names
+pub status_said : (id : ℕ) (name : NetbiosName) (broadcast : Bool) → IsName name
+    → phrase (service_said (status_packet id name broadcast)) ≡ codes "asks for the node status of " ++ written name
+status_said id name true is = named_last (codes "asks for the node status of ") name is
+status_said id name false is = named_last (codes "asks for the node status of ") name is
 
--- the first of two texts
-pub first_stays : (text other : List ℕ) → 0 < length text → first_text text other ≡ text
-first_stays text other some = if_false (length text == 0) other text (not_empty text some)
+pub registration_said : (id ttl flags a b c d : ℕ) (name : NetbiosName) (broadcast : Bool) → IsName name → flags < 2 ^ 16
+    → phrase (service_said (registration_packet id name broadcast ttl (entry_for flags a b c d))) ≡ registered (codes "claims ") name flags (a ∷ b ∷ c ∷ d ∷ []) ttl
+registration_said id ttl flags a b c d name true is low = held (codes "claims ") _ _ (lasting (a ∷ b ∷ c ∷ d ∷ []) ttl) name flags is low
+registration_said id ttl flags a b c d name false is low = held (codes "claims ") _ _ (lasting (a ∷ b ∷ c ∷ d ∷ []) ttl) name flags is low
 
-pub said_so : (text : List ℕ) → 0 < length text → name_said text ≡ text
-said_so text some = if_false (length text == 0) (codes "no name") text (not_empty text some)
+pub refresh_said : (id ttl flags a b c d : ℕ) (name : NetbiosName) (broadcast : Bool) → IsName name → flags < 2 ^ 16
+    → phrase (service_said (refresh_packet id name broadcast ttl (entry_for flags a b c d))) ≡ registered (codes "refreshes ") name flags (a ∷ b ∷ c ∷ d ∷ []) ttl
+refresh_said id ttl flags a b c d name true is low = held (codes "refreshes ") _ _ (lasting (a ∷ b ∷ c ∷ d ∷ []) ttl) name flags is low
+refresh_said id ttl flags a b c d name false is low = held (codes "refreshes ") _ _ (lasting (a ∷ b ∷ c ∷ d ∷ []) ttl) name flags is low
 
-some_append : (front text behind : List ℕ) → 0 < length text → 0 < length ((front ++ text) ++ behind)
-some_append front text behind some = omega (arith, some, length-append front text, length-append (front ++ text) behind)
+pub release_said : (id flags a b c d : ℕ) (name : NetbiosName) (broadcast : Bool) → IsName name → flags < 2 ^ 16
+    → phrase (service_said (release_packet id name broadcast (entry_for flags a b c d)))
+    ≡ codes "releases " ++ (written name ++ (holder flags ++ address_text (a ∷ b ∷ c ∷ d ∷ [])))
+release_said id flags a b c d name true is low = held (codes "releases ") _ _ (address_text (a ∷ b ∷ c ∷ d ∷ [])) name flags is low
+release_said id flags a b c d name false is low = held (codes "releases ") _ _ (address_text (a ∷ b ∷ c ∷ d ∷ [])) name flags is low
 
--- a name's text isn't empty
-pub some_written : (name : NetbiosName) → 0 < length (written name)
-some_written name =
-    some_append (items_of (trimmed (take FRONT_LENGTH name.bytes)) ++ less_than ∷ digits_of (slice_index name.bytes FRONT_LENGTH))
-    (greater_than ∷ []) (scope_text_of name.scope) (omega arith)
+-- the phrase of a packet with a question
+pub first_said : (packet : ServicePacket) (question : Question) (questions : List Question) → packet.questions ≡ question ∷ questions
+    → (behind : List ℕ) × (phrase (service_said packet) ≡ (form_of packet.word (Some question.kind)).opening ++ (labels_written question.name ++ behind))
+first_said packet question questions is =
+    let asked = λ (qs : List Question). let about = about_first qs (records_of packet) in
+    said_of packet.word about (told_of (is_type (type_of about) NBSTAT) (records_of packet)) in
+    let form = form_of packet.word (Some question.kind) in
+    let rest = ending_said form.ending packet.word (told_of (is_type (Some question.kind) NBSTAT) (records_of packet)) in (
+      phrase rest,
+      ap (λ (qs : List Question). phrase (asked qs)) is ∙ ap (λ (t : List ℕ). form.opening ++ t) (phrase_more (labels_written question.name) rest),
+    )
 
--- the name of a packet, once told
-pub name_once : (name : NetbiosName) → IsName name → name_said (labels_written (labels_of_name name)) ≡ written name
-name_once name is = ap name_said (name_written name is) ∙ said_so (written name) (some_written name)
+-- ---- ports 138 and 139
 
--- the same, told twice
-pub name_twice : (name : NetbiosName) → IsName name
-    → name_said (first_text (labels_written (labels_of_name name)) (labels_written (labels_of_name name))) ≡ written name
-name_twice name is =
-    ap (λ (t : List ℕ). name_said (first_text t t)) (name_written name is)
-    ∙ ap name_said (first_stays (written name) (written name) (some_written name)) ∙ said_so (written name) (some_written name)
+-- a datagram, or a part of one, of which this is said besides
+pub part_said : (kind : Kind) (source destination : NetbiosName) (bytes : List ℕ) (place behind : List (List ℕ)) → place ≡ behind
+    → phrase (kind_words kind ∷ written source ∷ codes " to " ∷ written destination ∷ codes ", " ∷ decimal (length bytes) ∷ bytes_word (length bytes) ∷ place)
+    ≡ phrase (kind_words kind ∷ written source ∷ codes " to " ∷ written destination ∷ codes ", " ∷ decimal (length bytes) ∷ bytes_word (length bytes) ∷ behind)
+part_said kind source destination bytes place behind same =
+    ap (λ (ps : List (List ℕ)). phrase (kind_words kind ∷ written source ∷ codes " to " ∷ written destination ∷ codes ", " ∷ decimal (length bytes) ∷ bytes_word (length bytes) ∷ ps)) same
 
--- ---- holders
+-- the last part of one
+pub last_place : (more : Bool) (offset : ℕ) → more ≡ false → 0 < offset
+    → offset_said more offset ≡ codes " at offset " ∷ decimal offset ∷ codes ", the last" ∷ []
+last_place more offset last low =
+    let some : (offset == 0) ≡ false = grind (arith, nat_tests, low) in
+    ap (λ (m : Bool). offset_said m offset) last ∙ ap (λ (b : Bool). if b then [] else codes " at offset " ∷ decimal offset ∷ codes ", the last" ∷ []) some
 
--- a number of sixteen bits, written and read twice
-pub read_twice : (n : ℕ) → n < 2 ^ 16 → from_be_bytes w16 (to_be_bytes w16 (from_be_bytes w16 (to_be_bytes w16 n))) ≡ n
-read_twice n h =
-    ap (λ (m : ℕ). from_be_bytes w16 (to_be_bytes w16 m)) (from_be_bytes-to_be_bytes_2 n h) ∙ from_be_bytes-to_be_bytes_2 n h
-
--- for whom, where these are the flags
-abbrev pub for_whom : ℕ → List ℕ
-for_whom flags = if is_set flags (2 ^ 15) then codes " as a group for " else codes " for "
-
--- where, where these are the flags
-abbrev pub at_place : ℕ → List ℕ
-at_place flags = if is_set flags (2 ^ 15) then codes " is a group at " else codes " is at "
-
--- held lead told name noted flags address ending used: a phrase of a name, its holder and an end
-pub held : (lead told name : List ℕ) (noted flags : ℕ) (address ending : List ℕ) (used : ℕ) → told ≡ name → noted ≡ flags
-    → (lead ++ (told ++ ((for_whom noted ++ address) ++ ending))) ++ follow_said (Some used) used
-    ≡ lead ++ (name ++ (for_whom flags ++ (address ++ ending)))
-held lead told name noted flags address ending used same read =
-    whole (lead ++ (told ++ ((for_whom noted ++ address) ++ ending))) used
-    ∙ ap₂ (λ (t : List ℕ) (n : ℕ). lead ++ (t ++ ((for_whom n ++ address) ++ ending))) same read
-    ∙ ap (λ (t : List ℕ). lead ++ (name ++ t)) (append_assoc (for_whom flags) address ending)
-
--- a phrase of a name and an end
-pub named : (lead told name ending : List ℕ) (used : ℕ) → told ≡ name
-    → (lead ++ (told ++ ending)) ++ follow_said (Some used) used ≡ lead ++ (name ++ ending)
-named lead told name ending used same =
-    whole (lead ++ (told ++ ending)) used ∙ ap (λ (t : List ℕ). lead ++ (t ++ ending)) same
-
--- a phrase of a name alone
-pub named_last : (lead told name : List ℕ) (used : ℕ) → told ≡ name
-    → (lead ++ (told ++ [])) ++ follow_said (Some used) used ≡ lead ++ name
-named_last lead told name used same = named lead told name [] used same ∙ ap (λ (t : List ℕ). lead ++ t) (append-nil name)
+-- a packet of a session, after which bytes follow
+pub followed : (packet : SessionPacket) (used size : ℕ) → used < size
+    → phrase (parsed_said (Whole packet used) size) ≡ phrase (session_said packet) ++ (codes ", " ++ (decimal (size - used) ++ follow_word (size - used)))
+followed packet used size low =
+    let some : nat_lt used size ≡ true = grind (arith, nat_tests, low) in
+    phrase_both (session_said packet) (follow_said used size)
+    ∙ ap (λ (b : Bool). phrase (session_said packet) ++ phrase (if b then codes ", " ∷ decimal (size - used) ∷ follow_word (size - used) ∷ [] else [])) some

@@ -1,5 +1,5 @@
 -- Texts and fields of payloads: one for each port.
-use Rattle.std.proofs.Common.{◌≡◌, ◌≢◌, ◌⊎◌, inl, inr, ℕ, List, refl, sym, ap, ap₂, ◌∙◌, subst, arith}
+use Rattle.std.proofs.Common.{◌≡◌, ◌≢◌, ◌⊎◌, inl, inr, ℕ, List, ◌++◌, length, refl, sym, ap, ap₂, ◌∙◌, subst, arith}
 use Rattle.std.proofs.lemmas.Bool.{cases_eq}
 use Rattle.nb_service.specs.declared.fault.ServiceFault.{ServiceFault}
 use Rattle.nb_service.specs.FaultTexts.{service_fault_place, service_fault_text}
@@ -21,6 +21,10 @@ use Rattle.nb_text.specs.ServiceText.{service_text}
 use Rattle.nb_text.specs.SessionFields.{session_fields}
 use Rattle.nb_text.specs.SessionText.{session_text}
 use Rattle.nb_text.specs.Shown.{Shown, names, no_names, datagram, no_datagram, session}
+use Rattle.nb_text.specs.Said.{datagram_refused_said, datagram_said, follow_said, parsed_said, phrase}
+use Rattle.nb_text.specs.SaysPacket as says
+use Rattle.nb_text.specs.SaysPacket.{IsSaid}
+use Rattle.nb_text.specs.ServiceSaid.{service_refused_said, service_said}
 use Rattle.nb_text.specs.Tells as tells
 use Rattle.nb_text.specs.Tells.{Tells}
 
@@ -155,6 +159,29 @@ pub one_told : (payload : List ℕ) (port : ℕ) (fields others : List Field) �
     → fields ≡ others
 one_told payload port fields others laws a b =
     one_by_port lists payload port fields others laws (fields_by_port payload port fields a) (fields_by_port payload port others b)
+
+-- ---- one phrase
+
+abbrev phrases : List ℕ → Made (List ℕ)
+phrases payload = record {
+  of_names = λ packet used. phrase (service_said packet ++ follow_said used (length payload));
+  of_no_names = λ fault. phrase (service_refused_said fault);
+  of_datagram = λ packet used. phrase (datagram_said packet ++ follow_said used (length payload));
+  of_no_datagram = λ fault. phrase (datagram_refused_said fault);
+  of_session = λ parsed. phrase (parsed_said parsed (length payload));
+}
+
+phrase_by_port : (payload : List ℕ) (port : ℕ) (text : List ℕ) → IsSaid payload port text → ByPort (phrases payload) payload port text
+phrase_by_port payload _ _ (says.names packet used h) = inl (refl, inl (packet, used, h, refl))
+phrase_by_port payload _ _ (says.no_names fault h) = inl (refl, inr (fault, h, refl))
+phrase_by_port payload _ _ (says.datagram packet used h) = inr (inl (refl, inl (packet, used, h, refl)))
+phrase_by_port payload _ _ (says.no_datagram fault h) = inr (inl (refl, inr (fault, h, refl)))
+phrase_by_port payload _ _ (says.session port parsed a b h) = inr (inr (a, b, (parsed, h, refl)))
+
+pub one_said : (payload : List ℕ) (port : ℕ) (text other : List ℕ) → OneFor payload → IsSaid payload port text → IsSaid payload port other
+    → text ≡ other
+one_said payload port text other laws a b =
+    one_by_port (phrases payload) payload port text other laws (phrase_by_port payload port text a) (phrase_by_port payload port other b)
 
 -- ---- some text
 

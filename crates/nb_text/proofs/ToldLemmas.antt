@@ -1,5 +1,5 @@
 -- What is told of a payload of port 137, with its front or without.
-use Rattle.std.proofs.Common.{◌≡◌, ℕ, ◌<◌, Bool, true, false, List, [], ◌++◌, length, None, Some, fold, refl, sym, ap, ◌∙◌, append-nil}
+use Rattle.std.proofs.Common.{◌≡◌, ℕ, ◌<◌, Bool, true, false, List, [], ◌++◌, length, fold, refl, sym, append-nil}
 use Rattle.nb_service.specs.declared.fault.ServiceFault.{ServiceFault}
 use Rattle.nb_service.specs.FaultTexts.{service_fault_place, service_fault_text}
 use Rattle.nb_service.specs.Header.{PacketHeader}

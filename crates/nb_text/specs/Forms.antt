@@ -1,62 +1,75 @@
--- Which packet of RFC 1002 section 4.2 a packet of port 137 is, by its flag word and the type of its first question, or else of
--- its first record.
-use Rattle.std.specs.Prelude.{ℕ, ◌^◌, ◌==◌, Option, if◌then◌else◌}
+-- What is said of a packet of port 137 besides the name, by its flag word and the type of its first question, or else of its
+-- first record (our choice): the packets are those of RFC 1002 section 4.2.
+use Rattle.std.specs.Prelude.{ℕ, ◌^◌, ◌==◌, Bool, false, not, List, codes, Option, Some, if◌then◌else◌}
+use Rattle.std.specs.Option.{option_eq}
 use Rattle.nb_service.specs.declared.kinds.TheConstants.{NS, NBSTAT}
 use Rattle.nb_service.specs.Flags.{opcode_of, rcode_of}
-use Rattle.nb_text.specs.declared.brief.form.Form.{Form}
-use Rattle.nb_text.specs.declared.brief.form.Form.TheVariants as forms
-use Rattle.nb_text.specs.Noted.{is_type}
+use Rattle.nb_text.specs.declared.brief.form.Ending.{Ending}
+use Rattle.nb_text.specs.declared.brief.form.Ending.TheVariants as endings
 use Rattle.nb_text.specs.Words.{is_set}
+
+-- is_type known kind: the type is known, and this one
+abbrev pub is_type : Option ℕ → ℕ → Bool
+is_type known kind = option_eq ◌==◌ known (Some kind)
+
+-- what is said of a packet besides the name: before it, and after it
+pub record PhraseForm : Type 0 where
+  pub opening : List ℕ
+  pub ending : Ending
+
+-- says opening ending: that form
+abbrev pub says : List ℕ → Ending → PhraseForm
+says opening ending = record { opening = opening; ending = ending }
 
 -- a request: a query (4.2.12, of a node's status 4.2.17), a registration (4.2.2, or without RD one that overwrites, 4.2.3), a
 -- release (4.2.9) or a refresh (4.2.4); that 8 is a refresh too, and 15 the registration of a host of several addresses, is our
 -- choice
-abbrev pub request_form : ℕ → Option ℕ → Form
+abbrev pub request_form : ℕ → Option ℕ → PhraseForm
 request_form word first_type =
-    if opcode_of word == 0 then (if is_type first_type NBSTAT then forms.StatusQuery else forms.Query)
-    else if opcode_of word == 5 then (if is_set word (2 ^ 8) then forms.Registration else forms.Overwrite)
-    else if opcode_of word == 6 then forms.Release
-    else if opcode_of word == 8 then forms.Refresh
-    else if opcode_of word == 9 then forms.Refresh
-    else if opcode_of word == 15 then forms.Multihomed
-    else forms.OtherRequest
+    if opcode_of word == 0 then
+      (if is_type first_type NBSTAT then says (codes "asks for the node status of ") endings.Nothing
+      else says (codes "asks for ") endings.Nothing)
+    else if opcode_of word == 5 then
+      (if is_set word (2 ^ 8) then says (codes "claims ") endings.Claim else says (codes "overwrites ") endings.Claim)
+    else if opcode_of word == 6 then says (codes "releases ") endings.Holder
+    else if opcode_of word == 8 then says (codes "refreshes ") endings.Claim
+    else if opcode_of word == 9 then says (codes "refreshes ") endings.Claim
+    else if opcode_of word == 15 then says (codes "claims as one of several addresses ") endings.Claim
+    else says (codes "makes another request about ") endings.Operation
 
 -- a positive response to a query: a node's status (4.2.18), a redirect, which has a name server first (4.2.15), or addresses (4.2.13)
-abbrev pub answer_form : Option ℕ → Form
-answer_form first_type =
-    if is_type first_type NBSTAT then forms.Status
-    else if is_type first_type NS then forms.Redirect
-    else forms.Answer
+abbrev pub answer_ending : Option ℕ → Ending
+answer_ending first_type =
+    if is_type first_type NBSTAT then endings.Status
+    else if is_type first_type NS then endings.Server
+    else endings.Found
 
--- a positive response to a registration (4.2.5), or with RD and without RA what asks for a challenge (4.2.7)
-abbrev pub grant_form : ℕ → Form
-grant_form word =
-    if is_set word (2 ^ 8) then (if is_set word (2 ^ 7) then forms.Grant else forms.Challenge) else forms.Grant
+-- RD without RA, by which a positive response to a registration asks for a challenge (4.2.7)
+abbrev pub is_challenge : ℕ → Bool
+is_challenge word = if is_set word (2 ^ 8) then not (is_set word (2 ^ 7)) else false
 
--- a response to a registration: a positive one, a conflict (4.2.8), or a negative one (4.2.6)
-abbrev pub registration_form : ℕ → Form
-registration_form word =
-    if rcode_of word == 0 then grant_form word
-    else if rcode_of word == 7 then forms.Conflict
-    else forms.Refusal
+-- a response to a registration: a positive one (4.2.5), or a negative one (4.2.6)
+abbrev pub granted_form : ℕ → PhraseForm
+granted_form word = if rcode_of word == 0 then says (codes "grants ") endings.Claim else says (codes "refuses ") endings.Reason
 
--- either_form word good bad: a positive response, or a negative one
-abbrev pub either_form : ℕ → Form → Form → Form
-either_form word good bad = if rcode_of word == 0 then good else bad
-
--- a response: to a query (negative 4.2.14), to a registration, to a release (4.2.10, 4.2.11), or that one is to wait (4.2.16);
--- those to a refresh and to 15 are as to a registration, which is our choice
-abbrev pub response_form : ℕ → Option ℕ → Form
+-- a response: to a query (negative 4.2.14), to a registration (or a conflict, 4.2.8), to a release (4.2.10, 4.2.11), or that one
+-- is to wait (4.2.16); those to a refresh and to 15 are as to a registration, which is our choice
+abbrev pub response_form : ℕ → Option ℕ → PhraseForm
 response_form word first_type =
-    if opcode_of word == 0 then either_form word (answer_form first_type) forms.NoAnswer
-    else if opcode_of word == 5 then registration_form word
-    else if opcode_of word == 6 then either_form word forms.ReleaseGrant forms.ReleaseRefusal
-    else if opcode_of word == 7 then forms.Wait
-    else if opcode_of word == 8 then either_form word forms.Grant forms.Refusal
-    else if opcode_of word == 9 then either_form word forms.Grant forms.Refusal
-    else if opcode_of word == 15 then either_form word forms.Grant forms.Refusal
-    else forms.OtherResponse
+    if opcode_of word == 0 then says (codes "answers: ") (if rcode_of word == 0 then answer_ending first_type else endings.NotFound)
+    else if opcode_of word == 5 then
+      (if rcode_of word == 7 then says (codes "conflict about ") endings.Nothing
+      else if rcode_of word == 0 then (if is_challenge word then says (codes "asks to challenge ") endings.Place else granted_form word)
+      else granted_form word)
+    else if opcode_of word == 6 then
+      (if rcode_of word == 0 then says (codes "grants the release of ") endings.Nothing
+      else says (codes "refuses the release of ") endings.Reason)
+    else if opcode_of word == 7 then says (codes "asks to wait for ") endings.Time
+    else if opcode_of word == 8 then granted_form word
+    else if opcode_of word == 9 then granted_form word
+    else if opcode_of word == 15 then granted_form word
+    else says (codes "makes another response about ") endings.Operation
 
 -- form_of word first_type: R says which of both
-abbrev pub form_of : ℕ → Option ℕ → Form
+abbrev pub form_of : ℕ → Option ℕ → PhraseForm
 form_of word first_type = if is_set word (2 ^ 15) then response_form word first_type else request_form word first_type

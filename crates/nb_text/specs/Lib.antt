@@ -14,8 +14,7 @@ pub mod SessionFields
 pub mod Tells
 pub mod FrontFields
 pub mod TellsFront
-pub mod Kinds
-pub mod Noted
 pub mod Forms
 pub mod Said
+pub mod ServiceSaid
 pub mod SaysPacket

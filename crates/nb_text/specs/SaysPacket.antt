@@ -1,17 +1,31 @@
--- The phrase of a payload (our choice).
-use Rattle.std.specs.Prelude.{◌≡◌, ℕ, List, ◌++◌, length}
-use Rattle.nb_telling.specs.Fields.{Field}
-use Rattle.nb_text.specs.Said.{said}
-use Rattle.nb_text.specs.Tells.{Tells}
+-- The phrase of a payload: of the packet that it begins with, or of its fault (our choice).
+use Rattle.std.specs.Prelude.{◌≡◌, ◌≢◌, ℕ, List, ◌++◌, length}
+use Rattle.nb_service.specs.declared.fault.ServiceFault.{ServiceFault}
+use Rattle.nb_service.specs.Packet as service
+use Rattle.nb_service.specs.ServiceFaults as service_faults
+use Rattle.nb_datagram.specs.declared.fault.DatagramFault.{DatagramFault}
+use Rattle.nb_datagram.specs.Packet as datagrams
+use Rattle.nb_datagram.specs.DatagramFaults as datagram_faults
+use Rattle.nb_session.specs.Parsing.{Parsed, Parses}
+use Rattle.nb_text.specs.Said.{datagram_refused_said, datagram_said, follow_said, parsed_said, phrase}
+use Rattle.nb_text.specs.ServiceSaid.{service_refused_said, service_said}
 
--- IsSaid payload port text: this is the phrase of a payload that came to the port
-pub record IsSaid (payload : List ℕ) (port : ℕ) (text : List ℕ) : Type 0 where
-  pub fields : List Field
-  pub tells : Tells payload port fields
-  pub is : text ≡ said fields (length payload)
+-- IsSaid payload port text: this is the phrase of a payload that came to the port. One of a port that is neither 137 nor
+-- 138 is taken for a session packet, port 139
+pub data IsSaid (payload : List ℕ) : ℕ → List ℕ → Type 0 where
+  names : (packet : service.ServicePacket) (used : ℕ) → service.IsPacket payload packet used
+      → IsSaid payload 137 (phrase (service_said packet ++ follow_said used (length payload)))
+  no_names : (fault : ServiceFault) → service_faults.PacketFails payload fault
+      → IsSaid payload 137 (phrase (service_refused_said fault))
+  datagram : (packet : datagrams.Packet) (used : ℕ) → datagrams.IsPacket payload packet used
+      → IsSaid payload 138 (phrase (datagram_said packet ++ follow_said used (length payload)))
+  no_datagram : (fault : DatagramFault) → datagram_faults.PacketFails payload fault
+      → IsSaid payload 138 (phrase (datagram_refused_said fault))
+  session : (port : ℕ) (parsed : Parsed) → port ≢ 137 → port ≢ 138 → Parses payload parsed
+      → IsSaid payload port (phrase (parsed_said parsed (length payload)))
 
 -- AddsSaid payload port old new: after the old text the payload's phrase was added
 pub record AddsSaid (payload : List ℕ) (port : ℕ) (old new : List ℕ) : Type 0 where
   pub text : List ℕ
-  pub phrase : IsSaid payload port text
+  pub said : IsSaid payload port text
   pub added : new ≡ old ++ text

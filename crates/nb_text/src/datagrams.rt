@@ -1,6 +1,6 @@
 //! A datagram service packet, told to a sink.
 
-ghost use Rattle.std.specs.Prelude.{◌≡◌, ◌∷◌, [], ◌++◌, List, ℕ, OnOk, fold};
+ghost use Rattle.std.specs.Prelude.{◌≡◌, ◌∷◌, [], ◌++◌, OnOk, fold};
 ghost use Rattle.nb_names.specs.NameText.{written};
 ghost use Rattle.nb_datagram.specs.Texts.{kind_text};
 ghost use Rattle.nb_telling.specs.Fields.{Number, Text};

@@ -32,6 +32,7 @@ ghost use Rattle.nb_text.specs.FaultEnds.{IsPlaceIn};
 ghost use Rattle.nb_text.specs.Fields.{AreLines, IsWord};
 ghost use Rattle.nb_text.specs.LineFields.{refused_fields};
 ghost use Rattle.nb_text.specs.Lines.{refused_text};
+ghost use Rattle.nb_text.specs.SaysPacket.{IsSaid};
 ghost use Rattle.nb_text.specs.ServiceFields.{service_fields};
 ghost use Rattle.nb_text.specs.ServiceText.{service_text};
 ghost use Rattle.nb_text.specs.SessionFields.{session_fields};
@@ -73,6 +74,18 @@ pub fn one_text()
 pub fn one_list_of_fields()
     ensures { (payload : List ℕ) (port : ℕ) (fields others : List Field) →
         Tells payload port fields → Tells payload port others → fields ≡ others }
+{
+    names::one_packet();
+    names::one_service_fault();
+    datagrams::one_packet();
+    datagrams::one_datagram_fault();
+    sessions::one_answer();
+}
+
+/// A payload has one phrase for a port.
+pub fn one_phrase()
+    ensures { (payload : List ℕ) (port : ℕ) (text other : List ℕ) →
+        IsSaid payload port text → IsSaid payload port other → text ≡ other }
 {
     names::one_packet();
     names::one_service_fault();

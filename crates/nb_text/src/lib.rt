@@ -18,7 +18,7 @@ mod showing;
 mod statuses;
 mod words;
 
-pub use brief::{BriefSink, push_brief};
+pub use brief::push_brief;
 pub use fronts::{push_front, tell_front};
 pub use objects::packet_object;
 pub use showing::{push_packet, tell_packet};

@@ -8,13 +8,12 @@ use nb_names::NoMemory;
 use nb_telling::Sink;
 use nb_text::keys::KIND;
 use nb_text::laws::fields_are_members;
-use nb_text::{BriefSink, push_brief, tell_packet};
+use nb_text::{push_brief, tell_packet};
 use std::alloc::Global;
 
 /// Phrases of payloads, whose memory is used again.
 #[derive(Drop)]
 pub struct Phrases {
-    sink: BriefSink,
     /// The phrase is made in this for an object.
     text: String,
 }
@@ -23,7 +22,6 @@ impl Phrases {
     /// No phrase. No memory is taken.
     pub fn new(alloc: Global) -> Phrases {
         Phrases {
-            sink: BriefSink::new(alloc),
             text: String::new(alloc),
         }
     }
@@ -36,7 +34,7 @@ impl PayloadText for Phrases {
     ghost is_text = { IsBrief };
 
     fn push(&mut self, port: u16, payload: &[u8], text: &mut String) -> Result<(), NoMemory> {
-        push_brief(port, payload, &mut self.sink, text)?;
+        push_brief(port, payload, text)?;
         text.push_str("\n")?;
         Ok(())
     }
@@ -58,7 +56,7 @@ impl LineFields for Phrases {
         match said {
             Line::Packet { port, payload, .. } => {
                 self.text.clear();
-                push_brief(*port, payload.as_slice(), &mut self.sink, &mut self.text)?;
+                push_brief(*port, payload.as_slice(), &mut self.text)?;
                 sink.text(bare("brief"), self.text.as_str())?;
                 tell_packet(*port, payload.as_slice(), sink)
             }

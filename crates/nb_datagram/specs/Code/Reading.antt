@@ -18,4 +18,4 @@ number_of (Query kind) = query_type kind
 pub record HasHeader (bytes : List ℕ) (header : Header) : Type 0 where
   pub key : IsKey header.key
   pub whole : HEADER_LENGTH ≤ length bytes
-  pub stands : StandsAt bytes 0 (header_bytes (number_of header.form) header.flags header.key)
+  pub stands : StandsAt bytes 0 (header_bytes header.message_type header.flags header.key)

@@ -1,11 +1,9 @@
-//! The packets of port 137, told apart.
+//! What is said of packets of port 137 besides the name: a row for each packet.
 
-ghost use Rattle.std.specs.Prelude.{◌≡◌, ◌==◌, ◌^◌};
-ghost use Rattle.nb_service.specs.Flags.{rcode_of};
-ghost use Rattle.nb_text.specs.Forms.{answer_form, either_form, form_of, grant_form, registration_form, request_form, response_form};
+ghost use Rattle.std.specs.Prelude.{◌≡◌, ◌==◌};
+ghost use Rattle.nb_text.specs.Forms.{form_of, is_challenge, request_form, response_form, says};
 ghost use Rattle.nb_text.specs.Words.{is_set};
 
-use crate::brief::facts::Facts;
 use bitflags::Flags;
 use nb_service::kinds::{NBSTAT, NS};
 use nb_service::{NmFlags, opcode, rcode};
@@ -13,132 +11,105 @@ use nb_service::{NmFlags, opcode, rcode};
 /// R of a flag word (RFC 1002 section 4.2.1.1): the packet is a response.
 const RESPONSE: u16 = 0x8000;
 
-/// A packet of RFC 1002 section 4.2.
+/// What is said of a packet of RFC 1002 section 4.2 besides the name.
 #[derive(Clone, Copy)]
-pub enum Form {
-    /// A query for a name (4.2.12).
-    Query,
-    /// A query for a node's status (4.2.17).
-    StatusQuery,
-    /// A registration (4.2.2).
-    Registration,
-    /// A registration that overwrites another (4.2.3).
-    Overwrite,
-    /// A registration of a host of several addresses (our choice).
-    Multihomed,
-    /// A refresh (4.2.4).
-    Refresh,
-    /// A release (4.2.9).
-    Release,
-    /// A request of another operation.
-    OtherRequest,
-    /// The addresses of a name (4.2.13).
-    Answer,
-    /// A node's status (4.2.18).
+pub struct Form {
+    /// What stands before the name.
+    pub opening: &'static str,
+    /// What stands after it.
+    pub ending: Ending,
+}
+
+/// What a phrase says after the name.
+#[derive(Clone, Copy)]
+pub enum Ending {
+    /// Nothing.
+    Nothing,
+    /// For whom, and for how long.
+    Claim,
+    /// For whom.
+    Holder,
+    /// Where the name is.
+    Found,
+    /// Which names and which unit the node has.
     Status,
-    /// The name server to ask (4.2.15).
-    Redirect,
-    /// A negative response to a query (4.2.14).
-    NoAnswer,
-    /// That the owner of a name is to be challenged (4.2.7).
-    Challenge,
-    /// A conflict (4.2.8).
-    Conflict,
-    /// A positive response to a registration (4.2.5).
-    Grant,
-    /// A negative one (4.2.6).
-    Refusal,
-    /// A positive response to a release (4.2.10).
-    ReleaseGrant,
-    /// A negative one (4.2.11).
-    ReleaseRefusal,
-    /// That one is to wait (4.2.16).
-    Wait,
-    /// A response of another operation.
-    OtherResponse,
+    /// Which name server knows the name.
+    Server,
+    /// That the name is not found, and why.
+    NotFound,
+    /// At which addresses.
+    Place,
+    /// Why not.
+    Reason,
+    /// For how long.
+    Time,
+    /// Which operation it is.
+    Operation,
 }
 
-/// Which packet it is.
-pub fn form_of(facts: &Facts) -> Form
-    ensures { result ≡ form_of facts.now.word facts.now.first_type }
+impl Form {
+    /// What is said, of its two parts.
+    fn new(opening: &'static str, ending: Ending) -> Form
+        ensures opening { result.opening.now ≡ opening.now }
+        ensures ending { result.ending ≡ ending }
+    {
+        Form { opening, ending }
+    }
+}
+
+/// What is said of a packet, by its flag word and the type of what it is about.
+pub fn form_of(word: u16, kind: Option<u16>) -> Form
+    ensures { says result.opening.now result.ending ≡ form_of word kind }
 {
-    if facts.word & RESPONSE == 0 {
-        request_form(facts)
+    if word & RESPONSE == 0 {
+        request_form(word, kind)
     } else {
-        response_form(facts)
+        response_form(word, kind)
     }
 }
 
-/// Which request it is.
-fn request_form(facts: &Facts) -> Form
-    ensures { result ≡ request_form facts.now.word facts.now.first_type }
+/// What is said of a request.
+fn request_form(word: u16, kind: Option<u16>) -> Form
+    ensures { says result.opening.now result.ending ≡ request_form word kind }
 {
-    match opcode(facts.word) {
-        0 if facts.is_about(NBSTAT) => Form::StatusQuery,
-        0 => Form::Query,
-        5 if has(facts.word, NmFlags::RD) => Form::Registration,
-        5 => Form::Overwrite,
-        6 => Form::Release,
-        8 | 9 => Form::Refresh,
-        15 => Form::Multihomed,
-        _ => Form::OtherRequest,
+    match opcode(word) {
+        0 if kind == Some(NBSTAT) => Form::new("asks for the node status of ", Ending::Nothing),
+        0 => Form::new("asks for ", Ending::Nothing),
+        5 if has(word, NmFlags::RD) => Form::new("claims ", Ending::Claim),
+        5 => Form::new("overwrites ", Ending::Claim),
+        6 => Form::new("releases ", Ending::Holder),
+        8 | 9 => Form::new("refreshes ", Ending::Claim),
+        15 => Form::new("claims as one of several addresses ", Ending::Claim),
+        _ => Form::new("makes another request about ", Ending::Operation),
     }
 }
 
-/// Which response it is.
-fn response_form(facts: &Facts) -> Form
-    ensures { result ≡ response_form facts.now.word facts.now.first_type }
+/// What is said of a response.
+fn response_form(word: u16, kind: Option<u16>) -> Form
+    ensures { says result.opening.now result.ending ≡ response_form word kind }
 {
-    match opcode(facts.word) {
-        0 => either_form(facts.word, answer_form(facts), Form::NoAnswer),
-        5 => registration_form(facts.word),
-        6 => either_form(facts.word, Form::ReleaseGrant, Form::ReleaseRefusal),
-        7 => Form::Wait,
-        8 | 9 | 15 => either_form(facts.word, Form::Grant, Form::Refusal),
-        _ => Form::OtherResponse,
+    let good = rcode(word) == 0;
+    match opcode(word) {
+        0 if !good => Form::new("answers: ", Ending::NotFound),
+        0 if kind == Some(NBSTAT) => Form::new("answers: ", Ending::Status),
+        0 if kind == Some(NS) => Form::new("answers: ", Ending::Server),
+        0 => Form::new("answers: ", Ending::Found),
+        5 if rcode(word) == 7 => Form::new("conflict about ", Ending::Nothing),
+        5 if good && is_challenge(word) => Form::new("asks to challenge ", Ending::Place),
+        6 if good => Form::new("grants the release of ", Ending::Nothing),
+        6 => Form::new("refuses the release of ", Ending::Reason),
+        7 => Form::new("asks to wait for ", Ending::Time),
+        5 | 8 | 9 | 15 if good => Form::new("grants ", Ending::Claim),
+        5 | 8 | 9 | 15 => Form::new("refuses ", Ending::Reason),
+        _ => Form::new("makes another response about ", Ending::Operation),
     }
 }
 
-/// A positive response, or a negative one.
-fn either_form(word: u16, good: Form, bad: Form) -> Form
-    ensures { result ≡ either_form word good bad }
+/// Whether a positive response to a registration asks for a challenge: RD without RA.
+fn is_challenge(word: u16) -> bool
+    ensures { result ≡ is_challenge word }
 {
-    if rcode(word) == 0 { good } else { bad }
-}
-
-/// Which positive response to a query it is.
-fn answer_form(facts: &Facts) -> Form
-    ensures { result ≡ answer_form facts.now.first_type }
-{
-    if facts.is_about(NBSTAT) {
-        Form::Status
-    } else if facts.is_about(NS) {
-        Form::Redirect
-    } else {
-        Form::Answer
-    }
-}
-
-/// Which response to a registration it is.
-fn registration_form(word: u16) -> Form
-    ensures { result ≡ registration_form word }
-{
-    match rcode(word) {
-        0 => grant_form(word),
-        7 => Form::Conflict,
-        _ => Form::Refusal,
-    }
-}
-
-/// Which positive response to a registration it is.
-fn grant_form(word: u16) -> Form
-    ensures { result ≡ grant_form word }
-{
-    if has(word, NmFlags::RD) && !has(word, NmFlags::RA) {
-        Form::Challenge
-    } else {
-        Form::Grant
-    }
+    has(word, NmFlags::RD) && !has(word, NmFlags::RA)
 }
 
 /// Whether a flag is set in a flag word.

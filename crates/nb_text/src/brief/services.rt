@@ -1,239 +1,196 @@
-//! The phrases of packets of port 137.
+//! The phrases of payloads of port 137.
 
-ghost use Rattle.std.specs.Prelude.{◌≡◌, ◌++◌, OnOk, codes, string_bytes};
+ghost use Rattle.std.specs.Prelude.{◌≡◌, ◌++◌, [], ℕ, List, OnOk, Option, string_bytes};
+ghost use Rattle.nb_names.specs.declared.pointers.Pointers.TheVariants.{Followed};
 ghost use Rattle.nb_names.specs.Growth.{OnlyAdds};
-ghost use Rattle.nb_service.specs.Flags.{rcode_of};
-ghost use Rattle.nb_text.specs.Forms.{form_of};
-ghost use Rattle.nb_text.specs.Said.{addresses_said, claim_said, ending, holder_said, is_group, listed_said, name_said, names_said, opening, operation_said, place_said, reason_said, reason_words, redirect_said, service_said, time_said, unit_said};
+ghost use Rattle.nb_names.specs.NameText.{labels_written};
+ghost use Rattle.nb_names.specs.Skipped.{IsSkipped};
+ghost use Rattle.nb_service.specs.declared.limits.TheConstants.{HEADER_LENGTH};
+ghost use Rattle.nb_service.specs.declared.question.Question.{Question};
+ghost use Rattle.nb_service.specs.Code.Steps.{HasRow, RowOf};
+ghost use Rattle.nb_service.specs.Header.{header_value};
+ghost use Rattle.nb_service.specs.Packet.{IsPacket, QuestionAt, RecordAt, ServicePacket, header_of};
+ghost use Rattle.nb_service.specs.Record.{ResourceRecord};
+ghost use Rattle.nb_text.specs.Said.{Adds, Says};
+ghost use Rattle.nb_text.specs.SaysPacket.{AddsSaid};
+ghost use Rattle.nb_text.specs.ServiceSaid.{About, IsAbout, about_first, name_said, service_refused_said, service_said, type_of};
 
-use crate::brief::form::{Form, form_of};
-use crate::brief::notes::{MOST_LISTED, Notes};
-use crate::brief::packets::{push_both, push_count, push_text};
-use bitflags::Flags;
-use nb_names::NoMemory;
-use nb_service::{NodeFlags, opcode, rcode};
+use crate::brief::endings::push_ending;
+use crate::brief::form::form_of;
+use crate::brief::pieces::{counts_in, push_follow, push_refused, push_text};
+use crate::brief::told::Told;
+use nb_names::limits::POINTED_OFFSETS;
+use nb_names::{NameReader, NoMemory, Pointers, push_domain};
+use nb_service::kinds::NBSTAT;
+use nb_service::limits::{HEADER_LENGTH, SHORT_PACKET};
+use nb_service::{Header, Seen, ServiceFault, read_header, see_question, see_record, walk};
 
-/// Adds the phrase of a packet of port 137.
-pub fn push_service(notes: &Notes, text: &mut String) -> Result<(), NoMemory>
-    ensures added { OnOk result (string_bytes text.new ≡ string_bytes text.old
-        ++ service_said (form_of notes.now.facts.word notes.now.facts.first_type) notes.now) }
+/// Adds the phrase of a payload of port 137.
+///
+/// Of a packet of more than [`SHORT_PACKET`] bytes the ends of all chains of pointers are found
+/// first, as [`decode`](nb_service::decode) does.
+pub fn push_service(payload: &[u8], text: &mut String) -> Result<(), NoMemory>
+    ensures said { OnOk result
+        (AddsSaid payload.now 137 (string_bytes text.old) (string_bytes text.new)) }
     ensures front { OnlyAdds (string_bytes text.old) (string_bytes text.new) }
 {
-    let form = form_of(&notes.facts());
-    push_both(opening(form), name_or_none(notes.name()), text)?;
-    push_ending(form, notes, text)
-}
-
-/// What stands before the name.
-fn opening(form: Form) -> &'static str
-    ensures { result.now ≡ opening form }
-{
-    match form {
-        Form::Query => "asks for ",
-        Form::StatusQuery => "asks for the node status of ",
-        Form::Registration => "claims ",
-        Form::Overwrite => "overwrites ",
-        Form::Multihomed => "claims as one of several addresses ",
-        Form::Refresh => "refreshes ",
-        Form::Release => "releases ",
-        Form::OtherRequest => "makes another request about ",
-        Form::Answer | Form::Status | Form::Redirect | Form::NoAnswer => "answers: ",
-        Form::Challenge => "asks to challenge ",
-        Form::Conflict => "conflict about ",
-        Form::Grant => "grants ",
-        Form::Refusal => "refuses ",
-        Form::ReleaseGrant => "grants the release of ",
-        Form::ReleaseRefusal => "refuses the release of ",
-        Form::Wait => "asks to wait for ",
-        Form::OtherResponse => "makes another response about ",
+    if payload.len() <= SHORT_PACKET {
+        return push_judged(&NameReader::of(payload, &mut []), text);
     }
+    let mut ends = [0; POINTED_OFFSETS];
+    push_judged(&NameReader::of(payload, &mut ends), text)
 }
 
-/// A name, if there is one.
-fn name_or_none(name: &str) -> &str
-    ensures { result.now ≡ name_said name.now }
-{
-    if name.is_empty() { "no name" } else { name }
-}
-
-/// Adds what stands after the name.
-fn push_ending(form: Form, notes: &Notes, text: &mut String) -> Result<(), NoMemory>
-    ensures added { OnOk result
-        (string_bytes text.new ≡ string_bytes text.old ++ ending form notes.now) }
+/// Adds the phrase of the payload whose names are read so.
+fn push_judged(names: &NameReader<'_, '_>, text: &mut String) -> Result<(), NoMemory>
+    ensures said { OnOk result
+        (AddsSaid names.now 137 (string_bytes text.old) (string_bytes text.new)) }
     ensures front { OnlyAdds (string_bytes text.old) (string_bytes text.new) }
 {
-    let word = notes.facts().word;
-    match form {
-        Form::Query | Form::StatusQuery | Form::Conflict | Form::ReleaseGrant => Ok(()),
-        Form::Registration | Form::Overwrite | Form::Multihomed | Form::Refresh | Form::Grant =>
-            push_claim(notes, text),
-        Form::Release => push_holder(notes, text),
-        Form::Answer => push_place(notes, text),
-        Form::Status => push_status(notes, text),
-        Form::Redirect => push_redirect(notes, text),
-        Form::Challenge => push_addresses(" at ", notes, text),
-        Form::NoAnswer => push_absence(word, text),
-        Form::Refusal | Form::ReleaseRefusal => push_reason(word, text),
-        Form::Wait => push_time(notes.facts().ttl, text),
-        Form::OtherRequest | Form::OtherResponse => {
-            push_count(", operation ", u64::from(opcode(word)), "", text)
+    let header = match read_header(names.packet()) {
+        Ok(header) => header,
+        Err(fault) => return push_fault(fault, text),
+    };
+    let walked = walk(names, &header);
+    match walked.fault {
+        None => {
+            push_packet(names, &header, text)?;
+            push_follow(walked.next, names.packet().len(), text)
         }
+        Some(fault) => push_fault(fault, text),
     }
 }
 
-/// Adds for whom a name is registered, and for how long.
-fn push_claim(notes: &Notes, text: &mut String) -> Result<(), NoMemory>
-    ensures added { OnOk result
-        (string_bytes text.new ≡ string_bytes text.old ++ claim_said notes.now) }
+/// Adds what the packet is that stands whole behind this header.
+fn push_packet(
+    names: &NameReader<'_, '_>,
+    header: &Header,
+    text: &mut String,
+) -> Result<(), NoMemory>
+    requires { (packet : ServicePacket) × (used : ℕ) × IsPacket names.now packet used
+        × (header_of packet ≡ header_value header.now) }
+    ensures added { (packet : ServicePacket) (used : ℕ) → IsPacket names.now packet used →
+        header_of packet ≡ header_value header.now →
+        OnOk result (Says text.old text.new (service_said packet)) }
     ensures front { OnlyAdds (string_bytes text.old) (string_bytes text.new) }
 {
-    push_holder(notes, text)?;
-    push_time(notes.facts().ttl, text)
+    let questions = usize::from(header.questions);
+    let records = usize::from(header.answers)
+        + usize::from(header.authorities)
+        + usize::from(header.additional);
+    let (about, at) = first_of(names, questions, records);
+    let kind = kind_of(&about);
+    let told = Told::of(names, at, records, kind == Some(NBSTAT));
+    let form = form_of(header.word, kind);
+    push_text(form.opening, text)?;
+    push_subject(names, &about, text)?;
+    push_ending(form.ending, header.word, &told, text)
 }
 
-/// Adds for whom a name is registered or released.
-fn push_holder(notes: &Notes, text: &mut String) -> Result<(), NoMemory>
-    ensures added { OnOk result
-        (string_bytes text.new ≡ string_bytes text.old ++ holder_said notes.now) }
-    ensures front { OnlyAdds (string_bytes text.old) (string_bytes text.new) }
+/// What is seen of the first of so many questions, or else of the first of so many records that
+/// stand behind them, and where the records begin.
+fn first_of(
+    names: &NameReader<'_, '_>,
+    questions: usize,
+    records: usize,
+) -> (Option<Seen>, usize)
+    requires { (at : ℕ) × (next : ℕ)
+        × HasRow (QuestionAt names.now) HEADER_LENGTH questions at
+        × HasRow (RecordAt names.now) at records next }
+    ensures { (asked : List Question) (told : List ResourceRecord) (at next : ℕ) →
+        RowOf (QuestionAt names.now) HEADER_LENGTH questions asked at →
+        RowOf (RecordAt names.now) at records told next →
+        IsAbout names.now (about_first asked told) result.0 × (result.1 ≡ at) }
 {
-    if is_group(notes.facts().flags) {
-        push_addresses(" as a group for ", notes, text)
-    } else {
-        push_addresses(" for ", notes, text)
+    if questions == 0 {
+        return (first_record(names, records), HEADER_LENGTH);
+    }
+    let seen = see_question(names, HEADER_LENGTH).unwrap();
+    let at = after_questions(names, seen.fields.extent.next, questions - 1);
+    (Some(seen), at)
+}
+
+/// What is seen of the first of so many records, which stand behind the header.
+fn first_record(names: &NameReader<'_, '_>, records: usize) -> Option<Seen>
+    requires { (next : ℕ) × HasRow (RecordAt names.now) HEADER_LENGTH records next }
+    ensures { (told : List ResourceRecord) (next : ℕ) →
+        RowOf (RecordAt names.now) HEADER_LENGTH records told next →
+        IsAbout names.now (about_first [] told) result }
+{
+    if records == 0 {
+        return None;
+    }
+    Some(see_record(names, HEADER_LENGTH).unwrap())
+}
+
+/// Where so many questions end, which stand one after the other from an offset on.
+fn after_questions(names: &NameReader<'_, '_>, at: usize, count: usize) -> usize
+    requires { (next : ℕ) × HasRow (QuestionAt names.now) at count next }
+    ensures { (asked : List Question) (next : ℕ) →
+        RowOf (QuestionAt names.now) at count asked next → result ≡ next }
+{
+    let mut next = at;
+    for _ in 0..count {
+        next = see_question(names, next).unwrap().fields.extent.next;
+    }
+    next
+}
+
+/// The type of what a packet is about.
+fn kind_of(about: &Option<Seen>) -> Option<u16>
+    ensures { (packet : List ℕ) (subject : Option About) →
+        IsAbout packet subject about.now → result ≡ type_of subject }
+{
+    match about {
+        Some(seen) => Some(seen.fields.kind),
+        None => None,
     }
 }
 
-/// Adds where a name is.
-fn push_place(notes: &Notes, text: &mut String) -> Result<(), NoMemory>
-    ensures added { OnOk result
-        (string_bytes text.new ≡ string_bytes text.old ++ place_said notes.now) }
+/// Adds the name of what a packet is about.
+fn push_subject(
+    names: &NameReader<'_, '_>,
+    about: &Option<Seen>,
+    text: &mut String,
+) -> Result<(), NoMemory>
+    requires { (subject : Option About) × IsAbout names.now subject about.now }
+    ensures added { (subject : Option About) → IsAbout names.now subject about.now →
+        OnOk result (string_bytes text.new ≡ string_bytes text.old ++ name_said subject) }
     ensures front { OnlyAdds (string_bytes text.old) (string_bytes text.new) }
 {
-    if is_group(notes.facts().flags) {
-        push_addresses(" is a group at ", notes, text)
-    } else {
-        push_addresses(" is at ", notes, text)
+    match about {
+        Some(seen) => push_seen(names, seen, text),
+        None => push_text("no name", text),
     }
 }
 
-/// Whether a name with these flags is a group's (RFC 1002 sections 4.2.13 and 4.2.18).
-fn is_group(flags: Option<u16>) -> bool
-    ensures { result ≡ is_group flags }
+/// Adds the name of a question or a record, from where it stands if it stands there in one run.
+fn push_seen(names: &NameReader<'_, '_>, seen: &Seen, text: &mut String) -> Result<(), NoMemory>
+    requires { (labels : List (List ℕ)) × IsSkipped names.now Followed seen.now.at labels
+        seen.now.name }
+    ensures added { (labels : List (List ℕ)) →
+        IsSkipped names.now Followed seen.now.at labels seen.now.name → OnOk result
+        (string_bytes text.new ≡ string_bytes text.old ++ labels_written labels) }
+    ensures front { OnlyAdds (string_bytes text.old) (string_bytes text.new) }
 {
-    match flags {
-        Some(flags) => flags & NodeFlags::G.bits() != 0,
-        None => false,
+    match names.lent_at(seen.at, Pointers::Followed, &seen.name) {
+        Some(name) => push_domain(text, &name),
+        None => push_domain(
+            text,
+            &names
+                .domain_at(seen.at, Pointers::Followed, &seen.name)
+                .lent(),
+        ),
     }
 }
 
-/// Adds for how long, if that is known.
-fn push_time(ttl: Option<u64>, text: &mut String) -> Result<(), NoMemory>
-    ensures added { OnOk result (string_bytes text.new ≡ string_bytes text.old ++ time_said ttl) }
-    ensures front { OnlyAdds (string_bytes text.old) (string_bytes text.new) }
+/// Adds why there is no packet.
+fn push_fault(fault: ServiceFault, text: &mut String) -> Result<(), NoMemory>
+    ensures { Adds result text.old text.new (service_refused_said fault) }
 {
-    match ttl {
-        Some(ttl) => push_count(", for ", ttl, " s", text),
-        None => Ok(()),
-    }
-}
-
-/// Adds the addresses that are listed.
-fn push_addresses(lead: &str, notes: &Notes, text: &mut String) -> Result<(), NoMemory>
-    ensures added { OnOk result (string_bytes text.new
-        ≡ string_bytes text.old ++ (lead.now ++ addresses_said notes.now)) }
-    ensures front { OnlyAdds (string_bytes text.old) (string_bytes text.new) }
-{
-    if notes.facts().listed == 0 {
-        return push_both(lead, "no address", text);
-    }
-    push_text(lead, text)?;
-    push_listed(notes, text)
-}
-
-/// Adds the first ones of what is listed, and how many more there are.
-fn push_listed(notes: &Notes, text: &mut String) -> Result<(), NoMemory>
-    ensures added { OnOk result
-        (string_bytes text.new ≡ string_bytes text.old ++ listed_said notes.now) }
-    ensures front { OnlyAdds (string_bytes text.old) (string_bytes text.new) }
-{
-    push_text(notes.listed(), text)?;
-    let count = notes.facts().listed;
-    if MOST_LISTED < count {
-        return push_count(" and ", count - MOST_LISTED, " more", text);
-    }
-    Ok(())
-}
-
-/// Adds the names of a node, and its unit.
-fn push_status(notes: &Notes, text: &mut String) -> Result<(), NoMemory>
-    ensures added { OnOk result
-        (string_bytes text.new ≡ string_bytes text.old ++ ending Form.Status notes.now) }
-    ensures front { OnlyAdds (string_bytes text.old) (string_bytes text.new) }
-{
-    push_names(notes, text)?;
-    let unit = notes.other();
-    if unit.is_empty() {
-        return Ok(());
-    }
-    push_both(", unit ", unit, text)
-}
-
-/// Adds the names of a node.
-fn push_names(notes: &Notes, text: &mut String) -> Result<(), NoMemory>
-    ensures added { OnOk result
-        (string_bytes text.new ≡ string_bytes text.old ++ names_said notes.now) }
-    ensures front { OnlyAdds (string_bytes text.old) (string_bytes text.new) }
-{
-    let count = notes.facts().listed;
-    if count == 0 {
-        return push_text(" has no names", text);
-    }
-    push_count(" has ", count, " names: ", text)?;
-    push_listed(notes, text)
-}
-
-/// Adds which name server is to be asked.
-fn push_redirect(notes: &Notes, text: &mut String) -> Result<(), NoMemory>
-    ensures added { OnOk result
-        (string_bytes text.new ≡ string_bytes text.old ++ redirect_said notes.now) }
-    ensures front { OnlyAdds (string_bytes text.old) (string_bytes text.new) }
-{
-    push_both(" is known to ", name_or_none(notes.other()), text)?;
-    push_addresses(" at ", notes, text)
-}
-
-/// Adds that a name isn't found, and why.
-fn push_absence(word: u16, text: &mut String) -> Result<(), NoMemory>
-    ensures added { OnOk result (string_bytes text.new
-        ≡ string_bytes text.old ++ (codes " is not found" ++ reason_said (rcode_of word))) }
-    ensures front { OnlyAdds (string_bytes text.old) (string_bytes text.new) }
-{
-    push_text(" is not found", text)?;
-    push_reason(word, text)
-}
-
-/// Adds what RCODE says (RFC 1002 sections 4.2.6, 4.2.11 and 4.2.14).
-fn push_reason(word: u16, text: &mut String) -> Result<(), NoMemory>
-    ensures added { OnOk result
-        (string_bytes text.new ≡ string_bytes text.old ++ reason_said (rcode_of word)) }
-    ensures front { OnlyAdds (string_bytes text.old) (string_bytes text.new) }
-{
-    push_both(": ", reason_words(rcode(word)), text)
-}
-
-/// What RCODE says, in words.
-fn reason_words(rcode: u8) -> &'static str
-    ensures { result.now ≡ reason_words rcode }
-{
-    match rcode {
-        1 => "wrong form (FMT_ERR)",
-        2 => "server failure (SRV_ERR)",
-        3 => "no such name (NAM_ERR)",
-        4 => "not supported (IMP_ERR)",
-        5 => "refused by policy (RFS_ERR)",
-        6 => "owned by another node (ACT_ERR)",
-        7 => "in conflict (CFT_ERR)",
-        _ => "unknown error",
-    }
+    let counted = match fault {
+        ServiceFault::Name(fault) => counts_in(fault),
+        _ => "",
+    };
+    push_refused(fault.subject(), fault.words(), fault.place(), counted, text)
 }

@@ -1,10 +1,13 @@
 //! Laws of the phrases of codes, of refusals and of what follows a packet.
-ghost use Rattle.std.specs.Prelude.{◌≡◌, ◌==◌, ℕ, ◌<◌, ◌-◌, List, [], ◌∷◌, ◌++◌, Some, None, codes, if◌then◌else◌};
+ghost use Rattle.std.specs.Prelude.{◌≡◌, ◌==◌, ℕ, ◌<◌, ◌-◌, List, [], ◌∷◌, ◌++◌, codes, if◌then◌else◌};
 ghost use Rattle.std.specs.Fmt.{decimal};
 ghost use Rattle.nb_names.specs.Addresses.{address_text};
-ghost use Rattle.nb_names.specs.DomainName.{IsDomain, AreByteLabels};
 ghost use Rattle.nb_names.specs.Name.{NetbiosName, IsName, labels_of_name};
 ghost use Rattle.nb_names.specs.NameText.{labels_written, written};
+ghost use Rattle.nb_names.specs.declared.fault.NameFault.TheVariants.{BadPointer, NotNetbios};
+ghost use Rattle.nb_service.specs.declared.fault.ServiceFault.TheVariants.{NoMemory, Truncated};
+ghost use Rattle.nb_session.specs.declared.fault.SessionFault.TheVariants.{Name, TrailingBytes, UnknownType};
+ghost use Rattle.nb_datagram.specs.declared.fault.DatagramFault.TheVariants.{DestinationName, SourceName};
 ghost use Rattle.nb_service.specs.Building.{packet_of};
 ghost use Rattle.nb_service.specs.Record.{of_bytes, of_domain, record_of};
 ghost use Rattle.nb_session.specs.Packet.{Packet as SessionPacket};
@@ -13,20 +16,17 @@ ghost use Rattle.nb_session.specs.declared.parsing.Parsed.TheVariants.{More, Who
 ghost use Rattle.nb_datagram.specs.declared.key.Key.{Key};
 ghost use Rattle.nb_datagram.specs.declared.packet.Packet.TheVariants.{Error, Query};
 ghost use Rattle.nb_datagram.specs.declared.packet.QueryKind.TheVariants as queries;
-ghost use Rattle.nb_text.specs.DatagramFields.{datagram_fields};
-ghost use Rattle.nb_text.specs.LineFields.{refused_fields};
-ghost use Rattle.nb_text.specs.Said.{place_word, said};
-ghost use Rattle.nb_text.specs.ServiceFields.{service_fields};
-ghost use Rattle.nb_text.specs.SessionFields.{session_fields};
+ghost use Rattle.nb_text.specs.Said.{datagram_refused_said, datagram_said, parsed_said, phrase, session_refused_said, session_said};
+ghost use Rattle.nb_text.specs.ServiceSaid.{service_refused_said, service_said};
 
 /// The response of a name server that another is to be asked (RFC 1002 section 4.2.15; its flag
 /// word is 8100 in hexadecimal): the name, and the other server's name and address.
 pub fn redirects_in_words()
-    ensures { (id used ttl other a b c d : ℕ) (name : NetbiosName) (server : List (List ℕ)) →
-        IsName name → IsDomain server → AreByteLabels server →
-        said (service_fields (packet_of id 33024 []
+    ensures { (id ttl other a b c d : ℕ) (name : NetbiosName) (server : List (List ℕ)) →
+        IsName name →
+        phrase (service_said (packet_of id 33024 []
         [] (record_of (labels_of_name name) 2 1 ttl (of_domain server) ∷ [])
-        (record_of server 1 1 other (of_bytes (a ∷ b ∷ c ∷ d ∷ [])) ∷ [])) used) used
+        (record_of server 1 1 other (of_bytes (a ∷ b ∷ c ∷ d ∷ [])) ∷ [])))
         ≡ codes "answers: " ++ (written name ++ (codes " is known to "
         ++ (labels_written server ++ (codes " at " ++ address_text (a ∷ b ∷ c ∷ d ∷ []))))) }
 {}
@@ -34,89 +34,86 @@ pub fn redirects_in_words()
 /// Codes in words: of an error of port 138 (RFC 1002 section 4.4.3), and of a refused session
 /// (4.3.4).
 pub fn codes_in_words()
-    ensures errors { (flags used : ℕ) (key : Key) →
-        (said (datagram_fields (Error (record { flags = flags; key = key; code = 130 }))
-        used) used
+    ensures errors { (flags : ℕ) (key : Key) →
+        (phrase (datagram_said (Error (record { flags = flags; key = key; code = 130 })))
         ≡ codes "error: no such destination name (82)")
-        × (said (datagram_fields (Error (record { flags = flags; key = key; code = 131 }))
-        used) used
+        × (phrase (datagram_said (Error (record { flags = flags; key = key; code = 131 })))
         ≡ codes "error: source name of a wrong form (83)")
-        × (said (datagram_fields (Error (record { flags = flags; key = key; code = 132 }))
-        used) used
+        × (phrase (datagram_said (Error (record { flags = flags; key = key; code = 132 })))
         ≡ codes "error: destination name of a wrong form (84)")
-        × (said (datagram_fields (Error (record { flags = flags; key = key; code = 26 }))
-        used) used
+        × (phrase (datagram_said (Error (record { flags = flags; key = key; code = 26 })))
         ≡ codes "error: unknown code (1a)") }
-    ensures refusals { (used : ℕ) →
-        (said (session_fields (Whole (sessions.Negative 128) used)) used
+    ensures refusals { (phrase (session_said (sessions.Negative 128))
         ≡ codes "refuses: not listening on called name (80)")
-        × (said (session_fields (Whole (sessions.Negative 129) used)) used
+        × (phrase (session_said (sessions.Negative 129))
         ≡ codes "refuses: not listening for calling name (81)")
-        × (said (session_fields (Whole (sessions.Negative 130) used)) used
+        × (phrase (session_said (sessions.Negative 130))
         ≡ codes "refuses: called name not present (82)")
-        × (said (session_fields (Whole (sessions.Negative 131) used)) used
+        × (phrase (session_said (sessions.Negative 131))
         ≡ codes "refuses: called name present, but insufficient resources (83)")
-        × (said (session_fields (Whole (sessions.Negative 143) used)) used
+        × (phrase (session_said (sessions.Negative 143))
         ≡ codes "refuses: unspecified error (8f)") }
 {}
 
-/// Queries of port 138 (RFC 1002 section 4.4.4), after which no bytes follow.
+/// Queries of port 138 (RFC 1002 section 4.4.4).
 pub fn relays_in_words()
-    ensures asked { (flags used : ℕ) (key : Key) (destination : NetbiosName) →
-        said (datagram_fields (Query (record {
+    ensures asked { (flags : ℕ) (key : Key) (destination : NetbiosName) →
+        phrase (datagram_said (Query (record {
           kind = queries.Request;
           flags = flags;
           key = key;
           destination = destination;
-        })) used) used
+        })))
         ≡ codes "asks whether datagrams are relayed to " ++ written destination }
-    ensures relayed { (flags used : ℕ) (key : Key) (destination : NetbiosName) →
-        said (datagram_fields (Query (record {
+    ensures relayed { (flags : ℕ) (key : Key) (destination : NetbiosName) →
+        phrase (datagram_said (Query (record {
           kind = queries.Positive;
           flags = flags;
           key = key;
           destination = destination;
-        })) used) used
+        })))
         ≡ codes "answers: datagrams are relayed to " ++ written destination }
-    ensures not_relayed { (flags used : ℕ) (key : Key) (destination : NetbiosName) →
-        said (datagram_fields (Query (record {
+    ensures not_relayed { (flags : ℕ) (key : Key) (destination : NetbiosName) →
+        phrase (datagram_said (Query (record {
           kind = queries.Negative;
           flags = flags;
           key = key;
           destination = destination;
-        })) used) used
+        })))
         ≡ codes "answers: no datagrams are relayed to " ++ written destination }
 {}
 
-/// A payload that begins with no packet: the fault, and its place, with which its text ends, and
-/// which counts in the payload, or in the spelling of a name that is no NetBIOS name's (RFC 1002
-/// section 4.1); the front of a packet of port 139; and what stands after such a packet.
+/// A payload that begins with no packet: which name is wrong, what is wrong, and its place, which
+/// counts in the payload, or in the spelling of a name that is no NetBIOS name's (RFC 1002 section
+/// 4.1); the front of a packet of port 139; and what stands after such a packet.
 pub fn refusals_in_words()
-    ensures placed { (fault : List ℕ) (place size : ℕ) →
-        said (refused_fields (fault ++ 32 ∷ decimal place) (Some place)) size
-        ≡ codes "refused: " ++ (fault ++ (codes ", at byte "
-        ++ (decimal place ++ place_word fault))) }
-    ensures in_names { (place size : ℕ) →
-        (said (refused_fields (codes "name: not netbios" ++ 32 ∷ decimal place)
-        (Some place)) size
+    ensures placed { (at : ℕ) →
+        (phrase (service_refused_said (Truncated at)) ≡ codes "refused: truncated, at byte "
+        ++ decimal at)
+        × (phrase (datagram_refused_said (DestinationName (BadPointer at)))
+        ≡ codes "refused: destination name: bad pointer, at byte " ++ decimal at)
+        × (phrase (session_refused_said (TrailingBytes at))
+        ≡ codes "refused: trailing bytes, at byte " ++ decimal at) }
+    ensures in_names { (place : ℕ) →
+        (phrase (session_refused_said (Name (NotNetbios place)))
         ≡ codes "refused: name: not netbios, at byte "
         ++ (decimal place ++ codes " of the name"))
-        × (said (refused_fields (codes "source name: not netbios" ++ 32 ∷ decimal place)
-        (Some place)) size
+        × (phrase (datagram_refused_said (SourceName (NotNetbios place)))
         ≡ codes "refused: source name: not netbios, at byte "
         ++ (decimal place ++ codes " of the name"))
-        × (said (refused_fields (codes "destination name: not netbios" ++ 32 ∷ decimal place)
-        (Some place)) size
+        × (phrase (datagram_refused_said (DestinationName (NotNetbios place)))
         ≡ codes "refused: destination name: not netbios, at byte "
         ++ (decimal place ++ codes " of the name")) }
-    ensures unplaced { (fault : List ℕ) (size : ℕ) →
-        said (refused_fields fault None) size ≡ codes "refused: " ++ fault }
-    ensures fronts { (needed size : ℕ) → said (session_fields (More needed)) size
+    ensures unplaced { (phrase (session_refused_said UnknownType)
+        ≡ codes "refused: unknown type")
+        × (phrase (service_refused_said NoMemory) ≡ codes "refused: memory") }
+    ensures fronts { (needed size : ℕ) → phrase (parsed_said (More needed) size)
         ≡ codes "begins a packet that lacks " ++ (decimal needed
         ++ (if needed == 1 then codes " byte" else codes " bytes")) }
+    ensures alone { (packet : SessionPacket) (used : ℕ) →
+        phrase (parsed_said (Whole packet used) used) ≡ phrase (session_said packet) }
     ensures followed { (packet : SessionPacket) (used size : ℕ) → used < size →
-        said (session_fields (Whole packet used)) size
-        ≡ said (session_fields (Whole packet used)) used
-        ++ (codes ", " ++ (decimal (size - used)
+        phrase (parsed_said (Whole packet used) size)
+        ≡ phrase (session_said packet) ++ (codes ", " ++ (decimal (size - used)
         ++ (if size - used == 1 then codes " byte follows" else codes " bytes follow"))) }
 {}

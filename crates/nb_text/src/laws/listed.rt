@@ -1,6 +1,6 @@
 //! Laws of what is listed in a phrase.
 ghost use Rattle.std.specs.Prelude.{◌≡◌};
-ghost use Rattle.nb_text.specs.Noted.{most_listed};
+ghost use Rattle.nb_text.specs.ServiceSaid.{most_listed};
 
 /// How many of what is listed stand in a phrase.
 pub fn numbers()

@@ -7,75 +7,72 @@ ghost use Rattle.nb_names.specs.Name.{NetbiosName, IsName};
 ghost use Rattle.nb_names.specs.NameText.{written};
 ghost use Rattle.nb_service.specs.Requests.{claim, query_packet, refresh_packet, registration_packet, release_packet, status_packet};
 ghost use Rattle.nb_session.specs.declared.packet.Packet.TheVariants as sessions;
-ghost use Rattle.nb_session.specs.declared.parsing.Parsed.TheVariants.{Whole};
 ghost use Rattle.nb_datagram.specs.declared.key.Key.{Key};
 ghost use Rattle.nb_datagram.specs.declared.kind.Kind.TheVariants.{Broadcast, Group, Unique};
 ghost use Rattle.nb_datagram.specs.declared.packet.Packet.TheVariants.{Direct};
 ghost use Rattle.nb_datagram.specs.Fragment.{has_more};
-ghost use Rattle.nb_text.specs.DatagramFields.{datagram_fields};
-ghost use Rattle.nb_text.specs.Said.{said};
-ghost use Rattle.nb_text.specs.ServiceFields.{service_fields};
-ghost use Rattle.nb_text.specs.SessionFields.{session_fields};
+ghost use Rattle.nb_text.specs.Said.{datagram_said, phrase, session_said};
+ghost use Rattle.nb_text.specs.ServiceSaid.{service_said};
 ghost use Rattle.nb_text.specs.Words.{is_set};
 
-/// Requests of port 137, after which no bytes follow: a query says the name that it asks for (RFC
+/// Requests of port 137: a query says the name that it asks for (RFC
 /// 1002 sections 4.2.12 and 4.2.17); a registration (4.2.2), one that overwrites (4.2.3), one of a
 /// host of several addresses (our choice) and a refresh (4.2.4) the name, the address and the time
 /// of the record, and whether G is set in it; a release (4.2.9) the same without a time.
 pub fn requests_in_words()
-    ensures queries { (id used : ℕ) (name : NetbiosName) (broadcast : Bool) → IsName name →
-        said (service_fields (query_packet id name broadcast) used) used
+    ensures queries { (id : ℕ) (name : NetbiosName) (broadcast : Bool) → IsName name →
+        phrase (service_said (query_packet id name broadcast))
         ≡ codes "asks for " ++ written name }
-    ensures statuses { (id used : ℕ) (name : NetbiosName) (broadcast : Bool) → IsName name →
-        said (service_fields (status_packet id name broadcast) used) used
+    ensures statuses { (id : ℕ) (name : NetbiosName) (broadcast : Bool) → IsName name →
+        phrase (service_said (status_packet id name broadcast))
         ≡ codes "asks for the node status of " ++ written name }
-    ensures registrations { (id used ttl flags a b c d : ℕ) (name : NetbiosName)
+    ensures registrations { (id ttl flags a b c d : ℕ) (name : NetbiosName)
         (broadcast : Bool) → IsName name → flags < 65536 →
-        said (service_fields (registration_packet id name broadcast ttl
-        (to_be_bytes w16 flags ++ a ∷ b ∷ c ∷ d ∷ [])) used) used
+        phrase (service_said (registration_packet id name broadcast ttl
+        (to_be_bytes w16 flags ++ a ∷ b ∷ c ∷ d ∷ [])))
         ≡ codes "claims " ++ (written name
         ++ ((if is_set flags 32768 then codes " as a group for " else codes " for ")
         ++ (address_text (a ∷ b ∷ c ∷ d ∷ [])
         ++ (codes ", for " ++ (decimal ttl ++ codes " s"))))) }
-    ensures overwrites { (id used ttl flags a b c d : ℕ) (name : NetbiosName) → IsName name →
+    ensures overwrites { (id ttl flags a b c d : ℕ) (name : NetbiosName) → IsName name →
         flags < 65536 →
-        said (service_fields (claim id 10240 name ttl
-        (to_be_bytes w16 flags ++ a ∷ b ∷ c ∷ d ∷ [])) used) used
+        phrase (service_said (claim id 10240 name ttl
+        (to_be_bytes w16 flags ++ a ∷ b ∷ c ∷ d ∷ [])))
         ≡ codes "overwrites " ++ (written name
         ++ ((if is_set flags 32768 then codes " as a group for " else codes " for ")
         ++ (address_text (a ∷ b ∷ c ∷ d ∷ [])
         ++ (codes ", for " ++ (decimal ttl ++ codes " s"))))) }
-    ensures several { (id used ttl flags a b c d : ℕ) (name : NetbiosName) → IsName name →
+    ensures several { (id ttl flags a b c d : ℕ) (name : NetbiosName) → IsName name →
         flags < 65536 →
-        said (service_fields (claim id 30976 name ttl
-        (to_be_bytes w16 flags ++ a ∷ b ∷ c ∷ d ∷ [])) used) used
+        phrase (service_said (claim id 30976 name ttl
+        (to_be_bytes w16 flags ++ a ∷ b ∷ c ∷ d ∷ [])))
         ≡ codes "claims as one of several addresses " ++ (written name
         ++ ((if is_set flags 32768 then codes " as a group for " else codes " for ")
         ++ (address_text (a ∷ b ∷ c ∷ d ∷ [])
         ++ (codes ", for " ++ (decimal ttl ++ codes " s"))))) }
-    ensures refreshes { (id used ttl flags a b c d : ℕ) (name : NetbiosName)
+    ensures refreshes { (id ttl flags a b c d : ℕ) (name : NetbiosName)
         (broadcast : Bool) → IsName name → flags < 65536 →
-        said (service_fields (refresh_packet id name broadcast ttl
-        (to_be_bytes w16 flags ++ a ∷ b ∷ c ∷ d ∷ [])) used) used
+        phrase (service_said (refresh_packet id name broadcast ttl
+        (to_be_bytes w16 flags ++ a ∷ b ∷ c ∷ d ∷ [])))
         ≡ codes "refreshes " ++ (written name
         ++ ((if is_set flags 32768 then codes " as a group for " else codes " for ")
         ++ (address_text (a ∷ b ∷ c ∷ d ∷ [])
         ++ (codes ", for " ++ (decimal ttl ++ codes " s"))))) }
-    ensures releases { (id used flags a b c d : ℕ) (name : NetbiosName) (broadcast : Bool) →
+    ensures releases { (id flags a b c d : ℕ) (name : NetbiosName) (broadcast : Bool) →
         IsName name → flags < 65536 →
-        said (service_fields (release_packet id name broadcast
-        (to_be_bytes w16 flags ++ a ∷ b ∷ c ∷ d ∷ [])) used) used
+        phrase (service_said (release_packet id name broadcast
+        (to_be_bytes w16 flags ++ a ∷ b ∷ c ∷ d ∷ [])))
         ≡ codes "releases " ++ (written name
         ++ ((if is_set flags 32768 then codes " as a group for " else codes " for ")
         ++ address_text (a ∷ b ∷ c ∷ d ∷ []))) }
 {}
 
-/// Datagrams of port 138 (RFC 1002 sections 4.4.1 and 4.4.2), after which no bytes follow: who
-/// sends, to whom, how many bytes, and which where they aren't all.
+/// Datagrams of port 138 (RFC 1002 sections 4.4.1 and 4.4.2): who sends, to whom, how many bytes,
+/// and which where they aren't all.
 pub fn datagrams_in_words()
-    ensures unique { (flags used : ℕ) (key : Key) (source destination : NetbiosName)
+    ensures unique { (flags : ℕ) (key : Key) (source destination : NetbiosName)
         (bytes : List ℕ) → has_more flags ≡ false →
-        said (datagram_fields (Direct (record {
+        phrase (datagram_said (Direct (record {
           kind = Unique;
           flags = flags;
           key = key;
@@ -83,13 +80,13 @@ pub fn datagrams_in_words()
           source = source;
           destination = destination;
           bytes = bytes;
-        })) used) used
+        })))
         ≡ codes "datagram from " ++ (written source ++ (codes " to " ++ (written destination
         ++ (codes ", " ++ (decimal (length bytes)
         ++ (if length bytes == 1 then codes " byte" else codes " bytes")))))) }
-    ensures group { (flags used : ℕ) (key : Key) (source destination : NetbiosName)
+    ensures group { (flags : ℕ) (key : Key) (source destination : NetbiosName)
         (bytes : List ℕ) → has_more flags ≡ false →
-        said (datagram_fields (Direct (record {
+        phrase (datagram_said (Direct (record {
           kind = Group;
           flags = flags;
           key = key;
@@ -97,13 +94,13 @@ pub fn datagrams_in_words()
           source = source;
           destination = destination;
           bytes = bytes;
-        })) used) used
+        })))
         ≡ codes "group datagram from " ++ (written source ++ (codes " to "
         ++ (written destination ++ (codes ", " ++ (decimal (length bytes)
         ++ (if length bytes == 1 then codes " byte" else codes " bytes")))))) }
-    ensures broadcast { (flags used : ℕ) (key : Key) (source destination : NetbiosName)
+    ensures broadcast { (flags : ℕ) (key : Key) (source destination : NetbiosName)
         (bytes : List ℕ) → has_more flags ≡ false →
-        said (datagram_fields (Direct (record {
+        phrase (datagram_said (Direct (record {
           kind = Broadcast;
           flags = flags;
           key = key;
@@ -111,13 +108,13 @@ pub fn datagrams_in_words()
           source = source;
           destination = destination;
           bytes = bytes;
-        })) used) used
+        })))
         ≡ codes "broadcast datagram from " ++ (written source ++ (codes " to "
         ++ (written destination ++ (codes ", " ++ (decimal (length bytes)
         ++ (if length bytes == 1 then codes " byte" else codes " bytes")))))) }
-    ensures front { (flags used offset : ℕ) (key : Key) (source destination : NetbiosName)
+    ensures front { (flags offset : ℕ) (key : Key) (source destination : NetbiosName)
         (bytes : List ℕ) → has_more flags ≡ true →
-        said (datagram_fields (Direct (record {
+        phrase (datagram_said (Direct (record {
           kind = Unique;
           flags = flags;
           key = key;
@@ -125,15 +122,14 @@ pub fn datagrams_in_words()
           source = source;
           destination = destination;
           bytes = bytes;
-        }))
-        used) used
+        })))
         ≡ codes "datagram from " ++ (written source ++ (codes " to " ++ (written destination
         ++ (codes ", " ++ (decimal (length bytes)
         ++ ((if length bytes == 1 then codes " byte" else codes " bytes")
         ++ (codes " at offset " ++ (decimal offset ++ codes " of one that goes on")))))))) }
-    ensures last { (flags used offset : ℕ) (key : Key) (source destination : NetbiosName)
+    ensures last { (flags offset : ℕ) (key : Key) (source destination : NetbiosName)
         (bytes : List ℕ) → has_more flags ≡ false → 0 < offset →
-        said (datagram_fields (Direct (record {
+        phrase (datagram_said (Direct (record {
           kind = Unique;
           flags = flags;
           key = key;
@@ -141,31 +137,27 @@ pub fn datagrams_in_words()
           source = source;
           destination = destination;
           bytes = bytes;
-        }))
-        used) used
+        })))
         ≡ codes "datagram from " ++ (written source ++ (codes " to " ++ (written destination
         ++ (codes ", " ++ (decimal (length bytes)
         ++ ((if length bytes == 1 then codes " byte" else codes " bytes")
         ++ (codes " at offset " ++ (decimal offset ++ codes ", the last")))))))) }
 {}
 
-/// Packets of port 139, after which no bytes follow (RFC 1002 section 4.3): a request says who is
-/// called, and as whom.
+/// Packets of port 139 (RFC 1002 section 4.3): a request says who is called, and as whom.
 pub fn sessions_in_words()
-    ensures requests { (called calling : NetbiosName) (used : ℕ) →
-        said (session_fields (Whole (sessions.Request called calling) used)) used
+    ensures requests { (called calling : NetbiosName) →
+        phrase (session_said (sessions.Request called calling))
         ≡ codes "calls " ++ (written called ++ (codes " as " ++ written calling)) }
-    ensures messages { (bytes : List ℕ) (used : ℕ) →
-        said (session_fields (Whole (sessions.Message bytes) used)) used
+    ensures messages { (bytes : List ℕ) →
+        phrase (session_said (sessions.Message bytes))
         ≡ codes "sends " ++ (decimal (length bytes)
         ++ (if length bytes == 1 then codes " byte" else codes " bytes")) }
-    ensures positives { (used : ℕ) →
-        said (session_fields (Whole sessions.Positive used)) used ≡ codes "accepts" }
-    ensures retargets { (address : List ℕ) (port used : ℕ) →
-        said (session_fields (Whole (sessions.Retarget address port) used)) used
+    ensures positives { phrase (session_said sessions.Positive) ≡ codes "accepts" }
+    ensures retargets { (address : List ℕ) (port : ℕ) →
+        phrase (session_said (sessions.Retarget address port))
         ≡ codes "sends the caller to " ++ (address_text address
         ++ (codes ", port " ++ decimal port)) }
-    ensures keepalives { (used : ℕ) →
-        said (session_fields (Whole sessions.Keepalive used)) used
+    ensures keepalives { phrase (session_said sessions.Keepalive)
         ≡ codes "keeps the session alive" }
 {}

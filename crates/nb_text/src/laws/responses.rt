@@ -1,5 +1,5 @@
 //! Laws of the phrases of responses of port 137.
-ghost use Rattle.std.specs.Prelude.{◌≡◌, ℕ, ◌<◌, List, [], ◌∷◌, ◌++◌, codes, if◌then◌else◌};
+ghost use Rattle.std.specs.Prelude.{◌≡◌, ℕ, ◌<◌, [], ◌∷◌, ◌++◌, codes, if◌then◌else◌};
 ghost use Rattle.std.specs.Fmt.{decimal};
 ghost use Rattle.std.specs.Int.{w16, to_be_bytes};
 ghost use Rattle.nb_names.specs.Addresses.{address_text};
@@ -7,69 +7,69 @@ ghost use Rattle.nb_names.specs.Name.{NetbiosName, IsName, labels_of_name};
 ghost use Rattle.nb_names.specs.NameText.{written};
 ghost use Rattle.nb_service.specs.Building.{packet_of};
 ghost use Rattle.nb_service.specs.Record.{of_bytes, record_of};
-ghost use Rattle.nb_text.specs.Said.{said};
-ghost use Rattle.nb_text.specs.ServiceFields.{service_fields};
+ghost use Rattle.nb_text.specs.Said.{phrase};
+ghost use Rattle.nb_text.specs.ServiceSaid.{service_said};
 ghost use Rattle.nb_text.specs.Words.{is_set};
 
-/// Responses to a query, with one record and no bytes after them: a positive one (RFC 1002 section
+/// Responses to a query, with one record: a positive one (RFC 1002 section
 /// 4.2.13; its flag word is 8580 in hexadecimal) says where the name is, in the order of the
 /// addresses, and whether G is set in the first flags; a negative one (4.2.14, 8583) why there is
 /// no address.
 pub fn answers_in_words()
-    ensures found { (id used ttl flags others a b c d e f g h : ℕ) (name : NetbiosName) →
+    ensures found { (id ttl flags others a b c d e f g h : ℕ) (name : NetbiosName) →
         IsName name → flags < 65536 →
-        said (service_fields (packet_of id 34176 [] (record_of (labels_of_name name) 32 1 ttl
+        phrase (service_said (packet_of id 34176 [] (record_of (labels_of_name name) 32 1 ttl
         (of_bytes ((to_be_bytes w16 flags ++ a ∷ b ∷ c ∷ d ∷ [])
-        ++ (to_be_bytes w16 others ++ e ∷ f ∷ g ∷ h ∷ []))) ∷ []) [] []) used) used
+        ++ (to_be_bytes w16 others ++ e ∷ f ∷ g ∷ h ∷ []))) ∷ []) [] []))
         ≡ codes "answers: " ++ (written name
         ++ ((if is_set flags 32768 then codes " is a group at " else codes " is at ")
         ++ (address_text (a ∷ b ∷ c ∷ d ∷ []) ++ (codes ", "
         ++ address_text (e ∷ f ∷ g ∷ h ∷ []))))) }
-    ensures absent { (id used ttl : ℕ) (name : NetbiosName) → IsName name →
-        said (service_fields (packet_of id 34179 [] (record_of (labels_of_name name) 10 1 ttl
-        (of_bytes []) ∷ []) [] []) used) used
+    ensures absent { (id ttl : ℕ) (name : NetbiosName) → IsName name →
+        phrase (service_said (packet_of id 34179 [] (record_of (labels_of_name name) 10 1 ttl
+        (of_bytes []) ∷ []) [] []))
         ≡ codes "answers: " ++ (written name ++ codes " is not found: no such name (NAM_ERR)") }
 {}
 
-/// Responses to a registration and a release, with one record and no bytes after them, told apart
+/// Responses to a registration and a release, with one record, told apart
 /// by their flag words: a positive one (RFC 1002 section 4.2.5; AD80 in hexadecimal) says what it
 /// grants; a negative one (4.2.6, AD86) why it refuses; a challenge (4.2.7, AD00) where the name
 /// is; a conflict (4.2.8, AD87) the name; those to a release (4.2.10 and 4.2.11, B400 and B405)
 /// that it is granted, or why not; and one to wait (4.2.16, BC00) how long.
 pub fn outcomes_in_words()
-    ensures granted { (id used ttl flags a b c d : ℕ) (name : NetbiosName) → IsName name →
+    ensures granted { (id ttl flags a b c d : ℕ) (name : NetbiosName) → IsName name →
         flags < 65536 →
-        said (service_fields (packet_of id 44416 [] (record_of (labels_of_name name) 32 1 ttl
-        (of_bytes (to_be_bytes w16 flags ++ a ∷ b ∷ c ∷ d ∷ [])) ∷ []) [] []) used) used
+        phrase (service_said (packet_of id 44416 [] (record_of (labels_of_name name) 32 1 ttl
+        (of_bytes (to_be_bytes w16 flags ++ a ∷ b ∷ c ∷ d ∷ [])) ∷ []) [] []))
         ≡ codes "grants " ++ (written name
         ++ ((if is_set flags 32768 then codes " as a group for " else codes " for ")
         ++ (address_text (a ∷ b ∷ c ∷ d ∷ [])
         ++ (codes ", for " ++ (decimal ttl ++ codes " s"))))) }
-    ensures refused { (id used ttl flags a b c d : ℕ) (name : NetbiosName) → IsName name →
-        said (service_fields (packet_of id 44422 [] (record_of (labels_of_name name) 32 1 ttl
-        (of_bytes (to_be_bytes w16 flags ++ a ∷ b ∷ c ∷ d ∷ [])) ∷ []) [] []) used) used
+    ensures refused { (id ttl flags a b c d : ℕ) (name : NetbiosName) → IsName name →
+        phrase (service_said (packet_of id 44422 [] (record_of (labels_of_name name) 32 1 ttl
+        (of_bytes (to_be_bytes w16 flags ++ a ∷ b ∷ c ∷ d ∷ [])) ∷ []) [] []))
         ≡ codes "refuses " ++ (written name ++ codes ": owned by another node (ACT_ERR)") }
-    ensures challenged { (id used ttl flags a b c d : ℕ) (name : NetbiosName) → IsName name →
-        said (service_fields (packet_of id 44288 [] (record_of (labels_of_name name) 32 1 ttl
-        (of_bytes (to_be_bytes w16 flags ++ a ∷ b ∷ c ∷ d ∷ [])) ∷ []) [] []) used) used
+    ensures challenged { (id ttl flags a b c d : ℕ) (name : NetbiosName) → IsName name →
+        phrase (service_said (packet_of id 44288 [] (record_of (labels_of_name name) 32 1 ttl
+        (of_bytes (to_be_bytes w16 flags ++ a ∷ b ∷ c ∷ d ∷ [])) ∷ []) [] []))
         ≡ codes "asks to challenge " ++ (written name
         ++ (codes " at " ++ address_text (a ∷ b ∷ c ∷ d ∷ []))) }
-    ensures conflicts { (id used ttl flags a b c d : ℕ) (name : NetbiosName) → IsName name →
-        said (service_fields (packet_of id 44423 [] (record_of (labels_of_name name) 32 1 ttl
-        (of_bytes (to_be_bytes w16 flags ++ a ∷ b ∷ c ∷ d ∷ [])) ∷ []) [] []) used) used
+    ensures conflicts { (id ttl flags a b c d : ℕ) (name : NetbiosName) → IsName name →
+        phrase (service_said (packet_of id 44423 [] (record_of (labels_of_name name) 32 1 ttl
+        (of_bytes (to_be_bytes w16 flags ++ a ∷ b ∷ c ∷ d ∷ [])) ∷ []) [] []))
         ≡ codes "conflict about " ++ written name }
-    ensures released { (id used ttl flags a b c d : ℕ) (name : NetbiosName) → IsName name →
-        said (service_fields (packet_of id 46080 [] (record_of (labels_of_name name) 32 1 ttl
-        (of_bytes (to_be_bytes w16 flags ++ a ∷ b ∷ c ∷ d ∷ [])) ∷ []) [] []) used) used
+    ensures released { (id ttl flags a b c d : ℕ) (name : NetbiosName) → IsName name →
+        phrase (service_said (packet_of id 46080 [] (record_of (labels_of_name name) 32 1 ttl
+        (of_bytes (to_be_bytes w16 flags ++ a ∷ b ∷ c ∷ d ∷ [])) ∷ []) [] []))
         ≡ codes "grants the release of " ++ written name }
-    ensures kept { (id used ttl flags a b c d : ℕ) (name : NetbiosName) → IsName name →
-        said (service_fields (packet_of id 46085 [] (record_of (labels_of_name name) 32 1 ttl
-        (of_bytes (to_be_bytes w16 flags ++ a ∷ b ∷ c ∷ d ∷ [])) ∷ []) [] []) used) used
+    ensures kept { (id ttl flags a b c d : ℕ) (name : NetbiosName) → IsName name →
+        phrase (service_said (packet_of id 46085 [] (record_of (labels_of_name name) 32 1 ttl
+        (of_bytes (to_be_bytes w16 flags ++ a ∷ b ∷ c ∷ d ∷ [])) ∷ []) [] []))
         ≡ codes "refuses the release of " ++ (written name
         ++ codes ": refused by policy (RFS_ERR)") }
-    ensures waits { (id used ttl high low : ℕ) (name : NetbiosName) → IsName name →
-        said (service_fields (packet_of id 48128 [] (record_of (labels_of_name name) 32 1 ttl
-        (of_bytes (high ∷ low ∷ [])) ∷ []) [] []) used) used
+    ensures waits { (id ttl high low : ℕ) (name : NetbiosName) → IsName name →
+        phrase (service_said (packet_of id 48128 [] (record_of (labels_of_name name) 32 1 ttl
+        (of_bytes (high ∷ low ∷ [])) ∷ []) [] []))
         ≡ codes "asks to wait for " ++ (written name
         ++ (codes ", for " ++ (decimal ttl ++ codes " s"))) }
 {}

@@ -1,4 +1,3 @@
-use Rattle.std.proofs.Common.{◌++◌, fold, ap, sym, ◌∙◌}
 use Rattle.std.proofs.lemmas.Result.{on_ok_weaker}
 use Rattle.nb_service.specs.Header.{header_value}
 use Rattle.nb_telling.proofs.FoldLemmas.{and_then}

@@ -1,5 +1,4 @@
-use Rattle.std.proofs.Common.{◌++◌, codes, fold, ap, sym, ◌∙◌}
-use Rattle.std.proofs.lemmas.Result.{on_ok_weaker}
+use Rattle.std.proofs.Common.{◌++◌, codes}
 use Rattle.std.specs.List.{flat_map}
 use Rattle.nb_service.specs.Packet.{RecordAt}
 use Rattle.nb_telling.proofs.FoldLemmas.{and_then}

@@ -1,23 +1,18 @@
-use Rattle.std.proofs.Common.{◌≡◌, ◌∷◌, [], ℕ, List, fold, refl, sym, ap, ◌∙◌}
+use Rattle.std.proofs.Common.{◌≡◌, ◌∷◌, [], ℕ, List, fold, refl, ap, ◌∙◌}
 use Rattle.std.proofs.lemmas.Result.{on_ok_weaker}
 use Rattle.nb_names.specs.NameText.{labels_written}
 use Rattle.nb_service.specs.declared.fields.Fields.{Fields}
 use Rattle.nb_service.specs.declared.kinds.TheConstants.{NS}
-use Rattle.nb_service.specs.Packet.{RdataAt, bytes_there, domain_there}
-use Rattle.nb_service.specs.Record.{ResourceData, ResourceRecord, of_bytes, of_domain}
-use Rattle.nb_telling.specs.Fields.{Field, Data, LineEnds, Text}
+use Rattle.nb_service.specs.Record.{ResourceRecord, of_bytes, of_domain}
+use Rattle.nb_telling.specs.Fields.{Data, LineEnds, Text}
 use Rattle.nb_text.specs.Keys.{data_key, domain_key}
 use Rattle.nb_text.specs.ServiceFields.{data_fields, rdata_field, view_fields}
+use Rattle.nb_text.proofs.HeardLemmas.{is_ns}
 use Rattle.nb_text.proofs.records.tell_rdata.Goals as goal
 
 bytes_same : (e : ResourceRecord) (kind : ℕ) (bytes : List ℕ) → kind ≡ e.kind → of_bytes bytes ≡ e.rdata →
     Data data_key bytes ∷ LineEnds ∷ data_fields kind bytes ≡ rdata_field e.rdata ∷ LineEnds ∷ view_fields e
 bytes_same e kind bytes k d = rw (← k, ← d) refl
-
--- RDATA that is a name is of kind NS
-is_ns : (b : List ℕ) (at size kind : ℕ) (d : ResourceData) (labels : List (List ℕ)) → of_domain labels ≡ d → RdataAt b at size kind d → kind ≡ NS
-is_ns b at size kind d labels e (bytes_there bytes other long there) = absurd (cc)
-is_ns b at size kind d labels e (domain_there ls is h) = is
 
 domain_same : (e : ResourceRecord) (labels : List (List ℕ)) → e.kind ≡ NS → of_domain labels ≡ e.rdata →
     Text domain_key (labels_written labels) ∷ LineEnds ∷ [] ≡ rdata_field e.rdata ∷ LineEnds ∷ view_fields e

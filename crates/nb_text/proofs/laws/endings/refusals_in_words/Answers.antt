@@ -1,16 +1,21 @@
-use Rattle.std.proofs.Common.{codes}
-use Rattle.nb_text.proofs.SaidPackets.{front_lacks, refused_said, session_follows, unplaced_said}
+use Rattle.std.proofs.Common.{List, ℕ, ◌++◌, codes, refl, ap}
+use Rattle.std.specs.Fmt.{decimal}
+use Rattle.std.proofs.lemmas.List.{append-nil}
+use Rattle.nb_text.proofs.PhraseLemmas.{followed}
+use Rattle.nb_text.proofs.SaidLemmas.{none_follow}
+use Rattle.nb_text.specs.Said.{session_said}
 use Rattle.nb_text.proofs.laws.endings.refusals_in_words.Goals as goal
 
 pub returns : goal.returns
 returns c = record {
-  placed = refused_said;
-  in_names = λ place size. (
-    refused_said (codes "name: not netbios") place size,
-    refused_said (codes "source name: not netbios") place size,
-    refused_said (codes "destination name: not netbios") place size,
+  placed = λ at. (
+    ap (λ (t : List ℕ). codes "refused: truncated, at byte " ++ t) (append-nil (decimal at)),
+    ap (λ (t : List ℕ). codes "refused: destination name: bad pointer, at byte " ++ t) (append-nil (decimal at)),
+    ap (λ (t : List ℕ). codes "refused: trailing bytes, at byte " ++ t) (append-nil (decimal at)),
   );
-  unplaced = unplaced_said;
-  fronts = front_lacks;
-  followed = session_follows;
+  in_names = λ place. (refl, refl, refl);
+  unplaced = (refl, refl);
+  fronts = λ needed size. refl;
+  alone = λ packet used. none_follow (session_said packet) used;
+  followed = followed;
 }

@@ -1,4 +1,5 @@
-use Rattle.nb_text.proofs.SaidPackets.{claim_said, multihomed_said, query_said, refresh_said, registration_said, release_said, status_said}
+use Rattle.std.proofs.Common.{◌∷◌, [], codes}
+use Rattle.nb_text.proofs.PhraseLemmas.{held, lasting, query_said, refresh_said, registration_said, release_said, status_said}
 use Rattle.nb_text.proofs.laws.phrases.requests_in_words.Goals as goal
 
 pub returns : goal.returns
@@ -6,8 +7,8 @@ returns c = record {
   queries = query_said;
   statuses = status_said;
   registrations = registration_said;
-  overwrites = claim_said;
-  several = multihomed_said;
+  overwrites = λ id ttl flags a b c d name is low. held (codes "overwrites ") _ _ (lasting (a ∷ b ∷ c ∷ d ∷ []) ttl) name flags is low;
+  several = λ id ttl flags a b c d name is low. held (codes "claims as one of several addresses ") _ _ (lasting (a ∷ b ∷ c ∷ d ∷ []) ttl) name flags is low;
   refreshes = refresh_said;
   releases = release_said;
 }

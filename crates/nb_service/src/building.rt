@@ -1,14 +1,12 @@
-//! Requests, built.
+//! Packets that are built: requests, and responses to one.
 ghost use Rattle.std.specs.Prelude.{◌≡◌, [], ◌∷◌, IfOk};
-ghost use Rattle.nb_service.specs.Requests.{asking, inquiry, claim};
-ghost use Rattle.nb_service.specs.Requests.{query_packet, status_packet};
-ghost use Rattle.nb_service.specs.Requests.{registration_packet, refresh_packet, release_packet};
+ghost use Rattle.nb_service.specs.Requests.{asking, inquiry, claim, query_packet, status_packet, registration_packet, refresh_packet, release_packet};
+ghost use Rattle.nb_service.specs.Responses.{one_answer};
 
 use crate::classes::IN;
 use crate::kinds::{NB, NBSTAT};
 use crate::limits::ENTRY_LENGTH;
-use crate::lists::{Questions, no_item, one_item};
-use crate::packet::Packet;
+use crate::packet::{Packet, Questions, no_item, one_item};
 use crate::question::Question;
 use crate::rdata::Rdata;
 use crate::record::Record;
@@ -176,4 +174,31 @@ pub fn release<'a>(
 {
     let word = if broadcast { 0x3010 } else { 0x3000 };
     build_claim(alloc, id, word, name, 0, entry)
+}
+
+/// A packet with one answer, and nothing else: any response that has one record.
+///
+/// # Errors
+///
+/// [`NoMemory`] where memory ran out.
+///
+/// RFC 1002 sections 4.2.5 to 4.2.18, all but 4.2.8 and 4.2.15.
+pub fn response<'a>(
+    alloc: Global,
+    id: u16,
+    word: u16,
+    answer: Record<'a>,
+) -> Result<Packet<'a>, NoMemory>
+    ensures { IfOk result (λ packet. packet ≡ one_answer id word answer.entry) }
+{
+    let answers = one_item(alloc, answer)?;
+    let additional = no_item(alloc);
+    Ok(Packet::with_lists(
+        id,
+        word,
+        no_item(alloc),
+        answers,
+        no_item(alloc),
+        additional,
+    ))
 }

@@ -1,8 +1,8 @@
 use Rattle.std.proofs.Common.{◌∷◌, [], refl, ◌∙◌, arith, length-append}
 use Rattle.nb_service.specs.Packet.{QuestionAt}
 use Rattle.nb_service.proofs.ItemLemmas.{read_is_ok, read_is}
-use Rattle.nb_service.proofs.StepLemmas.{ahead_begun, ahead_next, ahead_turn, ahead_ended}
-use Rattle.nb_service.proofs.listing.list_questions.Goals as goal
+use Rattle.nb_service.proofs.PacketLemmas.{ahead_begun, ahead_next, ahead_turn, ahead_ended}
+use Rattle.nb_service.proofs.decoding.list_questions.Goals as goal
 
 pub loop-init : goal.loop-init
 loop-init c = rw c.new-questions.ensures.items (ahead_begun (QuestionAt c.args.names.now) c.args.at c.args.count c.args.at [], refl)

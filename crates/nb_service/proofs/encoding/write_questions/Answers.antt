@@ -1,6 +1,6 @@
 use Rattle.nb_service.specs.Encoding.{question_bytes, IsQuestion}
 use Rattle.nb_service.proofs.EncodingLemmas.{turn_written, turn_formed}
-use Rattle.nb_service.proofs.writing.write_questions.Goals as goal
+use Rattle.nb_service.proofs.encoding.write_questions.Goals as goal
 
 pub loop-question-preserved : goal.loop-question-preserved
 loop-question-preserved c =

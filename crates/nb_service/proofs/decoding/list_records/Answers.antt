@@ -1,8 +1,8 @@
 use Rattle.std.proofs.Common.{◌∷◌, [], refl, ◌∙◌, arith, length-append}
 use Rattle.nb_service.specs.Packet.{RecordAt}
 use Rattle.nb_service.proofs.ItemLemmas.{read_is_ok, read_is}
-use Rattle.nb_service.proofs.StepLemmas.{ahead_begun, ahead_next, ahead_turn, ahead_ended}
-use Rattle.nb_service.proofs.listing.list_records.Goals as goal
+use Rattle.nb_service.proofs.PacketLemmas.{ahead_begun, ahead_next, ahead_turn, ahead_ended}
+use Rattle.nb_service.proofs.decoding.list_records.Goals as goal
 
 pub loop-init : goal.loop-init
 loop-init c = rw c.new-records.ensures.items (ahead_begun (RecordAt c.args.names.now) c.args.at c.args.count c.args.at [], refl)

@@ -4,7 +4,7 @@ use Rattle.nb_service.specs.declared.seen.Seen.{Seen}
 use Rattle.nb_service.specs.Header.{header_value}
 use Rattle.nb_service.specs.Items.{PacketItem, asked, told, question_there, record_there, question_fails, record_fails, Sees, section_of}
 use Rattle.nb_service.proofs.NumberedLemmas.{record_counted, record_late}
-use Rattle.nb_service.proofs.item_reading.see_item.Goals as goal
+use Rattle.nb_service.proofs.seeing.see_item.Goals as goal
 
 -- what is answered of an item, beside where it stands
 abbrev Answered : List ℕ → Option Section → Seen → PacketItem → Type 0

@@ -1,6 +1,6 @@
 use Rattle.nb_service.specs.Encoding.{record_bytes, IsRecord}
 use Rattle.nb_service.proofs.EncodingLemmas.{turn_written, turn_formed}
-use Rattle.nb_service.proofs.writing.write_records.Goals as goal
+use Rattle.nb_service.proofs.encoding.write_records.Goals as goal
 
 pub loop-record-preserved : goal.loop-record-preserved
 loop-record-preserved c =

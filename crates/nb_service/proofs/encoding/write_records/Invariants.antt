@@ -1,7 +1,7 @@
 use Rattle.std.proofs.Common.{◌≡◌, ◌++◌, take}
 use Rattle.std.specs.List.{AllByRecursion, flat_map}
 use Rattle.nb_service.specs.Encoding.{record_bytes, IsRecord}
-use Rattle.nb_service.proofs.writing.write_records.Given as goal
+use Rattle.nb_service.proofs.encoding.write_records.Given as goal
 
 abbrev pub invariant-loop-record : goal.invariant-loop-record
 invariant-loop-record l =

@@ -1,5 +1,5 @@
--- Letters, two at a time.
-use Rattle.std.proofs.Common.{◌≡◌, ◌<◌, ◌≤◌, ◌+◌, ◌*◌, ◌/◌, ◌%◌, ◌&&◌, nat_lt, ℕ, Bool, true, List, [], ◌∷◌, ◌++◌, length, get_or, set, take, drop, refl, ap, sym, ◌∙◌, arith, inl, inr, append_assoc, length-set}
+-- First-level encoding: each byte of a name is two letters.
+use Rattle.std.proofs.Common.{◌≡◌, ◌<◌, ◌≤◌, ◌+◌, ◌*◌, ◌/◌, ◌%◌, ◌&&◌, nat_lt, ℕ, Bool, true, List, [], ◌∷◌, ◌++◌, length, get_or, set, take, drop, refl, ap, sym, ◌∙◌, arith, inl, inr, append_assoc, length-set, zero, suc}
 use Rattle.std.proofs.lemmas.List.{take_more, take_more_set, take_all, drop_more, length-drop}
 use Rattle.std.proofs.lemmas.Bool.{cases_lt, and_parts, ltb-true}
 use Rattle.nb_names.specs.FirstLevel.{letter, letters, IsLetter}
@@ -129,3 +129,13 @@ pair_more ls bytes rest pair behind good i high low so_far fits small is_pair is
           let two = letter_of (get_or ls (2 * i + 1) 0) low (small (2 * i + 1)) (rw second at al) l in
           rw byte (bytes_turn ls bytes i high low (omega (arith, size, fits)) fits h l one two (so_far.read front.0));
     }
+
+pub letters_high : (bytes : List ℕ) (place : ℕ) → place < length bytes → get_or (letters bytes) (2 * place) 0 ≡ 65 + get_or bytes place 0 / 16
+letters_high [] place within = absurd (omega arith)
+letters_high (b ∷ bs) zero within = refl
+letters_high (b ∷ bs) (suc place) within = let two : 2 * suc place ≡ suc (suc (2 * place)) = omega arith in rw two (letters_high bs place (omega arith))
+
+pub letters_low : (bytes : List ℕ) (place : ℕ) → place < length bytes → get_or (letters bytes) (2 * place + 1) 0 ≡ 65 + get_or bytes place 0 % 16
+letters_low [] place within = absurd (omega arith)
+letters_low (b ∷ bs) zero within = refl
+letters_low (b ∷ bs) (suc place) within = let two : 2 * suc place + 1 ≡ suc (suc (2 * place + 1)) = omega arith in rw two (letters_low bs place (omega arith))

@@ -4,8 +4,8 @@ use Rattle.nb_names.specs.declared.pointers.Pointers.{Pointers}
 use Rattle.nb_names.specs.declared.pointers.Pointers.TheVariants.{Followed}
 use Rattle.nb_names.specs.declared.fault.NameFault.{NameFault}
 use Rattle.nb_names.specs.declared.fault.NameFault.TheVariants.{TooLong}
-use Rattle.nb_names.specs.declared.label_fault.LabelFault.{LabelFault}
-use Rattle.nb_names.specs.declared.label_fault.LabelFault.TheVariants.{EmptyLabel, LabelTooLong, TooLong as PastLimit}
+use Rattle.nb_names.specs.declared.fault.LabelFault.{LabelFault}
+use Rattle.nb_names.specs.declared.fault.LabelFault.TheVariants.{EmptyLabel, LabelTooLong, TooLong as PastLimit}
 use Rattle.nb_names.specs.DomainName.{spelling, IsLabel, IsRefused}
 use Rattle.nb_names.specs.Code.LengthByte.{HasLabel}
 use Rattle.nb_names.specs.Labels.{StandsAt, IsPointer, LabelsAt, ends, goes_on, leads_to, NameAt}

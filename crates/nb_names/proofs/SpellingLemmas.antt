@@ -1,10 +1,29 @@
--- A spelling gives its labels back.
-use Rattle.std.proofs.Common.{◌≡◌, ℕ, ◌+◌, ◌-◌, ◌<◌, ◌≤◌, List, [], ◌∷◌, ◌++◌, length, take, drop, zero, suc, refl, ◌∙◌, ap, append_assoc, arith, length-append, append-nil, ◌⊎◌, ◌≢◌, Option, Some, None}
-use Rattle.std.specs.Option.{MatchOption}
+-- Spellings: what stands at a place, the labels that are spelled, and the limit of a scope.
+use Rattle.std.proofs.Common.{◌≡◌, ℕ, ◌<◌, ◌≤◌, List, [], ◌∷◌, length, drop, zero, suc, refl, arith, Some, None, slice_get, ◌+◌, ◌-◌, ◌++◌, take, ◌∙◌, ap, append_assoc, length-append, append-nil, ◌⊎◌, ◌≢◌, Option, Result, Ok, Err}
 use Rattle.std.specs.List.{AllByRecursion}
+use Rattle.nb_names.specs.DomainName.{IsLabel, spelling, AreBytes, AreByteLabels, IsDomain, Pushes}
+use Rattle.std.specs.Option.{MatchOption}
 use Rattle.std.proofs.Math.Seq.{take-append_seam, drop-append_seam}
-use Rattle.nb_names.specs.DomainName.{spelling, AreBytes, AreByteLabels, IsLabel, IsDomain}
 use Rattle.nb_names.specs.Code.Spelled.{labels_within, labels_of, IsSpelled, BeginsWith}
+use Rattle.nb_names.specs.declared.fault.LabelFault.{LabelFault}
+use Rattle.nb_names.specs.Name.{IsScope}
+
+pub none_left : {A : Type 0} (xs : List A) (n m : ℕ) → drop n xs ≡ [] → n ≤ m → slice_get xs m ≡ None
+none_left [] n m e h = refl
+none_left (x ∷ xs) zero m e h = cc
+none_left (x ∷ xs) (suc n) zero e h = absurd (omega arith)
+none_left (x ∷ xs) (suc n) (suc m) e h = none_left xs n m e (omega arith)
+
+pub some_left : {A : Type 0} (xs : List A) (n : ℕ) (y : A) (ys : List A) → drop n xs ≡ y ∷ ys → (slice_get xs n ≡ Some y) × (drop (suc n) xs ≡ ys) × (n < length xs)
+some_left [] zero y ys e = absurd (cc)
+some_left [] (suc n) y ys e = absurd (cc)
+some_left (x ∷ xs) zero y ys e = (cc, cc, omega arith)
+some_left (x ∷ xs) (suc n) y ys e = let h = some_left xs n y ys e in (h.0, h.1, omega (arith, h.2))
+
+pub All-drop : (ls : List (List ℕ)) (n : ℕ) → AllByRecursion IsLabel ls → AllByRecursion IsLabel (drop n ls)
+All-drop ls zero a = a
+All-drop [] (suc n) a = tt
+All-drop (l ∷ ls) (suc n) a = All-drop ls n a.1
 
 -- with fuel for them all, the labels that a spelling has
 pub labels_within-spelling : (n : ℕ) (ls : List (List ℕ)) → AllByRecursion IsLabel ls → length (spelling ls) ≤ n → labels_within n (spelling ls) ≡ ls
@@ -112,3 +131,12 @@ pub no_label_spelled : (ls : List (List ℕ)) → length (spelling ls) ≡ 1 →
 no_label_spelled [] e = refl
 no_label_spelled (l ∷ []) e = absurd (omega (arith, e, length-append l (spelling [])))
 no_label_spelled (l ∷ k ∷ ls) e = absurd (omega (arith, e, length-append l (spelling (k ∷ ls))))
+
+-- what a push leaves is a scope
+pub IsScope-pushed : (old new : List (List ℕ)) (label : List ℕ) (answer : Result Unit LabelFault) → Pushes 222 old new label answer → IsScope old → IsScope new
+IsScope-pushed old new label (Ok _) h scope =
+    rw h.2 (record {
+      domain = IsDomain-pushed old label scope.domain h.0 (omega (arith, h.1, length-spelling-snoc old label));
+      short = h.1;
+    })
+IsScope-pushed old new label (Err fault) h scope = rw h.1 scope

@@ -1,11 +1,11 @@
 -- What is written of a name is its text.
-use Rattle.std.proofs.Common.{◌≡◌, ◌≢◌, ◌==◌, ◌||◌, ℕ, ◌+◌, ◌-◌, ◌/◌, ◌%◌, ◌<◌, ◌≤◌, ◌^◌, Bool, true, false, IsTrue, if◌then◌else◌, List, [], ◌∷◌, ◌++◌, length, take, zero, suc, replicate, slice_index, refl, sym, ◌∙◌, ap, subst, arith, append_assoc, get_or, lit<}
+use Rattle.std.proofs.Common.{◌≡◌, ◌≢◌, ◌==◌, ℕ, ◌+◌, ◌-◌, ◌/◌, ◌%◌, ◌<◌, ◌≤◌, ◌^◌, Bool, true, false, if◌then◌else◌, List, [], ◌∷◌, ◌++◌, length, take, zero, suc, replicate, slice_index, refl, sym, ◌∙◌, ap, subst, arith, append_assoc, lit<}
 use Rattle.std.specs.List.{AllByRecursion}
-use Rattle.std.specs.Char.{digit_value, digit_char, is_ascii_graphic}
+use Rattle.std.specs.Char.{digit_value, digit_char}
 use Rattle.std.proofs.lemmas.Bool.{eqb-true}
 use Rattle.std.proofs.lemmas.Bool.Decides.{nat_tests}
 use Rattle.std.proofs.lemmas.List.{take_more, take_all, length-take, length-append, length-replicate}
-use Rattle.nb_names.specs.DomainName.{IsLabel, AreBytes, AreByteLabels}
+use Rattle.nb_names.specs.DomainName.{IsLabel, AreByteLabels}
 use Rattle.nb_names.specs.Name.{NetbiosName, IsName, IsByteName}
 use Rattle.nb_names.specs.NameText.{is_plain, byte_of, Item, plain, escaped, Items, no_item, more_items, ScopeText, no_label, more_labels, Parts, filled, IsText, digits_of, item_of, items_of, scope_text_of, kept_before, trimmed, written}
 
@@ -165,49 +165,3 @@ text_of_written name text e is = subst (IsText name) (sym e) (written-text name 
 -- writing a label leaves what is left to write
 pub label_turn : (label : List ℕ) (labels : List (List ℕ)) (before after whole : List ℕ) → after ≡ before ++ 46 ∷ items_of label → before ++ scope_text_of (label ∷ labels) ≡ whole → after ++ scope_text_of labels ≡ whole
 label_turn label labels before after whole a w = rw a (append_assoc before (46 ∷ items_of label) (scope_text_of labels) ∙ w)
-
-pub all_small : (bs : List ℕ) → ((i : ℕ) → get_or bs i 0 < 256) → AreBytes bs
-all_small [] h = tt
-all_small (b ∷ bs) h = (h 0, all_small bs (λ i. h (suc i)))
-
--- ---- what a text stands for
-
-replicate-all : (n : ℕ) → AllByRecursion (λ b. b < 2 ^ 8) (replicate n 32)
-replicate-all zero = tt
-replicate-all (suc n) = (lit< tt, replicate-all n)
-
-append-all : (P : ℕ → Type 0) (xs ys : List ℕ) → AllByRecursion P xs → AllByRecursion P ys → AllByRecursion P (xs ++ ys)
-append-all P [] ys a b = b
-append-all P (x ∷ xs) ys a b = (a.0, append-all P xs ys a.1 b)
-
-plain-small : (b : ℕ) → IsTrue (is_plain b) → b < 256
-plain-small b p = either (b == 46 || b == 60 || b == 62 || b == 92) p where
-  either : (test : Bool) → (if test then false else is_ascii_graphic b) ≡ true → b < 256
-  either true p = absurd (cc)
-  either false p = grind (arith, nat_tests)
-
-item-small : (b : ℕ) (item : List ℕ) → Item b item → b < 256
-item-small b item (plain byte p) = plain-small byte p
-item-small b item (escaped high low h l) = omega (arith, h, l)
-
-items-small : (bs text : List ℕ) → Items bs text → AllByRecursion (λ b. b < 2 ^ 8) bs
-items-small bs text no_item = tt
-items-small bs text (more_items b more item rest one others) = (item-small b item one, items-small more rest others)
-
-scope-small : (ls : List (List ℕ)) (text : List ℕ) → ScopeText ls text → AreByteLabels ls
-scope-small ls text no_label = tt
-scope-small ls text (more_labels l more items rest some row others) = (items-small l items row, scope-small more rest others)
-
-pub name_of_text : (text : List ℕ) (name : NetbiosName) → IsText name text → IsName name × AreByteLabels name.scope
-name_of_text text name is = rw is.exact (record { sixteen = sixteen; each = each; scope = is.limits.scope }, scope-small is.parts.scope is.form.behind is.form.scope) where
-  front : List ℕ
-  front = is.parts.front
-
-  sixteen : length (filled front ++ is.parts.last ∷ []) ≡ 16
-  sixteen = omega (arith, is.limits.front, length-append (filled front) (is.parts.last ∷ []), length-append front (replicate (15 - length front) 32), length-replicate {A = ℕ} (15 - length front) 32)
-
-  last : is.parts.last < 256
-  last = omega (arith, is.form.last, is.form.high_digit, is.form.low_digit)
-
-  each : AllByRecursion (λ b. b < 2 ^ 8) (filled front ++ is.parts.last ∷ [])
-  each = append-all _ (filled front) (is.parts.last ∷ []) (append-all _ front (replicate (15 - length front) 32) (items-small front is.form.items is.form.front) (replicate-all (15 - length front))) (last, tt)

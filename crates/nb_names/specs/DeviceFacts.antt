@@ -13,18 +13,6 @@ pub Keeps-same : (known : Option (List ℕ)) → Keeps known known
 Keeps-same None = tt
 Keeps-same (Some xs) = refl
 
-pub Keeps-kept : (a b c : Option (List ℕ)) → Keeps a b → Keeps b c → Keeps a c
-Keeps-kept None b c p q = tt
-Keeps-kept (Some a) None c p q = absurd p
-Keeps-kept (Some a) (Some b) None p q = absurd q
-Keeps-kept (Some a) (Some b) (Some c) p q = q ∙ p
-
-pub Keeps-appends : (a b c : Option (List ℕ)) (xs : List ℕ) → Keeps a b → Appends b c xs → Appends a c xs
-Keeps-appends None b c xs p q = tt
-Keeps-appends (Some a) None c xs p q = absurd p
-Keeps-appends (Some a) (Some b) None xs p q = absurd q
-Keeps-appends (Some a) (Some b) (Some c) xs p q = q ∙ ap (λ r. r ++ xs) p
-
 pub Appends-nil : (known : Option (List ℕ)) → Appends known known []
 Appends-nil None = tt
 Appends-nil (Some xs) = sym (append-nil xs)
@@ -40,12 +28,6 @@ Appends-kept None b c xs p q = tt
 Appends-kept (Some a) None c xs p q = absurd p
 Appends-kept (Some a) (Some b) None xs p q = absurd q
 Appends-kept (Some a) (Some b) (Some c) xs p q = q ∙ p
-
-pub Keeps-consumes : (a b c : Option (List ℕ)) (xs : List ℕ) → Keeps a b → Consumes b c xs → Consumes a c xs
-Keeps-consumes None b c xs p q = tt
-Keeps-consumes (Some a) None c xs p q = absurd p
-Keeps-consumes (Some a) (Some b) None xs p q = absurd q
-Keeps-consumes (Some a) (Some b) (Some c) xs p q = sym p ∙ q
 
 pub Consumes-nil : (known : Option (List ℕ)) → Consumes known known []
 Consumes-nil None = tt
@@ -94,9 +76,3 @@ pub fails_from : (old mid new : Counts) → GrowTo old mid → ShowsWriteFault m
 fails_from old mid new g (inl h) = inl (omega (arith, g.failed))
 fails_from old mid new g (inr (inl h)) = inr (inl (omega (arith, g.empty)))
 fails_from old mid new g (inr (inr h)) = inr (inr (omega (arith, g.interrupted)))
-
--- and stays failed after those that follow
-pub fails_still : (old mid new : Counts) → ShowsWriteFault old mid → GrowTo mid new → ShowsWriteFault old new
-fails_still old mid new (inl h) g = inl (omega (arith, g.failed))
-fails_still old mid new (inr (inl h)) g = inr (inl (omega (arith, g.empty)))
-fails_still old mid new (inr (inr h)) g = inr (inr (omega (arith, g.interrupted)))

@@ -6,8 +6,8 @@ use Rattle.std.specs.Ordering.{nat_cmp, on}
 use Rattle.std.specs.Cmp.Lexicographic.{pointwise, slice_cmp}
 use Rattle.std.specs.declared.cmp.Ordering.{Ordering}
 use Rattle.nb_names.specs.declared.limits.TheConstants.{MAX_LABEL, MAX_SPELLING}
-use Rattle.nb_names.specs.declared.label_fault.LabelFault.{LabelFault}
-use Rattle.nb_names.specs.declared.label_fault.LabelFault.TheVariants.{EmptyLabel, LabelTooLong, TooLong}
+use Rattle.nb_names.specs.declared.fault.LabelFault.{LabelFault}
+use Rattle.nb_names.specs.declared.fault.LabelFault.TheVariants.{EmptyLabel, LabelTooLong, TooLong}
 
 -- the labels in order, each with its length in front, and a zero at the end
 abbrev pub spelling : List (List ℕ) → List ℕ

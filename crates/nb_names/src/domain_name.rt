@@ -1,5 +1,5 @@
 //! Domain names, held in place.
-ghost use Rattle.std.specs.Prelude.{◌≡◌, ◌≤◌, ◌<◌, ◌↔◌, [], ◌∷◌, length, slice_get, option_map, IsTrue, MatchOption};
+ghost use Rattle.std.specs.Prelude.{◌≡◌, ◌≤◌, ◌<◌, ◌↔◌, [], ◌∷◌, length, slice_get, option_map, IsTrue, MatchOption, IfOk};
 ghost use Rattle.std.proofs.Common.{rules};
 ghost use Rattle.std.specs.Cmp.{partial_order_from_own_ties};
 ghost use Rattle.std.specs.Cmp.Rules.{comparing};
@@ -8,10 +8,12 @@ ghost use Rattle.nb_names.specs.Code.Spelled.{labels_of, IsSpelled};
 ghost use Rattle.nb_names.specs.DomainName.{spelling, domain_eq, domain_cmp, AreBytes, AreByteLabels, IsLabel, IsDomain, Pushes};
 ghost use Rattle.nb_names.specs.declared.limits.TheConstants.{MAX_SPELLING};
 
-use crate::label_fault::LabelFault;
+use crate::bytes::{Bytes, NoMemory};
+use crate::fault::LabelFault;
 use crate::limits::{MAX_LABEL, MAX_SPELLING};
 use crate::spellings::{count_labels, each_is_a_byte, label_at, split_label};
 use arrayvec::ArrayVec;
+use std::alloc::Global;
 use std::cmp::Ordering;
 use std::marker::Model;
 
@@ -213,4 +215,18 @@ impl PartialOrd for DomainName {
     fn partial_cmp(&self, other: &Self) -> Option<Ordering> {
         Some(self.cmp(other))
     }
+}
+
+/// The spelling of a domain name: its labels, each after its length, and a zero byte.
+///
+/// # Errors
+///
+/// [`NoMemory`] where memory ran out.
+///
+/// RFC 1001 section 14.2.
+pub fn write_domain(alloc: Global, domain: &DomainName) -> Result<Bytes, NoMemory>
+    ensures written { IfOk result (λ bytes. bytes ≡ spelling domain.now) }
+    ensures bytes { IfOk result AreBytes }
+{
+    Bytes::copy(alloc, domain.spelling())
 }

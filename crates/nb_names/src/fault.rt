@@ -1,9 +1,9 @@
-//! Why no name was read.
+//! Why labels were refused: a name in a packet, and a label that was to be added.
 ghost use Rattle.std.specs.Prelude.{◌≡◌};
 ghost use Rattle.nb_names.specs.FaultTexts.{name_fault_place, name_fault_words};
 
-use std::error::Error;
-use std::fmt;
+use std::{error, fmt};
+use thiserror::Error;
 
 /// Why no name was read at an offset.
 ///
@@ -73,4 +73,19 @@ impl fmt::Display for NameFault {
     }
 }
 
-impl Error for NameFault {}
+impl error::Error for NameFault {}
+
+/// Why a label could not be added to a name. Where several apply, the first in this order is
+/// reported.
+#[derive(Clone, Copy, Debug, PartialEq, Eq, Error)]
+pub enum LabelFault {
+    /// The label has no bytes.
+    #[error("empty label")]
+    EmptyLabel,
+    /// The label has more than 63 bytes.
+    #[error("label too long")]
+    LabelTooLong,
+    /// With this label the spelling would pass the name's limit: 255 bytes, or 222 in a scope.
+    #[error("name too long")]
+    TooLong,
+}

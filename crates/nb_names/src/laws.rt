@@ -1,6 +1,6 @@
 //! Laws of the definitions that the contracts cite. Each is proved; a call does nothing.
 ghost use Rattle.std.specs.Prelude.{◌≡◌, ◌≢◌, ◌↔◌, ◌⊎◌, ℕ, ◌+◌, ◌*◌, ◌/◌, ◌%◌, ◌<◌, ◌≤◌, List, [], ◌∷◌, ◌++◌, length, slice_index};
-ghost use Rattle.std.specs.List.{sum_by};
+ghost use Rattle.std.specs.List.{flat_map};
 ghost use Rattle.std.specs.Int.{w16, to_be_bytes};
 ghost use Rattle.nb_names.specs.declared.fault.NameFault.{NameFault};
 ghost use Rattle.nb_names.specs.declared.fault.NameFault.TheVariants.{Truncated};
@@ -9,10 +9,11 @@ ghost use Rattle.nb_names.specs.declared.pointers.Pointers.{Pointers};
 ghost use Rattle.nb_names.specs.DomainName.{spelling, AreBytes, IsDomain};
 ghost use Rattle.nb_names.specs.FirstLevel.{letters, IsLetter};
 ghost use Rattle.nb_names.specs.Labels.{NameAt, StandsAt, pointer_bytes};
-ghost use Rattle.nb_names.specs.Name.{NetbiosName, IsName, IsScope, IsNoName, labels_of_name};
+ghost use Rattle.nb_names.specs.Name.{NetbiosName, IsName, IsNoName, labels_of_name};
 ghost use Rattle.nb_names.specs.NameFaults.{FaultAt, NetbiosFaultAt};
 ghost use Rattle.nb_names.specs.Skipped.{IsSkipped};
-ghost use Rattle.nb_names.specs.declared.skipped.Skipped.{Skipped};
+ghost use Rattle.nb_names.specs.declared.pointers.Skipped.{Skipped};
+ghost use Rattle.nb_names.specs.Lines.{CutInto, HasLines};
 
 /// The limits of the definitions, as numbers.
 pub fn numbers()
@@ -91,33 +92,10 @@ pub fn name_or_fault()
         ⊎ ((fault : NameFault) × NetbiosFaultAt packet pointers at fault) }
 {}
 
-/// Bytes after a packet change neither a name that stands in it nor a fault, but for the fault that
-/// bytes are missing.
-pub fn more_behind()
-    ensures name { (packet more : List ℕ) (pointers : Pointers) (at : ℕ)
-        (labels : List (List ℕ)) (next : ℕ) →
-        NameAt packet pointers at labels next → NameAt (packet ++ more) pointers at labels next }
-    ensures fault { (packet more : List ℕ) (pointers : Pointers) (at : ℕ) (fault : NameFault) →
-        FaultAt packet pointers at fault → ((count : ℕ) → fault ≢ Truncated count) →
-        FaultAt (packet ++ more) pointers at fault }
-{}
-
 /// A pointer is its offset plus c000, as a number of two bytes.
 pub fn pointer_is_a_number()
     ensures { (target : ℕ) → target < 16384 →
         pointer_bytes target ≡ to_be_bytes w16 (49152 + target) }
-{}
-
-/// A spelling has a byte more than its labels, each with its length byte.
-pub fn spelled_length()
-    ensures { (labels : List (List ℕ)) →
-        length (spelling labels) ≡ 1 + sum_by (λ label. 1 + length label) labels }
-{}
-
-/// A scope is the labels that make a domain name with 32 bytes before them.
-pub fn scope_has_room()
-    ensures { (first : List ℕ) (labels : List (List ℕ)) → length first ≡ 32 →
-        IsScope labels ↔ IsDomain (first ∷ labels) }
 {}
 
 /// The letters of a byte, by its place: the one of its high half, and then that of its low half,
@@ -144,4 +122,15 @@ pub fn labels_tell_the_name()
     ensures domain { (name : NetbiosName) → IsName name → IsDomain (labels_of_name name) }
     ensures one { (name other : NetbiosName) → labels_of_name name ≡ labels_of_name other →
         name ≡ other }
+{}
+
+/// A text has its lines in exactly one way. With a line feed after each they make the text, or the
+/// text with the line feed that its last line lacks.
+pub fn text_has_its_lines()
+    ensures lines { (text : List ℕ) → (lines : List (List ℕ)) × HasLines text lines }
+    ensures one { (text : List ℕ) (lines more : List (List ℕ)) →
+        HasLines text lines → HasLines text more → lines ≡ more }
+    ensures joined { (text : List ℕ) (lines : List (List ℕ)) → HasLines text lines →
+        (flat_map (λ line. line ++ 10 ∷ []) lines ≡ text)
+        ⊎ (flat_map (λ line. line ++ 10 ∷ []) lines ≡ text ++ 10 ∷ []) }
 {}

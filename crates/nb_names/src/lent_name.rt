@@ -23,9 +23,8 @@ use crate::name_form::NameForm;
 use crate::pointers::Pointers;
 use crate::scope::Scope;
 use crate::spellings::{each_is_a_byte, split_label};
-use crate::taking::Passed;
 use crate::text_writing::push_parts;
-use crate::walking::walk;
+use crate::walking::{Passed, walk};
 use std::marker::Model;
 
 /// A NetBIOS name whose scope is lent, as its spelling. It takes a few words, where a [`Name`] has

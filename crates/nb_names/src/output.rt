@@ -6,8 +6,8 @@ ghost use Rattle.nb_names.specs.Hexadecimal.{digits_text};
 
 use crate::counted::{Counted, Told};
 use crate::device_fault::DeviceFault;
-use crate::digits_writing::put_digits;
 use crate::limits::MAX_INTERRUPTS;
+use crate::parts_writing::put_digits;
 use std::io::Write;
 
 /// How many bytes' digits are written at a time.

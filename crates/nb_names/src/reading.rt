@@ -1,35 +1,18 @@
 //! Names, read where they stand in a packet.
-ghost use Rattle.std.specs.Prelude.{◌≡◌, ◌≤◌, ℕ, List, length, IfOk, IfErr, IsOkAnd};
-ghost use Rattle.nb_names.specs.Code.PointerEnds.{AreEnds};
+ghost use Rattle.std.specs.Prelude.{◌≡◌, ◌≤◌, ℕ, List, length, IfOk, IfErr, IsOkAnd, ◌≢◌, ◌-◌, MatchOption};
 ghost use Rattle.nb_names.specs.Labels.{NameAt};
 ghost use Rattle.nb_names.specs.Name.{NetbiosName, IsName, IsByteName, labels_of_name};
 ghost use Rattle.nb_names.specs.NameFaults.{FaultAt, NetbiosFaultAt};
+ghost use Rattle.nb_names.specs.Skipped.{IsSkipped};
 
 use crate::domain_name::DomainName;
 use crate::fault::NameFault;
+use crate::length_byte::find_ends;
+use crate::lent_domain::LentDomain;
 use crate::name::Name;
-use crate::pointers::Pointers;
-use crate::walking::walk;
-
-/// Reads the domain name at an offset of a packet, of whose chains of pointers ends are known.
-#[inline]
-pub(crate) fn read_along(
-    packet: &[u8],
-    ends: &[u16],
-    at: usize,
-    pointers: Pointers,
-) -> Result<(DomainName, usize), NameFault>
-    requires { AreEnds packet.now ends.now }
-    ensures found { IfOk result (λ read. NameAt packet.now pointers at read.0 read.1) }
-    ensures only { (labels : List (List ℕ)) (next : ℕ) → NameAt packet.now pointers at labels next →
-        IsOkAnd result (λ read. (read.0 ≡ labels) × (read.1 ≡ next)) }
-    ensures within { IfOk result (λ read. read.1 ≤ length packet.now) }
-    ensures fault { IfErr result (FaultAt packet.now pointers at) }
-{
-    let mut name = DomainName::root();
-    let seen = walk(packet, ends, at, pointers, &mut name)?;
-    Ok((name, seen.next))
-}
+use crate::pointers::{Pointers, Skipped};
+use crate::walking::{Passed, walk};
+use std::marker::Model;
 
 /// Reads the domain name at an offset of a packet, and answers it with the offset that follows it.
 ///
@@ -57,7 +40,7 @@ pub fn read_domain(
     // Which fault it is, and where.
     ensures fault { IfErr result (FaultAt packet.now pointers at) }
 {
-    read_along(packet, &[], at, pointers)
+    NameReader::of(packet, &mut []).read_domain(at, pointers)
 }
 
 /// Reads the NetBIOS name at an offset of a packet, and answers it with the offset that follows it.
@@ -82,9 +65,141 @@ pub fn read_name(packet: &[u8], at: usize, pointers: Pointers) -> Result<(Name, 
     // Which fault it is, and where.
     ensures fault { IfErr result (NetbiosFaultAt packet.now pointers at) }
 {
-    let (domain, next) = read_along(packet, &[], at, pointers)?;
+    let (domain, next) = read_domain(packet, at, pointers)?;
     match Name::from_domain(&domain) {
         Ok(name) => Ok((name, next)),
         Err(fault) => Err(NameFault::NotNetbios(fault.place)),
+    }
+}
+
+/// A packet of which many names are read, with the ends of its chains of pointers.
+///
+/// A name that ends in a pointer to a pointer, and so on, is read without a walk along them.
+#[derive(Drop)]
+pub struct NameReader<'a, 'r> {
+    packet: &'a [u8],
+    /// For each offset that has a place, where the chain of pointers from there ends.
+    ends: &'r [u16],
+}
+
+impl<'a, 'r> Model for NameReader<'a, 'r> {
+    ghost use Rattle.std.specs.Prelude.{ℕ, List};
+    ghost use Rattle.nb_names.specs.Code.PointerEnds.{AreEnds};
+
+    ghost Value = { List ℕ };
+
+    ghost view = { λ reader. reader.packet.now };
+
+    ghost invariant = { λ reader. AreEnds reader.packet.now reader.ends.now };
+}
+
+impl<'a, 'r> NameReader<'a, 'r> {
+    /// A reader of a packet's names. No memory is taken.
+    ///
+    /// The room keeps the ends, an offset a place, and what it held doesn't matter. With
+    /// [`POINTED_OFFSETS`](crate::limits::POINTED_OFFSETS) places it has one for each offset to
+    /// which a pointer can lead; pointers at offsets without a place are followed one by one. No
+    /// answer depends on it.
+    pub fn of(packet: &'a [u8], room: &'r mut [u16]) -> Self
+        ensures { result ≡ packet.now }
+    {
+        let count = find_ends(packet, room);
+        NameReader {
+            packet,
+            ends: &room[..count],
+        }
+    }
+
+    /// The packet's bytes.
+    pub fn packet(&self) -> &'a [u8]
+        ensures { result.now ≡ self.now }
+    {
+        self.packet
+    }
+
+    /// Reads the domain name at an offset of the packet, as [`read_domain`](crate::read_domain)
+    /// does.
+    ///
+    /// # Errors
+    ///
+    /// Those of [`read_domain`](crate::read_domain).
+    ///
+    /// RFC 1002 section 4.1.
+    #[inline]
+    pub fn read_domain(
+        &self,
+        at: usize,
+        pointers: Pointers,
+    ) -> Result<(DomainName, usize), NameFault>
+        // What is answered stands there, and what stands there is answered.
+        ensures found { IfOk result (λ read. NameAt self.now pointers at read.0 read.1) }
+        ensures only { (labels : List (List ℕ)) (next : ℕ) →
+            NameAt self.now pointers at labels next →
+            IsOkAnd result (λ read. (read.0 ≡ labels) × (read.1 ≡ next)) }
+        ensures within { IfOk result (λ read. read.1 ≤ length self.now) }
+
+        // Which fault it is, and where.
+        ensures fault { IfErr result (FaultAt self.now pointers at) }
+    {
+        let mut name = DomainName::root();
+        let seen = walk(self.packet, self.ends, at, pointers, &mut name)?;
+        Ok((name, seen.next))
+    }
+
+    /// Where the domain name stands that is at an offset of the packet, and how long its spelling
+    /// is. The name is judged as by [`NameReader::read_domain`], and not made.
+    ///
+    /// Where its last run is as long as its spelling, all of its labels stand there
+    /// ([`spelled_in_one_run`](crate::laws::spelled_in_one_run)): so it is where no label comes
+    /// before a pointer.
+    ///
+    /// # Errors
+    ///
+    /// Those of [`read_domain`](crate::read_domain).
+    ///
+    /// RFC 1002 section 4.1.
+    #[inline(always)]
+    pub fn skip_domain(&self, at: usize, pointers: Pointers) -> Result<Skipped, NameFault>
+        ensures found { IfOk result (λ seen.
+            (labels : List (List ℕ)) × IsSkipped self.now pointers at labels seen) }
+        ensures only { (labels : List (List ℕ)) (next : ℕ) →
+            NameAt self.now pointers at labels next →
+            IsOkAnd result (λ seen. IsSkipped self.now pointers at labels seen
+            × (seen.next ≡ next)) }
+        ensures within { IfOk result (λ seen. seen.next ≤ length self.now) }
+        ensures fault { IfErr result (FaultAt self.now pointers at) }
+    {
+        walk(self.packet, self.ends, at, pointers, &mut Passed)
+    }
+
+    /// The name at an offset that was judged so, lent from the packet; none where its last run is
+    /// shorter than its spelling: it then stands in several. No memory is taken.
+    #[inline]
+    pub fn lent_at(&self, at: usize, pointers: Pointers, seen: &Skipped) -> Option<LentDomain<'a>>
+        requires { (labels : List (List ℕ)) × IsSkipped self.now pointers at labels seen.now }
+        ensures { MatchOption result (seen.now.run_end - seen.now.run ≢ seen.now.spelled_len)
+            (λ name. (labels : List (List ℕ)) →
+            IsSkipped self.now pointers at labels seen.now → name ≡ labels) }
+    {
+        let packet = self.packet();
+        if seen.run_end - seen.run != seen.spelled_len {
+            return None;
+        }
+        Some(LentDomain::of_spelling(&packet[seen.run..seen.run_end]))
+    }
+
+    /// The name at an offset that was judged so: a copy of the one lent, or else its labels, read
+    /// once more. No memory is taken.
+    #[inline]
+    pub fn domain_at(&self, at: usize, pointers: Pointers, seen: &Skipped) -> DomainName
+        requires { (labels : List (List ℕ)) × IsSkipped self.now pointers at labels seen.now }
+        ensures { (labels : List (List ℕ)) → IsSkipped self.now pointers at labels seen.now →
+            result ≡ labels }
+    {
+        if let Some(name) = self.lent_at(at, pointers, seen) {
+            return name.to_domain();
+        }
+        let (name, _) = self.read_domain(at, pointers).unwrap();
+        name
     }
 }

@@ -9,7 +9,7 @@ ghost use Rattle.nb_names.specs.Name.{IsScope};
 ghost use Rattle.nb_names.specs.declared.limits.TheConstants.{MAX_SCOPE};
 
 use crate::domain_name::DomainName;
-use crate::label_fault::LabelFault;
+use crate::fault::LabelFault;
 use crate::limits::MAX_SCOPE;
 use std::cmp::Ordering;
 use std::marker::Model;

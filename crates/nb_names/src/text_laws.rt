@@ -1,23 +1,13 @@
 //! Laws of the text of names.
-ghost use Rattle.std.specs.Prelude.{◌≡◌, ◌≢◌, ◌↔◌, ◌⊎◌, ◌≤◌, IsTrue, List, ℕ};
+ghost use Rattle.std.specs.Prelude.{◌≡◌, ◌≢◌, ◌↔◌, ◌≤◌, IsTrue, List, ℕ};
 ghost use Rattle.nb_names.specs.Growth.{IsFrontOf, OnlyAdds};
-ghost use Rattle.nb_names.specs.Name.{NetbiosName, IsByteName};
-ghost use Rattle.nb_names.specs.NameText.{IsText, IsFaultOf, is_plain, written};
+ghost use Rattle.nb_names.specs.Name.{NetbiosName};
+ghost use Rattle.nb_names.specs.NameText.{IsText, IsFaultOf, is_plain};
 ghost use Rattle.nb_names.specs.declared.text_fault.TextFault.{TextFault};
-
-/// Each name is the name of the text that it is written in.
-pub fn written_is_read()
-    ensures { (name : NetbiosName) → IsByteName name → IsText name (written name) }
-{}
 
 /// A text is the text of one name.
 pub fn one_name()
     ensures { (text : List ℕ) (a b : NetbiosName) → IsText a text → IsText b text → a ≡ b }
-{}
-
-/// What a text stands for is a name.
-pub fn text_has_name()
-    ensures { (text : List ℕ) (name : NetbiosName) → IsText name text → IsByteName name }
 {}
 
 /// A text has one fault at most, and none where it is a name's.
@@ -26,12 +16,6 @@ pub fn one_text_fault()
         IsFaultOf text a → IsFaultOf text b → a ≡ b }
     ensures none { (text : List ℕ) (name : NetbiosName) (fault : TextFault) →
         IsText name text → ¬ IsFaultOf text fault }
-{}
-
-/// Each text is a name's or has a fault. By [`one_text_fault`] it is never both.
-pub fn text_or_fault()
-    ensures { (text : List ℕ) → ((name : NetbiosName) × IsText name text)
-        ⊎ ((fault : TextFault) × IsFaultOf text fault) }
 {}
 
 /// The bytes that stand for themselves are 21 to 7e in hexadecimal, but `.`, `<`, `>` and `\`.

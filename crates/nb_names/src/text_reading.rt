@@ -1,11 +1,71 @@
-//! Reading the text of a NetBIOS name.
-ghost use Rattle.std.specs.Prelude.{◌≡◌, IfOk, IfErr, IsOkAnd};
+//! Reading the text of a NetBIOS name, which stands for one or has a fault.
+ghost use Rattle.std.specs.Prelude.{◌≡◌, IfOk, IfErr, IfSome, IfNone, IsOkAnd, MatchOption};
 ghost use Rattle.nb_names.specs.Name.{NetbiosName, IsByteName};
-ghost use Rattle.nb_names.specs.NameText.{IsText, IsFaultOf};
+ghost use Rattle.nb_names.specs.NameText.{IsText, IsFormed, IsBad, IsFaultOf};
 
+use crate::collected::Collected;
 use crate::name::Name;
 use crate::text_fault::TextFault;
-use crate::text_parsing::name_from_bytes;
+use crate::text_steps::{Added, Stage, step_of};
+
+/// The name that the bytes of a text stand for.
+///
+/// # Errors
+///
+/// The first that applies, in [`TextFault`]'s order.
+pub(crate) fn name_from_bytes(text: &[u8]) -> Result<Name, TextFault>
+    ensures found { IfOk result (λ name. IsText name text.now) }
+    ensures name { IfOk result IsByteName }
+    ensures only { (name : NetbiosName) → IsText name text.now →
+        IsOkAnd result (λ read. read ≡ name) }
+    ensures fault { IfErr result (IsFaultOf text.now) }
+{
+    if let Some(place) = bad_place(text) {
+        return Err(TextFault::BadText(place));
+    }
+    name_within_limits(text).ok_or(TextFault::TooLong)
+}
+
+/// Where a text leaves the form, or nothing where it has the form.
+fn bad_place(text: &[u8]) -> Option<usize>
+    ensures { MatchOption result (IsFormed text.now)
+        (λ place. (¬ IsFormed text.now) × IsBad text.now place) }
+{
+    let mut stage = Stage::Front;
+    for (place, byte) in text.iter().enumerate() {
+        match step_of(stage, *byte) {
+            Some((next, _)) => stage = next,
+            None => return Some(place),
+        }
+    }
+    match stage {
+        Stage::Closed | Stage::Label => None,
+        _ => Some(text.len()),
+    }
+}
+
+/// The name of a text that has the form, or nothing where it passes a limit.
+fn name_within_limits(text: &[u8]) -> Option<Name>
+    ensures found { IfSome result (λ name. IsText name text.now) }
+    ensures name { IfSome result IsByteName }
+    ensures none { IfNone result ((name : NetbiosName) → ¬ IsText name text.now) }
+{
+    let mut stage = Stage::Front;
+    let mut taken = Collected::new();
+    for byte in text {
+        let (next, added) = step_of(stage, *byte)?;
+        taken.take(added)?;
+        stage = next;
+    }
+    match stage {
+        Stage::Closed => Some(taken.into_name()),
+        Stage::Label => {
+            taken.take(Added::LabelEnd)?;
+            Some(taken.into_name())
+        }
+        _ => None,
+    }
+}
 
 /// The name that a text stands for, such as `FRED<20>.NETBIOS.COM`.
 ///

@@ -10,14 +10,13 @@ ghost use Rattle.nb_names.specs.Ascii.{dot, less_than, greater_than};
 ghost use Rattle.nb_names.specs.DomainName.{AreBytes, IsLabel, spelling};
 ghost use Rattle.nb_names.specs.NameText.{IsText, written, bytes_written, domain_written, trimmed, digits_of, item_of, items_of, scope_text_of, labels_written, is_plain as is_plain_byte};
 
-use crate::ascii_writing::push_ascii;
 use crate::bytes::NoMemory;
-use crate::digits_writing::pair_of;
 use crate::domain_name::DomainName;
 use crate::first_level::bytes_of;
 use crate::lent_domain::LentDomain;
 use crate::limits::{FRONT_LENGTH, LETTERS, MAX_SPELLING, NAME_LENGTH};
 use crate::name::Name;
+use crate::parts_writing::{pair_of, push_ascii};
 use crate::spellings::split_label;
 use crate::text_steps::is_plain;
 use arrayvec::ArrayVec;

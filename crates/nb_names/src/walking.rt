@@ -1,17 +1,17 @@
 //! Names, judged where they stand in a packet: the one walk along their labels.
-ghost use Rattle.std.specs.Prelude.{◌≡◌, ◌<◌, ◌≤◌, ℕ, List, [], length, IfOk, IfErr, IsOkAnd};
+ghost use Rattle.std.specs.Prelude.{◌≡◌, ◌<◌, ◌≤◌, ℕ, List, [], length, IfOk, IfErr, IsOkAnd, ◌∷◌, ◌++◌, ⊤};
 ghost use Rattle.nb_names.specs.Code.PointerEnds.{AreEnds};
 ghost use Rattle.nb_names.specs.Labels.{NameAt};
 ghost use Rattle.nb_names.specs.NameFaults.{FaultAt};
 ghost use Rattle.nb_names.specs.Skipped.{IsSkipped};
+ghost use Rattle.nb_names.specs.DomainName.{spelling, IsLabel};
+ghost use Rattle.nb_names.specs.declared.limits.TheConstants.{MAX_SPELLING};
 
+use crate::domain_name::DomainName;
 use crate::fault::NameFault;
-use crate::length_byte::{LengthByte, length_byte_at};
+use crate::length_byte::{LengthByte, end_from, length_byte_at};
 use crate::limits::MAX_SPELLING;
-use crate::pointer_ends::end_from;
-use crate::pointers::Pointers;
-use crate::skipped::Skipped;
-use crate::taking::Takes;
+use crate::pointers::{Pointers, Skipped};
 
 /// Where the domain name stands that is at an offset of a packet, of whose chains of pointers ends
 /// are known. Its labels are taken on the way.
@@ -71,5 +71,38 @@ pub(crate) fn walk<T: Takes>(
                 here = start;
             }
         }
+    }
+}
+
+/// What takes the labels of a name, one after the other.
+pub(crate) trait Takes {
+    /// Whether it has taken these labels, since it had none.
+    ghost has: { Self → List (List ℕ) → Type 0 };
+
+    /// Takes a label more, after which the labels are still a domain name's.
+    fn take(&mut self, label: &[u8])
+        requires { (labels : List (List ℕ)) × has self.old labels × IsLabel label.now
+            × (length (spelling (labels ++ label.now ∷ [])) ≤ MAX_SPELLING) }
+        ensures { (labels : List (List ℕ)) → has self.old labels →
+            has self.new (labels ++ label.now ∷ []) };
+}
+
+/// Takes nothing: the name is judged, and not made.
+#[derive(Drop)]
+pub(crate) struct Passed;
+
+impl Takes for Passed {
+    ghost has = { λ _ _. ⊤ };
+
+    #[inline(always)]
+    fn take(&mut self, _label: &[u8]) {}
+}
+
+impl Takes for DomainName {
+    ghost has = { λ name labels. name ≡ labels };
+
+    #[inline(always)]
+    fn take(&mut self, label: &[u8]) {
+        self.push(label).unwrap();
     }
 }

@@ -16,7 +16,7 @@ use Rattle.nb_service.specs.Record.{ResourceData, of_bytes, of_domain, ResourceR
 use Rattle.nb_service.specs.Packet.{QuestionAt, RdataAt, bytes_there, domain_there, RecordAt, Row, none, more, ServicePacket, header_of, records_of, IsPacket}
 use Rattle.nb_service.specs.Encoding.{header_bytes, question_bytes, name_bytes, rdata_bytes, record_bytes, packet_bytes, IsQuestion, IsNamedData, IsRecord, IsWritable}
 use Rattle.nb_names.specs.PacketFacts.{stands_fits}
-use Rattle.nb_service.proofs.StandingLemmas.{stands_before, stands_after}
+use Rattle.nb_service.proofs.SectionLemmas.{stands_before, stands_after}
 
 -- ---- names
 

@@ -1,6 +1,7 @@
 -- Where a question or a record stands, no other does, and it has no fault.
 use Rattle.std.proofs.Common.{◌≡◌, ◌≢◌, ℕ, ◌+◌, ◌<◌, List, length, take, drop, Result, Ok, Err, IsOk, IsOkAnd, refl, ap, sym, subst, ◌∙◌, arith}
 use Rattle.std.specs.Int.{w16, w32}
+use Rattle.nb_names.specs.declared.pointers.Pointers.{Pointers}
 use Rattle.nb_names.specs.declared.pointers.Pointers.TheVariants.{Followed}
 use Rattle.nb_names.specs.declared.fault.NameFault.{NameFault}
 use Rattle.nb_names.specs.Labels.{NameAt}
@@ -18,13 +19,20 @@ use Rattle.nb_service.specs.declared.fields.Fields.{Fields}
 use Rattle.nb_service.specs.declared.seen.Seen.{Seen}
 use Rattle.nb_service.specs.Items.{PacketItem, asked, told, fields_of, name_of, Reaches, IsExtent, SeesQuestion, SeesRecord, Sees}
 use Rattle.nb_names.specs.PacketFacts.{stands_same, one_number_16, one_number_32, within_16}
-use Rattle.nb_service.proofs.RowLemmas.{Single}
+use Rattle.nb_service.proofs.SectionLemmas.{Single}
 
 -- what the laws of names say of one packet
 pub record NameLaws (packet : List ℕ) : Type 0 where
   pub one : (at : ℕ) (ls ms : List (List ℕ)) (n m : ℕ) → NameAt packet Followed at ls n → NameAt packet Followed at ms m → (ls ≡ ms) × (n ≡ m)
   pub apart : (at : ℕ) (ls : List (List ℕ)) (n : ℕ) (f : NameFault) → NameAt packet Followed at ls n → FaultAt packet Followed at f → ⊥
   pub one_fault : (at : ℕ) (f g : NameFault) → FaultAt packet Followed at f → FaultAt packet Followed at g → f ≡ g
+
+-- they are what the laws say where pointers are followed
+pub name_laws : ((b : List ℕ) (q : Pointers) (at : ℕ) (ls ms : List (List ℕ)) (n m : ℕ) → NameAt b q at ls n → NameAt b q at ms m → (ls ≡ ms) × (n ≡ m))
+    → ((b : List ℕ) (q : Pointers) (at : ℕ) (f : NameFault) (ls : List (List ℕ)) (n : ℕ) → FaultAt b q at f → ¬ NameAt b q at ls n)
+    → ((b : List ℕ) (q : Pointers) (at : ℕ) (f g : NameFault) → FaultAt b q at f → FaultAt b q at g → f ≡ g)
+    → (b : List ℕ) → NameLaws b
+name_laws one alone one_fault b = record { one = one b Followed; apart = λ at ls n f named fault. alone b Followed at f ls n fault named; one_fault = one_fault b Followed }
 
 -- ---- questions
 

@@ -1,12 +1,8 @@
-pub mod RowLemmas
+pub mod SectionLemmas
 pub mod ItemLemmas
 pub mod PacketLemmas
-pub mod StepLemmas
 pub mod EncodingLemmas
-pub mod PiecesLemmas
-pub mod StandingLemmas
-pub mod SectionLemmas
+pub mod ViewLemmas
 pub mod NumberedLemmas
 pub mod TotalityLemmas
-pub mod ViewLemmas
 pub mod WalkedLemmas

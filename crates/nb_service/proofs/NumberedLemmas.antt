@@ -2,7 +2,6 @@
 use Rattle.std.proofs.Common.{◌≡◌, ◌<◌, ◌≤◌, inl, inr, ℕ, ◌+◌, List, [], ◌∷◌, ◌++◌, length, map, refl, ap, sym, subst, ◌∙◌, arith, length-append}
 use Rattle.std.proofs.lemmas.Bool.{cases_lt}
 use Rattle.std.proofs.lemmas.List.{length-map}
-use Rattle.nb_names.specs.PacketFacts.{within_16}
 use Rattle.nb_service.specs.declared.extent.Extent.{Extent}
 use Rattle.nb_service.specs.declared.fault.ServiceFault.{ServiceFault}
 use Rattle.nb_service.specs.declared.limits.TheConstants.{HEADER_LENGTH}
@@ -75,11 +74,6 @@ one_item_fault b laws h k at f g (record_fails late few s) (record_fails after l
 pub item_counted : (b : List ℕ) (h : PacketHeader) (k at : ℕ) (x : PacketItem) (n : ℕ) → ItemAt b h k at x n → k < item_count h
 item_counted b h k at x n (question_there q a low s) = omega (arith, low)
 item_counted b h k at x n (record_there u e a is s) = record_counted h k u is
-
--- an item ends where its packet does, or before
-pub item_within : (b : List ℕ) (h : PacketHeader) (k at : ℕ) (x : PacketItem) (n : ℕ) → ItemAt b h k at x n → n ≤ length b
-item_within b h k at x n (question_there q a low s) = omega (arith, s.end, within_16 b (s.after + 2) q.class s.class)
-item_within b h k at x n (record_there u e a is s) = omega (arith, s.end, s.whole)
 
 -- an item reaches so far in one way
 pub one_extent : (b : List ℕ) → NameLaws b → (at : ℕ) (x : PacketItem) (e d : Extent) → IsExtent b at x e → IsExtent b at x d → e.next ≡ d.next → e ≡ d

@@ -20,8 +20,8 @@ use Rattle.nb_service.specs.Record.{ResourceData, of_bytes, of_domain, ResourceR
 use Rattle.nb_service.specs.Packet.{QuestionAt, RdataAt, bytes_there, domain_there, RecordAt, Row, none, more}
 use Rattle.nb_service.specs.ServiceFaults.{QuestionFails, question_name, question_cut, RdataBegins, DomainFails, domain_name, domain_end, RecordFails, record_name, record_cut, rdata_cut, rdata_fails, RowFails, record_count, PacketFails, cut_header, in_questions, in_records}
 use Rattle.nb_service.specs.Code.Steps.{HasPacket}
-use Rattle.nb_service.proofs.PiecesLemmas.{AreSmall, small_take, small_drop}
-use Rattle.nb_service.proofs.StepLemmas.{packet_there}
+use Rattle.nb_service.proofs.ViewLemmas.{AreSmall, small_take, small_drop}
+use Rattle.nb_service.proofs.PacketLemmas.{packet_there}
 
 pub are_small : (bytes : List ℕ) → AreBytes bytes → AreSmall bytes
 are_small [] each k = omega arith
@@ -102,17 +102,6 @@ rdata_or_fault b names at size kind fits = elim (same_or_not kind NS) [
     ]
   ]
 ]
-
--- where a name, a kind, a length and then RDATA of that kind and length stand, a record does
-pub record_there : (b : List ℕ) → AreSmall b → (at after kind size : ℕ) (ls : List (List ℕ)) → NameAt b Followed at ls after →
-    NumberAt b after w16 kind → NumberAt b (after + 8) w16 size → after + 10 + size ≤ length b → (d : ResourceData) → RdataAt b (after + 10) size kind d →
-    (r : ResourceRecord) × RecordAt b at r (after + 10 + size)
-record_there b s at after kind size ls named k z fits d there =
-    let class = number_16 b (after + 2) s (omega arith) in
-    let ttl = number_32 b (after + 4) s (omega arith) in (
-      record { name = ls; kind = kind; class = class.0; ttl = ttl.0; rdata = d },
-      record { after = after; size = size; name = named; kind = k; class = class.1; ttl = ttl.1; rdlength = z; whole = fits; rdata = there; end = refl },
-    )
 
 record_sized : (b : List ℕ) → NameOrFault b → (at after kind class ttl size : ℕ) (ls : List (List ℕ)) → NameAt b Followed at ls after →
     NumberAt b after w16 kind → NumberAt b (after + 2) w16 class → NumberAt b (after + 4) w32 ttl → NumberAt b (after + 8) w16 size →

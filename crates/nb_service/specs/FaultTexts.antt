@@ -1,10 +1,10 @@
 -- The texts of faults (our choice): which name is wrong, where one is, what is wrong, and the place, where there is one.
 use Rattle.std.specs.Prelude.{ℕ, List, [], ◌++◌, codes, Option, Some, None}
 use Rattle.nb_names.specs.FaultTexts.{name_fault_place, name_fault_words, place_text}
-use Rattle.nb_service.specs.declared.push_fault.PushFault.{PushFault}
-use Rattle.nb_service.specs.declared.push_fault.PushFault.TheVariants as pushing
-use Rattle.nb_service.specs.declared.record_fault.RecordFault.{RecordFault}
-use Rattle.nb_service.specs.declared.record_fault.RecordFault.TheVariants as making
+use Rattle.nb_service.specs.declared.fault.PushFault.{PushFault}
+use Rattle.nb_service.specs.declared.fault.PushFault.TheVariants as pushing
+use Rattle.nb_service.specs.declared.fault.RecordFault.{RecordFault}
+use Rattle.nb_service.specs.declared.fault.RecordFault.TheVariants as making
 use Rattle.nb_service.specs.declared.fault.ServiceFault.{ServiceFault}
 use Rattle.nb_service.specs.declared.fault.ServiceFault.TheVariants.{Truncated, Name, NameRdata, NoMemory}
 

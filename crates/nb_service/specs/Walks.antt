@@ -2,7 +2,7 @@
 use Rattle.std.specs.Prelude.{◌≡◌, ℕ, ◌-◌, List, min, Option, None, Some}
 use Rattle.nb_service.specs.declared.fault.ServiceFault.{ServiceFault}
 use Rattle.nb_service.specs.declared.limits.TheConstants.{HEADER_LENGTH}
-use Rattle.nb_service.specs.declared.walked.Walked.{Walked}
+use Rattle.nb_service.specs.declared.walking.Walked.{Walked}
 use Rattle.nb_service.specs.Header.{PacketHeader}
 use Rattle.nb_service.specs.Items.{HasItems, items_of}
 use Rattle.nb_service.specs.Code.Steps.{RowOf}

@@ -1,12 +1,18 @@
 //! Packets, encoded.
 ghost use Rattle.std.specs.Prelude.{◌≡◌, ◌++◌, ◌<◌, ◌^◌, ℕ, List, length, OnOk, IfOk};
-ghost use Rattle.nb_service.specs.Encoding.{header_bytes, packet_bytes};
+ghost use Rattle.nb_service.specs.Encoding.{header_bytes, packet_bytes, is_pointed, name_bytes, question_bytes, record_bytes, IsQuestion, IsRecord};
 ghost use Rattle.nb_service.specs.Packet.{header_of, IsPacket};
+ghost use Rattle.std.specs.Int.{w16, w32, to_be_bytes};
+ghost use Rattle.std.specs.List.{AllByRecursion, flat_map};
+ghost use Rattle.nb_names.specs.DomainName.{IsDomain};
 
 use crate::laws::encoding_is_read;
+use crate::limits::HEADER_LENGTH;
 use crate::packet::Packet;
-use crate::writing::{write_16, write_questions, write_records};
-use nb_names::{Bytes, NoMemory};
+use crate::question::Question;
+use crate::rdata::Rdata;
+use crate::record::Record;
+use nb_names::{Bytes, DomainName, NoMemory};
 use std::alloc::Global;
 
 /// Writes the header of a packet.
@@ -50,4 +56,119 @@ pub fn encode(alloc: Global, packet: &Packet<'_>) -> Result<Bytes, NoMemory>
     write_records(&mut bytes, questions, packet.authorities().as_slice())?;
     write_records(&mut bytes, questions, packet.additional().as_slice())?;
     Ok(Bytes::from_vec(bytes))
+}
+
+/// The two bytes of a pointer to the first question's name (RFC 1002 section 4.1).
+const QUESTION_POINTER: [u8; 2] = [0xc0, HEADER_LENGTH as u8];
+
+/// Whether a name has a label and is the first question's.
+fn is_first_question(questions: &[Question], name: &DomainName) -> bool
+    ensures { result ≡ is_pointed questions.now name.now }
+{
+    match questions.first() {
+        Some(question) => !name.is_empty() && question.name == *name,
+        None => false,
+    }
+}
+
+/// Writes bytes.
+#[inline]
+fn write_bytes(bytes: &mut Vec<u8>, more: &[u8]) -> Result<(), NoMemory>
+    ensures { OnOk result (bytes.new.items ≡ bytes.old.items ++ more.now) }
+{
+    bytes.extend_from_slice(more)?;
+    Ok(())
+}
+
+/// Writes a number of two bytes.
+pub(crate) fn write_16(bytes: &mut Vec<u8>, number: u16) -> Result<(), NoMemory>
+    ensures { OnOk result (bytes.new.items ≡ bytes.old.items ++ to_be_bytes w16 number) }
+{
+    write_bytes(bytes, &number.to_be_bytes())
+}
+
+/// Writes a number of four bytes.
+fn write_32(bytes: &mut Vec<u8>, number: u32) -> Result<(), NoMemory>
+    ensures { OnOk result (bytes.new.items ≡ bytes.old.items ++ to_be_bytes w32 number) }
+{
+    write_bytes(bytes, &number.to_be_bytes())
+}
+
+/// Writes a question.
+fn write_question(bytes: &mut Vec<u8>, question: &Question) -> Result<(), NoMemory>
+    ensures written { OnOk result
+        (bytes.new.items ≡ bytes.old.items ++ question_bytes question.now) }
+    ensures formed { OnOk result (IsQuestion question.now) }
+{
+    write_bytes(bytes, question.name.spelling())?;
+    write_16(bytes, question.kind)?;
+    write_16(bytes, question.class)
+}
+
+/// Writes the name of a record after these questions.
+fn write_name(
+    bytes: &mut Vec<u8>,
+    questions: &[Question],
+    name: &DomainName,
+) -> Result<(), NoMemory>
+    ensures written { OnOk result
+        (bytes.new.items ≡ bytes.old.items ++ name_bytes questions.now name.now) }
+    ensures domain { OnOk result (IsDomain name.now) }
+{
+    let spelling = name.spelling();
+    if is_first_question(questions, name) {
+        write_bytes(bytes, &QUESTION_POINTER)
+    } else {
+        write_bytes(bytes, spelling)
+    }
+}
+
+/// Writes a record of a packet with these questions.
+fn write_record(
+    bytes: &mut Vec<u8>,
+    questions: &[Question],
+    entry: &Record<'_>,
+) -> Result<(), NoMemory>
+    ensures written { OnOk result
+        (bytes.new.items ≡ bytes.old.items ++ record_bytes questions.now entry.now) }
+    ensures formed { OnOk result (IsRecord entry.now) }
+{
+    write_name(bytes, questions, entry.name())?;
+    write_16(bytes, entry.kind())?;
+    write_16(bytes, entry.class())?;
+    write_32(bytes, entry.ttl())?;
+    let rdata = match entry.rdata() {
+        Rdata::Bytes(rdata) => rdata,
+        Rdata::Domain(name) => name.spelling(),
+    };
+    write_16(bytes, rdata.len() as u16)?;
+    write_bytes(bytes, rdata)
+}
+
+/// Writes questions, one after the other.
+pub(crate) fn write_questions(bytes: &mut Vec<u8>, questions: &[Question]) -> Result<(), NoMemory>
+    ensures written { OnOk result
+        (bytes.new.items ≡ bytes.old.items ++ flat_map question_bytes questions.now) }
+    ensures formed { OnOk result (AllByRecursion IsQuestion questions.now) }
+{
+    for question in questions {
+        write_question(bytes, question)?;
+    }
+    Ok(())
+}
+
+/// Writes records of a packet with these questions, one after the other.
+pub(crate) fn write_records(
+    bytes: &mut Vec<u8>,
+    questions: &[Question],
+    records: &[Record<'_>],
+) -> Result<(), NoMemory>
+    ensures written { OnOk result
+        (bytes.new.items ≡ bytes.old.items ++ flat_map (record_bytes questions.now) records.now) }
+    ensures formed { OnOk result (AllByRecursion IsRecord records.now) }
+{
+    for record in records {
+        write_record(bytes, questions, record)?;
+    }
+    Ok(())
 }

@@ -1,4 +1,4 @@
-//! Why bytes could not be decoded.
+//! Why bytes are no packet, and why a packet or a record was not made.
 ghost use Rattle.std.specs.Prelude.{◌≡◌};
 ghost use Rattle.nb_service.specs.FaultTexts.{service_fault_place, service_fault_subject, service_fault_words};
 
@@ -98,3 +98,66 @@ impl From<NoMemory> for ServiceFault {
         ServiceFault::NoMemory
     }
 }
+
+/// Why a question or a record could not be added to a packet.
+///
+/// Where both apply, it is the upper one.
+#[derive(Clone, Copy, Debug, PartialEq, Eq)]
+pub enum PushFault {
+    /// The list has 65,535 items already.
+    TooMany,
+    /// Memory ran out.
+    NoMemory,
+}
+
+impl fmt::Display for PushFault {
+    ghost use Rattle.std.specs.Prelude.{Some};
+    ghost use Rattle.nb_service.specs.FaultTexts.{push_fault_text};
+
+    ghost output = { λ fault. Some (push_fault_text fault) };
+
+    fn fmt<W: fmt::Write>(&self, f: &mut fmt::Formatter<W>) -> fmt::Result {
+        match self {
+            PushFault::TooMany => f.write_str("too many"),
+            PushFault::NoMemory => f.write_str("memory"),
+        }
+    }
+}
+
+impl Error for PushFault {}
+
+impl From<NoMemory> for PushFault {
+    ghost use Rattle.std.specs.Prelude.{◌≡◌};
+    ghost use Rattle.nb_service.specs.declared.fault.PushFault.TheVariants.{NoMemory};
+
+    ghost from_gives = { λ _ e. e ≡ NoMemory };
+
+    fn from(_e: NoMemory) -> PushFault {
+        PushFault::NoMemory
+    }
+}
+
+/// Why there is no such record. Where both apply, the first is answered.
+#[derive(Clone, Copy, Debug, PartialEq, Eq)]
+pub enum RecordFault {
+    /// The kind is NS, whose RDATA is a domain name (our choice).
+    KindIsNs,
+    /// The RDATA has more than 65,535 bytes.
+    TooLong,
+}
+
+impl fmt::Display for RecordFault {
+    ghost use Rattle.std.specs.Prelude.{Some};
+    ghost use Rattle.nb_service.specs.FaultTexts.{record_fault_text};
+
+    ghost output = { λ fault. Some (record_fault_text fault) };
+
+    fn fmt<W: fmt::Write>(&self, f: &mut fmt::Formatter<W>) -> fmt::Result {
+        match self {
+            RecordFault::KindIsNs => f.write_str("the kind is NS"),
+            RecordFault::TooLong => f.write_str("too long"),
+        }
+    }
+}
+
+impl Error for RecordFault {}

@@ -20,7 +20,7 @@ ghost use Rattle.nb_service.specs.Flags.{nm_bits, node_bits, opcode_of, rcode_of
 ghost use Rattle.nb_service.specs.Header.{PacketHeader, HasHeader};
 ghost use Rattle.nb_service.specs.Items.{PacketItem, IsExtent, ItemAt, ItemFails, ItemsAt, HasItems, items_of};
 ghost use Rattle.nb_service.specs.Packet.{QuestionAt, RecordAt, ServicePacket, header_of, IsPacket, HasSections};
-ghost use Rattle.nb_service.specs.Record.{ResourceRecord, of_bytes, of_domain, record_of};
+ghost use Rattle.nb_service.specs.Record.{ResourceRecord, of_bytes, of_domain};
 ghost use Rattle.nb_service.specs.ServiceFaults.{item_count, QuestionFails, RecordFails, PacketFails};
 ghost use Rattle.nb_service.specs.Views.{StatusParts, entries_in, entry_bytes, node_name_bytes, status_in};
 
@@ -83,10 +83,6 @@ pub fn entries_of_a_record()
     ensures domains { (entry : ResourceRecord) (labels : List (List ℕ)) →
         entry.rdata ≡ of_domain labels → entries_in entry ≡ [] }
     ensures other_kinds { (entry : ResourceRecord) → entry.kind ≢ 32 → entries_in entry ≡ [] }
-    ensures two { (name : List (List ℕ)) (class ttl : ℕ) → entries_in (record_of name 32 class ttl
-        (of_bytes (224 ∷ 1 ∷ 10 ∷ 2 ∷ 3 ∷ 4 ∷ 96 ∷ 5 ∷ 192 ∷ 6 ∷ 7 ∷ 8 ∷ [])))
-        ≡ record { flags = 57345; address = 10 ∷ 2 ∷ 3 ∷ 4 ∷ [] }
-        ∷ record { flags = 24581; address = 192 ∷ 6 ∷ 7 ∷ 8 ∷ [] } ∷ [] }
 {}
 
 /// The status of a node is that of a record of kind 33: RDATA of NUM_NAMES, so many names, each of
@@ -112,17 +108,6 @@ pub fn status_of_a_record()
         entry.rdata ≡ of_domain labels → status_in entry ≡ record { names = []; statistics = [] } }
     ensures other_kinds { (entry : ResourceRecord) → entry.kind ≢ 33 →
         status_in entry ≡ record { names = []; statistics = [] } }
-    ensures one { (name : List (List ℕ)) (class ttl : ℕ) → status_in (record_of name 33 class ttl
-        (of_bytes (1 ∷ 10 ∷ 11 ∷ 12 ∷ 13 ∷ 14 ∷ 15 ∷ 16 ∷ 17 ∷ 18 ∷ 19 ∷ 20 ∷ 21 ∷ 22 ∷ 23 ∷ 24 ∷ 25
-        ∷ 68 ∷ 3 ∷ 4 ∷ 5 ∷ 6 ∷ 7 ∷ 8 ∷ 9 ∷ 2 ∷ [])))
-        ≡ record {
-          names = record {
-            bytes = 10 ∷ 11 ∷ 12 ∷ 13 ∷ 14 ∷ 15 ∷ 16 ∷ 17 ∷ 18 ∷ 19 ∷ 20
-                ∷ 21 ∷ 22 ∷ 23 ∷ 24 ∷ 25 ∷ [];
-            flags = 17411;
-          } ∷ [];
-          statistics = 4 ∷ 5 ∷ 6 ∷ 7 ∷ 8 ∷ 9 ∷ 2 ∷ [];
-        } }
 {}
 
 /// Where a record's RDATA is a domain name, its kind is 2, and that name is read ten bytes after

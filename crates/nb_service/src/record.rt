@@ -6,11 +6,11 @@ ghost use Rattle.nb_service.specs.declared.limits.TheConstants.{ENTRY_LENGTH, NO
 ghost use Rattle.nb_service.specs.Views.{HasEntries, HasStatus, entry_bytes, after_count, entries_in, status_in, no_status};
 
 use crate::address_entries::AddressEntries;
+use crate::fault::RecordFault;
 use crate::kinds::NS;
 use crate::limits::MAX_RDATA;
 use crate::node_status::NodeStatus;
 use crate::rdata::Rdata;
-use crate::record_fault::RecordFault;
 use nb_names::DomainName;
 use std::marker::Model;
 

@@ -1,15 +1,32 @@
 //! The one walk along the items of a packet.
-ghost use Rattle.std.specs.Prelude.{◌≡◌, ◌<◌, ◌≤◌, ℕ, length, min};
+ghost use Rattle.std.specs.Prelude.{◌≡◌, ◌<◌, min};
 ghost use Rattle.nb_service.specs.Header.{HasHeader, header_value};
 ghost use Rattle.nb_service.specs.Walks.{Walks, walked_of};
 
 use crate::fault::ServiceFault;
 use crate::header::Header;
-use crate::item_reading::see_item;
 use crate::laws::one_item;
 use crate::limits::HEADER_LENGTH;
-use crate::walked::Walked;
+use crate::seeing::see_item;
 use nb_names::NameReader;
+
+/// How far the items of a packet stand whole, one after another from the end of its header on, and
+/// why no further.
+#[derive(Clone, Copy, Debug, PartialEq, Eq)]
+pub struct Walked {
+    /// How many questions stand.
+    pub questions: usize,
+    /// How many answers.
+    pub answers: usize,
+    /// How many authorities.
+    pub authorities: usize,
+    /// How many additional records.
+    pub additional: usize,
+    /// Where they end.
+    pub next: usize,
+    /// What is wrong with the next item; nothing where all stand that the header promises.
+    pub fault: Option<ServiceFault>,
+}
 
 /// Judges the items after the header of a packet, one after another, up to the first in which there
 /// is a fault. No memory is taken.
@@ -30,14 +47,14 @@ pub fn walk(names: &NameReader<'_, '_>, header: &Header) -> Walked
                 number += 1;
                 at = seen.fields.extent.next;
             }
-            Ok(None) => return walked(header, number, at, None),
-            Err(fault) => return walked(header, number, at, Some(fault)),
+            Ok(None) => return in_sections(header, number, at, None),
+            Err(fault) => return in_sections(header, number, at, Some(fault)),
         }
     }
 }
 
-/// What is answered where so many items stand.
-fn walked(header: &Header, items: usize, next: usize, fault: Option<ServiceFault>) -> Walked
+/// What is answered where so many items stand: how many are in each section.
+fn in_sections(header: &Header, items: usize, next: usize, fault: Option<ServiceFault>) -> Walked
     ensures { result ≡ walked_of (header_value header.now) items next fault }
 {
     let questions = items.min(header.questions as usize);

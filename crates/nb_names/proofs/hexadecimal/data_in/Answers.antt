@@ -4,7 +4,7 @@ use Rattle.std.proofs.lemmas.Bool.{eqb-true, eqb-false}
 use Rattle.std.proofs.lemmas.Bool.Decides.{Decides-eqb}
 use Rattle.std.proofs.lemmas.Slice.Eq.{slice_eq-Decides}
 use Rattle.nb_names.specs.Hexadecimal.{DataText, empty}
-use Rattle.nb_names.proofs.DataLemmas.{no_text, data_read}
+use Rattle.nb_names.proofs.PushingLemmas.{no_text, data_read}
 use Rattle.nb_names.proofs.hexadecimal.data_in.Goals as goal
 
 pub returns-then-eq : goal.returns-then-eq

@@ -1,5 +1,5 @@
 use Rattle.std.proofs.Common.{take, ◌++◌}
-use Rattle.nb_names.proofs.InputLemmas.{Consumes-more}
+use Rattle.nb_names.proofs.DeviceLemmas.{Consumes-more}
 use Rattle.nb_names.proofs.input.read_all.Goals as goal
 
 pub returns-in-Err-extend_from_slice-clause-lost : goal.returns-in-Err-extend_from_slice-clause-lost

@@ -1,6 +1,6 @@
 use Rattle.std.proofs.Common.{◌-◌, ◌+◌, length}
 use Rattle.nb_names.specs.declared.limits.TheConstants.{MAX_INPUT}
-use Rattle.nb_names.proofs.InputLemmas.{IsReading}
+use Rattle.nb_names.proofs.DeviceLemmas.{IsReading}
 use Rattle.nb_names.proofs.input.read_all.Given as goal
 
 abbrev pub invariant-loop-chunk : goal.invariant-loop-chunk

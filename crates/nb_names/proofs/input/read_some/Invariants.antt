@@ -1,6 +1,6 @@
 use Rattle.std.proofs.Common.{◌-◌}
 use Rattle.nb_names.specs.declared.limits.TheConstants.{MAX_INTERRUPTS}
-use Rattle.nb_names.proofs.InputLemmas.{IsWaiting}
+use Rattle.nb_names.proofs.DeviceLemmas.{IsWaiting}
 use Rattle.nb_names.proofs.input.read_some.Given as goal
 
 abbrev pub invariant-loop-interrupts : goal.invariant-loop-interrupts

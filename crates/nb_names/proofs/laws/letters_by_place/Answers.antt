@@ -1,5 +1,4 @@
-use Rattle.nb_names.proofs.FirstLevelLemmas.{length-letters}
-use Rattle.nb_names.proofs.OtherWordsLemmas.{letters_high, letters_low}
+use Rattle.nb_names.proofs.FirstLevelLemmas.{length-letters, letters_high, letters_low}
 use Rattle.nb_names.proofs.laws.letters_by_place.Goals as goal
 
 pub returns-clause-count : goal.returns-clause-count

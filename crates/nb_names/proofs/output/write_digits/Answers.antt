@@ -1,5 +1,5 @@
 use Rattle.std.proofs.lemmas.Result.{err_from_is_err_and, on_err_weaker}
-use Rattle.nb_names.proofs.OutputLemmas.{wrote_front, wrote_part, wrote_last_front}
+use Rattle.nb_names.proofs.DeviceLemmas.{wrote_front, wrote_part, wrote_last_front}
 use Rattle.nb_names.proofs.output.write_digits.Goals as goal
 
 pub returns-in_err-write_part-clause-err : goal.returns-in_err-write_part-clause-err

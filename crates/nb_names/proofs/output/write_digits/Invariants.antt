@@ -1,5 +1,5 @@
 use Rattle.std.proofs.Common.{length}
-use Rattle.nb_names.proofs.OutputLemmas.{IsWritingDigits}
+use Rattle.nb_names.proofs.DeviceLemmas.{IsWritingDigits}
 use Rattle.nb_names.proofs.output.write_digits.Given as goal
 
 abbrev pub invariant-parts : goal.invariant-parts

@@ -1,4 +1,4 @@
-use Rattle.nb_names.proofs.OutputLemmas.{wrote_more}
+use Rattle.nb_names.proofs.DeviceLemmas.{wrote_more}
 use Rattle.nb_names.proofs.output.write_whole.Goals as goal
 
 pub loop-written-preserved : goal.loop-written-preserved

@@ -1,5 +1,5 @@
 use Rattle.std.proofs.Common.{length, ◌-◌}
-use Rattle.nb_names.proofs.OutputLemmas.{IsWriting}
+use Rattle.nb_names.proofs.DeviceLemmas.{IsWriting}
 use Rattle.nb_names.proofs.output.write_whole.Given as goal
 
 abbrev pub invariant-loop-written : goal.invariant-loop-written

@@ -1,4 +1,4 @@
-use Rattle.nb_names.proofs.PlainLemmas.{plain_behind}
+use Rattle.nb_names.proofs.PushingLemmas.{plain_behind}
 use Rattle.std.proofs.Common.{◌∙◌, sym}
 use Rattle.nb_names.proofs.text_writing.add_plain.Goals as goal
 

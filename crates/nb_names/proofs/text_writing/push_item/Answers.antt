@@ -1,5 +1,5 @@
 use Rattle.std.proofs.Common.{◌∙◌, sym}
-use Rattle.nb_names.proofs.PlainLemmas.{plain_one}
+use Rattle.nb_names.proofs.PushingLemmas.{plain_one}
 use Rattle.nb_names.proofs.text_writing.push_item.Goals as goal
 
 pub push_ascii-requires : goal.push_ascii-requires

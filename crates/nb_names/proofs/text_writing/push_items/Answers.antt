@@ -1,6 +1,6 @@
 use Rattle.std.proofs.Common.{◌++◌, List, ℕ, string_bytes, ◌∙◌, ap, sym}
 use Rattle.std.proofs.lemmas.Result.{on_ok_weaker}
-use Rattle.nb_names.proofs.PlainLemmas.{plain_items, plain_ascii}
+use Rattle.nb_names.proofs.PushingLemmas.{plain_items, plain_ascii}
 use Rattle.nb_names.proofs.text_writing.push_items.Goals as goal
 
 pub push_ascii-requires : goal.push_ascii-requires

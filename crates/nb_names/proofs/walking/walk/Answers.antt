@@ -1,6 +1,6 @@
 use Rattle.std.proofs.Common.{◌≡◌, ◌+◌, ◌-◌, ◌++◌, [], ◌∷◌, ℕ, List, length, take, drop, refl, subst, arith}
 use Rattle.nb_names.specs.declared.fault.NameFault.TheVariants.{TooLong}
-use Rattle.nb_names.specs.declared.label_fault.LabelFault.TheVariants.{TooLong as PastLimit}
+use Rattle.nb_names.specs.declared.fault.LabelFault.TheVariants.{TooLong as PastLimit}
 use Rattle.nb_names.specs.DomainName.{spelling}
 use Rattle.nb_names.specs.NameFaults.{FaultAt, cut, reserved, not_allowed, not_below}
 use Rattle.nb_names.specs.Skipped.{IsSkipped}

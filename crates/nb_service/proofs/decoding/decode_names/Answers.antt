@@ -1,6 +1,6 @@
 use Rattle.std.proofs.lemmas.Result.{err_from_is_err_and}
 use Rattle.nb_service.specs.ServiceFaults.{cut_header, malformed}
-use Rattle.nb_service.proofs.StepLemmas.{refused_memory, packet_within}
+use Rattle.nb_service.proofs.PacketLemmas.{refused_memory, packet_within}
 use Rattle.nb_service.proofs.decoding.decode_names.Goals as goal
 
 pub returns-in_err-header-clause-fault : goal.returns-in_err-header-clause-fault

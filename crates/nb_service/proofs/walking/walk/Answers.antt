@@ -23,10 +23,10 @@ pub returns-in-Ok-None : goal.returns-in-Ok-None
 returns-in-Ok-None c =
     let far = c.items.invariant in
     let found = rw c.in-Ok-None.field-0-is at c.in-Ok-None.ensures.found in
-    rw c.walked.ensures (walked_whole c.args.names.now (header_value c.args.header.now) far.0 _ _ far.2 c.requires far.1 far.3 found (λ x after i. c.one_item.ensures.counted _ _ _ _ x after i))
+    rw c.in_sections.ensures (walked_whole c.args.names.now (header_value c.args.header.now) far.0 _ _ far.2 c.requires far.1 far.3 found (λ x after i. c.one_item.ensures.counted _ _ _ _ x after i))
 
 pub returns-in-Err : goal.returns-in-Err
 returns-in-Err c =
     let far = c.items.invariant in
-    rw c.walked-in-Err.ensures (walked_cut c.args.names.now (header_value c.args.header.now) far.0 _ _ _ far.2 c.requires far.1 c.in-Err.ensures.fault
+    rw c.in_sections-in-Err.ensures (walked_cut c.args.names.now (header_value c.args.header.now) far.0 _ _ _ far.2 c.requires far.1 c.in-Err.ensures.fault
     (λ x after i. c.one_item.ensures.alone _ _ _ _ _ x after c.in-Err.ensures.fault i))

@@ -1,4 +1,4 @@
-use Rattle.nb_names.proofs.ScopeLemmas.{IsScope-pushed}
+use Rattle.nb_names.proofs.SpellingLemmas.{IsScope-pushed}
 use Rattle.nb_names.proofs.scope.Scope.push.Goals as goal
 
 pub invariant_of-self : goal.invariant_of-self

@@ -1,5 +1,5 @@
 use Rattle.std.proofs.Common.{sym}
-use Rattle.nb_service.proofs.PiecesLemmas.{length-entries_of}
+use Rattle.nb_service.proofs.ViewLemmas.{length-entries_of}
 use Rattle.nb_service.proofs.address_entries.AddressEntries.len.Goals as goal
 
 pub returns : goal.returns

@@ -1,5 +1,5 @@
 use Rattle.std.proofs.Common.{arith}
-use Rattle.nb_service.proofs.PiecesLemmas.{entries_given_back, length-entries_of}
+use Rattle.nb_service.proofs.ViewLemmas.{entries_given_back, length-entries_of}
 use Rattle.nb_service.proofs.address_entries.AddressEntries.of_bytes.Goals as goal
 
 pub returns-clause-bytes : goal.returns-clause-bytes

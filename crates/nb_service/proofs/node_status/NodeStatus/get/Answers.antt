@@ -1,6 +1,6 @@
 use Rattle.std.proofs.Common.{◌≡◌, ◌+◌, ◌-◌, ◌*◌, ◌/◌, ℕ, Some, length, take, drop, ap, sym, subst, ◌∙◌, arith}
 use Rattle.nb_service.specs.Views.{node_name_of}
-use Rattle.nb_service.proofs.PiecesLemmas.{get-pieces, get_past-pieces}
+use Rattle.nb_service.proofs.ViewLemmas.{get-pieces, get_past-pieces}
 use Rattle.nb_service.proofs.node_status.NodeStatus.get.Goals as goal
 
 pub returns-then-place-self : goal.returns-then-place-self

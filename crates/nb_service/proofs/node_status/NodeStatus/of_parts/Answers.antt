@@ -1,5 +1,5 @@
 use Rattle.std.proofs.Common.{arith}
-use Rattle.nb_service.proofs.PiecesLemmas.{node_names_given_back, length-node_names_of}
+use Rattle.nb_service.proofs.ViewLemmas.{node_names_given_back, length-node_names_of}
 use Rattle.nb_service.proofs.node_status.NodeStatus.of_parts.Goals as goal
 
 pub returns-clause-names : goal.returns-clause-names

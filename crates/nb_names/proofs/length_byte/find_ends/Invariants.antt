@@ -1,0 +1,6 @@
+use Rattle.std.proofs.Common.{take}
+use Rattle.nb_names.specs.Code.PointerEnds.{AreEnds}
+use Rattle.nb_names.proofs.length_byte.find_ends.Given as goal
+
+abbrev pub invariant-loop-at : goal.invariant-loop-at
+invariant-loop-at l = AreEnds l.packet (take l.at l.ends)

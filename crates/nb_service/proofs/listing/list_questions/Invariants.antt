@@ -1,7 +1,0 @@
-use Rattle.std.proofs.Common.{◌≡◌, length}
-use Rattle.nb_service.specs.Packet.{QuestionAt}
-use Rattle.nb_service.proofs.StepLemmas.{Ahead}
-use Rattle.nb_service.proofs.listing.list_questions.Given as goal
-
-abbrev pub invariant-loop : goal.invariant-loop
-invariant-loop l = Ahead (QuestionAt l.names) l.at l.count l.next l.questions.items × (length l.questions.items ≡ l.counter)

@@ -53,20 +53,20 @@ pub one_row_fault : {A : Type 0} (S : ℕ → A → ℕ → Type 0) (F : ℕ →
 one_row_fault S F s at m n f g a b = one_fault_after S F s at a.here b.here a.items b.items f g a.before b.before a.fails b.fails
 
 -- the front of what stands at an offset stands there
-pub stands_before : (packet : List ℕ) (at : ℕ) (bytes more : List ℕ) → StandsAt packet at (bytes ++ more) → StandsAt packet at bytes
-stands_before packet at bytes more h =
-    let fits : length bytes ≤ length (bytes ++ more) = omega (arith, length-append bytes more) in
-    sym (take-take (length bytes) (length (bytes ++ more)) (drop at packet) fits) ∙ ap (λ (r : List ℕ). take (length bytes) r) h ∙ take_at bytes more (length bytes) refl
+pub stands_before : (packet : List ℕ) (at : ℕ) (bytes behind : List ℕ) → StandsAt packet at (bytes ++ behind) → StandsAt packet at bytes
+stands_before packet at bytes behind h =
+    let fits : length bytes ≤ length (bytes ++ behind) = omega (arith, length-append bytes behind) in
+    sym (take-take (length bytes) (length (bytes ++ behind)) (drop at packet) fits) ∙ ap (λ (r : List ℕ). take (length bytes) r) h ∙ take_at bytes behind (length bytes) refl
 
 -- what follows it stands after it
-pub stands_after : (packet : List ℕ) (at : ℕ) (bytes more : List ℕ) → StandsAt packet at (bytes ++ more) → StandsAt packet (at + length bytes) more
-stands_after packet at bytes more h =
-    let rest : List ℕ = drop (length (bytes ++ more)) (drop at packet) in
-    let whole : drop at packet ≡ (bytes ++ more) ++ rest =
-    sym (take-append-drop (length (bytes ++ more)) (drop at packet)) ∙ ap (λ (r : List ℕ). r ++ rest) h in
-    let moved : drop (at + length bytes) packet ≡ more ++ rest =
-    sym (drop-drop (length bytes) at packet) ∙ ap (λ (r : List ℕ). drop (length bytes) r) (whole ∙ append_assoc bytes more rest) ∙ drop_at bytes (more ++ rest) (length bytes) refl in
-    ap (λ (r : List ℕ). take (length more) r) moved ∙ take_at more rest (length more) refl
+pub stands_after : (packet : List ℕ) (at : ℕ) (bytes behind : List ℕ) → StandsAt packet at (bytes ++ behind) → StandsAt packet (at + length bytes) behind
+stands_after packet at bytes behind h =
+    let rest : List ℕ = drop (length (bytes ++ behind)) (drop at packet) in
+    let whole : drop at packet ≡ (bytes ++ behind) ++ rest =
+    sym (take-append-drop (length (bytes ++ behind)) (drop at packet)) ∙ ap (λ (r : List ℕ). r ++ rest) h in
+    let moved : drop (at + length bytes) packet ≡ behind ++ rest =
+    sym (drop-drop (length bytes) at packet) ∙ ap (λ (r : List ℕ). drop (length bytes) r) (whole ∙ append_assoc bytes behind rest) ∙ drop_at bytes (behind ++ rest) (length bytes) refl in
+    ap (λ (r : List ℕ). take (length behind) r) moved ∙ take_at behind rest (length behind) refl
 
 -- a row of two lists is two rows
 pub row_split : {A : Type 0} (S : ℕ → A → ℕ → Type 0) (at n : ℕ) (xs ys : List A) → Row S at (xs ++ ys) n → (m : ℕ) × Row S at xs m × Row S m ys n

@@ -44,15 +44,13 @@ pub use loading::{
     merging_saved_tables_joins_them, saved_bytes_have_one_reading, what_is_read_is_saved,
 };
 pub use nb_entries::laws::{
-    a_map_has_one_row_of_ranges, a_map_has_one_row_of_runs, an_awaited_promise_is_past_the_bytes,
-    byte_is_that_which_covers, cover_agreement_is_the_relation, cover_join_is_associative,
+    a_map_has_one_row_of_ranges, an_awaited_promise_is_past_the_bytes, cover_join_is_associative,
     cover_join_is_commutative, cover_join_is_idempotent, cover_join_is_well_formed,
-    covers_are_equal_where_contents_are, datagram_has_the_bytes_of_its_entry, end_is_where_it_ends,
-    entries_are_equal_where_contents_are, entry_agreement_is_the_relation,
-    entry_join_is_associative, entry_join_is_commutative, entry_join_is_idempotent,
-    entry_join_is_well_formed, map_of_runs_gives_them_back, promise_is_what_is_promised,
+    covers_are_equal_where_contents_are, datagram_has_the_bytes_of_its_entry,
+    entries_are_equal_where_contents_are, entry_join_is_associative, entry_join_is_commutative,
+    entry_join_is_idempotent, entry_join_is_well_formed, map_of_runs_gives_them_back,
     promised_place_is_past_the_covered, ranges_of_a_map_have_its_places, runs_of_a_map_are_apart,
-    runs_of_a_map_give_it_back, union_has_the_bytes_of_both, whole_entries_have_a_datagram,
+    runs_of_a_map_give_it_back,
 };
 pub use parts::{
     all_parts_give_the_datagram, parts_are_not_spoilt, parts_are_whole_where_all_are_there,

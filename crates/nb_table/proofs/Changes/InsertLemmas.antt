@@ -10,27 +10,22 @@ use Rattle.std.specs.FinMap as maps
 use Rattle.nb_datagram.specs.declared.key.Key.{Key}
 use Rattle.nb_datagram.specs.Key.{same_key}
 use Rattle.nb_datagram.specs.Fragment.{FragmentParts, Core, core_of, reach}
-use Rattle.nb_entries.specs.declared.change.Change.TheVariants.{Whole, Same, Grown}
-use Rattle.nb_entries.specs.declared.change.Change.TheVariants.{Spoilt as Spoils}
+use Rattle.nb_entries.specs.declared.change.Change.TheVariants.{Whole, Same, Grown, Spoilt as Spoils}
 use Rattle.nb_entries.specs.Maps.{joined_onto}
 use Rattle.nb_entries.specs.declared.slot.Slot.TheVariants.{Spoilt, Held}
-use Rattle.nb_entries.specs.Entry.{EntryFacts, EntryValue, FactsFit, facts_agree, facts_of, facts_together, join_entry}
+use Rattle.nb_entries.specs.Entry.{EntryFacts, EntryValue, FactsFit, facts_agree, facts_of, facts_together, join_entry, AreShort, IsShort}
 use Rattle.nb_table.specs.Contents.{Contents, table_of}
 use Rattle.nb_table.specs.Join.{IsTable}
 use Rattle.nb_table.specs.Limits.{TableValue, IsFull, IsFullSource, KeepsLimits}
-use Rattle.nb_entries.specs.Short.{AreShort, IsShort}
 use Rattle.nb_table.specs.KeyCounts.{held_keys, of_source}
 use Rattle.nb_table.proofs.Limits.GroupLemmas.{few_insert}
-use Rattle.nb_entries.specs.Change.{Change}
+use Rattle.nb_entries.specs.Change.{Change, KeyChange}
 use Rattle.nb_table.specs.Change.{IsChange}
-use Rattle.nb_entries.specs.Change.{KeyChange}
 use Rattle.nb_table.specs.Insert.{NeedsNoMemory, spoilt, contradicts, held, Passes, Refuses}
 use Rattle.nb_datagram.specs.KeyOrder.{key_cmp_total, key_cmp_exact, same_key_decides}
 use Rattle.nb_entries.specs.Shared.CoverLemmas.{bytes_below_both, first_either}
-use Rattle.nb_entries.specs.Shared.PromiseLemmas.{greater_either, promise_of_decides}
+use Rattle.nb_entries.specs.Shared.PlacedLemmas.{greater_either, promise_of_decides, end_of_decides, below_by_reach}
 use Rattle.nb_entries.specs.Shared.EntryLemmas.{facts_fit_of}
-use Rattle.nb_entries.specs.Shared.PlacedLemmas.{end_of_decides}
-use Rattle.nb_entries.specs.Shared.PlacedLemmas.{below_by_reach}
 use Rattle.nb_table.specs.Shared.TableLemmas.{join_formed}
 use Rattle.nb_table.proofs.Contents.ContentsLemmas.{table_of_formed}
 use Rattle.nb_table.specs.Shared.FragmentLemmas.{join_one, insert_at, needs_new}

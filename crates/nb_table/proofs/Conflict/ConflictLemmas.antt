@@ -20,9 +20,8 @@ use Rattle.nb_entries.specs.Shared.MapsLemmas.{entry_fails}
 use Rattle.nb_datagram.specs.KeyOrder.{same_key_decides}
 use Rattle.nb_datagram.specs.EqualityFacts.{same_kind_decides}
 use Rattle.std.proofs.lemmas.Bool.Decides.{not_from_Decides}
-use Rattle.nb_entries.specs.Shared.PlacedLemmas.{get-cover_of, byte_of_decides, end_of_decides, cover_of_formed}
+use Rattle.nb_entries.specs.Shared.PlacedLemmas.{get-cover_of, byte_of_decides, end_of_decides, cover_of_formed, promise_of_decides}
 use Rattle.nb_entries.specs.Shared.CoverLemmas.{bytes_below_decides}
-use Rattle.nb_entries.specs.Shared.PromiseLemmas.{promise_of_decides}
 use Rattle.nb_entries.specs.Shared.EntryLemmas.{facts_fit_of, entry_agrees, facts_unite}
 use Rattle.nb_table.proofs.Contents.OrderFreeLemmas.{in_cons, in_first, in_rest, in_none}
 

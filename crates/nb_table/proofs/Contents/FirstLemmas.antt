@@ -5,8 +5,7 @@ use Rattle.nb_entries.specs.Maps.{first_of}
 use Rattle.nb_entries.specs.Promise.{Promises, promise_of_one}
 use Rattle.nb_table.specs.Contents.{first_byte, first_end, greatest_promise}
 use Rattle.nb_entries.specs.Shared.CoverLemmas.{first_either}
-use Rattle.nb_entries.specs.Shared.PromiseLemmas.{promise_of_decides, greater_either, greater_left, greater_right}
-use Rattle.nb_entries.specs.Shared.PlacedLemmas.{byte_of_decides, end_of_decides}
+use Rattle.nb_entries.specs.Shared.PlacedLemmas.{promise_of_decides, greater_either, greater_left, greater_right, byte_of_decides, end_of_decides}
 use Rattle.nb_table.proofs.Contents.OrderFreeLemmas.{in_none, in_first, in_rest, in_cons}
 
 -- a fragment of fs covers place i with x

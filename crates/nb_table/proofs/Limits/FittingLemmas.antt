@@ -5,11 +5,9 @@ use Rattle.std.proofs.lemmas.Option.{none-some, same_Some}
 use Rattle.std.specs.List.{list_all}
 use Rattle.std.specs.FinMap as maps
 use Rattle.nb_entries.specs.declared.slot.Slot.TheVariants.{Spoilt, Held}
-use Rattle.nb_entries.specs.Entry.{EntryValue}
+use Rattle.nb_entries.specs.Entry.{EntryValue, IsShort, ends_by, is_short}
 use Rattle.nb_table.specs.Contents.{Contents}
-use Rattle.nb_entries.specs.Short.{IsShort}
 use Rattle.nb_table.specs.Merging.{AllShort}
-use Rattle.nb_entries.specs.Short.{ends_by, is_short}
 use Rattle.nb_entries.specs.Shared.MapsLemmas.{and_left, and_right, all_entries_found, all_entries_from}
 use Rattle.nb_datagram.specs.KeyOrder.{key_cmp_total, key_cmp_exact}
 use Rattle.nb_entries.specs.Shared.CoverLemmas.{bytes_below_decides}

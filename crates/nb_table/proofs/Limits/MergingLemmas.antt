@@ -9,12 +9,11 @@ use Rattle.std.specs.FinMap as maps
 use Rattle.nb_datagram.specs.declared.key.Key.{Key}
 use Rattle.nb_datagram.specs.Key.{key_cmp}
 use Rattle.nb_entries.specs.Maps.{joined_at, joined_onto}
-use Rattle.nb_entries.specs.Entry.{EntryValue, join_entry}
+use Rattle.nb_entries.specs.Entry.{EntryValue, join_entry, IsShort}
 use Rattle.nb_table.specs.Contents.{Contents}
 use Rattle.nb_table.specs.Join.{join, IsTable}
 use Rattle.nb_table.specs.KeyCounts.{every_key}
 use Rattle.nb_table.specs.Limits.{TableValue, KeepsLimits, with_contents}
-use Rattle.nb_entries.specs.Short.{IsShort}
 use Rattle.nb_table.specs.Merging.{AllShort, Fits}
 use Rattle.nb_table.specs.Code.Each.{joined_each}
 use Rattle.nb_datagram.specs.KeyOrder.{key_cmp_total, key_cmp_exact}

@@ -7,8 +7,8 @@ use Rattle.nb_datagram.specs.declared.kind.Kind.TheVariants.{Group}
 use Rattle.nb_datagram.specs.Key.{key_cmp}
 use Rattle.nb_datagram.specs.Kind.{type_of}
 use Rattle.nb_datagram.specs.Packet.{name_bytes}
-use Rattle.nb_entries.specs.declared.saved.form.SavedForm.{SavedForm}
-use Rattle.nb_entries.specs.declared.saved.form.SavedForm.TheVariants.{First, Second}
+use Rattle.nb_entries.specs.declared.saved.SavedForm.{SavedForm}
+use Rattle.nb_entries.specs.declared.saved.SavedForm.TheVariants.{First, Second}
 use Rattle.nb_entries.specs.declared.slot.Slot.TheVariants.{Held}
 use Rattle.nb_entries.specs.Entry.{EntryValue}
 use Rattle.nb_entries.specs.Runs.{RunValue, map_of_runs, runs_of_map}

@@ -7,7 +7,7 @@ use Rattle.std.specs.FinMap as maps
 use Rattle.nb_datagram.specs.declared.key.Key.{Key}
 use Rattle.nb_datagram.specs.Header.{IsKey}
 use Rattle.nb_datagram.specs.Key.{key_cmp}
-use Rattle.nb_entries.specs.declared.saved.form.SavedForm.TheVariants.{Second}
+use Rattle.nb_entries.specs.declared.saved.SavedForm.TheVariants.{Second}
 use Rattle.nb_entries.specs.Entry.{EntryValue}
 use Rattle.nb_table.specs.Contents.{Contents}
 use Rattle.nb_entries.specs.Saved.{entry_bytes}

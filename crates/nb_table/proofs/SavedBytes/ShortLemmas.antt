@@ -15,12 +15,12 @@ use Rattle.nb_table.specs.Merging.{AllShort}
 use Rattle.nb_table.specs.Saved.{IsSaved, saved, saved_first}
 use Rattle.nb_table.specs.SavedReading.{IsRead}
 use Rattle.nb_table.specs.SavedFits.{FitsSaved}
-use Rattle.nb_entries.specs.SavedFits.{IsNamed}
+use Rattle.nb_entries.specs.Saved.{IsNamed}
 use Rattle.nb_table.specs.Code.SavedTables.{HasNames}
 use Rattle.nb_datagram.specs.KeyOrder.{key_cmp_total, key_cmp_exact}
 use Rattle.nb_table.proofs.Changes.InsertLemmas.{short_more}
 use Rattle.nb_table.proofs.SavedReading.ReadBackLemmas.{read_back, read_back_first}
-use Rattle.nb_entries.specs.Shared.ShortLemmas.{entry_fits}
+use Rattle.nb_entries.specs.Shared.SavedLemmas.{entry_fits}
 use Rattle.std.proofs.lemmas.Option.{none-some, same_Some}
 use Rattle.std.specs.Ordering.{eq_by_cmp}
 use Rattle.nb_datagram.specs.Key.{key_cmp}

@@ -4,8 +4,8 @@ use Rattle.std.proofs.lemmas.List.{take_all}
 use Rattle.std.specs.Int.{w16, w32, to_be_bytes}
 use Rattle.nb_names.specs.Labels.{StandsAt}
 use Rattle.nb_datagram.specs.declared.key.Key.{Key}
-use Rattle.nb_entries.specs.declared.saved.form.SavedForm.{SavedForm}
-use Rattle.nb_entries.specs.declared.saved.form.SavedForm.TheVariants.{First, Second}
+use Rattle.nb_entries.specs.declared.saved.SavedForm.{SavedForm}
+use Rattle.nb_entries.specs.declared.saved.SavedForm.TheVariants.{First, Second}
 use Rattle.nb_entries.specs.Entry.{EntryValue}
 use Rattle.nb_table.specs.Saved.{magic, key_bytes, keyed_bytes, entries_bytes}
 use Rattle.nb_entries.specs.Saved.{entry_bytes}

@@ -6,7 +6,7 @@ use Rattle.std.specs.FinMap as maps
 use Rattle.nb_datagram.specs.declared.key.Key.{Key}
 use Rattle.nb_entries.specs.declared.load_fault.LoadFault.{LoadFault}
 use Rattle.nb_entries.specs.declared.load_fault.LoadFault.TheVariants.{TooLong, FullSource, Full, NoMemory}
-use Rattle.nb_entries.specs.declared.saved.form.SavedForm.{SavedForm}
+use Rattle.nb_entries.specs.declared.saved.SavedForm.{SavedForm}
 use Rattle.nb_table.specs.Contents.{Contents}
 use Rattle.nb_entries.specs.Entry.{EntryValue}
 use Rattle.nb_table.specs.KeyCounts.{FewOfEach, of_source}

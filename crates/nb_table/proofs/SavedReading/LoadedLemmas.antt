@@ -8,13 +8,12 @@ use Rattle.std.specs.FinMap.{is_sorted}
 use Rattle.std.specs.FinMap.Entries.{below_all}
 use Rattle.nb_datagram.specs.declared.key.Key.{Key}
 use Rattle.nb_datagram.specs.Key.{key_cmp}
-use Rattle.nb_entries.specs.declared.saved.form.SavedForm.{SavedForm}
-use Rattle.nb_entries.specs.declared.saved.form.SavedForm.TheVariants.{First, Second}
+use Rattle.nb_entries.specs.declared.saved.SavedForm.{SavedForm}
+use Rattle.nb_entries.specs.declared.saved.SavedForm.TheVariants.{First, Second}
 use Rattle.nb_table.specs.Contents.{Contents}
-use Rattle.nb_entries.specs.Entry.{EntryValue, IsEntry}
+use Rattle.nb_entries.specs.Entry.{EntryValue, IsEntry, is_short}
 use Rattle.nb_table.specs.Join.{IsTable}
 use Rattle.nb_table.specs.Merging.{AllShort}
-use Rattle.nb_entries.specs.Short.{is_short}
 use Rattle.nb_table.specs.Saved.{magic, entries_bytes, saved_as, IsSaved}
 use Rattle.nb_entries.specs.SavedReading.{gives, goes_on, whole, good}
 use Rattle.nb_table.specs.SavedReading.{IsAfter, entries_at, IsRead, after_magic}
@@ -25,7 +24,7 @@ use Rattle.nb_datagram.specs.KeyOrder.{key_cmp_total, key_cmp_exact}
 use Rattle.nb_entries.specs.Shared.MapsLemmas.{sorted_entries, T_left, T_right}
 use Rattle.nb_table.proofs.Limits.FittingLemmas.{all_short_decides}
 use Rattle.nb_table.proofs.SavedReading.FoundLemmas.{key_found, entries_found, read_found}
-use Rattle.nb_entries.specs.Shared.LoadedLemmas.{entry_formed, entry_plain}
+use Rattle.nb_entries.specs.Shared.RowLemmas.{entry_formed, entry_plain}
 use Rattle.std.proofs.lemmas.Option.{none-some, same_Some}
 use Rattle.std.specs.declared.cmp.Ordering.{Ordering}
 use Rattle.std.specs.declared.cmp.Ordering.TheVariants.{Less, Equal, Greater}

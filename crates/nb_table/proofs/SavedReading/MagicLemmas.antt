@@ -9,8 +9,8 @@ use Rattle.nb_names.specs.Labels.{StandsAt}
 use Rattle.nb_names.specs.Numbers.{NumberAt}
 use Rattle.nb_entries.specs.declared.load_fault.LoadFault.{LoadFault}
 use Rattle.nb_entries.specs.declared.load_fault.LoadFault.TheVariants.{NotCanonical}
-use Rattle.nb_entries.specs.declared.saved.form.SavedForm.{SavedForm}
-use Rattle.nb_entries.specs.declared.saved.form.SavedForm.TheVariants.{First, Second}
+use Rattle.nb_entries.specs.declared.saved.SavedForm.{SavedForm}
+use Rattle.nb_entries.specs.declared.saved.SavedForm.TheVariants.{First, Second}
 use Rattle.nb_table.specs.Saved.{magic}
 use Rattle.nb_entries.specs.SavedReading.{Field, stops, goes_on, good, bad}
 use Rattle.nb_table.specs.SavedReading.{IsRead, after_magic, entries_at}

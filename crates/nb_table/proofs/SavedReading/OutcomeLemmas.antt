@@ -6,8 +6,8 @@ use Rattle.nb_names.specs.Numbers.{NumberAt}
 use Rattle.nb_names.specs.PacketFacts.{stands_same, one_number_16, one_number_32}
 use Rattle.nb_names.proofs.LabelsLemmas.{stands_before, stands_behind}
 use Rattle.nb_datagram.specs.declared.key.Key.{Key}
-use Rattle.nb_entries.specs.declared.saved.form.SavedForm.{SavedForm}
-use Rattle.nb_entries.specs.declared.saved.form.SavedForm.TheVariants.{First, Second}
+use Rattle.nb_entries.specs.declared.saved.SavedForm.{SavedForm}
+use Rattle.nb_entries.specs.declared.saved.SavedForm.TheVariants.{First, Second}
 use Rattle.nb_table.specs.Saved.{magic}
 use Rattle.nb_entries.specs.SavedReading.{Field, Judged, entry_at}
 use Rattle.nb_table.specs.SavedReading.{KeyAt, IsAfter, key_at, entries_at, table_at, IsRead, no_magic, after_magic}

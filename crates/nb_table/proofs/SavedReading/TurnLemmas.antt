@@ -1,13 +1,11 @@
 -- Rows of entries, read one after the other.
-use Rattle.std.proofs.Common.{◌≡◌, ◌+◌, ◌-◌, ◌<◌, ℕ, suc, List, map, [], ◌∷◌, ◌++◌, Bool, true, false, ◌&&◌, None, Some, Option, Ok, Err, refl, sym, ap, subst, ◌∙◌, arith}
-use Rattle.std.proofs.Common.{append_assoc, append-nil}
+use Rattle.std.proofs.Common.{◌≡◌, ◌+◌, ◌-◌, ◌<◌, ℕ, suc, List, map, [], ◌∷◌, ◌++◌, Bool, true, false, ◌&&◌, None, Some, Option, Ok, Err, refl, sym, ap, subst, ◌∙◌, arith, append_assoc, append-nil}
 use Rattle.std.proofs.lemmas.List.Folds.{list_all-append}
 use Rattle.std.specs.List.{list_all}
 use Rattle.nb_datagram.specs.declared.key.Key.{Key}
 use Rattle.nb_entries.specs.declared.load_fault.LoadFault.{LoadFault}
-use Rattle.nb_entries.specs.declared.saved.form.SavedForm.{SavedForm}
-use Rattle.nb_entries.specs.Entry.{EntryValue}
-use Rattle.nb_entries.specs.Short.{is_short}
+use Rattle.nb_entries.specs.declared.saved.SavedForm.{SavedForm}
+use Rattle.nb_entries.specs.Entry.{EntryValue, is_short}
 use Rattle.nb_entries.specs.SavedReading.{gives, stops, goes_on, entry_at}
 use Rattle.nb_table.specs.SavedReading.{key_at, entries_at}
 

@@ -10,7 +10,7 @@ ghost use Rattle.nb_table.specs.Contents.{Contents};
 ghost use Rattle.nb_table.specs.Merging.{AllShort};
 ghost use Rattle.nb_table.specs.Saved.{saved, saved_first};
 ghost use Rattle.nb_table.specs.SavedExample.{example_saved, example_saved_first, example_table};
-ghost use Rattle.nb_entries.specs.SavedFits.{IsNamed};
+ghost use Rattle.nb_entries.specs.Saved.{IsNamed};
 ghost use Rattle.nb_table.specs.SavedFits.{FitsSaved};
 
 use nb_names::laws::labels_tell_the_name;

@@ -4,11 +4,11 @@ ghost use Rattle.std.specs.BTreeMap.{IsOrdered};
 ghost use Rattle.std.specs.List.{AllByRecursion};
 ghost use Rattle.std.specs.FinMap as maps;
 ghost use Rattle.nb_datagram.specs.Key.{key_cmp};
-ghost use Rattle.nb_entries.specs.Short.{is_short as is_short_entry};
+ghost use Rattle.nb_entries.specs.Entry.{is_short as is_short_entry};
 ghost use Rattle.nb_table.specs.Code.SavedTables.{AreJudged, AreKept, HasNames};
 ghost use Rattle.nb_entries.specs.Sinks.{Puts};
 ghost use Rattle.nb_table.specs.Saved.{entries_bytes, keyed_bytes};
-ghost use Rattle.nb_entries.specs.declared.saved.form.SavedForm.TheVariants.{Second};
+ghost use Rattle.nb_entries.specs.declared.saved.SavedForm.TheVariants.{Second};
 ghost use Rattle.nb_table.specs.SavedReading.{entries_at};
 ghost use Rattle.nb_entries.specs.declared.load_fault.LoadFault.TheVariants.{NoMemory as no_memory};
 

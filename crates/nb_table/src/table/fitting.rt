@@ -3,9 +3,8 @@ ghost use Rattle.std.specs.Prelude.{◌≡◌, ◌≢◌, ◌↔◌, OnOk, IfErr
 ghost use Rattle.std.specs.List.{list_all};
 ghost use Rattle.std.specs.FinMap as maps;
 ghost use Rattle.nb_table.specs.KeyCounts.{every_key};
-ghost use Rattle.nb_table.specs.Merging.{AllShort, Fits, IsRefused};
-ghost use Rattle.nb_entries.specs.Short.{is_short};
-ghost use Rattle.nb_table.specs.Merging.{first_unfit as least_unfit};
+ghost use Rattle.nb_table.specs.Merging.{AllShort, Fits, IsRefused, first_unfit as least_unfit};
+ghost use Rattle.nb_entries.specs.Entry.{is_short};
 
 use super::Table;
 use crate::entries::Entries;

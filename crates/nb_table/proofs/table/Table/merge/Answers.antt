@@ -3,7 +3,7 @@ use Rattle.std.specs.List.{AllByRecursion}
 use Rattle.nb_datagram.specs.declared.limits.TheConstants.{MAX_LENGTH}
 use Rattle.nb_entries.specs.declared.change.Handing.TheVariants.{Over}
 use Rattle.nb_table.specs.Limits.{TableValue, with_contents}
-use Rattle.nb_entries.specs.Short.{IsShort}
+use Rattle.nb_entries.specs.Entry.{IsShort}
 use Rattle.nb_table.specs.Merging.{newly_handed}
 use Rattle.nb_table.specs.Code.Handed.{handed}
 use Rattle.nb_table.proofs.Changes.InsertLemmas.{short_more}

@@ -3,7 +3,7 @@ use Rattle.std.specs.Int.{w16, w32, w64, to_be_bytes}
 use Rattle.nb_entries.specs.Code.RunSteps.{value_of}
 use Rattle.nb_entries.specs.Saved.{run_bytes}
 use Rattle.nb_entries.specs.Shared.PuttingLemmas.{begun, turn, stop, done}
-use Rattle.nb_entries.proofs.cover.runs.saving.put_run.Goals as goal
+use Rattle.nb_entries.proofs.cover.runs.uniting.put_run.Goals as goal
 
 -- the low halves of a start and of a size
 halves : (start size : List ℕ) (m n : ℕ) → start ≡ to_be_bytes w32 m → size ≡ to_be_bytes w64 n → get_or start 2 0 ∷ get_or start 3 0 ∷ get_or size 6 0 ∷ get_or size 7 0 ∷ [] ≡ to_be_bytes w16 m ++ to_be_bytes w16 n

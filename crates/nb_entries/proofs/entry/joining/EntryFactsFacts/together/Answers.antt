@@ -1,6 +1,6 @@
 use Rattle.nb_entries.specs.Shared.CoverLemmas.{agree_of}
 use Rattle.nb_entries.specs.Shared.EntryLemmas.{facts_fit_of}
-use Rattle.nb_entries.proofs.entry.uniting.EntryFactsFacts.together.Goals as goal
+use Rattle.nb_entries.proofs.entry.joining.EntryFactsFacts.together.Goals as goal
 
 pub together-requires : goal.together-requires
 together-requires c =

@@ -1,6 +1,6 @@
 use Rattle.std.proofs.Common.{◌+◌, ◌-◌, length}
-use Rattle.nb_session.proofs.FillingLemmas.{IsFilling}
-use Rattle.nb_session.proofs.filling.read_full.Given as goal
+use Rattle.nb_session.proofs.PacketReadingLemmas.{IsFilling}
+use Rattle.nb_session.proofs.packet_reading.read_full.Given as goal
 
 abbrev pub invariant-loop-filled : goal.invariant-loop-filled
 invariant-loop-filled g l =

@@ -1,6 +1,6 @@
 use Rattle.std.proofs.Common.{refl, arith, rules}
-use Rattle.nb_session.proofs.FillingLemmas.{filled_more}
-use Rattle.nb_session.proofs.filling.read_full.Goals as goal
+use Rattle.nb_session.proofs.PacketReadingLemmas.{filled_more}
+use Rattle.nb_session.proofs.packet_reading.read_full.Goals as goal
 
 pub loop-filled-preserved-in-Bytes : goal.loop-filled-preserved-in-Bytes
 loop-filled-preserved-in-Bytes g c =

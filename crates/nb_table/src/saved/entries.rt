@@ -12,8 +12,7 @@ ghost use Rattle.nb_entries.specs.declared.saved.SavedForm.TheVariants.{Second};
 ghost use Rattle.nb_table.specs.SavedReading.{entries_at};
 ghost use Rattle.nb_entries.specs.declared.load_fault.LoadFault.TheVariants.{NoMemory as no_memory};
 
-use super::keys::{put_key, read_key};
-use super::sources::Sources;
+use super::{Sources, put_key, read_key};
 use crate::entries::Entries;
 use nb_datagram::Key;
 use nb_entries::saved::{ByteSink, SavedEntry, SavedForm, read_entry};

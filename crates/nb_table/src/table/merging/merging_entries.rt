@@ -15,7 +15,7 @@ ghost use Rattle.nb_table.specs.Code.Handed.{handed, handed_at, with_entry};
 ghost use Rattle.nb_table.specs.Code.TakenBack.{taken_back};
 
 use super::others::{Other, Others};
-use super::taking_back::{put_noted, take_back};
+use super::taking_in::{put_noted, take_back};
 use crate::entries::Entries;
 use nb_datagram::{Datagram, Datagrams, Key};
 use nb_entries::{Entry, Handing};

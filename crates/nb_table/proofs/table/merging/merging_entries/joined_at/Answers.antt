@@ -4,7 +4,7 @@ use Rattle.nb_entries.specs.Maps.{joined_onto}
 use Rattle.nb_entries.specs.Entry.{join_entry, IsShort}
 use Rattle.nb_entries.specs.Whole.{datagram_of, newly}
 use Rattle.nb_entries.specs.Change.{handed_by}
-use Rattle.nb_table.proofs.Changes.InsertLemmas.{short_onto}
+use Rattle.nb_table.proofs.Changes.{short_onto}
 use Rattle.nb_table.proofs.table.merging.merging_entries.joined_at.Goals as goal
 
 pub handed-requires : goal.handed-requires

@@ -4,6 +4,4 @@ pub mod CoverFacts
 pub mod Part
 pub mod RunSteps
 pub mod Rows
-pub mod RangeSteps
-pub mod RunCodes
 pub mod SavedRuns

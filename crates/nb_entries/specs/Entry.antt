@@ -1,11 +1,11 @@
 -- Entries: what is known of one datagram, that is of one key (our choice).
-use Rattle.std.specs.Prelude.{◌≡◌, ◌&&◌, Bool}
+use Rattle.std.specs.Prelude.{◌≡◌, ◌&&◌, Bool, ◌≤◌, ℕ, nat_le, true, Option, Some, None}
 use Rattle.nb_names.specs.Name.{NetbiosName, name_eq}
 use Rattle.nb_datagram.specs.declared.kind.Kind.{Kind}
 use Rattle.nb_datagram.specs.Kind.{same_kind}
 use Rattle.nb_datagram.specs.Fragment.{Core}
-use Rattle.nb_entries.specs.Slot.{Slot, join_slot, OnHeld}
-use Rattle.nb_entries.specs.Cover.{CoverFacts, CoversFit, covers_agree, covers_together, cover_of, AreCoverFacts}
+use Rattle.nb_entries.specs.Slot.{Slot, join_slot, OnHeld, Spoilt, Held}
+use Rattle.nb_entries.specs.Cover.{CoverFacts, CoversFit, covers_agree, covers_together, cover_of, AreCoverFacts, BytesBelow, bytes_lie_below}
 
 -- the kind, both names, and the cover's facts
 pub record EntryFacts : Type 0 where
@@ -60,3 +60,26 @@ facts_of f = record {
   destination = f.destination;
   cover = cover_of f;
 }
+
+-- ---- Entries that reach no further than a place (our choice).
+
+-- AreShort n e: each place that has a byte in the facts e lies below n, and they end and promise at most there
+pub record AreShort (n : ℕ) (e : EntryFacts) : Type 0 where
+  pub below : BytesBelow n e.cover.bytes
+  pub ends : (m : ℕ) → e.cover.end ≡ Some m → m ≤ n
+  pub promises : (r : ℕ) → e.cover.promise ≡ Some r → r ≤ n
+
+-- IsShort n e: the entry e is spoilt, or its facts are short
+abbrev pub IsShort : ℕ → EntryValue → Type 0
+IsShort n Spoilt = Unit {0}
+IsShort n (Held e) = AreShort n e
+
+-- the end or the promise, if there is one, is at most n, as a test
+abbrev pub ends_by : ℕ → Option ℕ → Bool
+ends_by n None = true
+ends_by n (Some end) = nat_le end n
+
+-- IsShort n e, as a test
+abbrev pub is_short : ℕ → EntryValue → Bool
+is_short n Spoilt = true
+is_short n (Held e) = bytes_lie_below n e.cover.bytes && (ends_by n e.cover.end && ends_by n e.cover.promise)

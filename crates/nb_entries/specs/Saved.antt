@@ -5,17 +5,18 @@
 --     · promise: 00, where there is none, else 01 and the promise 2 · number of runs 2
 --     · for each run, ascending: start 2 · length 2 · its bytes
 -- This is the second form, which is written. The first has no promises; it is read as well.
-use Rattle.std.specs.Prelude.{ℕ, List, [], ◌∷◌, ◌++◌, length, map, Option, None, Some}
+use Rattle.std.specs.Prelude.{ℕ, List, [], ◌∷◌, ◌++◌, length, map, Option, None, Some, ◌≡◌, ◌<◌, ◌^◌}
 use Rattle.std.specs.Int.{w16, to_be_bytes}
-use Rattle.std.specs.List.{concat}
+use Rattle.std.specs.List.{concat, AllByRecursion}
 use Rattle.nb_datagram.specs.Kind.{type_of}
 use Rattle.nb_datagram.specs.Packet.{name_bytes}
-use Rattle.nb_entries.specs.declared.saved.form.SavedForm.{SavedForm}
-use Rattle.nb_entries.specs.declared.saved.form.SavedForm.TheVariants.{First, Second}
+use Rattle.nb_entries.specs.declared.saved.SavedForm.{SavedForm}
+use Rattle.nb_entries.specs.declared.saved.SavedForm.TheVariants.{First, Second}
 use Rattle.nb_entries.specs.Slot.{Spoilt, Held}
 use Rattle.nb_entries.specs.Cover.{CoverFacts}
 use Rattle.nb_entries.specs.Entry.{EntryFacts, EntryValue}
 use Rattle.nb_entries.specs.Runs.{RunValue, runs_of_map}
+use Rattle.nb_names.specs.Name.{IsName}
 
 -- a run: its start, how many bytes it has, and these
 abbrev pub run_bytes : RunValue → List ℕ
@@ -47,3 +48,27 @@ facts_bytes form e = type_of e.kind ∷ (name_bytes e.source ++ (name_bytes e.de
 abbrev pub entry_bytes : SavedForm → EntryValue → List ℕ
 entry_bytes form Spoilt = 0 ∷ []
 entry_bytes form (Held e) = 1 ∷ facts_bytes form e
+
+-- ---- What the fields of a saved entry have room for (our choice).
+
+-- a run's start and its length have two bytes each
+pub record FitsRun (r : RunValue) : Type 0 where
+  pub start : r.start < 2 ^ 16
+  pub size : length r.bytes < 2 ^ 16
+
+-- so have a cover's end, its promise and the number of its maximal runs
+pub record FitsCover (c : CoverFacts) : Type 0 where
+  pub end : (n : ℕ) → c.end ≡ Some n → n < 2 ^ 16
+  pub promise : (r : ℕ) → c.promise ≡ Some r → r < 2 ^ 16
+  pub count : length (runs_of_map c.bytes) < 2 ^ 16
+  pub runs : AllByRecursion FitsRun (runs_of_map c.bytes)
+
+-- both names are names
+pub record IsNamed (e : EntryFacts) : Type 0 where
+  pub source : IsName e.source
+  pub destination : IsName e.destination
+
+-- so are these facts' names, and their cover fits
+pub record FitsFacts (e : EntryFacts) : Type 0 where
+  pub named : IsNamed e
+  pub cover : FitsCover e.cover

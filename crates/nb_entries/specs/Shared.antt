@@ -2,7 +2,6 @@
 -- definitions because the laws of a trait, and other crates, can cite nothing of `proofs/`.
 pub mod MapsLemmas
 pub mod SlotLemmas
-pub mod PromiseLemmas
 pub mod CoverLemmas
 pub mod EntryLemmas
 pub mod EqualLemmas
@@ -10,10 +9,8 @@ pub mod PlacedLemmas
 pub mod WholeLemmas
 pub mod RunsLemmas
 pub mod RowLemmas
-pub mod ShortLemmas
 pub mod PuttingLemmas
 pub mod SavedLemmas
 pub mod OutcomeLemmas
 pub mod FoundLemmas
-pub mod LoadedLemmas
 pub mod ReadBackLemmas

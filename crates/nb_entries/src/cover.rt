@@ -6,24 +6,27 @@ ghost use Rattle.std.specs.FinMap as maps;
 ghost use Rattle.nb_datagram.specs.Fragment.{core_of};
 ghost use Rattle.nb_entries.specs.Slot.{Held};
 ghost use Rattle.nb_datagram.specs.declared.limits.TheConstants.{MAX_LENGTH};
-ghost use Rattle.nb_entries.specs.Cover.{BytesBelow, CoversFit, cover_of, covers_agree, covers_together, is_below_end, bytes_lie_below};
+ghost use Rattle.nb_entries.specs.Cover.{BytesBelow, CoversFit, cover_of, covers_agree, covers_together, is_below_end, bytes_lie_below, AreCoverFacts};
 ghost use Rattle.nb_entries.specs.Code.CoverFacts.{Holds};
-ghost use Rattle.nb_entries.specs.Runs.{runs_of_map};
+ghost use Rattle.nb_entries.specs.Runs.{runs_of_map, ranges_of_map, map_of_runs};
 ghost use Rattle.nb_entries.specs.Whole.{bytes_to, IsWholeCover};
+ghost use Rattle.nb_entries.specs.Outline.{awaited_of};
+ghost use Rattle.nb_entries.specs.Sinks.{Puts};
+ghost use Rattle.nb_entries.specs.Saved.{cover_bytes};
+ghost use Rattle.nb_entries.specs.declared.saved.SavedForm.TheVariants.{Second};
 
 pub(crate) mod end;
-mod loading;
-mod promise;
-mod reading;
 pub(crate) mod runs;
-mod saving;
 mod uniting;
 
+use crate::ranges::Ranges;
+use crate::saved::fields::put_end;
+use crate::saved::runs::SavedRuns;
+use crate::saved::sink::ByteSink;
 use crate::slot::Slot;
-use end::{end_of, ends_agree, has_end, is_below};
+use end::{end_of, ends_agree, greater, has_end, is_before, is_below, is_promised, promise_of};
 use nb_datagram::{Fragment, LentFragment};
 use nb_names::{Bytes, NoMemory};
-use promise::{greater, is_before, is_promised, promise_of};
 use runs::Runs;
 use std::alloc::Global;
 use std::marker::Model;
@@ -197,6 +200,62 @@ impl CoverFacts {
             Some(end) => self.bytes.cover_below(end),
             None => false,
         }
+    }
+
+    /// How many bytes are known, where each lies below what a datagram may have.
+    pub(crate) fn held(&self) -> u32
+        requires { BytesBelow MAX_LENGTH self.now.bytes }
+        ensures { result ≡ maps.len self.now.bytes }
+    {
+        self.bytes.held() as u32
+    }
+
+    /// The promise, where no byte is known at its place or after it.
+    pub(crate) fn awaited(&self) -> Option<u32>
+        ensures { result ≡ awaited_of self.now }
+    {
+        match self.promise {
+            Some(place) if self.bytes_are_below(place) => Some(place),
+            _ => None,
+        }
+    }
+
+    /// The ranges of the known places, where each lies below what a datagram may have.
+    pub(crate) fn ranges(&self) -> Ranges<'_>
+        requires { BytesBelow MAX_LENGTH self.now.bytes }
+        ensures { result ≡ ranges_of_map self.now.bytes }
+    {
+        self.bytes.ranges()
+    }
+
+    /// The bytes of saved runs, with an end and a promise. No byte and no promise lies at or past
+    /// the end.
+    pub(crate) fn load(
+        alloc: Global,
+        runs: &SavedRuns<'_>,
+        end: Option<u32>,
+        promise: Option<u32>,
+    ) -> Result<CoverFacts, NoMemory>
+        requires { AreCoverFacts
+            (record { bytes = map_of_runs runs.now; end = end; promise = promise }) }
+        ensures { IfOk result (λ cover.
+            cover ≡ record { bytes = map_of_runs runs.now; end = end; promise = promise }) }
+    {
+        let bytes = runs.to_runs(alloc)?;
+        Ok(CoverFacts {
+            bytes,
+            end,
+            promise,
+        })
+    }
+
+    /// Puts the end, the promise and the maximal runs.
+    pub(crate) fn put_to<S: ByteSink>(&self, sink: &mut S) -> Result<(), S::Fault>
+        ensures { Puts S.takes S.breaks sink.old sink.new (cover_bytes Second self.now) result }
+    {
+        put_end(sink, self.end)?;
+        put_end(sink, self.promise)?;
+        self.bytes.put_to(sink)
     }
 }
 

@@ -3,10 +3,8 @@ ghost use Rattle.std.specs.Prelude.{◌≡◌, ◌≢◌, ◌↔◌, ◌≤◌, 
 ghost use Rattle.nb_datagram.specs.Fragment.{core_of, reach};
 ghost use Rattle.nb_datagram.specs.declared.limits.TheConstants.{MAX_LENGTH};
 ghost use Rattle.nb_entries.specs.Slot.{Spoilt, Held};
-ghost use Rattle.nb_entries.specs.Entry.{facts_agree, facts_of, join_entry};
-ghost use Rattle.nb_entries.specs.Short.{AreShort, IsShort};
-ghost use Rattle.nb_entries.specs.Runs.{runs_of_map};
-ghost use Rattle.nb_entries.specs.RunCount.{entry_run_count};
+ghost use Rattle.nb_entries.specs.Entry.{facts_agree, facts_of, join_entry, AreShort, IsShort};
+ghost use Rattle.nb_entries.specs.Runs.{runs_of_map, entry_run_count};
 ghost use Rattle.nb_entries.specs.Whole.{IsWholeCover, bytes_to};
 ghost use Rattle.nb_entries.specs.Change.{Tells};
 ghost use Rattle.nb_entries.specs.EntryState.{IsEntryState};
@@ -14,8 +12,6 @@ ghost use Rattle.nb_entries.specs.EntryState.{IsEntryState};
 mod growing;
 mod joining;
 mod reading;
-mod uniting;
-mod whole;
 
 use crate::change::{Change, Handing};
 use crate::cover::CoverFacts;

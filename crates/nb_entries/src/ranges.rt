@@ -1,10 +1,8 @@
 //! Ranges of places: where the bytes of a datagram's data are known.
 ghost use Rattle.std.specs.Prelude.{◌≡◌, ◌≤◌, [], map};
 ghost use Rattle.nb_datagram.specs.declared.limits.TheConstants.{MAX_LENGTH};
-ghost use Rattle.nb_entries.specs.Ranges.{range_of};
-ghost use Rattle.nb_entries.specs.Runs.{run_end};
-ghost use Rattle.nb_entries.specs.Code.RangeSteps.{EndBy};
-ghost use Rattle.nb_entries.specs.Code.RunSteps.{value_of, values_of};
+ghost use Rattle.nb_entries.specs.Runs.{range_of, run_end};
+ghost use Rattle.nb_entries.specs.Code.RunSteps.{EndBy, value_of, values_of};
 
 use crate::cover::runs::{EachRun, Run};
 use std::marker::Model;
@@ -29,9 +27,8 @@ impl<'a> Model for Ranges<'a> {
     ghost use Rattle.std.specs.Prelude.{List, map};
     ghost use Rattle.nb_datagram.specs.declared.limits.TheConstants.{MAX_LENGTH};
     ghost use Rattle.nb_entries.specs.declared.ranges.PlaceRange.{PlaceRange};
-    ghost use Rattle.nb_entries.specs.Ranges.{range_of};
-    ghost use Rattle.nb_entries.specs.Code.RangeSteps.{EndBy};
-    ghost use Rattle.nb_entries.specs.Code.RunSteps.{values_of};
+    ghost use Rattle.nb_entries.specs.Runs.{range_of};
+    ghost use Rattle.nb_entries.specs.Code.RunSteps.{EndBy, values_of};
 
     ghost Value = { List PlaceRange };
 

@@ -4,11 +4,18 @@
 
 mod facts;
 pub(crate) mod fields;
-pub(crate) mod form;
 pub(crate) mod runs;
 pub(crate) mod sink;
 
 pub use facts::{SavedEntry, SavedFacts, read_entry};
 pub use fields::{put_four_bytes, read_count};
-pub use form::SavedForm;
 pub use sink::ByteSink;
+
+/// A form of saved tables. The second has the promises, the first hasn't.
+#[derive(Clone, Copy, Debug, PartialEq, Eq)]
+pub enum SavedForm {
+    /// It begins with "NBT1".
+    First,
+    /// It begins with "NBT2".
+    Second,
+}

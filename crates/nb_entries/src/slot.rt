@@ -1,7 +1,6 @@
 //! Slots: what facts come to that may contradict each other. Covers and entries are two of them.
 
 mod facts;
-mod joining;
 
 pub use facts::Facts;
 

@@ -1,9 +1,6 @@
-mod BytesLemmas
 mod HeaderLemmas
 mod PacketLemmas
-mod ValueLemmas
 mod ParsingLemmas
-mod FillingLemmas
 mod PacketReadingLemmas
 mod CuttingLemmas
 mod TotalityLemmas

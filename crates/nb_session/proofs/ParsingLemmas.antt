@@ -16,8 +16,7 @@ use Rattle.nb_session.specs.Header.{MayHave, HasHeader, body_length, packet_leng
 use Rattle.nb_session.specs.Packet.{Packet, kind_of, IsPacket}
 use Rattle.nb_session.specs.Parsing.{Parsed, Lacks, HeaderFails, unknown_type, reserved_flags, bad_length, RequestFails, called_fails, calling_fails, bytes_trail, Parses, header_lacks, header_fails, body_lacks, body_fails, whole}
 use Rattle.nb_session.proofs.HeaderLemmas.{header_within, one_header, one_kind, header_in_front, header_in_all}
-use Rattle.nb_session.proofs.PacketLemmas.{packet_headed}
-use Rattle.nb_session.proofs.ValueLemmas.{NameLaws, request_read, one_value}
+use Rattle.nb_session.proofs.PacketLemmas.{packet_headed, NameLaws, request_read, one_value}
 
 -- ---- faults
 

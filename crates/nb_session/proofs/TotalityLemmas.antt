@@ -24,9 +24,8 @@ use Rattle.nb_session.specs.Cutting.{no_packet, one_more, BeginsWithNone, IsCut}
 use Rattle.nb_session.specs.Header.{type_of, MayHave, HasHeader, body_length, packet_length, IsGood}
 use Rattle.nb_session.specs.Packet.{Packet, IsPacket}
 use Rattle.nb_session.specs.Parsing.{Parsed, HeaderFails, unknown_type, reserved_flags, bad_length, RequestFails, called_fails, calling_fails, bytes_trail, Parses, header_lacks, header_fails, body_lacks, body_fails, whole}
-use Rattle.nb_session.proofs.BytesLemmas.{spelled_there, stands_joined}
+use Rattle.nb_session.proofs.HeaderLemmas.{spelled_there, stands_joined, header_in_front}
 use Rattle.nb_session.proofs.CuttingLemmas.{OneAnswer, lacking_none, failing_none}
-use Rattle.nb_session.proofs.HeaderLemmas.{header_in_front}
 use Rattle.nb_session.proofs.PacketLemmas.{spelling_some, packet_made, packet_headed, request_made}
 use Rattle.nb_session.proofs.ParsingLemmas.{parses_whole}
 

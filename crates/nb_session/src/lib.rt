@@ -3,7 +3,6 @@
 
 mod encoding;
 mod fault;
-mod filling;
 mod header;
 mod kind;
 pub mod laws;
@@ -12,7 +11,6 @@ mod packet;
 mod packet_bytes;
 mod packet_reading;
 mod parsing;
-mod room;
 mod stream;
 
 pub use encoding::encode;
@@ -21,7 +19,6 @@ pub use header::{Header, front_header};
 pub use kind::Kind;
 pub use packet::{LentPacket, MessageData, Packet, TooLong};
 pub use packet_bytes::PacketBytes;
-pub use packet_reading::{ReadFault, read_lent_packet, read_packet};
+pub use packet_reading::{ReadFault, Room, read_lent_packet, read_packet};
 pub use parsing::{LentParsed, Parsed, parse, parse_lent};
-pub use room::Room;
 pub use stream::{FeedFault, Next, Stream};

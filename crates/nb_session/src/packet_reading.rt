@@ -1,5 +1,5 @@
 //! One packet, read from a reader.
-ghost use Rattle.std.specs.Prelude.{◌≡◌, ◌<◌, ◌≤◌, ◌+◌, ◌-◌, ℕ, List, length, IfOk, IfErr};
+ghost use Rattle.std.specs.Prelude.{◌≡◌, ◌<◌, ◌≤◌, ◌+◌, ◌-◌, ℕ, List, length, IfOk, IfErr, [], take, OnOk};
 ghost use Rattle.std.specs.Io.KnownBytes.{Consumes};
 ghost use Rattle.nb_names.specs.Counted.{between};
 ghost use Rattle.nb_session.specs.declared.parsing.Parsed.TheVariants.{Refused as refused};
@@ -7,17 +7,19 @@ ghost use Rattle.nb_session.specs.Header.{HasHeader, IsGood, packet_length};
 ghost use Rattle.nb_session.specs.Packet.{IsPacket};
 ghost use Rattle.nb_session.specs.PacketReading.{IsEarliest, Reads, Tells};
 ghost use Rattle.nb_session.specs.Parsing.{Parses};
+ghost use Rattle.nb_session.specs.Code.{Fills, Shows};
+ghost use Rattle.nb_session.specs.declared.limits.TheConstants.{HEADER_LENGTH, MAX_PACKET};
 
 use crate::fault::SessionFault;
-use crate::filling::{Fill, read_full};
 use crate::header::{Header, read_header};
 use crate::kind::Kind;
-use crate::limits::HEADER_LENGTH;
+use crate::limits::{HEADER_LENGTH, MAX_INTERRUPTS};
 use crate::packet::{LentPacket, Packet};
 use crate::parsing::read_packet_of;
-use crate::room::Room;
-use nb_names::Counted;
+use nb_names::{Counted, Told};
+use std::alloc::{AllocError, Global};
 use std::io::Read;
+use std::marker::Model;
 use thiserror::Error;
 
 /// Why no packet was read.
@@ -134,5 +136,97 @@ pub fn read_packet<'a, R: Read>(
         Ok(Some(packet)) => Ok(Some(packet.to_packet())),
         Ok(None) => Ok(None),
         Err(fault) => Err(fault),
+    }
+}
+
+/// How filling a buffer ended.
+#[derive(Clone, Copy, Debug)]
+pub enum Fill {
+    /// The buffer is full.
+    Whole,
+    /// The reader was at its end after this many bytes.
+    End(usize),
+    /// A read failed.
+    Device,
+    /// A read was interrupted once too often.
+    TooManyInterrupts,
+}
+
+/// Reads until a buffer is full, counting the interrupts on.
+pub fn read_full<R: Read>(reader: &mut Counted<R>, buf: &mut [u8], interrupts: &mut u32) -> Fill
+    requires { interrupts.old < MAX_INTERRUPTS }
+    ensures takes { Fills (R.remaining reader.old.inner) (R.remaining reader.new.inner)
+        result buf.new }
+    ensures shows { Shows reader.old.counts reader.new.counts result
+        (length buf.new) interrupts.old interrupts.new }
+{
+    let mut filled = 0;
+    while filled < buf.len() {
+        match reader.read(&mut buf[filled..]) {
+            Told::Bytes(0) => return Fill::End(filled),
+            Told::Bytes(count) => filled += count,
+            Told::Interrupted => {
+                *interrupts += 1;
+                if *interrupts == MAX_INTERRUPTS {
+                    return Fill::TooManyInterrupts;
+                }
+            }
+            Told::Failed => return Fill::Device,
+        }
+    }
+    Fill::Whole
+}
+
+/// Room for the packets that [`read_packet`](crate::read_packet) reads, one at a time. It holds at
+/// most 131,075 bytes, those of one packet, and its memory is used again for the next.
+#[derive(Debug, Drop)]
+pub struct Room {
+    pub(crate) bytes: Vec<u8>,
+}
+
+impl Model for Room {
+    ghost use Rattle.std.specs.Prelude.{ℕ, List, ◌≤◌, length};
+    ghost use Rattle.nb_session.specs.declared.limits.TheConstants.{MAX_PACKET};
+
+    ghost Value = { List ℕ };
+
+    ghost view = { λ room. room.bytes.items };
+
+    ghost invariant = { λ room. length room.bytes.items ≤ MAX_PACKET };
+}
+
+impl Room {
+    /// No room yet. No memory is taken.
+    pub fn new(alloc: Global) -> Self
+        ensures { result ≡ [] }
+    {
+        Room {
+            bytes: Vec::new(alloc),
+        }
+    }
+
+    /// The bytes that are held, of the packet that was read last or of a part of it.
+    pub fn as_slice(&self) -> &[u8]
+        ensures value { result.now ≡ self.now }
+        ensures within { length self.now ≤ MAX_PACKET }
+    {
+        self.bytes.as_slice()
+    }
+
+    /// Makes room for a packet of this size, and puts its header to the front.
+    pub(crate) fn begin(
+        &mut self,
+        header: &[u8; HEADER_LENGTH],
+        size: usize,
+    ) -> Result<(), AllocError>
+        requires holds { HEADER_LENGTH ≤ size }
+        requires fits { size ≤ MAX_PACKET }
+        ensures len { OnOk result (length self.new ≡ size) }
+        ensures header { OnOk result (take HEADER_LENGTH self.new ≡ header.now) }
+    {
+        self.bytes.clear();
+        self.bytes.reserve_exact(size)?;
+        self.bytes.extend_from_slice(header)?;
+        self.bytes.resize(size, 0)
     }
 }

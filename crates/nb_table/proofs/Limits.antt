@@ -4,7 +4,4 @@ pub mod CountLemmas
 pub mod SourceLemmas
 pub mod UnfitLemmas
 pub mod RefusalLemmas
-pub mod LimitsLemmas
-pub mod FittingLemmas
 pub mod MergingLemmas
-pub mod HandedLemmas

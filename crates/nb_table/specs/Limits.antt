@@ -2,11 +2,10 @@
 use Rattle.std.specs.Prelude.{◌≡◌, ℕ, ◌≤◌, None, Some}
 use Rattle.std.specs.FinMap as maps
 use Rattle.nb_datagram.specs.declared.key.Key.{Key}
-use Rattle.nb_entries.specs.Entry.{EntryValue}
+use Rattle.nb_entries.specs.Entry.{EntryValue, IsShort}
 use Rattle.nb_table.specs.Contents.{Contents}
 use Rattle.nb_table.specs.Join.{IsTable}
 use Rattle.nb_table.specs.KeyCounts.{FewOfEach, held_keys, of_source}
-use Rattle.nb_entries.specs.Short.{IsShort}
 
 -- how many keys a table may hold, how many of one address, and how many bytes a datagram may have
 pub record Limits : Type 0 where

@@ -8,11 +8,10 @@ use Rattle.nb_datagram.specs.Key.{key_cmp}
 use Rattle.nb_datagram.specs.Datagram.{DatagramParts}
 use Rattle.nb_table.specs.declared.fault.TableFault.{TableFault}
 use Rattle.nb_table.specs.declared.fault.TableFault.TheVariants.{MisplacedFirst, TooLong, FullSource, Full, NoMemory}
-use Rattle.nb_entries.specs.Entry.{EntryValue}
+use Rattle.nb_entries.specs.Entry.{EntryValue, IsShort}
 use Rattle.nb_table.specs.Contents.{Contents}
 use Rattle.nb_table.specs.KeyCounts.{every_key, held_keys, of_source}
 use Rattle.nb_table.specs.Limits.{Limits}
-use Rattle.nb_entries.specs.Short.{IsShort}
 use Rattle.nb_table.specs.Whole.{newly_whole}
 
 -- AllShort n t: each entry of t is spoilt, or has its bytes below n, and ends and promises at most there

@@ -4,7 +4,7 @@ use Rattle.std.specs.FinMap as maps
 use Rattle.nb_datagram.specs.declared.key.Key.{Key}
 use Rattle.nb_entries.specs.declared.ranges.PlaceRange.{PlaceRange}
 use Rattle.nb_table.specs.Contents.{Contents}
-use Rattle.nb_entries.specs.Ranges.{ranges_where}
+use Rattle.nb_entries.specs.Runs.{ranges_where}
 
 -- ranges_at t k: the same of the key k, where the table t holds it
 abbrev pub ranges_at : Contents → Key → List PlaceRange

@@ -4,7 +4,7 @@ use Rattle.std.specs.Option.{option_and_then}
 use Rattle.std.specs.FinMap as maps
 use Rattle.nb_datagram.specs.declared.key.Key.{Key}
 use Rattle.nb_table.specs.Contents.{Contents}
-use Rattle.nb_entries.specs.RunCount.{entry_run_count}
+use Rattle.nb_entries.specs.Runs.{entry_run_count}
 
 -- that number of a key, where it is held
 abbrev pub run_count_at : Contents → Key → Option ℕ

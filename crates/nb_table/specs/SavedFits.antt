@@ -6,7 +6,7 @@ use Rattle.nb_datagram.specs.Header.{IsKey}
 use Rattle.nb_entries.specs.Slot.{OnHeld}
 use Rattle.nb_entries.specs.Entry.{EntryValue}
 use Rattle.nb_table.specs.Contents.{Contents}
-use Rattle.nb_entries.specs.SavedFits.{FitsFacts}
+use Rattle.nb_entries.specs.Saved.{FitsFacts}
 
 -- FitsKeyed k e: the key k is one, and its entry e is spoilt or fits
 pub record FitsKeyed (k : Key) (e : EntryValue) : Type 0 where

@@ -9,7 +9,7 @@ use Rattle.nb_datagram.specs.declared.key.Key.{Key}
 use Rattle.nb_datagram.specs.Header.{IsKey}
 use Rattle.nb_datagram.specs.Key.{key_cmp}
 use Rattle.nb_entries.specs.declared.load_fault.LoadFault.TheVariants.{BadMagic}
-use Rattle.nb_entries.specs.declared.saved.form.SavedForm.{SavedForm}
+use Rattle.nb_entries.specs.declared.saved.SavedForm.{SavedForm}
 use Rattle.nb_entries.specs.Entry.{EntryValue}
 use Rattle.nb_table.specs.Saved.{magic, key_bytes}
 use Rattle.nb_entries.specs.SavedReading.{Field, Gives, Judged, Outcome, Then, entry_at}

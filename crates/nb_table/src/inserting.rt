@@ -5,8 +5,7 @@ ghost use Rattle.nb_datagram.specs.Fragment.{core_of, reach};
 ghost use Rattle.nb_datagram.specs.declared.limits.TheConstants.{MAX_LENGTH};
 ghost use Rattle.nb_entries.specs.Maps.{joined_onto};
 ghost use Rattle.nb_entries.specs.declared.slot.Slot.TheVariants.{Held};
-ghost use Rattle.nb_entries.specs.Entry.{EntryValue, facts_of, join_entry};
-ghost use Rattle.nb_entries.specs.Short.{IsShort};
+ghost use Rattle.nb_entries.specs.Entry.{EntryValue, facts_of, join_entry, IsShort};
 ghost use Rattle.nb_entries.specs.Change.{Tells};
 ghost use Rattle.nb_table.specs.Insert.{NeedsNoMemory};
 

@@ -1,5 +1,5 @@
 //! The reassembly table.
-ghost use Rattle.std.specs.Prelude.{◌≡◌, ◌↔◌, IsTrue, IsOk, IfOk, IfErr, OnOk, OnErr};
+ghost use Rattle.std.specs.Prelude.{◌≡◌, ◌↔◌, IsTrue, IsOk, IfOk, IfErr, OnOk, OnErr, None, Ok};
 ghost use Rattle.std.specs.FinMap as maps;
 ghost use Rattle.nb_table.specs.Limits.{KeepsLimits};
 ghost use Rattle.nb_table.specs.Change.{IsChange, Tells};
@@ -7,13 +7,13 @@ ghost use Rattle.nb_table.specs.State.{IsState};
 ghost use Rattle.nb_table.specs.RunCount.{run_count_at};
 ghost use Rattle.nb_datagram.specs.Fragment.{core_of};
 ghost use Rattle.nb_table.specs.Insert.{NeedsNoMemory, Passes, Takes, Refuses, with_fragment};
+ghost use Rattle.nb_table.specs.Outline.{outline_at};
+ghost use Rattle.nb_table.specs.Ranges.{ranges_at};
+ghost use Rattle.nb_table.specs.Whole.{datagram_at};
 
 mod fitting;
 mod loading;
 mod merging;
-mod reading;
-mod refusing;
-mod saving;
 
 use crate::entries::Entries;
 use crate::fault::TableFault;
@@ -21,8 +21,9 @@ use crate::inserting::insert_fragment;
 use crate::keys::Keys;
 pub use loading::load;
 pub use merging::take_in_all;
-use nb_datagram::{Fragment, Key, LentFragment, UserData};
-use nb_entries::{Change, Handing, State};
+use nb_datagram::{Datagram, Fragment, Key, LentFragment, UserData};
+use nb_entries::{Change, Handing, Outline, Ranges, State};
+use nb_names::NoMemory;
 use std::alloc::Global;
 use std::marker::Model;
 
@@ -218,6 +219,55 @@ impl Table {
                 None => false,
             },
             None => !other.entries.contains_key(key),
+        }
+    }
+
+    /// What is known of a key's datagram but for its bytes: `None` for a key that isn't held, or is
+    /// spoilt. No memory is taken.
+    pub fn outline(&self, key: &Key) -> Option<Outline>
+        ensures { result ≡ outline_at self.now.contents key.now }
+    {
+        // For the proof alone: a limit that is read is a number of its type, and the entry's bytes
+        // lie below it.
+        let _longest = self.longest;
+        match self.entries.get(key) {
+            Some(entry) => entry.outline(),
+            None => None,
+        }
+    }
+
+    /// The ranges of the places at which bytes of a key's datagram are known, ascending: as few as
+    /// there can be, so that between two of them a place isn't known. None for a key that isn't
+    /// held, or is spoilt. No memory is taken.
+    pub fn ranges(&self, key: &Key) -> Ranges<'_>
+        ensures { result ≡ ranges_at self.now.contents key.now }
+    {
+        // For the proof alone: a limit that is read is a number of its type, and the entry's bytes
+        // lie below it.
+        let _longest = self.longest;
+        match self.entries.get(key) {
+            Some(entry) => entry.ranges(),
+            None => Ranges::none(),
+        }
+    }
+
+    /// A key's datagram, if the key is whole. No memory is taken where it isn't.
+    ///
+    /// # Errors
+    ///
+    /// `NoMemory` where memory ran out.
+    pub fn datagram(&self, key: &Key) -> Result<Option<Datagram>, NoMemory>
+        ensures value { IfOk result (λ datagram.
+            datagram ≡ datagram_at self.now.contents key.now) }
+        ensures no_memory_needed { datagram_at self.now.contents key.now ≡ None
+            → result ≡ Ok None }
+    {
+        // For the proof alone: a limit that is read is a number of its type, and the entry's bytes
+        // lie below it.
+        let _longest = self.longest;
+        match self.entries.get(key) {
+            Some(entry) => entry.datagram_of(self.alloc, *key),
+            None => Ok(None),
         }
     }
 }

@@ -1,8 +1,8 @@
 -- Runs in several rows: where they lie.
-use Rattle.std.proofs.Common.{◌≡◌, ◌<◌, ◌≤◌, ◌+◌, ◌-◌, ◌++◌, ℕ, zero, suc, List, [], ◌∷◌, length, take, drop, slice_get, slice_index_or, Some, refl, sym, ap, ◌∙◌, subst, arith, append_assoc}
-use Rattle.std.proofs.lemmas.List.{map-append, length-map, drop-map, take-append-drop, take_rest, drop_all}
+use Rattle.std.proofs.Common.{◌≡◌, ◌<◌, ◌≤◌, ◌+◌, ◌-◌, ◌++◌, ℕ, zero, suc, List, [], ◌∷◌, length, take, drop, slice_get, slice_index_or, Some, refl, sym, ap, ◌∙◌, subst, arith, append_assoc, slice_set, add-one}
+use Rattle.std.proofs.lemmas.List.{map-append, length-map, drop-map, take-append-drop, take_rest, drop_all, append-nil, set_split, take_more_set, drop-set-lt, set_at, length-take-le}
 use Rattle.std.proofs.lemmas.Option.{same_Some}
-use Rattle.std.specs.List.{AllByRecursion}
+use Rattle.std.specs.List.{AllByRecursion, insert, remove}
 use Rattle.std.specs.List.Sorted.{IsNonDecreasingBy}
 use Rattle.std.proofs.lemmas.List.Sorted.{IsNonDecreasingBy-from_all_adjacent}
 use Rattle.std.specs.declared.vec.Vec.{Vec}
@@ -11,6 +11,8 @@ use Rattle.nb_entries.specs.Code.RunSteps.{value_of, values_of, EndBefore, EndFr
 use Rattle.nb_entries.specs.Code.Rows.{runs_in, values_in, NoneEmpty, last_end, LastsTo, IsFrom}
 use Rattle.nb_entries.specs.declared.cover.runs.Run.{Run}
 use Rattle.nb_entries.proofs.KeptRuns.RunRowLemmas.{apart_front, apart_back, split_at}
+use Rattle.std.proofs.lemmas.Grind.{common_steps}
+use Rattle.std.proofs.Math.Seq.{drop-cons, take-suc-set}
 
 -- ---- what each of a list has
 
@@ -25,9 +27,6 @@ all_front P (x ∷ xs) ys h = (h.0, all_front P xs ys h.1)
 pub all_back : {X : Type 0} (P : X → Type 0) (xs ys : List X) → AllByRecursion P (xs ++ ys) → AllByRecursion P ys
 all_back P [] ys h = h
 all_back P (x ∷ xs) ys h = all_back P xs ys h.1
-
-pub all_taken : {X : Type 0} (P : X → Type 0) (xs : List X) (n : ℕ) → AllByRecursion P xs → AllByRecursion P (take n xs)
-all_taken P xs n h = all_front P (take n xs) (drop n xs) (rw take-append-drop h)
 
 pub all_left : {X : Type 0} (P : X → Type 0) (xs : List X) (n : ℕ) → AllByRecursion P xs → AllByRecursion P (drop n xs)
 all_left P xs n h = all_back P (take n xs) (drop n xs) (rw take-append-drop h)
@@ -156,3 +155,43 @@ rows_after (r ∷ rs) n (suc i) row s a l e h = rows_after rs n i row s.1 (rest_
 
 pub none_after : {Z : Type 0} → (rs : List (Vec Run Z)) (n i : ℕ) → length rs ≤ i → StartAfter n (values_in (drop i rs))
 none_after {Z} rs n i l = subst (λ (xs : List (Vec Run Z)). StartAfter n (values_in xs)) (sym (drop_all i rs l)) tt
+
+-- ---- Rows of runs that are cut, joined and put into.
+
+-- ---- rows that are set, pushed, cut and joined
+
+pub set_rows : {Z : Type 0} → (rs : List (Vec Run Z)) (i : ℕ) (r : Vec Run Z) → i < length rs → runs_in (slice_set rs i r) ≡ runs_in (take i rs) ++ (r.items ++ runs_in (drop (i + 1) rs))
+set_rows rs i r l = rw (set_split rs i r l, rows_append, add-one)
+
+-- the runs before a row, its own and those after it
+pub row_cut : {Z : Type 0} → (xs : List Run) (rs : List (Vec Run Z)) (i : ℕ) (row : Vec Run Z) → runs_in rs ≡ xs → i < length rs → row ≡ slice_index_or rs i row → xs ≡ runs_in (take i rs) ++ (row.items ++ runs_in (drop (i + 1) rs))
+row_cut xs rs i row same l e = sym same ∙ rw add-one (rw (← e) at (rows_split rs i row l))
+
+-- a row put back with its runs
+pub set_same_rows : {Z : Type 0} → (rs : List (Vec Run Z)) (i : ℕ) (new : Vec Run Z) → i < length rs → new.items ≡ (slice_index_or rs i new).items → runs_in (slice_set rs i new) ≡ runs_in rs
+set_same_rows rs i new l same = rw (set_rows rs i new l, same, rows_split rs i new l, add-one)
+
+-- a run pushed to the last row
+pub last_pushed : {Z : Type 0} → (rs : List (Vec Run Z)) (i : ℕ) (new : Vec Run Z) (run : Run) → i + 1 ≡ length rs → new.items ≡ (slice_index_or rs i new).items ++ run ∷ [] → runs_in (slice_set rs i new) ≡ runs_in rs ++ run ∷ []
+last_pushed rs i new run l put =
+    let inside : i < length rs = omega (arith, l) in
+    let none = drop_all (suc i) rs (omega (arith, l)) in
+    rw (set_rows rs i new inside, put, rows_split rs i new inside, add-one, none) (simp (append-nil, append_assoc))
+
+-- a row made two
+pub halved : {Z : Type 0} → (rs : List (Vec Run Z)) (i : ℕ) (front back : Vec Run Z) → i < length rs → front.items ++ back.items ≡ (slice_index_or rs i front).items → runs_in (insert (slice_set rs i front) (i + 1) back) ≡ runs_in rs
+halved rs i front back l both =
+    let next : i < i + 1 = omega arith in
+    rw (rows_split rs i front l, ← both, take_more_set, drop-set-lt, add-one) (simp (rows_append, append_assoc))
+
+-- two rows made one
+pub joined : {Z : Type 0} → (rs : List (Vec Run Z)) (i : ℕ) (own new : Vec Run Z) → i + 1 < length rs → new.items ≡ (slice_index_or rs i new).items ++ (slice_index_or rs (i + 1) new).items → runs_in (slice_set (remove (slice_set rs i own) (i + 1)) i new) ≡ runs_in rs
+joined rs i own new l put =
+    let inside : i < length rs = omega (arith, l) in
+    let after : suc i < length rs = omega (arith, l) in
+    let past : i < suc (suc i) = omega arith in
+    let size : length (take i rs) ≡ i = length-take-le i rs (omega (arith, l)) in
+    rw (add-one, take-suc-set, drop-set-lt, append_assoc, set_at, rows_append, put, rows_split rs i new inside, add-one, drop-cons rs (suc i) new after, append_assoc)
+
+-- for the functions of rows, whose goals have no answers
+pub ruleset row_steps = (common_steps, set_same_rows, last_pushed, rows_append, halved)

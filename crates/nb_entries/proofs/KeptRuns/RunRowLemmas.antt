@@ -1,7 +1,7 @@
 -- Rows of runs: what a look-up finds in them, and how rows that are apart are cut and put together.
-use Rattle.std.proofs.Common.{◌≡◌, ◌<◌, ◌≤◌, ◌+◌, ◌-◌, ◌++◌, ℕ, suc, Bool, true, false, cond, nat_le, inl, inr, List, [], ◌∷◌, length, take, drop, min, get_or, map, slice_get, Option, Some, None, refl, sym, ap, ap₂, ◌∙◌, subst, arith, length-take, length-drop, take-append-drop, drop-cons}
+use Rattle.std.proofs.Common.{◌≡◌, ◌<◌, ◌≤◌, ◌+◌, ◌-◌, ◌++◌, ℕ, suc, Bool, true, false, cond, nat_le, inl, inr, List, [], ◌∷◌, length, take, drop, min, get_or, map, slice_get, Option, Some, None, refl, sym, ap, ap₂, ◌∙◌, subst, arith, length-take, length-drop, take-append-drop, drop-cons, zero, add-one, slice_set, slice_index_or}
 use Rattle.std.proofs.lemmas.Bool.{leb-true, le-leb, lt-leb}
-use Rattle.std.proofs.lemmas.List.{take-map, drop-map, get_or-take, get_or-drop}
+use Rattle.std.proofs.lemmas.List.{take-map, drop-map, get_or-take, get_or-drop, get_or_default}
 use Rattle.std.proofs.lemmas.List.Elements.{All-map, All-from_recursion, recursion_from_All}
 use Rattle.std.proofs.lemmas.Option.{slice_get_within, slice_get-get_or, slice_get_past}
 use Rattle.std.specs.List.{AllByRecursion}
@@ -11,9 +11,13 @@ use Rattle.std.specs.FinMap as maps
 use Rattle.nb_entries.specs.Cover.{placed}
 use Rattle.nb_entries.specs.Maps.{first_of}
 use Rattle.nb_entries.specs.Runs.{RunValue, run_end, StartsPast, AreApart, places_of, map_of_runs}
-use Rattle.nb_entries.specs.Code.RunSteps.{byte_in, look_in, EndBefore}
+use Rattle.nb_entries.specs.Code.RunSteps.{byte_in, look_in, EndBefore, value_of, values_of, StartTo, StartAfter}
 use Rattle.nb_entries.specs.Shared.CoverLemmas.{first_either, first_of_three}
 use Rattle.nb_entries.specs.Shared.PlacedLemmas.{find-placed, find-append}
+use Rattle.std.proofs.lemmas.Grind.{common_steps}
+use Rattle.std.specs.List.Sorted.{IsNonDecreasingBy}
+use Rattle.std.proofs.lemmas.List.Sorted.{IsNonDecreasingBy-from_all_adjacent}
+use Rattle.nb_entries.specs.declared.cover.runs.Run.{Run}
 
 -- ---- the byte of a run at a place
 
@@ -140,3 +144,40 @@ pub all_from_at : (P : RunValue → Type 0) (rs : List RunValue) (n k : ℕ) (d 
 all_from_at P rs n k d h a b =
     let place : n + (k - n) ≡ k = omega arith in
     subst P (get_or-drop n rs (k - n) d ∙ ap (λ j. get_or rs j d) place) (All-from_recursion P (drop n rs) h (k - n) d (omega (arith, length-drop n rs)))
+
+-- ---- Lists of the code's runs, changed at a place, and their values.
+
+-- a run put back with its value leaves the values
+pub set_same : (xs : List Run) (i : ℕ) (new : Run) → value_of new ≡ value_of (slice_index_or xs i new) → values_of (slice_set xs i new) ≡ values_of xs
+set_same [] i new same = refl
+set_same (x ∷ xs) zero new same = ap (λ y. y ∷ values_of xs) same
+set_same (x ∷ xs) (suc i) new same = ap (λ ys. value_of x ∷ ys) (set_same xs i new same)
+
+pub ruleset set_steps = (common_steps, set_same)
+
+-- ---- runs that are apart ascend
+
+next_past : (xs : List Run) → AreApart (values_of xs) → (k : ℕ) (d : Run) → suc k < length xs → run_end (value_of (slice_index_or xs k d)) < (value_of (slice_index_or xs (suc k) d)).start
+next_past [] a k d h = absurd (omega arith)
+next_past (x ∷ []) a k d h = absurd (omega arith)
+next_past (x ∷ y ∷ xs) a zero d h = a.1.0
+next_past (x ∷ y ∷ xs) a (suc k) d h = next_past (y ∷ xs) a.1.1 k d (omega arith)
+
+pub ends_rise : (xs : List Run) → AreApart (values_of xs) → IsNonDecreasingBy (λ (p : Run). run_end (value_of p)) xs
+ends_rise xs a = IsNonDecreasingBy-from_all_adjacent (λ (p : Run). run_end (value_of p)) xs (λ k d h. rw add-one (let past = next_past xs a k d (omega (arith, h)) in omega (arith, past)))
+
+starts_rise : (xs : List Run) → AreApart (values_of xs) → IsNonDecreasingBy (λ (p : Run). (value_of p).start) xs
+starts_rise xs a = IsNonDecreasingBy-from_all_adjacent (λ (p : Run). (value_of p).start) xs (λ k d h. rw add-one (let past = next_past xs a k d (omega (arith, h)) in omega (arith, past)))
+
+start_at : (xs : List Run) (n : ℕ) (r d : Run) → n < length xs → r ≡ slice_index_or xs n r → (value_of r).start ≡ (value_of (slice_index_or xs n d)).start
+start_at xs n r d l e = ap (λ (x : Run). (value_of x).start) (e ∙ get_or_default xs n r d l)
+
+-- where a run starts at a place or before it, those before it do too
+pub start_to : (xs : List Run) (n place : ℕ) (r : Run) → AreApart (values_of xs) → n < length xs → r ≡ slice_index_or xs n r → (value_of r).start ≤ place → StartTo place (take (n + 1) (values_of xs))
+start_to xs n place r a l e h =
+    all_take (λ v. v.start ≤ place) value_of xs (n + 1) (λ k d b. (let rise = starts_rise xs a k n d (omega (arith, b)) l in let same = start_at xs n r d l e in omega (arith, rise, same, h))) (omega (arith, l))
+
+-- where a run starts after a place, those after it do too
+pub start_after : (xs : List Run) (n place : ℕ) (r : Run) → AreApart (values_of xs) → n < length xs → r ≡ slice_index_or xs n r → place < (value_of r).start → StartAfter place (drop n (values_of xs))
+start_after xs n place r a l e h =
+    all_drop (λ v. place < v.start) value_of xs n (λ k d m b. (let rise = starts_rise xs a n k d m b in let same = start_at xs n r d l e in omega (arith, rise, same, h)))

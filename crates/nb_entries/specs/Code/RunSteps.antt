@@ -4,6 +4,9 @@ use Rattle.std.specs.List.{AllByRecursion}
 use Rattle.nb_entries.specs.Maps.{first_of}
 use Rattle.nb_entries.specs.Runs.{RunValue, run_end, AreApart}
 use Rattle.nb_entries.specs.declared.cover.runs.Run.{Run}
+use Rattle.std.specs.Ordering.{nat_cmp}
+use Rattle.std.specs.FinMap as maps
+use Rattle.std.specs.Coded.{Coded, coded_ℕ}
 
 -- a run of the code as its value
 abbrev pub value_of : Run → RunValue
@@ -83,3 +86,15 @@ pub record Lacks (look : ℕ → Option ℕ) (from to : ℕ) : Type 0 where
   pub least : from ≤ place
   pub most : place < to
   pub none : look place ≡ None
+
+-- ---- What the code that answers ranges knows of its runs; no public contract cites this.
+
+-- these runs end at the place n, or before it
+abbrev pub EndBy : ℕ → List RunValue → Type 0
+EndBy n rs = AllByRecursion (λ (r : RunValue). run_end r ≤ n) rs
+
+-- ---- Bytes by place as a value of a type whose code is known, for models.
+
+-- bytes by place
+abbrev pub bytes_code : Coded (maps.FinMap nat_cmp ℕ)
+bytes_code = maps.code coded_ℕ coded_ℕ

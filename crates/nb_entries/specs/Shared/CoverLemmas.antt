@@ -10,7 +10,7 @@ use Rattle.nb_entries.specs.Maps.{first_of}
 use Rattle.nb_entries.specs.Cover.{CoverFacts, CoversFit, BytesBelow, LiesBelow, bytes_lie_below, lies_below, is_below_end, same_where, ends_agree, covers_agree, covers_together, AreCoverFacts}
 use Rattle.nb_entries.specs.Shared.MapsLemmas.{and_left, and_right, get-union, all_entries_found, all_entries_from}
 use Rattle.nb_entries.specs.Code.CoverFacts.{Holds}
-use Rattle.nb_entries.specs.Shared.PromiseLemmas.{greater-comm, greater-assoc, greater-itself, greater_either, greater_left, greater_right, promised_adds, before_is, before_from}
+use Rattle.nb_entries.specs.Shared.PlacedLemmas.{greater-comm, greater-assoc, greater-itself, greater_either, greater_left, greater_right, promised_adds, before_is, before_from}
 use Rattle.nb_entries.specs.Shared.SlotLemmas.{Unites}
 
 pub same_at : (o : Option ℕ) (x y : ℕ) → same_where o x ≡ true → o ≡ Some y → x ≡ y
@@ -197,9 +197,6 @@ formed_agrees a h = agree_of a a (record {
 
 pub agrees_formed : (a : CoverFacts) → covers_agree a a ≡ true → AreCoverFacts a
 agrees_formed a h = (fit_of a a h).own_below
-
-pub covers_agree_decides : (a b : CoverFacts) → Decides (covers_agree a b) (CoversFit a b)
-covers_agree_decides a b = (fit_of a b, agree_of a b)
 
 -- a union with facts that are held already adds nothing
 pub together_held : (a b : CoverFacts) → Holds a b → covers_together a b ≡ a

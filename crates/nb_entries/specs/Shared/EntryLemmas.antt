@@ -100,9 +100,6 @@ slot_cover : (c : CoverValue) → OnHeld (λ a. covers_agree a a ≡ true) c →
 slot_cover Spoilt f = tt
 slot_cover (Held a) f = agrees_formed a f
 
-pub facts_agree_decides : (a b : EntryFacts) → Decides (facts_agree a b) (FactsFit a b)
-facts_agree_decides a b = (facts_fit_of a b, facts_agree_of a b)
-
 -- ---- the laws of joins of covers and entries
 
 pub join_cover-comm : (a b : CoverValue) → join_cover a b ≡ join_cover b a

@@ -12,8 +12,8 @@ use Rattle.nb_names.specs.Name.{NetbiosName, IsName, labels_of_name}
 use Rattle.nb_datagram.specs.declared.kind.Kind.{Kind}
 use Rattle.nb_datagram.specs.Kind.{type_of}
 use Rattle.nb_datagram.specs.Packet.{name_bytes}
-use Rattle.nb_entries.specs.declared.saved.form.SavedForm.{SavedForm}
-use Rattle.nb_entries.specs.declared.saved.form.SavedForm.TheVariants.{First, Second}
+use Rattle.nb_entries.specs.declared.saved.SavedForm.{SavedForm}
+use Rattle.nb_entries.specs.declared.saved.SavedForm.TheVariants.{First, Second}
 use Rattle.nb_entries.specs.Entry.{EntryFacts, EntryValue}
 use Rattle.nb_entries.specs.Runs.{RunValue, run_end, StartsPast, AreApart, map_of_runs, runs_of_map}
 use Rattle.nb_entries.specs.Saved.{run_bytes, runs_bytes, end_bytes, promise_bytes, facts_bytes, entry_bytes}

@@ -1,5 +1,5 @@
 -- A row of saved runs that was read: its runs by their bytes, its map, and how far it reaches.
-use Rattle.std.proofs.Common.{◌≡◌, ◌+◌, ◌<◌, ◌≤◌, ◌&&◌, ℕ, suc, zero, List, [], ◌∷◌, length, take, drop, Bool, true, false, Ok, refl, sym, ap, subst, ◌∙◌, arith, length-drop}
+use Rattle.std.proofs.Common.{◌≡◌, ◌+◌, ◌<◌, ◌≤◌, ◌&&◌, ℕ, suc, zero, List, [], ◌∷◌, length, take, drop, Bool, true, false, Ok, refl, sym, ap, subst, ◌∙◌, arith, length-drop, Option, None}
 use Rattle.std.proofs.lemmas.Bool.{le-leb, lt-leb, and_from}
 use Rattle.std.specs.Prelude.{nat_le, nat_lt}
 use Rattle.std.specs.Int.{w16, from_be_bytes}
@@ -13,13 +13,18 @@ use Rattle.std.proofs.lemmas.List.Folds.{list_all-append}
 use Rattle.std.proofs.lemmas.Nat.{from_be_bytes-to_be_bytes_2}
 use Rattle.nb_names.specs.Labels.{StandsAt}
 use Rattle.nb_names.specs.Numbers.{NumberAt}
-use Rattle.nb_entries.specs.Cover.{placed}
+use Rattle.nb_entries.specs.Cover.{placed, AreCoverFacts}
 use Rattle.nb_entries.specs.Runs.{RunValue, run_end, AreApart, places_of, map_of_runs}
-use Rattle.nb_entries.specs.SavedReading.{gives, goes_on, whole, good, number_at, bytes_at, run_at, row_at}
+use Rattle.nb_entries.specs.SavedReading.{gives, goes_on, whole, good, number_at, bytes_at, run_at, row_at, is_0, is_1, most_of, facts_at, entry_at}
 use Rattle.nb_entries.specs.Code.SavedRuns.{number_in, run_of, after_run, RunThere, row_of, RowThere}
 use Rattle.nb_entries.specs.Shared.MapsLemmas.{sorted_entries}
-use Rattle.nb_entries.specs.Shared.FoundLemmas.{row_found}
+use Rattle.nb_entries.specs.Shared.FoundLemmas.{row_found, IsPromise, promise_found, runs_found}
 use Rattle.nb_entries.specs.Shared.RunsLemmas.{sorted_places}
+use Rattle.nb_entries.specs.declared.saved.SavedForm.{SavedForm}
+use Rattle.nb_entries.specs.declared.saved.SavedForm.TheVariants.{First}
+use Rattle.nb_entries.specs.Entry.{EntryFacts, EntryValue, IsEntry}
+use Rattle.nb_entries.specs.Slot.{OnHeld}
+use Rattle.nb_entries.specs.Shared.CoverLemmas.{bytes_below_decides}
 
 -- ---- runs by their bytes
 
@@ -169,3 +174,35 @@ row_short limit n k bs behind r all e same rest few h =
     ∙ sym (ap (λ b. b && list_all (λ (r : RunValue). nat_le (run_end r) limit) (row_of k (after_run bs))) yes)
     ∙ ap (λ (m : ℕ). list_all (λ (r : RunValue). nat_le (run_end r) limit) (row_of m bs)) (sym e)
     ∙ h
+
+-- ---- Saved entries that were read are well formed, and their runs plain.
+
+-- ---- entries are well formed
+
+-- runs that don't pass the end lie below it
+pub covers_formed : (runs : List RunValue) (end promise : Option ℕ) → AreApart runs → AllByRecursion (λ (r : RunValue). run_end r ≤ most_of end) runs → IsPromise end promise →
+    AreCoverFacts (record { bytes = map_of_runs runs; end = end; promise = promise })
+covers_formed runs end promise apart short kept n e =
+    let below = subst (λ (m : ℕ). AllByRecursion (λ (r : RunValue). run_end r ≤ m) runs) (ap most_of e) short in
+    record {
+      bytes = (bytes_below_decides n (map_of_runs runs)).0 (map_below n runs apart ∙ all_short n runs below);
+      promise = λ r f. kept.below r f n e;
+    }
+
+facts_formed : (form : SavedForm) (input : List ℕ) (at next : ℕ) (e : EntryFacts) → facts_at form input at (Ok (e, next)) → AreCoverFacts e.cover
+facts_formed form input at next e (goes_on kind a k (goes_on source b s (goes_on destination c d (goes_on end m n (goes_on promise p q (goes_on runs l r gives)))))) =
+    let row = runs_found input (most_of end) p l runs r in covers_formed runs end promise row.1 row.2 (promise_found form input end m p promise q).1
+
+pub entry_formed : (form : SavedForm) (input : List ℕ) (at next : ℕ) (e : EntryValue) → entry_at form input at (Ok (e, next)) → IsEntry e
+entry_formed form input at next e (goes_on state n h (is_0 z gives)) = tt
+entry_formed form input at next e (goes_on state n h (is_1 z (goes_on f m k gives))) = facts_formed form input n m f k
+
+-- ---- what was saved
+
+-- the first form has no promises
+facts_plain : (input : List ℕ) (at next : ℕ) (e : EntryFacts) → facts_at First input at (Ok (e, next)) → e.cover.promise ≡ None
+facts_plain input at next e (goes_on kind a k (goes_on source b s (goes_on destination c d (goes_on end m n (goes_on promise p gives (goes_on runs l r gives)))))) = refl
+
+pub entry_plain : (input : List ℕ) (at next : ℕ) (e : EntryValue) → entry_at First input at (Ok (e, next)) → OnHeld (λ a. a.cover.promise ≡ None) e
+entry_plain input at next e (goes_on state n h (is_0 z gives)) = tt
+entry_plain input at next e (goes_on state n h (is_1 z (goes_on f m k gives))) = facts_plain input n m f k

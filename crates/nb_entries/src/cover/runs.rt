@@ -12,7 +12,6 @@ mod each_run;
 mod growing;
 mod inserting;
 mod reading;
-mod saving;
 mod searching;
 mod uniting;
 
@@ -89,7 +88,7 @@ impl Model for Runs {
     ghost use Rattle.std.specs.Prelude.{ℕ};
     ghost use Rattle.std.specs.Ordering.{nat_cmp};
     ghost use Rattle.std.specs.FinMap as maps;
-    ghost use Rattle.nb_entries.specs.Code.RunCodes.{bytes_code};
+    ghost use Rattle.nb_entries.specs.Code.RunSteps.{bytes_code};
 
     ghost Value = { maps.FinMap nat_cmp ℕ };
 

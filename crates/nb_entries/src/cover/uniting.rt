@@ -2,11 +2,10 @@
 ghost use Rattle.std.specs.Prelude.{◌≡◌, ◌&&◌, IfOk, MatchOption};
 ghost use Rattle.std.specs.FinMap as maps;
 ghost use Rattle.nb_entries.specs.Cover.{bytes_lie_below, placed};
-ghost use Rattle.nb_entries.specs.Short.{ends_by};
+ghost use Rattle.nb_entries.specs.Entry.{ends_by};
 
 use super::CoverFacts;
-use super::end::{ends_agree, is_at_most};
-use super::promise::greater;
+use super::end::{ends_agree, greater, is_at_most};
 use crate::slot::Facts;
 use nb_names::NoMemory;
 

@@ -1,15 +1,14 @@
 //! Saved entries, which borrow their runs: read, kept, and written.
 ghost use Rattle.std.specs.Prelude.{◌≡◌, IfOk, OnOk};
-ghost use Rattle.nb_entries.specs.Short.{is_short as is_short_entry};
+ghost use Rattle.nb_entries.specs.Entry.{is_short as is_short_entry};
 ghost use Rattle.nb_entries.specs.Sinks.{Puts};
-ghost use Rattle.nb_entries.specs.Saved.{facts_bytes, entry_bytes};
-ghost use Rattle.nb_entries.specs.SavedFits.{IsNamed};
+ghost use Rattle.nb_entries.specs.Saved.{facts_bytes, entry_bytes, IsNamed};
 ghost use Rattle.nb_entries.specs.SavedReading.{facts_at, entry_at, most_of as most_reading};
 ghost use Rattle.nb_entries.specs.Slot.{Held, OnHeld};
-ghost use Rattle.nb_entries.specs.declared.saved.form.SavedForm.TheVariants.{Second};
+ghost use Rattle.nb_entries.specs.declared.saved.SavedForm.TheVariants.{Second};
 
+use super::SavedForm;
 use super::fields::{read_byte, read_end, read_kind, read_plain_name, read_promise};
-use super::form::SavedForm;
 use super::runs::{SavedRuns, read_runs};
 use super::sink::ByteSink;
 use crate::cover::CoverFacts;

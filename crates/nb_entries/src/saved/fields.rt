@@ -1,17 +1,14 @@
 //! The fields of saved entries: each read where it stands, and written.
-#![tactic(auto, using(crate::proofs::SavedReading::TurnLemmas::fields))]
+#![tactic(auto, using(crate::proofs::SavedReading::fields))]
 
 ghost use Rattle.std.specs.Prelude.{◌≡◌, ◌↔◌, ℕ, IsTrue, MatchResult, Some};
 ghost use Rattle.std.specs.Int.{w16, w32, to_be_bytes};
 ghost use Rattle.nb_names.specs.Numbers.{NumberAt};
 ghost use Rattle.nb_entries.specs.Sinks.{Puts};
 ghost use Rattle.nb_entries.specs.Saved.{end_bytes};
-ghost use Rattle.nb_entries.specs.SavedReading.{Field, PromisesBelow, fault_of_name, byte_at as byte_reading};
-ghost use Rattle.nb_entries.specs.SavedReading.{number_at as number_reading, bytes_at as bytes_reading};
-ghost use Rattle.nb_entries.specs.SavedReading.{kind_at as kind_reading, name_at as name_reading};
-ghost use Rattle.nb_entries.specs.SavedReading.{end_at as end_reading, promise_at as promise_reading};
+ghost use Rattle.nb_entries.specs.SavedReading.{Field, PromisesBelow, fault_of_name, byte_at as byte_reading, number_at as number_reading, bytes_at as bytes_reading, kind_at as kind_reading, name_at as name_reading, end_at as end_reading, promise_at as promise_reading};
 
-use super::form::SavedForm;
+use super::SavedForm;
 use super::sink::ByteSink;
 use crate::load_fault::LoadFault;
 use nb_datagram::Kind;

@@ -1,7 +1,9 @@
-//! Facts that may contradict each other.
-ghost use Rattle.std.specs.Prelude.{◌≡◌, Bool, true, IfOk};
+//! Facts that may contradict each other, and slots of them, joined.
+ghost use Rattle.std.specs.Prelude.{◌≡◌, Bool, true, IfOk, OnErr};
 ghost use Rattle.nb_entries.specs.Shared.SlotLemmas.{Unites};
+ghost use Rattle.nb_entries.specs.Slot.{OnHeld, join_slot};
 
+use super::Slot;
 use nb_names::NoMemory;
 
 /// Facts that may contradict each other, and are united where they don't: those of a cover, and
@@ -34,4 +36,26 @@ pub trait Facts: Drop {
     ghost unites: { Unites agrees union };
 
     ghost formed_agree: { (a : Self) → AreFormed a → agrees a a ≡ true };
+}
+
+impl<F: Facts> Slot<F> {
+    /// What the two come to: spoilt where one is, or their facts contradict each other; else what
+    /// the facts of both say.
+    ///
+    /// # Errors
+    ///
+    /// `NoMemory` where memory ran out.
+    pub fn joined(&self, other: &Slot<F>) -> Result<Slot<F>, NoMemory>
+        ensures value { IfOk result (λ slot.
+            slot ≡ join_slot F.agrees F.union self.now other.now) }
+        ensures formed { IfOk result (OnHeld F.AreFormed) }
+        ensures own { OnErr result (OnHeld F.AreFormed self.now) }
+    {
+        match (self, other) {
+            (Slot::Held(facts), Slot::Held(others)) if facts.agree(others) => {
+                Ok(Slot::Held(facts.together(others)?))
+            }
+            _ => Ok(Slot::Spoilt),
+        }
+    }
 }

@@ -18,7 +18,7 @@ use Rattle.nb_table.specs.Merging.{new_keys, first_unfit, SourcesFit}
 use Rattle.nb_datagram.specs.KeyOrder.{key_cmp_total, key_cmp_exact, same_key_decides}
 use Rattle.nb_table.specs.Shared.TableLemmas.{get-join}
 use Rattle.nb_table.specs.Shared.KeyCountLemmas.{keys_kept, entries_kept, held_is, get_kept}
-use Rattle.nb_table.proofs.Joins.EachLemmas.{lacking, len-joined}
+use Rattle.nb_table.proofs.Joins.{lacking, len-joined}
 
 -- ---- lists of keys that pass a test
 

@@ -1,6 +1,6 @@
 -- Which of the two limits on keys a refusal reports, and that the key it names is the least that finds no room.
-use Rattle.std.proofs.Common.{◌≡◌, ◌≢◌, ◌<◌, ◌≤◌, ◌-◌, ◌+◌, ◌&&◌, ◌||◌, inl, inr, ℕ, suc, zero, cond, Bool, true, false, List, [], ◌∷◌, filter, map, length, slice_get, is_none, Option, Some, None, refl, sym, ◌∙◌, ap, subst, arith}
-use Rattle.std.proofs.lemmas.Bool.{cases_lt}
+use Rattle.std.proofs.Common.{◌≡◌, ◌≢◌, ◌<◌, ◌≤◌, ◌-◌, ◌+◌, ◌&&◌, inl, inr, ℕ, suc, zero, cond, Bool, true, false, List, [], ◌∷◌, filter, map, length, slice_get, is_none, Option, Some, None, refl, sym, ◌∙◌, ap, subst, arith}
+use Rattle.std.proofs.lemmas.Bool.{cases_lt, or_left, or_right}
 use Rattle.std.proofs.lemmas.Option.{none-some, same_Some}
 use Rattle.std.specs.Prelude.{T}
 use Rattle.std.specs.declared.cmp.Ordering.{Ordering}
@@ -35,7 +35,7 @@ use Rattle.nb_table.proofs.Limits.GroupLemmas.{few_insert, few_join, filter_at_m
 use Rattle.nb_table.proofs.Limits.SourceLemmas.{is_less}
 use Rattle.nb_table.proofs.Limits.UnfitLemmas.{found_kept}
 use Rattle.nb_table.proofs.SavedReading.LoadLemmas.{one_table}
-use Rattle.nb_table.proofs.SavedReading.OutcomeLemmas.{one_read}
+use Rattle.nb_table.proofs.SavedReading.FoundLemmas.{one_read}
 
 -- ---- no address is over
 
@@ -139,14 +139,6 @@ all_units (e ∷ es) = (tt, all_units es)
 none_is : {X : Type 0} (o : Option X) → is_none o ≡ true → o ≡ None
 none_is None h = refl
 none_is (Some x) h = absurd (cc h)
-
-or_left : (b c : Bool) → b ≡ true → (b || c) ≡ true
-or_left true c h = refl
-or_left false c h = absurd (cc h)
-
-or_right : (b c : Bool) → c ≡ true → (b || c) ≡ true
-or_right true c h = refl
-or_right false c h = h
 
 is_there : (g : Key → Bool) (ks : List Key) (i : ℕ) (k : Key) → slice_get (filter g ks) i ≡ Some k → list_any (eq_by_cmp key_cmp k) ks ≡ true
 is_there g [] i k h = absurd (none-some k h)

@@ -16,7 +16,7 @@ use Rattle.std.specs.FinMap.Entries.{below_all, is_sorted-where_key}
 use Rattle.nb_datagram.specs.declared.key.Key.{Key}
 use Rattle.nb_datagram.specs.Key.{key_cmp}
 use Rattle.nb_table.specs.KeyCounts.{of_source}
-use Rattle.nb_entries.specs.Shared.MapsLemmas.{T_left, T_right}
+use Rattle.nb_entries.specs.Shared.MapsLemmas.{T_left, T_right, and_left}
 use Rattle.nb_table.proofs.Limits.GroupLemmas.{source_decides}
 use Rattle.nb_table.specs.Shared.KeyCountLemmas.{keys_kept}
 
@@ -173,10 +173,6 @@ filter_inside p r inside (k ∷ ks) = step (p k) refl (r k) refl (filter_inside 
     step true e false g rec = absurd (true≢false (sym (inside k e) ∙ g))
     step false e true g rec = ap (λ d. cond d (k ∷ filter p (filter r ks)) (filter p (filter r ks))) e ∙ rec
     step false e false g rec = rec
-
-and_left : (a b : Bool) → (a && b) ≡ true → a ≡ true
-and_left true b h = refl
-and_left false b h = h
 
 -- all keys of the address stand there
 pub onward_all : {X : Type 0} (ip : List ℕ) (es : List (Key × X)) → filter (of_source ip) (map (λ e. e.0) (onward ip es)) ≡ filter (of_source ip) (map (λ e. e.0) es)

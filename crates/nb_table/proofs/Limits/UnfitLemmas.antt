@@ -17,7 +17,7 @@ use Rattle.nb_entries.specs.Entry.{EntryValue}
 use Rattle.nb_table.specs.Contents.{Contents}
 use Rattle.nb_table.specs.KeyCounts.{of_source, held_keys}
 use Rattle.nb_table.specs.Merging.{first_unfit, new_keys, SourcesFit, IsUnfitSource}
-use Rattle.nb_entries.specs.Shared.MapsLemmas.{T_left, T_right}
+use Rattle.nb_entries.specs.Shared.MapsLemmas.{T_left, T_right, and_left}
 use Rattle.nb_datagram.specs.KeyOrder.{key_cmp_total}
 use Rattle.nb_table.proofs.Limits.GroupLemmas.{held_at_most, filter_at_most, source_decides}
 use Rattle.nb_table.proofs.Limits.SourceLemmas.{ip_cmp, is_less, lower_ip, lower_key, strictly}
@@ -35,10 +35,6 @@ found_kept P h (e ∷ es) all i q f = step (h e.0) refl i f (λ j g. found_kept 
     step true is zero g rec = let one = same_Some e.0 q g in (subst P one all.0, ap h (sym one) ∙ is)
     step true is (suc j) g rec = rec j g
     step false is j g rec = rec j g
-
-and_left : (a b : Bool) → (a && b) ≡ true → a ≡ true
-and_left true b h = refl
-and_left false b h = h
 
 -- unfit n s t q: the least key of the address of q that doesn't fit
 abbrev pub unfit : ℕ → Contents → Contents → Key → Option Key

@@ -1,24 +1,35 @@
 -- What a judged input comes to, and the table that is kept of it.
-use Rattle.std.proofs.Common.{◌≡◌, ◌<◌, ◌≤◌, ◌⊎◌, inl, inr, ℕ, List, map, filter, length, Bool, true, false, None, Ok, Err, refl, sym, ap, subst, ◌∙◌, arith}
-use Rattle.std.proofs.lemmas.Bool.{true≢false}
-use Rattle.std.specs.Prelude.{Decides}
+use Rattle.std.proofs.Common.{◌≡◌, ◌<◌, ◌≤◌, ◌⊎◌, inl, inr, ℕ, List, map, filter, length, Bool, true, false, None, Ok, Err, refl, sym, ap, subst, ◌∙◌, arith, ◌≢◌, ◌+◌, ◌-◌, ◌&&◌, ◌++◌, nat_lt, cond, [], ◌∷◌, Option, Some}
+use Rattle.std.proofs.lemmas.Bool.{true≢false, ltb-true, lt-ltb, and_from}
+use Rattle.std.specs.Prelude.{Decides, IsTrue}
 use Rattle.std.specs.FinMap as maps
 use Rattle.nb_datagram.specs.declared.key.Key.{Key}
 use Rattle.nb_entries.specs.declared.load_fault.LoadFault.{LoadFault}
 use Rattle.nb_entries.specs.declared.load_fault.LoadFault.TheVariants.{TooLong, FullSource, Full, NoMemory}
-use Rattle.nb_entries.specs.declared.saved.form.SavedForm.{SavedForm}
+use Rattle.nb_entries.specs.declared.saved.SavedForm.{SavedForm}
 use Rattle.nb_table.specs.Contents.{Contents}
 use Rattle.nb_entries.specs.Entry.{EntryValue}
 use Rattle.nb_table.specs.KeyCounts.{FewOfEach, of_source}
 use Rattle.nb_table.specs.Limits.{Limits, KeepsLimits}
 use Rattle.nb_table.specs.LoadFaults.{IsReadAs, LoadFails, too_long, full_source, full, no_memory}
 use Rattle.nb_table.specs.Saved.{magic, IsSaved}
-use Rattle.nb_table.specs.SavedReading.{IsRead, entries_at}
+use Rattle.nb_table.specs.SavedReading.{IsRead, entries_at, IsAfter}
 use Rattle.nb_names.specs.Labels.{StandsAt}
-use Rattle.nb_table.specs.Code.SavedTables.{IsJudged, AreKept}
+use Rattle.nb_table.specs.Code.SavedTables.{IsJudged, AreKept, AreFew, SourcesSoFar}
 use Rattle.nb_table.proofs.SavedReading.LoadedLemmas.{table_with, read_inside, read_entries, read_len, read_saved, read_formed, read_short}
 use Rattle.nb_entries.specs.Shared.OutcomeLemmas.{same_fault, same_value, apart}
-use Rattle.nb_table.proofs.SavedReading.OutcomeLemmas.{one_form, one_read, one_entries}
+use Rattle.nb_table.proofs.SavedReading.FoundLemmas.{one_form, one_read, one_entries}
+use Rattle.std.specs.Option.{IfSome, MatchOption}
+use Rattle.std.specs.declared.cmp.Ordering.{Ordering}
+use Rattle.std.specs.declared.cmp.Ordering.TheVariants.{Less, Equal, Greater}
+use Rattle.std.specs.Ordering.{is_le}
+use Rattle.std.proofs.lemmas.Cmp.{nat_list_cmp_total}
+use Rattle.std.specs.Cmp.{tied_itself}
+use Rattle.std.specs.List.{AllByRecursion}
+use Rattle.nb_table.specs.declared.saved.Sources.{Sources}
+use Rattle.nb_entries.specs.Shared.MapsLemmas.{and_left, and_right}
+use Rattle.nb_table.proofs.Limits.GroupLemmas.{source_decides}
+use Rattle.nb_table.proofs.Limits.SourceLemmas.{ip_cmp, lower_ip, same_ip, strictly, le_both, itself_le}
 
 -- a judged input has no fault
 pub judged_sound : (input : List ℕ) (limit most count : ℕ) (short few : Bool) → IsJudged input limit most count short few → (f : LoadFault) → IsRead input (Err f) → ⊥
@@ -115,3 +126,109 @@ pub keeping_failed : (form : SavedForm) (input : List ℕ) (limits : Limits) (co
     → (f ≡ NoMemory) ⊎ entries_at form input count None 8 (Err f) → LoadFails input limits f
 keeping_failed form input limits count short few f m j is spread fits (inl e) = subst (LoadFails input limits) (sym e) (judged_kept input limits count short few j is spread fits)
 keeping_failed form input limits count short few f m j is spread fits (inr h) = absurd (judged_inside form input limits.longest limits.per_source count short few m j f h)
+
+-- ---- The keys of one address, counted while a saved table is judged.
+
+-- how many of these keys have the address
+abbrev pub of_ip : List ℕ → List Key → ℕ
+of_ip ip ks = length (filter (of_source ip) ks)
+
+count_more : (ip : List ℕ) (ks : List Key) (k : Key) → of_ip ip (ks ++ k ∷ []) ≡ of_ip ip ks + cond (of_source ip k) 1 0
+count_more ip [] k = step (of_source ip k)
+  where
+    step : (b : Bool) → length (cond b (k ∷ []) []) ≡ 0 + cond b 1 0
+    step true = omega arith
+    step false = omega arith
+count_more ip (q ∷ ks) k = step (of_source ip q) (count_more ip ks k)
+  where
+    step : (b : Bool) → of_ip ip (ks ++ k ∷ []) ≡ of_ip ip ks + cond (of_source ip k) 1 0 → length (cond b (q ∷ filter (of_source ip) (ks ++ k ∷ [])) (filter (of_source ip) (ks ++ k ∷ []))) ≡ length (cond b (q ∷ filter (of_source ip) ks) (filter (of_source ip) ks)) + cond (of_source ip k) 1 0
+    step true rec = omega (arith, rec)
+    step false rec = rec
+
+none_yet : (ip : List ℕ) (ks : List Key) → AllByRecursion (λ q. of_source ip q ≡ false) ks → of_ip ip ks ≡ 0
+none_yet ip [] h = refl
+none_yet ip (q ∷ ks) h = ap (λ b. length (cond b (q ∷ filter (of_source ip) ks) (filter (of_source ip) ks))) h.0 ∙ none_yet ip ks h.1
+
+le_lt : (a b c : List ℕ) → is_le (ip_cmp a b) ≡ true → ip_cmp b c ≡ Less → ip_cmp a c ≡ Less
+le_lt a b c h g = step (ip_cmp a b) refl h
+  where
+    step : (r : Ordering) → ip_cmp a b ≡ r → is_le r ≡ true → ip_cmp a c ≡ Less
+    step Less e k = nat_list_cmp_total.trans a b c e g
+    step Equal e k = subst (λ (x : List ℕ). ip_cmp x c ≡ Less) (sym (same_ip a b e)) g
+    step Greater e k = absurd (cc k)
+
+-- a key of a lesser address isn't of this one
+lesser_source : (ip : List ℕ) (q : Key) → ip_cmp q.ip ip ≡ Less → of_source ip q ≡ false
+lesser_source ip q h = step (of_source ip q) refl
+  where
+    step : (b : Bool) → of_source ip q ≡ b → b ≡ false
+    step false e = refl
+    step true e = let same = (source_decides ip q).0 e in let clash = sym (tied_itself nat_list_cmp_total ip) ∙ ap (λ (x : List ℕ). ip_cmp x ip) (sym same) ∙ h in absurd (cc clash)
+
+lesser_all : (ip b : List ℕ) (ks : List Key) → ip_cmp b ip ≡ Less → AllByRecursion (λ q. is_le (ip_cmp q.ip b) ≡ true) ks → AllByRecursion (λ q. of_source ip q ≡ false) ks
+lesser_all ip b [] less h = tt
+lesser_all ip b (q ∷ ks) less h = (lesser_source ip q (le_lt q.ip b ip h.0 less), lesser_all ip b ks less h.1)
+
+below_more : (b : List ℕ) (k : Key) (ks : List Key) → is_le (ip_cmp b k.ip) ≡ true → AllByRecursion (λ q. is_le (ip_cmp q.ip b) ≡ true) ks → AllByRecursion (λ q. is_le (ip_cmp q.ip k.ip) ≡ true) (ks ++ k ∷ [])
+below_more b k [] le h = (itself_le k.ip, tt)
+below_more b k (q ∷ ks) le h = (le_both q.ip b k.ip h.0 le, below_more b k ks le h.1)
+
+-- ---- the turns
+
+-- how many keys of the next one's address may come
+pub room_is : (n : ℕ) (ks : List Key) (before : Option Key) (k : Key) (s : Sources) (room : ℕ) → SourcesSoFar n ks before s → IsAfter before k
+    → MatchOption before (room ≡ n) (λ b. ((b.ip ≡ k.ip) → room ≡ s.room) × ((b.ip ≢ k.ip) → room ≡ n)) → room ≡ n - of_ip k.ip ks
+room_is n ks None k s room so after is =
+    let none = ap (of_ip k.ip) (so.none_yet refl) in
+    omega (arith, is, none)
+room_is n ks (Some b) k s room so after is = step (of_source k.ip b) refl
+  where
+    step : (t : Bool) → of_source k.ip b ≡ t → room ≡ n - of_ip k.ip ks
+    step true e =
+        let same = (source_decides k.ip b).0 e in
+        is.0 same ∙ so.room ∙ ap (λ (ip : List ℕ). n - of_ip ip ks) same
+    step false e =
+        let apart : b.ip ≢ k.ip = λ h. true≢false (sym ((source_decides k.ip b).1 h) ∙ e) in
+        let less = strictly b.ip k.ip (lower_ip b k after) apart in
+        let none = none_yet k.ip ks (lesser_all k.ip b.ip ks less so.below) in
+        let room_n = is.1 apart in
+        omega (arith, room_n, none)
+
+pub sources_turn : (n : ℕ) (ks : List Key) (before : Option Key) (k : Key) (s r : Sources) (room : ℕ) → SourcesSoFar n ks before s → IsAfter before k → room ≡ n - of_ip k.ip ks
+    → r.are_few ≡ (s.are_few && nat_lt 0 room) → r.room ≡ room - 1 → SourcesSoFar n (ks ++ k ∷ []) (Some k) r
+sources_turn n ks before k s r room so after is few left = record {
+  few = (few_then, then_few);
+  room = (let more = count_more k.ip ks k in let own = ap {B = ℕ} (λ b. cond b 1 0) ((source_decides k.ip k).1 refl) in omega (arith, more, own, is, left));
+  none_yet = λ h. absurd (cc h);
+  below = lower before after so.below so.none_yet;
+}
+  where
+    at_ip : (ip : List ℕ) (b : Bool) → of_source ip k ≡ b → of_ip ip ks ≤ n → 0 < room → of_ip ip (ks ++ k ∷ []) ≤ n
+    at_ip ip true e so_far some =
+        let more = count_more ip ks k in
+        let one = ap {B = ℕ} (λ b. cond b 1 0) e in
+        let room_there : room ≡ n - of_ip ip ks = is ∙ ap (λ (i : List ℕ). n - of_ip i ks) ((source_decides ip k).0 e) in
+        omega (arith, more, one, room_there, some)
+    at_ip ip false e so_far some =
+        let more = count_more ip ks k in
+        let one = ap {B = ℕ} (λ b. cond b 1 0) e in
+        omega (arith, more, one, so_far)
+
+    few_then : IsTrue r.are_few → AreFew n (ks ++ k ∷ [])
+    few_then h ip =
+        let both = sym few ∙ h in
+        at_ip ip (of_source ip k) refl (so.few.0 (and_left s.are_few (nat_lt 0 room) both) ip) (ltb-true 0 room (and_right s.are_few (nat_lt 0 room) both))
+
+    before_few : AreFew n (ks ++ k ∷ []) → AreFew n ks
+    before_few h ip = let more = count_more ip ks k in let most = h ip in omega (arith, more, most)
+
+    then_few : AreFew n (ks ++ k ∷ []) → IsTrue r.are_few
+    then_few h =
+        let more = count_more k.ip ks k in
+        let own = ap {B = ℕ} (λ b. cond b 1 0) ((source_decides k.ip k).1 refl) in
+        let most = h k.ip in
+        few ∙ and_from s.are_few (nat_lt 0 room) (so.few.1 (before_few h)) (lt-ltb 0 room (omega (arith, more, own, most, is)))
+
+    lower : (o : Option Key) → IsAfter o k → IfSome o (λ b. AllByRecursion (λ q. is_le (ip_cmp q.ip b.ip) ≡ true) ks) → (o ≡ None → ks ≡ []) → AllByRecursion (λ q. is_le (ip_cmp q.ip k.ip) ≡ true) (ks ++ k ∷ [])
+    lower None a h none = subst (λ (qs : List Key). AllByRecursion (λ q. is_le (ip_cmp q.ip k.ip) ≡ true) (qs ++ k ∷ [])) (sym (none refl)) (itself_le k.ip, tt)
+    lower (Some b) a h none = below_more b.ip k ks (lower_ip b k a) h

@@ -8,13 +8,12 @@ use Rattle.std.specs.FinMap as maps
 use Rattle.nb_datagram.specs.declared.key.Key.{Key}
 use Rattle.nb_datagram.specs.Header.{IsKey}
 use Rattle.nb_datagram.specs.Key.{key_cmp}
-use Rattle.nb_entries.specs.declared.saved.form.SavedForm.{SavedForm}
-use Rattle.nb_table.specs.declared.saved.sources.Sources.{Sources}
-use Rattle.nb_entries.specs.Entry.{EntryValue}
+use Rattle.nb_entries.specs.declared.saved.SavedForm.{SavedForm}
+use Rattle.nb_table.specs.declared.saved.Sources.{Sources}
+use Rattle.nb_entries.specs.Entry.{EntryValue, is_short}
 use Rattle.nb_table.specs.Contents.{Contents}
 use Rattle.nb_table.specs.KeyCounts.{of_source}
-use Rattle.nb_entries.specs.Short.{is_short}
-use Rattle.nb_entries.specs.SavedFits.{IsNamed}
+use Rattle.nb_entries.specs.Saved.{IsNamed}
 use Rattle.nb_table.specs.SavedReading.{entries_at, IsRead}
 use Rattle.nb_entries.specs.Slot.{OnHeld}
 

@@ -17,7 +17,7 @@ use Rattle.nb_table.specs.Join.{join}
 use Rattle.nb_table.specs.Insert.{NeedsNoMemory, spoilt, contradicts, held}
 use Rattle.nb_entries.specs.Shared.MapsLemmas.{get-at_keys, tied_self}
 use Rattle.nb_entries.specs.Promise.{promise_of_one}
-use Rattle.nb_entries.specs.Shared.PromiseLemmas.{greater-alone}
+use Rattle.nb_entries.specs.Shared.PlacedLemmas.{greater-alone}
 use Rattle.nb_datagram.specs.KeyOrder.{key_cmp_total, key_cmp_exact, same_key_decides}
 use Rattle.nb_table.specs.Shared.TableLemmas.{same_table, get-join}
 

@@ -18,7 +18,6 @@ use Rattle.std.specs.Map.{lookup}
 use Rattle.std.specs.BTreeMap as tree
 use Rattle.std.specs.BTreeMap.{BTreeMap}
 use Rattle.std.specs.FinMap as map
-use Rattle.std.proofs.lemmas.Map.Steps.{set_value_same}
 
 find_is : {K X : Type 0} (R : K → K → Ordering) (q : K) (es : List (K × X)) → map.find R q es ≡ lookup (tree.is_at (R q)) es
 find_is R q [] = refl
@@ -46,15 +45,9 @@ remove_is {R = R} o exact m n k u =
 pub changed_is : {K X : Type 0} {R : K → K → Ordering} → IsTotalOrder R → map.IsAntisymmetric R → (m n : BTreeMap K X) (k : K) (v w : X) → Some v ≡ tree.get R m k → tree.WritesThrough R (R k) m w n → map.from_entries {R = R} n.entries ≡ map.insert (map.from_entries m.entries) k w
 changed_is o exact m n k v w found t = insert_is o exact m n k w (t.3 (sym (ap is_some found)))
 
--- a held key whose value came back as it was leaves the finite map as it was
-pub kept_is : {K X : Type 0} {R : K → K → Ordering} (m n : BTreeMap K X) (k : K) (v w : X) → Some v ≡ tree.get R m k → tree.WritesThrough R (R k) m w n → w ≡ v → map.from_entries {R = R} n.entries ≡ map.from_entries m.entries
-kept_is {R = R} m n k v w found t same =
-    let t' = subst (λ x. tree.WritesThrough R (R k) m x n) same t in
-    ap map.from_entries (t'.0 ∙ set_value_same (tree.is_at (R k)) m.entries v (sym found))
-
 -- ---- the entries in order
 
-T_both : (a b : Bool) → T a → T b → T (a && b)
+pub T_both : (a b : Bool) → T a → T b → T (a && b)
 T_both true b g h = h
 T_both false b g h = absurd g
 

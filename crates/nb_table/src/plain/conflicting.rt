@@ -9,7 +9,7 @@ ghost use Rattle.nb_table.specs.Conflict.{Overlap, PastEnd, BreaksPromise, Confl
 ghost use Rattle.nb_table.specs.ConflictTests.{conflicts, with_key};
 ghost use Rattle.nb_table.specs.Code.Plain.{differ, SameNames, SameHeader};
 
-use super::finding::{byte_of, end_of_one, has_key, promise_of_one};
+use super::{byte_of, end_of_one, has_key, promise_of_one};
 use nb_datagram::{Fragment, Key};
 
 /// Whether both fragments cover a place, with different bytes.

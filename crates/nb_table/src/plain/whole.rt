@@ -13,7 +13,7 @@ ghost use Rattle.nb_table.specs.Plain.{IsLong};
 ghost use Rattle.nb_table.specs.Code.Plain.{CoversBelow, datagram_to};
 
 use super::conflicting::is_spoilt;
-use super::finding::{byte_at, end_of, has_key};
+use super::{byte_at, end_of, has_key};
 use nb_datagram::limits::MAX_LENGTH;
 use nb_datagram::{Datagram, Fragment, Key};
 use nb_names::{Bytes, NoMemory};

@@ -1,17 +1,17 @@
-//! Whether a table takes in another under its limits.
-ghost use Rattle.std.specs.Prelude.{◌≡◌, ◌≢◌, ◌↔◌, OnOk, IfErr, IsTrue, filter, slice_get, is_none};
+//! Whether a table takes in another, or a fragment, under its limits.
+ghost use Rattle.std.specs.Prelude.{◌≡◌, ◌≢◌, ◌↔◌, OnOk, IfErr, IsTrue, filter, slice_get, is_none, IfSome, MatchOption};
 ghost use Rattle.std.specs.List.{list_all};
 ghost use Rattle.std.specs.FinMap as maps;
 ghost use Rattle.nb_table.specs.KeyCounts.{every_key};
-ghost use Rattle.nb_table.specs.Merging.{AllShort, Fits, IsRefused};
-ghost use Rattle.nb_entries.specs.Short.{is_short};
-ghost use Rattle.nb_table.specs.Merging.{first_unfit as least_unfit};
+ghost use Rattle.nb_table.specs.Merging.{AllShort, Fits, IsRefused, first_unfit as least_unfit};
+ghost use Rattle.nb_entries.specs.Entry.{is_short};
+ghost use Rattle.nb_table.specs.Insert.{Refuses, Takes};
 
 use super::Table;
 use crate::entries::Entries;
 use crate::fault::TableFault;
-use crate::sources::unfit_source;
-use nb_datagram::Key;
+use crate::sources::{is_full_of, unfit_source};
+use nb_datagram::{Fragment, Key, LentFragment};
 
 /// Whether each entry is spoilt, or has its places below this one and ends and promises at most
 /// there.
@@ -89,5 +89,50 @@ impl Table {
             Some(key) => Err(TableFault::Full(key)),
             None => Ok(()),
         }
+    }
+
+    /// Why [`Table::insert`] refuses a fragment, whatever memory there is; `None` where the table
+    /// has room for it. No memory is taken.
+    ///
+    /// In this order: `MisplacedFirst` where the fragment says that it is the first one (F) at an
+    /// offset other than 0, or doesn't say so at offset 0; `TooLong` where it reaches past the
+    /// longest datagram, whatever is known of its key; `FullSource` with its key where that is new
+    /// and as many keys of its address are held as may be; `Full` with it where it is new and as
+    /// many keys are held as may be in all. There is no other (our choice). Where a key of any
+    /// address has room, none is looked for.
+    pub fn refusal_of(&self, fragment: &Fragment<'_>) -> Option<TableFault>
+        ensures refusal { MatchOption result (Takes self.now fragment.now)
+            (Refuses self.now fragment.now) }
+        ensures no_memory_needed { IfSome result (λ fault. fault ≢ TableFault.NoMemory) }
+    {
+        self.refusal_of_lent(&fragment.lent())
+    }
+
+    /// Why the table refuses a fragment whose names are lent, as [`Table::refusal_of`] answers.
+    pub fn refusal_of_lent(&self, fragment: &LentFragment<'_>) -> Option<TableFault>
+        ensures refusal { MatchOption result (Takes self.now fragment.now)
+            (Refuses self.now fragment.now) }
+        ensures no_memory_needed { IfSome result (λ fault. fault ≢ TableFault.NoMemory) }
+    {
+        if fragment.is_first() != (fragment.offset() == 0) {
+            return Some(TableFault::MisplacedFirst);
+        }
+        if fragment.reach() > u32::from(self.longest) {
+            return Some(TableFault::TooLong);
+        }
+        if self.entries.len() < self.keys.min(self.per_source) as usize {
+            return None;
+        }
+        let key = fragment.key();
+        if self.entries.contains_key(&key) {
+            return None;
+        }
+        if is_full_of(&self.entries, key.ip, self.per_source) {
+            return Some(TableFault::FullSource(key));
+        }
+        if self.entries.len() >= self.keys as usize {
+            return Some(TableFault::Full(key));
+        }
+        None
     }
 }

@@ -6,7 +6,6 @@ ghost use Rattle.nb_table.specs.Merging.{Fits, IsRefused, newly_handed};
 
 mod merging_entries;
 mod others;
-mod taking_back;
 mod taking_in;
 
 use super::Table;

@@ -78,7 +78,7 @@ fn drop_runs(runs: &mut Vec<Run>, from: usize, past: usize)
 }
 
 /// Inserts bytes that don't contradict them into a row of runs.
-#[tactic(auto, using(crate::proofs::KeptRuns::RunCodeLemmas::set_steps))]
+#[tactic(auto, using(crate::proofs::KeptRuns::RunRowLemmas::set_steps))]
 pub(super) fn insert_bytes(
     alloc: Global,
     runs: &mut Vec<Run>,

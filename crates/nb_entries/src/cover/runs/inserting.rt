@@ -1,5 +1,5 @@
 //! Runs put into rows, none of which has many.
-#![tactic(auto, using(crate::proofs::KeptRuns::RowsPutLemmas::row_steps))]
+#![tactic(auto, using(crate::proofs::KeptRuns::RowsLemmas::row_steps))]
 
 ghost use Rattle.std.specs.Prelude.{◌≡◌, ◌≤◌, ◌<◌, ◌+◌, ◌++◌, ◌∷◌, [], length, take, drop, slice_index_or, OnOk, OnErr, IfOk};
 ghost use Rattle.nb_entries.specs.Runs.{AreApart};

@@ -1,4 +1,4 @@
-use Rattle.nb_session.proofs.ValueLemmas.{NameLaws, one_value}
+use Rattle.nb_session.proofs.PacketLemmas.{NameLaws, one_value}
 use Rattle.nb_session.proofs.ParsingLemmas.{one_answer}
 use Rattle.nb_session.proofs.laws.one_answer.Goals as goal
 

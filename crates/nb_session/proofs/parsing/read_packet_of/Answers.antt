@@ -4,7 +4,7 @@ use Rattle.std.specs.Int.{w16, to_be_bytes}
 use Rattle.nb_names.specs.Labels.{StandsAt}
 use Rattle.nb_session.specs.declared.packet.Packet.TheVariants.{Retarget}
 use Rattle.nb_session.specs.Header.{IsGood}
-use Rattle.nb_session.proofs.BytesLemmas.{stands_joined}
+use Rattle.nb_session.proofs.HeaderLemmas.{stands_joined}
 use Rattle.nb_session.proofs.PacketLemmas.{packet_made}
 use Rattle.nb_session.proofs.parsing.read_packet_of.Goals as goal
 

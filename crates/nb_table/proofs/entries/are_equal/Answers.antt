@@ -3,7 +3,7 @@ use Rattle.std.specs.FinMap as maps
 use Rattle.nb_datagram.specs.Key.{key_cmp}
 use Rattle.nb_datagram.specs.KeyOrder.{key_cmp_total, key_cmp_exact}
 use Rattle.nb_table.specs.Shared.TreeLemmas.{same_list}
-use Rattle.nb_table.proofs.TableReads.EqualLemmas.{entries_decide}
+use Rattle.nb_table.proofs.TableReads.{entries_decide}
 use Rattle.nb_table.proofs.entries.are_equal.Goals as goal
 
 pub returns-then-len : goal.returns-then-len

@@ -1,6 +1,6 @@
 use Rattle.std.proofs.Common.{◌≡◌, take, map}
 use Rattle.nb_table.specs.Join.{joined_all}
-use Rattle.nb_table.proofs.Joins.JoinLemmas.{are_taken}
+use Rattle.nb_table.proofs.Joins.{are_taken}
 use Rattle.nb_table.proofs.join.join_all.Given as goal
 
 abbrev pub invariant-loop-index : goal.invariant-loop-index

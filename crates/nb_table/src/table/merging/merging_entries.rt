@@ -6,8 +6,7 @@ ghost use Rattle.std.specs.FinMap as maps;
 ghost use Rattle.nb_datagram.specs.declared.limits.TheConstants.{MAX_LENGTH};
 ghost use Rattle.nb_datagram.specs.Datagram.{DatagramParts};
 ghost use Rattle.nb_entries.specs.Maps.{joined_onto};
-ghost use Rattle.nb_entries.specs.Entry.{join_entry};
-ghost use Rattle.nb_entries.specs.Short.{IsShort};
+ghost use Rattle.nb_entries.specs.Entry.{join_entry, IsShort};
 ghost use Rattle.nb_entries.specs.Change.{handed_by};
 ghost use Rattle.nb_table.specs.Join.{join};
 ghost use Rattle.nb_table.specs.Merging.{AllShort, newly_handed};
@@ -16,7 +15,7 @@ ghost use Rattle.nb_table.specs.Code.Handed.{handed, handed_at, with_entry};
 ghost use Rattle.nb_table.specs.Code.TakenBack.{taken_back};
 
 use super::others::{Other, Others};
-use super::taking_back::{put_noted, take_back};
+use super::taking_in::{put_noted, take_back};
 use crate::entries::Entries;
 use nb_datagram::{Datagram, Datagrams, Key};
 use nb_entries::{Entry, Handing};

@@ -1,13 +1,18 @@
-//! Tables taken in by others.
+//! Tables taken in by others; changes of entries, noted and taken back.
 ghost use Rattle.std.specs.Prelude.{◌≡◌, map, take, slice_get, Some, OnOk, OnErr, IfErr};
 ghost use Rattle.nb_table.specs.Join.{join, joined_all, AreTaken};
 ghost use Rattle.nb_table.specs.Limits.{TableValue, with_contents};
 ghost use Rattle.nb_table.specs.Merging.{Fits, IsRefused};
+ghost use Rattle.std.specs.FinMap as maps;
+ghost use Rattle.nb_table.specs.Code.TakenBack.{put_back as with_before, taken_back};
 
 use super::merging_entries::merge_entries;
+use crate::entries::Entries;
 use crate::fault::TableFault;
 use crate::table::Table;
-use nb_entries::Handing;
+use nb_datagram::Key;
+use nb_entries::{Entry, Handing};
+use nb_names::NoMemory;
 
 impl Table {
     /// Takes the other table in: this one is then as [`Table::merge`] leaves it. No datagram is
@@ -60,4 +65,48 @@ pub fn take_in_all(first: &mut Table, others: Vec<Table>) -> Result<(), (usize, 
         }
     }
     Ok(())
+}
+
+/// Puts in the entry of a key, and notes what stood there before. Where memory runs out, nothing
+/// changes.
+pub(super) fn put_noted(
+    entries: &mut Entries,
+    key: Key,
+    entry: Entry,
+    changes: &mut Vec<(Key, Option<Entry>)>,
+) -> Result<(), NoMemory>
+    ensures put { OnOk result (entries.new ≡ maps.insert entries.old key entry) }
+    ensures noted { taken_back entries.new changes.new.items
+        ≡ taken_back entries.old changes.old.items }
+{
+    changes.reserve(1)?;
+    let before = entries.insert(key, entry)?;
+    changes.push((key, before)).unwrap();
+    Ok(())
+}
+
+/// Puts back what stood at a key before: no entry, or this one in the place of that which stands
+/// there. No memory is taken.
+fn put_back(entries: &mut Entries, key: Key, before: Option<Entry>)
+    ensures { entries.new ≡ with_before entries.old key before }
+{
+    match before {
+        Some(before) => {
+            if let Some(entry) = entries.get_mut(&key) {
+                *entry = before;
+            }
+        }
+        None => {
+            entries.remove(&key);
+        }
+    }
+}
+
+/// Takes changes back, the last one first. No memory is taken.
+pub(super) fn take_back(entries: &mut Entries, mut changes: Vec<(Key, Option<Entry>)>)
+    ensures { entries.new ≡ taken_back entries.old changes.items }
+{
+    while let Some((key, before)) = changes.pop() {
+        put_back(entries, key, before);
+    }
 }

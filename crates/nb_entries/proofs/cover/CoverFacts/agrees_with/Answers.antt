@@ -3,7 +3,7 @@ use Rattle.std.specs.List.{list_all}
 use Rattle.std.specs.FinMap as maps
 use Rattle.nb_datagram.specs.Fragment.{core_of}
 use Rattle.nb_entries.specs.Cover.{cover_of, placed, same_where, bytes_agree}
-use Rattle.nb_entries.proofs.Covers.CoverFactsLemmas.{bytes_agree_is}
+use Rattle.nb_entries.proofs.Covers.{bytes_agree_is}
 use Rattle.nb_entries.proofs.cover.CoverFacts.agrees_with.Goals as goal
 
 pub returns-then-is_below-2 : goal.returns-then-is_below-2

@@ -1,5 +1,5 @@
 use Rattle.std.proofs.Common.{arith}
-use Rattle.nb_entries.proofs.Runs.FewLemmas.{few_bytes_of}
+use Rattle.nb_entries.proofs.Runs.{few_bytes_of}
 use Rattle.nb_entries.proofs.cover.CoverFacts.held.Goals as goal
 
 pub held-requires : goal.held-requires

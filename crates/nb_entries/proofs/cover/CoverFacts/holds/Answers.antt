@@ -4,8 +4,8 @@ use Rattle.std.specs.FinMap as maps
 use Rattle.nb_datagram.specs.Fragment.{core_of}
 use Rattle.nb_entries.specs.Cover.{cover_of, placed}
 use Rattle.nb_entries.specs.Code.CoverFacts.{is_promised, is_there}
-use Rattle.nb_entries.specs.Shared.PromiseLemmas.{is_promised_decides}
-use Rattle.nb_entries.proofs.Covers.CoverFactsLemmas.{held_from_all, all_from_held}
+use Rattle.nb_entries.specs.Shared.PlacedLemmas.{is_promised_decides}
+use Rattle.nb_entries.proofs.Covers.{held_from_all, all_from_held}
 use Rattle.nb_entries.proofs.cover.CoverFacts.holds.Goals as goal
 
 pub returns : goal.returns

@@ -4,8 +4,8 @@ use Rattle.nb_datagram.specs.Fragment.{core_of}
 use Rattle.nb_entries.specs.Cover.{CoverFacts, AreCoverFacts, cover_of}
 use Rattle.nb_entries.specs.Promise.{greater}
 use Rattle.nb_entries.specs.Shared.PlacedLemmas.{cover_of_formed}
-use Rattle.nb_entries.proofs.Covers.CoverFactsLemmas.{together_formed}
-use Rattle.nb_entries.proofs.KeptRuns.RunFactsLemmas.{fit_agrees, put_is}
+use Rattle.nb_entries.proofs.Covers.{together_formed}
+use Rattle.nb_entries.proofs.KeptRuns.RunReadLemmas.{fit_agrees, put_is}
 use Rattle.nb_entries.proofs.cover.CoverFacts.insert.Goals as goal
 
 pub insert-requires : goal.insert-requires

@@ -4,8 +4,8 @@ use Rattle.nb_datagram.specs.Fragment.{core_of}
 use Rattle.nb_entries.specs.Cover.{AreCoverFacts}
 use Rattle.nb_entries.specs.Code.CoverFacts.{with_bytes}
 use Rattle.nb_entries.specs.Shared.PlacedLemmas.{cover_of_formed}
-use Rattle.nb_entries.proofs.Covers.PutLemmas.{put_alone}
-use Rattle.nb_entries.proofs.KeptRuns.RunFactsLemmas.{empty_agrees}
+use Rattle.nb_entries.proofs.Covers.{put_alone}
+use Rattle.nb_entries.proofs.KeptRuns.RunReadLemmas.{empty_agrees}
 use Rattle.nb_entries.proofs.cover.CoverFacts.of.Goals as goal
 
 pub insert-requires : goal.insert-requires

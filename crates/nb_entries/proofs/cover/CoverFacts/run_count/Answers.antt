@@ -1,5 +1,5 @@
 use Rattle.std.proofs.Common.{arith}
-use Rattle.nb_entries.proofs.Runs.FewLemmas.{few_runs_of}
+use Rattle.nb_entries.proofs.Runs.{few_runs_of}
 use Rattle.nb_entries.proofs.cover.CoverFacts.run_count.Goals as goal
 
 pub overflow_cast-result : goal.overflow_cast-result

@@ -3,7 +3,7 @@ use Rattle.std.proofs.Common.{ap, ◌∙◌}
 use Rattle.std.specs.Option.{option_or}
 use Rattle.nb_datagram.specs.Fragment.{core_of}
 use Rattle.nb_entries.specs.Cover.{CoverFacts}
-use Rattle.nb_entries.proofs.KeptRuns.RunFactsLemmas.{whole_put}
+use Rattle.nb_entries.proofs.KeptRuns.RunReadLemmas.{whole_put}
 use Rattle.nb_entries.proofs.cover.CoverFacts.whole_with.Goals as goal
 
 pub returns-in-Some : goal.returns-in-Some

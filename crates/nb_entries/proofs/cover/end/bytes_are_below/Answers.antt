@@ -1,7 +1,7 @@
 use Rattle.std.proofs.Common.{rules}
 use Rattle.std.proofs.lemmas.Bool.Decides.{nat_tests}
 use Rattle.nb_datagram.specs.Fragment.{core_of}
-use Rattle.nb_entries.proofs.Covers.CoverFactsLemmas.{fragment_below}
+use Rattle.nb_entries.proofs.Covers.{fragment_below}
 use Rattle.nb_entries.proofs.cover.end.bytes_are_below.Goals as goal
 
 pub returns-then-is_empty : goal.returns-then-is_empty

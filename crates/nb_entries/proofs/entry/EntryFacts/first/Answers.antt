@@ -3,7 +3,7 @@ use Rattle.nb_entries.specs.Slot.{Held}
 use Rattle.nb_entries.specs.Entry.{EntryFacts}
 use Rattle.nb_entries.specs.Whole.{bytes_to, datagram_of, datagram_with}
 use Rattle.nb_entries.specs.Change.{grown_to, made_by}
-use Rattle.nb_entries.proofs.Changes.ChangeLemmas.{key_first, made_grown, told_grown, with_handed}
+use Rattle.nb_entries.proofs.Changes.{key_first, made_grown, told_grown, with_handed}
 use Rattle.nb_entries.proofs.entry.EntryFacts.first.Goals as goal
 
 pub returns-clause-change : goal.returns-clause-change

@@ -8,7 +8,7 @@ use Rattle.nb_entries.specs.Entry.{EntryFacts}
 use Rattle.nb_entries.specs.Whole.{bytes_to, datagram_with}
 use Rattle.std.proofs.lemmas.Bool.Decides.{not_from_Decides}
 use Rattle.nb_entries.specs.Shared.WholeLemmas.{newly_never, newly_always}
-use Rattle.nb_entries.proofs.Changes.ChangeLemmas.{whole_size}
+use Rattle.nb_entries.proofs.Changes.{whole_size}
 use Rattle.nb_entries.proofs.entry.EntryFacts.newly_whole_with.Goals as goal
 
 pub returns-then-is_whole : goal.returns-then-is_whole

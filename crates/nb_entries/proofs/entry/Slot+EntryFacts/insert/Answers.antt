@@ -3,7 +3,7 @@ use Rattle.std.proofs.lemmas.Result.{on_err_weaker}
 use Rattle.nb_datagram.specs.Fragment.{core_of}
 use Rattle.nb_entries.specs.Entry.{facts_of}
 use Rattle.nb_entries.specs.Shared.EntryLemmas.{facts_fit_of}
-use Rattle.nb_entries.proofs.Changes.ChangeLemmas.{join_differs}
+use Rattle.nb_entries.proofs.Changes.{join_differs}
 use Rattle.nb_entries.proofs.entry.Slot+EntryFacts.insert.Goals as goal
 
 pub insert-requires-clause-fits : goal.insert-requires-clause-fits

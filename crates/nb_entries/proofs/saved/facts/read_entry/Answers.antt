@@ -1,6 +1,6 @@
 use Rattle.std.proofs.Common.{arith}
 use Rattle.nb_entries.specs.SavedReading.{goes_on, gives, is_0, is_1, is_neither}
-use Rattle.nb_entries.proofs.SavedReading.TurnLemmas.{stopped}
+use Rattle.nb_entries.proofs.SavedReading.{stopped}
 use Rattle.nb_entries.proofs.saved.facts.read_entry.Goals as goal
 
 pub returns-in_err-state : goal.returns-in_err-state

@@ -2,9 +2,9 @@ use Rattle.std.proofs.Common.{ℕ, ◌≤◌, subst}
 use Rattle.std.specs.List.{AllByRecursion}
 use Rattle.nb_entries.specs.Runs.{RunValue, run_end}
 use Rattle.nb_entries.specs.SavedReading.{goes_on, gives}
-use Rattle.nb_entries.specs.Shared.LoadedLemmas.{covers_formed}
+use Rattle.nb_entries.specs.Shared.RowLemmas.{covers_formed}
 use Rattle.nb_entries.specs.Shared.FoundLemmas.{promise_found, runs_found}
-use Rattle.nb_entries.proofs.SavedReading.TurnLemmas.{stopped}
+use Rattle.nb_entries.proofs.SavedReading.{stopped}
 use Rattle.nb_entries.proofs.saved.facts.read_facts.Goals as goal
 
 pub returns-in_err-kind : goal.returns-in_err-kind

@@ -1,7 +1,7 @@
 use Rattle.std.proofs.lemmas.Bool.Decides.{not_from_Decides}
 use Rattle.std.proofs.lemmas.Result.{err_from_is_err_and}
 use Rattle.nb_entries.specs.SavedReading.{gives}
-use Rattle.nb_entries.proofs.SavedReading.TurnLemmas.{promise_good, promise_bad, promise_ill}
+use Rattle.nb_entries.proofs.SavedReading.{promise_good, promise_bad, promise_ill}
 use Rattle.nb_entries.proofs.saved.fields.read_promise.Goals as goal
 
 pub returns-in-First : goal.returns-in-First

@@ -1,4 +1,4 @@
-use Rattle.nb_entries.proofs.SavedReading.TurnLemmas.{RowSoFar}
+use Rattle.nb_entries.proofs.SavedReading.{RowSoFar}
 use Rattle.nb_entries.proofs.saved.runs.read_runs.Given as goal
 
 abbrev pub invariant-loop : goal.invariant-loop

@@ -1,7 +1,7 @@
 use Rattle.std.proofs.Common.{refl, sym, ◌∙◌}
 use Rattle.nb_datagram.specs.Fragment.{core_of}
 use Rattle.std.proofs.lemmas.Bool.Decides.{not_from_Decides}
-use Rattle.nb_table.proofs.PlainProgram.PlainLemmas.{header_conflict, overlap_conflict, ends_conflict, past_conflict, past_other_conflict, breaks_conflict, breaks_other_conflict, last_conflict}
+use Rattle.nb_table.proofs.PlainProgram.{header_conflict, overlap_conflict, ends_conflict, past_conflict, past_other_conflict, breaks_conflict, breaks_other_conflict, last_conflict}
 use Rattle.nb_table.proofs.plain.conflicting.conflict.Goals as goal
 
 pub returns-then-not-same_header : goal.returns-then-not-same_header

@@ -1,7 +1,7 @@
 use Rattle.std.proofs.Common.{◌≡◌, ◌<◌, sym, ◌∙◌, subst, length, arith}
 use Rattle.std.proofs.lemmas.Bool.Decides.{nat_tests}
 use Rattle.nb_datagram.specs.Fragment.{core_of}
-use Rattle.nb_table.proofs.PlainProgram.PlainLemmas.{past_end_decides, empty_never_past}
+use Rattle.nb_table.proofs.PlainProgram.{past_end_decides, empty_never_past}
 use Rattle.nb_table.proofs.plain.conflicting.passes_end.Goals as goal
 
 pub returns-then-not-is_empty : goal.returns-then-not-is_empty

@@ -1,7 +1,7 @@
 use Rattle.std.proofs.Common.{sym, ◌∙◌}
 use Rattle.nb_datagram.specs.Fragment.{cores_of}
 use Rattle.nb_table.specs.Contents.{byte_at}
-use Rattle.nb_table.proofs.PlainProgram.PlainWholeLemmas.{some_of, none_of, covers_more, covers_not}
+use Rattle.nb_table.proofs.PlainProgram.{some_of, none_of, covers_more, covers_not}
 use Rattle.nb_table.proofs.plain.whole.covers_below.Goals as goal
 
 pub returns-then-not-is_covered : goal.returns-then-not-is_covered

@@ -3,8 +3,8 @@ use Rattle.nb_datagram.specs.Fragment.{core_of, cores_of}
 use Rattle.nb_table.specs.Contents.{table_of}
 use Rattle.nb_table.specs.Whole.{datagram_at}
 use Rattle.std.proofs.lemmas.Bool.Decides.{not_from_Decides}
-use Rattle.nb_table.proofs.PlainProgram.PlainWholeLemmas.{not_whole, none_long, whole_ending, whole_starting, whole_is, whole_long, whole_short, not_this}
-use Rattle.nb_table.proofs.Wholeness.WholeLemmas.{none_whole}
+use Rattle.nb_table.proofs.PlainProgram.{not_whole, none_long, whole_ending, whole_starting, whole_is, whole_long, whole_short, not_this}
+use Rattle.nb_table.proofs.Wholeness.{none_whole}
 use Rattle.nb_table.proofs.plain.whole.datagram.Goals as goal
 
 none : (c : goal.Then-not-is_whole) → datagram_at (table_of (cores_of c.args.fragments.now)) c.args.key.now ≡ None

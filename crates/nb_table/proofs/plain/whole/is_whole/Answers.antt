@@ -2,7 +2,7 @@ use Rattle.std.proofs.Common.{◌≡◌, Some, None, sym, ◌∙◌, subst}
 use Rattle.nb_datagram.specs.Fragment.{cores_of}
 use Rattle.nb_table.specs.Code.Plain.{CoversBelow}
 use Rattle.std.proofs.lemmas.Bool.Decides.{not_from_Decides}
-use Rattle.nb_table.proofs.PlainProgram.PlainWholeLemmas.{whole_from, whole_free, whole_ends}
+use Rattle.nb_table.proofs.PlainProgram.{whole_from, whole_free, whole_ends}
 use Rattle.nb_table.proofs.plain.whole.is_whole.Goals as goal
 
 pub returns-then-is_spoilt : goal.returns-then-is_spoilt

@@ -1,10 +1,9 @@
 use Rattle.std.proofs.Common.{◌≡◌, List, map}
 use Rattle.std.specs.List.{list_all}
 use Rattle.nb_datagram.specs.declared.key.Key.{Key}
-use Rattle.nb_entries.specs.Entry.{EntryValue}
-use Rattle.nb_entries.specs.Short.{is_short}
+use Rattle.nb_entries.specs.Entry.{EntryValue, is_short}
 use Rattle.nb_table.specs.Code.SavedTables.{SourcesSoFar}
-use Rattle.nb_table.proofs.SavedReading.TurnLemmas.{EntriesSoFar}
+use Rattle.nb_table.proofs.SavedReading.FoundLemmas.{EntriesSoFar}
 use Rattle.nb_table.proofs.saved.entries.judge_entries.Given as goal
 
 abbrev pub invariant-loop : goal.invariant-loop

@@ -3,7 +3,7 @@ use Rattle.std.specs.FinMap as maps
 use Rattle.nb_datagram.specs.declared.key.Key.{Key}
 use Rattle.nb_table.specs.Code.Each.{with_each}
 use Rattle.nb_entries.specs.Entry.{EntryValue}
-use Rattle.nb_table.proofs.SavedReading.TurnLemmas.{EntriesSoFar}
+use Rattle.nb_table.proofs.SavedReading.FoundLemmas.{EntriesSoFar}
 use Rattle.nb_table.proofs.saved.entries.load_entries.Given as goal
 
 abbrev pub invariant-loop : goal.invariant-loop

@@ -1,5 +1,5 @@
 use Rattle.std.proofs.Common.{refl, ap}
-use Rattle.nb_entries.specs.declared.saved.form.SavedForm.TheVariants.{Second}
+use Rattle.nb_entries.specs.declared.saved.SavedForm.TheVariants.{Second}
 use Rattle.nb_table.specs.Saved.{entries_bytes, keyed_bytes}
 use Rattle.nb_entries.specs.Shared.PuttingLemmas.{told, stop}
 use Rattle.nb_table.proofs.saved.entries.put_entries.Goals as goal

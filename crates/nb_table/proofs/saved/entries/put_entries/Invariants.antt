@@ -1,5 +1,5 @@
 use Rattle.std.specs.List.{AllByRecursion}
-use Rattle.nb_entries.specs.declared.saved.form.SavedForm.TheVariants.{Second}
+use Rattle.nb_entries.specs.declared.saved.SavedForm.TheVariants.{Second}
 use Rattle.nb_table.specs.Code.SavedTables.{HasNames}
 use Rattle.nb_entries.specs.Sinks.{ToPut}
 use Rattle.nb_table.specs.Saved.{entries_bytes}

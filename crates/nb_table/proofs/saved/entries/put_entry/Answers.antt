@@ -1,5 +1,5 @@
 use Rattle.std.proofs.Common.{◌++◌, refl}
-use Rattle.nb_entries.specs.declared.saved.form.SavedForm.TheVariants.{Second}
+use Rattle.nb_entries.specs.declared.saved.SavedForm.TheVariants.{Second}
 use Rattle.nb_table.specs.Saved.{key_bytes}
 use Rattle.nb_entries.specs.Saved.{entry_bytes}
 use Rattle.nb_entries.specs.Shared.PuttingLemmas.{begun, turn, stop, done}

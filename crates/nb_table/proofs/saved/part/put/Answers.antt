@@ -1,7 +1,7 @@
 use Rattle.std.proofs.Common.{◌≡◌, ◌++◌, ◌-◌, length, rules, arith, ap, ◌∙◌}
 use Rattle.std.proofs.lemmas.Result.{err_from_is_err_and}
 use Rattle.std.proofs.lemmas.List.{length-drop}
-use Rattle.nb_table.proofs.SavedBytes.WritingLemmas.{passes_part, breaks_part}
+use Rattle.nb_table.proofs.SavedBytes.{passes_part, breaks_part}
 use Rattle.nb_table.specs.Shared.WaitingLemmas.{passes_none}
 use Rattle.nb_table.proofs.saved.part.put.Goals as goal
 

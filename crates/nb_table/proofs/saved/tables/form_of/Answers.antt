@@ -1,7 +1,7 @@
 use Rattle.std.proofs.Common.{sym, ◌∙◌}
-use Rattle.nb_entries.specs.declared.saved.form.SavedForm.TheVariants.{First, Second}
+use Rattle.nb_entries.specs.declared.saved.SavedForm.TheVariants.{First, Second}
 use Rattle.nb_table.specs.SavedReading.{no_magic}
-use Rattle.nb_table.proofs.SavedReading.MagicLemmas.{magic_there, magics_absent}
+use Rattle.nb_table.proofs.SavedReading.FoundLemmas.{magic_there, magics_absent}
 use Rattle.nb_table.proofs.saved.tables.form_of.Goals as goal
 
 pub returns-then-starts_with-clause-found : goal.returns-then-starts_with-clause-found

@@ -1,6 +1,6 @@
 use Rattle.std.proofs.Common.{arith}
 use Rattle.std.proofs.lemmas.Result.{err_from_is_err_and}
-use Rattle.nb_table.proofs.SavedReading.MagicLemmas.{count_cut, entries_failed, bytes_after, all_judged}
+use Rattle.nb_table.proofs.SavedReading.FoundLemmas.{count_cut, entries_failed, bytes_after, all_judged}
 use Rattle.nb_table.proofs.saved.tables.judge.Goals as goal
 
 pub returns-in_err-count-clause-fault : goal.returns-in_err-count-clause-fault

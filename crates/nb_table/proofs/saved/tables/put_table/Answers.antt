@@ -6,7 +6,7 @@ use Rattle.std.proofs.lemmas.Result.{on_ok_weaker}
 use Rattle.nb_datagram.specs.Key.{key_cmp}
 use Rattle.nb_datagram.specs.KeyOrder.{key_cmp_total, key_cmp_exact}
 use Rattle.nb_table.specs.Shared.TreeLemmas.{entries_are, len_is}
-use Rattle.nb_entries.specs.declared.saved.form.SavedForm.TheVariants.{Second}
+use Rattle.nb_entries.specs.declared.saved.SavedForm.TheVariants.{Second}
 use Rattle.nb_table.specs.Code.SavedTables.{HasNames}
 use Rattle.nb_table.specs.Saved.{magic, entries_bytes, saved}
 use Rattle.nb_entries.specs.Shared.PuttingLemmas.{begun, turn, stop, done}

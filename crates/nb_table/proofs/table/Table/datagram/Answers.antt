@@ -4,7 +4,7 @@ use Rattle.std.specs.Option.{option_and_then}
 use Rattle.nb_datagram.specs.declared.limits.TheConstants.{MAX_LENGTH}
 use Rattle.nb_table.specs.Limits.{TableValue}
 use Rattle.nb_entries.specs.Whole.{datagram_of}
-use Rattle.nb_table.proofs.SavedBytes.ShortLemmas.{all_short}
+use Rattle.nb_table.proofs.SavedBytes.{all_short}
 use Rattle.nb_table.proofs.table.Table.datagram.Goals as goal
 
 pub datagram_of-requires : goal.datagram_of-requires

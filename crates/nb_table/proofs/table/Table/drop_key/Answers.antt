@@ -1,6 +1,6 @@
 use Rattle.std.proofs.Common.{◌∙◌, ap, is_some, sym, subst}
 use Rattle.nb_table.specs.Limits.{TableValue, KeepsLimits}
-use Rattle.nb_table.proofs.TableReads.ReadingLemmas.{remove_keeps}
+use Rattle.nb_table.proofs.TableReads.{remove_keeps}
 use Rattle.nb_table.proofs.table.Table.drop_key.Goals as goal
 
 pub invariant_of-self : goal.invariant_of-self

@@ -1,5 +1,5 @@
 use Rattle.std.proofs.Common.{◌∙◌, sym}
-use Rattle.nb_table.proofs.Limits.FittingLemmas.{all_short_decides}
+use Rattle.nb_table.proofs.Limits.CountLemmas.{all_short_decides}
 use Rattle.nb_table.proofs.table.Table.is_short.Goals as goal
 
 pub returns : goal.returns

@@ -3,12 +3,11 @@ use Rattle.std.specs.List.{AllByRecursion}
 use Rattle.nb_datagram.specs.declared.limits.TheConstants.{MAX_LENGTH}
 use Rattle.nb_entries.specs.declared.change.Handing.TheVariants.{Over}
 use Rattle.nb_table.specs.Limits.{TableValue, with_contents}
-use Rattle.nb_entries.specs.Short.{IsShort}
+use Rattle.nb_entries.specs.Entry.{IsShort}
 use Rattle.nb_table.specs.Merging.{newly_handed}
 use Rattle.nb_table.specs.Code.Handed.{handed}
-use Rattle.nb_table.proofs.Changes.InsertLemmas.{short_more}
-use Rattle.nb_table.proofs.Limits.MergingLemmas.{merged_keeps, others_short, entries_short, joined_is}
-use Rattle.nb_table.proofs.Limits.HandedLemmas.{handed_all}
+use Rattle.nb_table.proofs.Changes.{short_more}
+use Rattle.nb_table.proofs.Limits.MergingLemmas.{merged_keeps, others_short, entries_short, joined_is, handed_all}
 use Rattle.nb_table.proofs.table.Table.merge.Goals as goal
 
 pub merge_entries-requires-clause-own : goal.merge_entries-requires-clause-own

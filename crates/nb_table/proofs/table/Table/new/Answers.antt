@@ -1,6 +1,6 @@
 use Rattle.std.proofs.Common.{subst, sym}
 use Rattle.nb_table.specs.Limits.{Limits, KeepsLimits}
-use Rattle.nb_table.proofs.Limits.LimitsLemmas.{empty_keeps}
+use Rattle.nb_table.proofs.Limits.CountLemmas.{empty_keeps}
 use Rattle.nb_table.proofs.table.Table.new.Goals as goal
 
 pub invariant_of-result : goal.invariant_of-result

@@ -1,8 +1,8 @@
 use Rattle.std.proofs.Common.{◌≤◌, rules, sym, ◌∙◌, ap}
 use Rattle.nb_datagram.specs.declared.limits.TheConstants.{MAX_LENGTH}
-use Rattle.nb_entries.specs.Ranges.{ranges_where}
+use Rattle.nb_entries.specs.Runs.{ranges_where}
 use Rattle.nb_table.specs.Limits.{TableValue}
-use Rattle.nb_table.proofs.SavedBytes.ShortLemmas.{all_short}
+use Rattle.nb_table.proofs.SavedBytes.{all_short}
 use Rattle.nb_table.proofs.table.Table.ranges.Goals as goal
 
 pub ranges-requires : goal.ranges-requires

@@ -9,7 +9,7 @@ use Rattle.nb_table.specs.Contents.{Contents}
 use Rattle.nb_table.specs.KeyCounts.{held_keys, of_source}
 use Rattle.nb_table.specs.Insert.{Passes}
 use Rattle.nb_table.proofs.Limits.GroupLemmas.{held_at_most}
-use Rattle.nb_table.proofs.Changes.InsertLemmas.{same_test}
+use Rattle.nb_table.proofs.Changes.{same_test}
 use Rattle.nb_table.proofs.table.Table.refusal_of_lent.Goals as goal
 
 -- what the first two tests say of a fragment that they pass over

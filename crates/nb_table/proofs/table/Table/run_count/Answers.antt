@@ -1,9 +1,9 @@
 use Rattle.std.proofs.Common.{◌≤◌, rules, sym, ◌∙◌, ap}
 use Rattle.std.specs.Option.{option_and_then}
 use Rattle.nb_datagram.specs.declared.limits.TheConstants.{MAX_LENGTH}
-use Rattle.nb_entries.specs.RunCount.{entry_run_count}
+use Rattle.nb_entries.specs.Runs.{entry_run_count}
 use Rattle.nb_table.specs.Limits.{TableValue}
-use Rattle.nb_table.proofs.SavedBytes.ShortLemmas.{all_short}
+use Rattle.nb_table.proofs.SavedBytes.{all_short}
 use Rattle.nb_table.proofs.table.Table.run_count.Goals as goal
 
 pub run_count-requires : goal.run_count-requires

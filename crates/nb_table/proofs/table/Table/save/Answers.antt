@@ -3,7 +3,7 @@ use Rattle.nb_datagram.specs.declared.limits.TheConstants.{MAX_LENGTH}
 use Rattle.nb_table.specs.Limits.{TableValue}
 use Rattle.nb_table.specs.LoadFaults.{IsReadAs}
 use Rattle.nb_table.specs.SavedFits.{FitsSaved}
-use Rattle.nb_table.proofs.SavedBytes.ShortLemmas.{table_fits, table_read}
+use Rattle.nb_table.proofs.SavedBytes.{table_fits, table_read}
 use Rattle.nb_table.proofs.table.Table.save.Goals as goal
 
 pub returns-clause-fits : goal.returns-clause-fits

@@ -1,5 +1,5 @@
 use Rattle.std.proofs.Common.{sym}
-use Rattle.nb_table.proofs.TableReads.ReadingLemmas.{state_at}
+use Rattle.nb_table.proofs.TableReads.{state_at}
 use Rattle.nb_table.proofs.table.Table.state.Goals as goal
 
 pub returns-in-Some : goal.returns-in-Some

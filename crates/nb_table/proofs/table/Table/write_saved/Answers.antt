@@ -1,5 +1,5 @@
 use Rattle.std.proofs.lemmas.Result.{on_ok_weaker}
-use Rattle.nb_table.proofs.SavedBytes.WritingLemmas.{passes_wrote}
+use Rattle.nb_table.proofs.SavedBytes.{passes_wrote}
 use Rattle.nb_table.proofs.table.Table.write_saved.Goals as goal
 
 pub returns-clause-written : goal.returns-clause-written

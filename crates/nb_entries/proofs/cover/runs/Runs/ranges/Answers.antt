@@ -1,10 +1,9 @@
 use Rattle.std.proofs.Common.{◌∙◌, ap, map, sym, subst}
 use Rattle.nb_datagram.specs.declared.limits.TheConstants.{MAX_LENGTH}
-use Rattle.nb_entries.specs.Ranges.{range_of}
-use Rattle.nb_entries.specs.Code.RangeSteps.{EndBy}
-use Rattle.nb_entries.specs.Code.RunSteps.{values_of}
+use Rattle.nb_entries.specs.Runs.{range_of}
+use Rattle.nb_entries.specs.Code.RunSteps.{EndBy, values_of}
 use Rattle.nb_entries.specs.Shared.RunsLemmas.{runs_back}
-use Rattle.nb_entries.proofs.Runs.FewLemmas.{runs_end_of}
+use Rattle.nb_entries.proofs.Runs.{runs_end_of}
 use Rattle.nb_entries.proofs.cover.runs.Runs.ranges.Goals as goal
 
 pub of-requires-2 : goal.of-requires-2

@@ -5,8 +5,8 @@ use Rattle.std.specs.Vec.{vec_len}
 use Rattle.nb_entries.specs.Code.RunSteps.{value_of, values_of, run_at}
 use Rattle.nb_entries.specs.Code.Rows.{runs_in}
 use Rattle.nb_entries.proofs.KeptRuns.RunPutLemmas.{put_alone}
-use Rattle.nb_entries.proofs.KeptRuns.RunPlaceLemmas.{apart_between, agrees_between, put_between}
-use Rattle.nb_entries.proofs.KeptRuns.RowsPutLemmas.{row_cut, set_rows}
+use Rattle.nb_entries.proofs.KeptRuns.RunMapLemmas.{apart_between, agrees_between, put_between}
+use Rattle.nb_entries.proofs.KeptRuns.RowsLemmas.{row_cut, set_rows}
 use Rattle.nb_entries.proofs.cover.runs.inserting.insert_in_rows.Goals as goal
 
 pub returns-then-at-len-clause-ok : goal.returns-then-at-len-clause-ok

@@ -1,6 +1,6 @@
 use Rattle.std.proofs.Common.{arith}
 use Rattle.std.proofs.lemmas.Grind.{common_steps}
-use Rattle.nb_entries.proofs.KeptRuns.RowsPutLemmas.{joined}
+use Rattle.nb_entries.proofs.KeptRuns.RowsLemmas.{joined}
 use Rattle.nb_entries.proofs.cover.runs.inserting.join_next.Goals as goal
 
 pub returns-clause-some : goal.returns-clause-some

@@ -1,5 +1,5 @@
 use Rattle.std.proofs.Common.{arith}
-use Rattle.nb_entries.proofs.KeptRuns.RunCodeLemmas.{start_to, start_after}
+use Rattle.nb_entries.proofs.KeptRuns.RunRowLemmas.{start_to, start_after}
 use Rattle.nb_entries.proofs.cover.runs.searching.past_to.Goals as goal
 
 pub returns-then-start-place-clause-after : goal.returns-then-start-place-clause-after

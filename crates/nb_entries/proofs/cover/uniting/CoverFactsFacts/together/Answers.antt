@@ -2,8 +2,8 @@ use Rattle.std.proofs.Common.{sym, subst}
 use Rattle.nb_entries.specs.Cover.{CoverFacts, AreCoverFacts}
 use Rattle.nb_entries.specs.Shared.MapsLemmas.{and_left}
 use Rattle.nb_entries.specs.Shared.CoverLemmas.{fit_of}
-use Rattle.nb_entries.proofs.Covers.CoverFactsLemmas.{together_formed}
-use Rattle.nb_entries.proofs.KeptRuns.RunFactsLemmas.{union_is}
+use Rattle.nb_entries.proofs.Covers.{together_formed}
+use Rattle.nb_entries.proofs.KeptRuns.RunReadLemmas.{union_is}
 use Rattle.nb_entries.proofs.cover.uniting.CoverFactsFacts.together.Goals as goal
 
 pub together-requires : goal.together-requires

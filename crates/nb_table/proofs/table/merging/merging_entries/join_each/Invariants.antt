@@ -1,8 +1,7 @@
 use Rattle.std.proofs.Common.{◌≡◌, ◌++◌, ◌∷◌, length}
 use Rattle.std.specs.List.{AllByRecursion}
 use Rattle.nb_datagram.specs.declared.limits.TheConstants.{MAX_LENGTH}
-use Rattle.nb_entries.specs.Entry.{join_entry}
-use Rattle.nb_entries.specs.Short.{IsShort}
+use Rattle.nb_entries.specs.Entry.{join_entry, IsShort}
 use Rattle.nb_table.specs.Merging.{AllShort}
 use Rattle.nb_table.specs.Code.Each.{joined_each}
 use Rattle.nb_table.specs.Code.Handed.{handed, with_entry}

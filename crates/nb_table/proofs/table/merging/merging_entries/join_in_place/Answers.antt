@@ -5,9 +5,9 @@ use Rattle.nb_datagram.specs.declared.limits.TheConstants.{MAX_LENGTH}
 use Rattle.nb_entries.specs.Maps.{joined_onto}
 use Rattle.nb_entries.specs.Entry.{join_entry}
 use Rattle.nb_datagram.specs.KeyOrder.{key_cmp_total, key_cmp_exact}
-use Rattle.nb_table.proofs.Joins.TakenBackLemmas.{put_same}
-use Rattle.nb_table.proofs.Changes.InsertLemmas.{short_join}
-use Rattle.nb_table.proofs.Limits.HandedLemmas.{handed_held}
+use Rattle.nb_table.proofs.Joins.{put_same}
+use Rattle.nb_table.proofs.Changes.{short_join}
+use Rattle.nb_table.proofs.Limits.MergingLemmas.{handed_held}
 use Rattle.nb_table.proofs.table.merging.merging_entries.join_in_place.Goals as goal
 
 pub join_in_place-requires-clause-own : goal.join_in_place-requires-clause-own

@@ -2,8 +2,8 @@ use Rattle.std.proofs.Common.{◌≡◌, ◌++◌}
 use Rattle.std.specs.FinMap as maps
 use Rattle.std.specs.List.{AllByRecursion}
 use Rattle.nb_datagram.specs.declared.limits.TheConstants.{MAX_LENGTH}
-use Rattle.nb_entries.specs.Short.{IsShort}
-use Rattle.nb_table.proofs.Limits.HandedLemmas.{seen}
+use Rattle.nb_entries.specs.Entry.{IsShort}
+use Rattle.nb_table.proofs.Limits.MergingLemmas.{seen}
 use Rattle.nb_table.proofs.table.merging.merging_entries.preview_entries.Given as goal
 
 abbrev pub invariant-loop-key : goal.invariant-loop-key

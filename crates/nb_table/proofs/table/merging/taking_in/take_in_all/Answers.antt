@@ -4,7 +4,7 @@ use Rattle.std.specs.Vec.Iter.{into_iter_items, into_iter_len}
 use Rattle.nb_table.specs.Contents.{Contents}
 use Rattle.nb_table.specs.Join.{join, joined_all, AreTaken}
 use Rattle.nb_table.specs.Merging.{Fits, IsRefused}
-use Rattle.nb_table.proofs.Joins.JoinLemmas.{are_taken, each_is_taken, next_is_joined, next_is_taken, carried, next_left}
+use Rattle.nb_table.proofs.Joins.{are_taken, each_is_taken, next_is_joined, next_is_taken, carried, next_left}
 use Rattle.nb_table.proofs.table.merging.taking_in.take_in_all.Goals as goal
 
 pub loop-index-init : goal.loop-index-init

@@ -3,7 +3,7 @@ use Rattle.std.specs.Iterator.Adapters.{enumerate_count, enumerate_source}
 use Rattle.std.specs.Vec.Iter.{into_iter_items, into_iter_len}
 use Rattle.nb_table.specs.Join.{join, joined_all}
 use Rattle.nb_table.specs.Merging.{Fits}
-use Rattle.nb_table.proofs.Joins.JoinLemmas.{are_taken}
+use Rattle.nb_table.proofs.Joins.{are_taken}
 use Rattle.nb_table.proofs.table.merging.taking_in.take_in_all.Given as goal
 
 abbrev pub invariant-loop-index : goal.invariant-loop-index

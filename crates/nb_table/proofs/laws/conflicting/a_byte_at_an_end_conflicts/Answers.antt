@@ -1,5 +1,0 @@
-use Rattle.nb_table.proofs.Conflict.ConflictLemmas.{at_end_conflicts}
-use Rattle.nb_table.proofs.laws.conflicting.a_byte_at_an_end_conflicts.Goals as goal
-
-pub returns : goal.returns
-returns c = at_end_conflicts

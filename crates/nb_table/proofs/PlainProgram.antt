@@ -70,11 +70,11 @@ first_of_ending (f ∷ fs) n h = (f, refl)
 -- ---- whole keys
 
 pub whole_from : (L : List Core) (k : Key) (n : ℕ) → (IsSpoilt L k → ⊥) → end_of L k ≡ Some n → CoversBelow L k n → IsWholeAt (table_of L) k
-whole_from L k n free ends below =
-    let first = first_of_ending (with_key k L) n ends in (
+whole_from L k n free ends_at below =
+    let first = first_of_ending (with_key k L) n ends_at in (
       Held (facts_in first.0 (with_key k L)),
       held_from L k first.0 free first.1,
-      record { length = n; ends = ends; covered = λ i h. (let w = below i h in (w.0, get-cover_in (with_key k L) i ∙ w.1)) },
+      record { length = n; ends = ends_at; covered = λ i h. (let w = below i h in (w.0, get-cover_in (with_key k L) i ∙ w.1)) },
     )
 
 spoilt_not_whole : (L : List Core) (k : Key) (e : EntryValue) → maps.get (table_of L) k ≡ Some e → IsWhole e → IsSpoilt L k → ⊥
@@ -112,7 +112,7 @@ datagram_is : (L : List Core) (k : Key) (f : Core) (n : ℕ) → (IsSpoilt L k �
     datagram_at (table_of L) k ≡ datagram_to L k f n
 datagram_is L k f n free first ends =
     ap (option_and_then (datagram_of k)) (held_from L k f free first)
-    ∙ ap (λ o. datagram_with k (facts_in f (with_key k L)) (bytes_to (cover_in (with_key k L)).bytes o)) ends
+    ∙ ap (λ o. datagram_with k (facts_in f (with_key k L)) (bytes_to (cover_in (with_key k L)).bytes o)) ends_at
 
 -- and it has as many bytes as the end says
 size_of_datagram : (L : List Core) (k : Key) (f : Core) (n : ℕ) (d : DatagramParts) → datagram_to L k f n ≡ Some d → length d.bytes ≡ n
@@ -154,13 +154,13 @@ not_this (Err f) h e = absurd (cc (h, e))
 
 -- the datagram of a whole key, from its first fragment and its end
 pub whole_is : (L : List Core) (k : Key) (f : Core) (n : ℕ) → IsWholeAt (table_of L) k → Some f ≡ slice_get (with_key k L) 0 → Some n ≡ end_of L k → datagram_to L k f n ≡ datagram_at (table_of L) k
-whole_is L k f n w first ends = sym (datagram_is L k f n (whole_free L k w) (sym first) (sym ends))
+whole_is L k f n w first ends = sym (datagram_is L k f n (whole_free L k w) (sym first) (sym ends_at))
 
 pub whole_long : (L : List Core) (k : Key) (f : Core) (n : ℕ) → IsWholeAt (table_of L) k → Some f ≡ slice_get (with_key k L) 0 → Some n ≡ end_of L k → MAX_LENGTH < n → IsLong (datagram_at (table_of L) k)
-whole_long L k f n w first ends h = is_long L k f n (datagram_at (table_of L) k) (whole_given L k w) (whole_is L k f n w first ends) h
+whole_long L k f n w first ends_at h = is_long L k f n (datagram_at (table_of L) k) (whole_given L k w) (whole_is L k f n w first ends_at) h
 
 pub whole_short : (L : List Core) (k : Key) (f : Core) (n : ℕ) → IsWholeAt (table_of L) k → Some f ≡ slice_get (with_key k L) 0 → Some n ≡ end_of L k → n ≤ MAX_LENGTH → IsLong (datagram_at (table_of L) k) → ⊥
-whole_short L k f n w first ends h = not_long L k f n (datagram_at (table_of L) k) (whole_is L k f n w first ends) h
+whole_short L k f n w first ends_at h = not_long L k f n (datagram_at (table_of L) k) (whole_is L k f n w first ends_at) h
 
 -- ---- What the plain program's loops over places find.
 

@@ -110,7 +110,7 @@ not_whole L k h = at (maps.get (table_of L) k) refl
 -- the datagram of a key, from its first fragment, its end and its bytes
 datagram_is : (L : List Core) (k : Key) (f : Core) (n : ℕ) → (IsSpoilt L k → ⊥) → slice_get (with_key k L) 0 ≡ Some f → end_of L k ≡ Some n →
     datagram_at (table_of L) k ≡ datagram_to L k f n
-datagram_is L k f n free first ends =
+datagram_is L k f n free first ends_at =
     ap (option_and_then (datagram_of k)) (held_from L k f free first)
     ∙ ap (λ o. datagram_with k (facts_in f (with_key k L)) (bytes_to (cover_in (with_key k L)).bytes o)) ends_at
 
@@ -154,7 +154,7 @@ not_this (Err f) h e = absurd (cc (h, e))
 
 -- the datagram of a whole key, from its first fragment and its end
 pub whole_is : (L : List Core) (k : Key) (f : Core) (n : ℕ) → IsWholeAt (table_of L) k → Some f ≡ slice_get (with_key k L) 0 → Some n ≡ end_of L k → datagram_to L k f n ≡ datagram_at (table_of L) k
-whole_is L k f n w first ends = sym (datagram_is L k f n (whole_free L k w) (sym first) (sym ends_at))
+whole_is L k f n w first ends_at = sym (datagram_is L k f n (whole_free L k w) (sym first) (sym ends_at))
 
 pub whole_long : (L : List Core) (k : Key) (f : Core) (n : ℕ) → IsWholeAt (table_of L) k → Some f ≡ slice_get (with_key k L) 0 → Some n ≡ end_of L k → MAX_LENGTH < n → IsLong (datagram_at (table_of L) k)
 whole_long L k f n w first ends_at h = is_long L k f n (datagram_at (table_of L) k) (whole_given L k w) (whole_is L k f n w first ends_at) h

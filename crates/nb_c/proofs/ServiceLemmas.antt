@@ -52,6 +52,10 @@ pub record PacketLaws (payload : List ℕ) : Type 0 where
   pub one_fault : (a b : ServiceFault) → PacketFails payload a → PacketFails payload b → a ≡ b
   pub apart : (fault : ServiceFault) (packet : ServicePacket) (used : ℕ) → PacketFails payload fault → ¬ IsPacket payload packet used
 
+-- the header of a packet stands there
+pub outline_header : (payload : List ℕ) (header : PacketHeader) (used : ℕ) → HasOutline payload header used → HasHeader payload header
+outline_header payload header used there = subst (λ (h : PacketHeader). HasHeader payload h) there.outlined there.stands.header
+
 pub packet_read : (payload : List ℕ) → PacketLaws payload → (header : PacketHeader) (used : ℕ) → HasOutline payload header used
     → Alone NbtServiceHeader (ReadsPacket payload) (Ok (header_numbers header used))
 packet_read payload laws header used there = record { said = (header, used, there, refl); only = others } where

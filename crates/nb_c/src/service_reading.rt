@@ -145,19 +145,25 @@ fn fill_packet(names: &NameReader<'_, '_>, header: &mut NbtServiceHeader, at: &m
     ensures { Fills NbtServiceHeader (ReadsPacket names.now)
         header.old header.new at.old at.new result }
 {
-    fill(judge(names), header, at)
+    finish(judge(names, header), at)
 }
 
-/// The header and the length of the packet whose names are read so.
+/// The same, or why there is no packet. The header is read where it is filled in, so that nothing
+/// of it is kept while the items are judged.
 #[inline(always)]
-fn judge(names: &NameReader<'_, '_>) -> Result<NbtServiceHeader, Refusal>
-    ensures { Alone NbtServiceHeader (ReadsPacket names.now) result }
+fn judge(names: &NameReader<'_, '_>, into: &mut NbtServiceHeader) -> Result<(), Refusal>
+    ensures { FilledAlone NbtServiceHeader (ReadsPacket names.now) into.old into.new result }
 {
-    // For the clause: a payload has one packet or one fault. The calls do nothing.
+    // For the clause: a payload has one header, and one packet or one fault. The calls do nothing.
+    one_header();
     one_packet();
     one_service_fault();
     match outline(names) {
-        Ok((header, used)) => Ok(header_numbers(&header, used)),
+        Ok((_, used)) => {
+            let header = read_header(names.packet()).unwrap();
+            *into = header_numbers(&header, used);
+            Ok(())
+        }
         Err(fault) => Err(service_refusal(fault)),
     }
 }
@@ -204,7 +210,10 @@ fn fill_item(
     }
 }
 
-/// Fills in the item of a number that stands at an offset of a packet of this header.
+/// Fills in the item of a number that stands at an offset of a packet of this header. It is in line
+/// with both of its callers: what was seen of the item is then nowhere else than where it is filled
+/// in.
+#[inline(always)]
 pub(crate) fn fill_item_of(
     names: &NameReader<'_, '_>,
     header: &Header,

@@ -42,7 +42,7 @@ pub(crate) fn spell_domain(
 const WITHOUT_SCOPE: usize = 1 + LETTERS + 1;
 
 /// Fills in a spelling, and bytes of zero after it. Of the length that nearly all have it is copied
-/// without a call of the C library.
+/// without a call of the C library, and by way of an array, which overlaps nothing.
 #[inline(always)]
 fn fill_spelling(spelling: &[u8], into: &mut [u8; MAX_SPELLING])
     requires { length spelling.now ≤ MAX_SPELLING }
@@ -50,7 +50,9 @@ fn fill_spelling(spelling: &[u8], into: &mut [u8; MAX_SPELLING])
 {
     *into = [0; MAX_SPELLING];
     if spelling.len() == WITHOUT_SCOPE {
-        into[..WITHOUT_SCOPE].copy_from_slice(spelling);
+        let mut front = [0; WITHOUT_SCOPE];
+        front.copy_from_slice(spelling);
+        into[..WITHOUT_SCOPE].copy_from_slice(&front);
     } else {
         into[..spelling.len()].copy_from_slice(spelling);
     }

@@ -10,6 +10,5 @@ pub mod AgreementLemmas
 pub mod ReplayLemmas
 pub mod LineLemmas
 pub mod LineTakingLemmas
-pub mod ListingLemmas
 pub mod FieldTexts
 pub mod FieldMembers

@@ -1,17 +1,24 @@
 -- The fields of what a member makes of a line of a capture (our choice). Their texts are those of the report.
-use Rattle.std.specs.Prelude.{ℕ, List, [], ◌∷◌, ◌++◌, codes, Option, Some, None, Result, Ok, Err}
+use Rattle.std.specs.Prelude.{◌≡◌, ◌≢◌, ◌+◌, ◌⊎◌, ℕ, List, [], ◌∷◌, ◌++◌, codes, fold, Option, Some, None, Result, Ok, Err}
+use Rattle.std.specs.FinMap as maps
 use Rattle.nb_names.specs.NameText.{written}
 use Rattle.nb_datagram.specs.declared.packet.ErrorPacket.{ErrorPacket}
 use Rattle.nb_datagram.specs.declared.packet.Packet.TheVariants.{Error}
 use Rattle.nb_datagram.specs.Datagram.{DatagramParts}
 use Rattle.nb_datagram.specs.Texts.{key_text, kind_text}
 use Rattle.nb_datagram.specs.Packet.{packet_bytes}
+use Rattle.nb_table.specs.declared.fault.TableFault.TheVariants.{NoMemory}
 use Rattle.nb_telling.specs.Fields.{Field, Text, Number, Digits, Data, place_fields}
 use Rattle.nb_member.specs.declared.outcome.Outcome.{Outcome}
 use Rattle.nb_member.specs.declared.outcome.Outcome.TheVariants.{Kept, Spoilt, Delivered, Unheard, Other}
+use Rattle.nb_member.specs.declared.line.Line as capture
+use Rattle.nb_member.specs.declared.line.Line.TheVariants.{Packet, Tick}
 use Rattle.nb_member.specs.declared.member_fault.MemberFault.{MemberFault}
+use Rattle.nb_member.specs.declared.member_fault.MemberFault.TheVariants.{Table}
 use Rattle.nb_member.specs.FaultTexts.{member_fault_place, member_fault_text}
 use Rattle.nb_member.specs.Deliveries.{error_of}
+use Rattle.nb_member.specs.Member.{MemberValue, after_clock, contents, with_timed}
+use Rattle.nb_member.specs.Taking.{Takes}
 use Rattle.nb_member.specs.Keys.{outcome_key, count_key, refused_key, error_key, key_key, kind_key, source_key, destination_key, data_key}
 
 -- a datagram's kind, source, destination and data
@@ -50,3 +57,26 @@ passed_fields = Text outcome_key (codes "passed") ∷ []
 -- a look at the clock, which dropped so many keys
 abbrev pub dropped_fields : ℕ → List Field
 dropped_fields keys = Text outcome_key (codes "dropped") ∷ Number count_key keys ∷ []
+
+-- ---- a line
+
+-- OutcomeFields value m new fields: what a line says makes the member m the member new, and these are the fields of what became
+-- of it. That memory ran out in it isn't told
+pub data OutcomeFields : capture.Line → MemberValue → MemberValue → List Field → Type 0 where
+  dropped : (now keys : ℕ) (m new : MemberValue) → new ≡ with_timed m (after_clock m.timed now)
+      → keys + maps.len (contents new) ≡ maps.len (contents m) → OutcomeFields (Tick now) m new (dropped_fields keys)
+  passed : (port moment : ℕ) (payload : List ℕ) (m new : MemberValue) → port ≢ 138 → new ≡ m
+      → OutcomeFields (Packet port moment payload) m new passed_fields
+  taken : (port moment : ℕ) (payload : List ℕ) (m new : MemberValue) (result : Result Outcome MemberFault) → port ≡ 138
+      → result ≢ Err (Table NoMemory) → Takes m moment payload new result → OutcomeFields (Packet port moment payload) m new (result_fields result)
+
+-- TellsOutcome after value m new old seen: the member m did what a line says and became new, and a sink that showed old was
+-- told what became of it
+pub record TellsOutcome {A : Type 0} (after : A → Field → A) (value : capture.Line) (m new : MemberValue) (old seen : A) : Type 0 where
+  pub fields : List Field
+  pub are : OutcomeFields value m new fields
+  pub told : seen ≡ fold after old fields
+
+-- MayAct value m new: the member m did what a line says and became new, or it stayed as it was
+abbrev pub MayAct : capture.Line → MemberValue → MemberValue → Type 0
+MayAct value m new = (new ≡ m) ⊎ ((fields : List Field) × OutcomeFields value m new fields)

@@ -1,18 +1,16 @@
 //! Laws of the definitions that the contracts cite. Each is proved; a call does nothing.
-ghost use Rattle.std.specs.Prelude.{◌≡◌, ◌≢◌, ◌⊎◌, ℕ, List, [], filter, Option, Some, None, Result, Ok, Err};
+ghost use Rattle.std.specs.Prelude.{◌≡◌, ◌≢◌, ◌⊎◌, ℕ, List, [], filter, Result, Err};
 ghost use Rattle.nb_names.specs.Name.{NetbiosName};
 ghost use Rattle.nb_table.specs.declared.fault.TableFault.TheVariants as table_fault;
 ghost use Rattle.nb_member.specs.declared.limits.TheConstants.{MAX_LINE, MAX_READ, MAX_HELD, MAX_MOMENT_DIGITS, FRAGMENT_TIMEOUT, MAX_NAMES};
 ghost use Rattle.nb_member.specs.declared.line.Line.{Line};
-ghost use Rattle.nb_member.specs.declared.line_fault.LineFault.{LineFault};
-ghost use Rattle.nb_member.specs.declared.line_fault.LineFault.TheVariants.{BadLine, NoMemory};
 ghost use Rattle.nb_member.specs.declared.settings.Settings.{Settings};
 ghost use Rattle.nb_member.specs.declared.event.Event.{Event};
 ghost use Rattle.nb_member.specs.declared.event.Event.TheVariants.{Packet};
 ghost use Rattle.nb_member.specs.declared.member_fault.MemberFault.{MemberFault};
 ghost use Rattle.nb_member.specs.declared.member_fault.MemberFault.TheVariants.{Table};
 ghost use Rattle.nb_member.specs.declared.outcome.Outcome.{Outcome};
-ghost use Rattle.nb_member.specs.Capture.{line_feed, space, number_sign, HasValue, SaysNothing, IsMalformed, Reads};
+ghost use Rattle.nb_member.specs.Capture.{line_feed, space, number_sign, HasValue, SaysNothing, IsMalformed};
 ghost use Rattle.nb_member.specs.Events.{Says, Say, Saying, clock};
 ghost use Rattle.nb_member.specs.Live.{Timed, cores, HasRoom, NoneFull, live, live_after, table_from};
 ghost use Rattle.nb_member.specs.Hearing.{hears};
@@ -25,7 +23,6 @@ mod deliveries;
 mod events;
 mod fields;
 mod lines;
-mod listings;
 mod merging;
 
 pub use deliveries::{
@@ -35,7 +32,6 @@ pub use deliveries::{
 pub use events::each_event_says_something;
 pub use fields::{fields_are_members, texts_of_listings, texts_of_reports};
 pub use lines::what_came_is_handed_out_or_held;
-pub use listings::a_key_that_is_absent_is_listed_as_spoilt;
 pub use merging::{
     a_new_member_stands_for_no_event, a_preview_is_what_is_handed_over,
     merging_gives_the_table_of_both,
@@ -58,17 +54,6 @@ pub fn a_line_has_one_value()
 pub fn a_line_is_one_of_three()
     ensures { (line : List ℕ) →
         SaysNothing line ⊎ (((value : Line) × HasValue line value) ⊎ IsMalformed line) }
-{}
-
-/// What may be answered of a line is fixed by what it is, but for memory.
-pub fn a_line_has_one_answer()
-    ensures value { (line : List ℕ) (result : Result (Option Line) LineFault) (value : Line) →
-        Reads line result → HasValue line value →
-        (result ≡ Ok (Some value)) ⊎ (result ≡ Err NoMemory) }
-    ensures nothing { (line : List ℕ) (result : Result (Option Line) LineFault) →
-        Reads line result → SaysNothing line → result ≡ Ok None }
-    ensures malformed { (line : List ℕ) (result : Result (Option Line) LineFault) →
-        Reads line result → IsMalformed line → result ≡ Err BadLine }
 {}
 
 /// An event says one thing at most, and so do events in a row.

@@ -1,21 +1,92 @@
-//! What a member does with one line of a capture.
-ghost use Rattle.std.specs.Prelude.{◌≡◌, ◌≢◌, List, true, false, Ok, Err, OnOk, OnErr, string_bytes};
-ghost use Rattle.nb_member.specs.Capture.{Reads};
-ghost use Rattle.nb_member.specs.Code.ReplayLines.{ReportsLine, ReportsValue, MayReportLine, MayReportValue};
+//! What a member does with one line of a capture, and what is reported of it.
+ghost use Rattle.std.specs.Prelude.{◌≡◌, ◌≢◌, ◌++◌, ◌∷◌, [], Ok, Err, IsOk, OnOk, OnErr, fold, List, string_bytes};
+ghost use Rattle.std.specs.Fmt.{decimal};
+ghost use Rattle.nb_telling.specs.Telling.{Grows};
+ghost use Rattle.nb_member.specs.Capture.{Reads, space};
+ghost use Rattle.nb_member.specs.Comments.{blank_text};
+ghost use Rattle.nb_member.specs.Code.ReplayLines.{ReportsLine, MayReportLine, WritesOutcome};
 ghost use Rattle.nb_member.specs.Code.Members.{KeepsStation};
 ghost use Rattle.nb_member.specs.Code.Outcomes.{answer_of};
 ghost use Rattle.nb_member.specs.Live.{Timed};
 ghost use Rattle.nb_member.specs.Member.{StandsOver};
+ghost use Rattle.nb_member.specs.ReportFields.{MayAct, TellsOutcome, result_fields};
 
+use crate::comment_writing::push_comment;
 use crate::comments::Comments;
 use crate::laws;
 use crate::line::Line;
 use crate::member::Member;
 use crate::member_fault::MemberFault;
 use crate::outcome::LentOutcome;
-use crate::report::{comment_line, dropped_line, passed_line, taken_line};
-use nb_names::NoMemory;
+use crate::report::outcomes::{
+    tell_delivered, tell_dropped, tell_outcome, tell_passed, tell_refused,
+};
+use nb_names::{NoMemory, push_decimal};
 use nb_table::TableFault;
+use nb_telling::Sink;
+use std::alloc::Global;
+
+/// The room that a line takes, in bytes, its data and long scopes aside.
+const USUAL_ROOM: usize = 160;
+
+/// Has a member act on what a line of a capture says, and reports to a sink what became of it: of a
+/// look at the clock what it dropped, of a payload of port 138 what the member made of it, of
+/// another that it is passed by.
+///
+/// # Errors
+///
+/// [`NoMemory`] where memory ran out, before the member acted or after. What the sink had is still
+/// its front.
+///
+/// The fields are our choice.
+pub fn tell_line<S: Sink>(
+    alloc: Global,
+    said: &Line,
+    member: &mut Member,
+    sink: &mut S,
+) -> Result<(), NoMemory>
+    ensures told { OnOk result (TellsOutcome S.after said.now member.old member.new
+        (S.seen sink.old) (S.seen sink.new)) }
+    ensures acted { MayAct said.now member.old member.new }
+    ensures front { Grows S.is_front (S.seen sink.old) (S.seen sink.new) }
+{
+    match said {
+        Line::Tick { now } => tell_dropped(member.tick(*now), sink),
+        Line::Packet {
+            port,
+            moment,
+            payload,
+        } => {
+            if *port != 138 {
+                return tell_passed(sink);
+            }
+            tell_taken(alloc, member.take_lent(*moment, payload.as_slice()), sink)
+        }
+    }
+}
+
+/// Reports what became of a payload of port 138.
+///
+/// # Errors
+///
+/// [`NoMemory`] where memory ran out, when the payload was taken or after.
+fn tell_taken<S: Sink>(
+    alloc: Global,
+    taken: Result<LentOutcome<'_>, MemberFault>,
+    sink: &mut S,
+) -> Result<(), NoMemory>
+    ensures told { OnOk result
+        ((answer_of taken.entry ≢ Err (MemberFault.Table TableFault.NoMemory)) × (S.seen sink.new
+        ≡ fold S.after (S.seen sink.old) (result_fields (answer_of taken.entry)))) }
+    ensures front { Grows S.is_front (S.seen sink.old) (S.seen sink.new) }
+{
+    match taken {
+        Ok(LentOutcome::Delivered(fragment, bytes)) => tell_delivered(&fragment, &bytes, sink),
+        Ok(outcome) => tell_outcome(alloc, &outcome.made(), sink),
+        Err(MemberFault::Table(TableFault::NoMemory)) => Err(NoMemory),
+        Err(fault) => tell_refused(alloc, fault, sink),
+    }
+}
 
 /// Acts on the line of a capture with this number, which says this, or nothing, and makes a text
 /// its line of the report, which is empty where it has none: that of a comment is the comment,
@@ -39,105 +110,53 @@ pub fn act_on(
         StandsOver member.old L → MayReportLine comments member.old L number line.now member.new) }
     ensures kept { KeepsStation member.old member.new }
 {
+    // The laws of what a member does; the calls do nothing.
+    laws::a_member_does_what_is_said();
+    laws::a_member_drops_what_the_clock_ends();
     match said {
         None => comment_line(comments, line, text),
-        Some(said) => act(number, said, member, text),
+        Some(said) => outcome_line(number, said, member, text),
     }
 }
 
-/// Acts on what a line says.
+/// Acts on what a line says, and makes a text the line of the report about it.
 ///
 /// # Errors
 ///
 /// [`NoMemory`] where memory ran out, before this was acted on or after.
-fn act(number: u64, said: &Line, member: &mut Member, text: &mut String) -> Result<(), NoMemory>
-    ensures acted { OnOk result ((L : List Timed) → StandsOver member.old L →
-        ReportsValue member.old L number said.now member.new (string_bytes text.new)) }
-    ensures fault { OnErr result ((L : List Timed) → StandsOver member.old L →
-        MayReportValue member.old L number said.now member.new) }
-    ensures kept { KeepsStation member.old member.new }
-{
-    match said {
-        Line::Tick { now } => tick(number, *now, member, text),
-        Line::Packet {
-            port,
-            moment,
-            payload,
-        } => receive(number, *port, *moment, payload.as_slice(), member, text),
-    }
-}
-
-/// Takes a payload of port 138, and passes others by.
-fn receive(
+fn outcome_line(
     number: u64,
-    port: u16,
-    moment: u64,
-    payload: &[u8],
+    said: &Line,
     member: &mut Member,
     text: &mut String,
 ) -> Result<(), NoMemory>
-    ensures acted { OnOk result ((L : List Timed) → StandsOver member.old L →
-        ReportsValue member.old L number (Line.Packet port moment payload.now) member.new
-        (string_bytes text.new)) }
-    ensures fault { OnErr result ((L : List Timed) → StandsOver member.old L →
-        MayReportValue member.old L number (Line.Packet port moment payload.now) member.new) }
-    ensures kept { KeepsStation member.old member.new }
+    ensures written { OnOk result
+        (WritesOutcome number said.now member.old member.new (string_bytes text.new)) }
+    ensures acted { MayAct said.now member.old member.new }
 {
-    if port != 138 {
-        return passed_line(number, text);
-    }
-    take(number, moment, payload, member, text)
+    begin_line(number, text)?;
+    tell_line(*text.allocator(), said, member, text)?;
+    text.push_str("\n")?;
+    Ok(())
 }
 
-/// Looks at the clock, as a tick says.
-fn tick(number: u64, now: u64, member: &mut Member, text: &mut String) -> Result<(), NoMemory>
-    ensures acted { OnOk result ((L : List Timed) → StandsOver member.old L →
-        ReportsValue member.old L number (Line.Tick now) member.new (string_bytes text.new)) }
-    ensures fault { OnErr result ((L : List Timed) → StandsOver member.old L →
-        MayReportValue member.old L number (Line.Tick now) member.new) }
-    ensures kept { KeepsStation member.old member.new }
+/// Begins a line with its number and a space, in a text that had another.
+fn begin_line(number: u64, text: &mut String) -> Result<(), NoMemory>
+    ensures { OnOk result (string_bytes text.new ≡ decimal number ++ space ∷ []) }
 {
-    laws::a_member_drops_what_the_clock_ends();
-    dropped_line(number, member.tick(now), text)
+    text.clear();
+    text.reserve_exact(USUAL_ROOM)?;
+    push_decimal(number, text)?;
+    text.push_str(" ")?;
+    Ok(())
 }
 
-/// Takes a payload.
-fn take(
-    number: u64,
-    moment: u64,
-    payload: &[u8],
-    member: &mut Member,
-    text: &mut String,
-) -> Result<(), NoMemory>
-    ensures acted { OnOk result ((L : List Timed) → StandsOver member.old L →
-        ReportsValue member.old L number (Line.Packet 138 moment payload.now) member.new
-        (string_bytes text.new)) }
-    ensures fault { OnErr result ((L : List Timed) → StandsOver member.old L →
-        MayReportValue member.old L number (Line.Packet 138 moment payload.now) member.new) }
-    ensures kept { KeepsStation member.old member.new }
+/// Makes a text the report's line about a line that is a comment or empty: the comment, or nothing.
+fn comment_line(comments: Comments, line: &[u8], text: &mut String) -> Result<(), NoMemory>
+    ensures written { OnOk result (string_bytes text.new ≡ blank_text comments line.now) }
+    ensures left_out { comments ≡ Comments.LeftOut → IsOk result }
+    ensures empty { line.now ≡ [] → IsOk result }
 {
-    laws::a_member_does_what_is_said();
-    let taken = member.take_lent(moment, payload);
-    if lacked_memory(&taken) {
-        return Err(NoMemory);
-    }
-    taken_line(number, taken, text)
-}
-
-/// Whether memory ran out where a payload was to be taken.
-fn lacked_memory(taken: &Result<LentOutcome<'_>, MemberFault>) -> bool
-    ensures lacked { result ≡ true
-        → answer_of taken.now ≡ Err (MemberFault.Table TableFault.NoMemory) }
-    ensures had { result ≡ false
-        → answer_of taken.now ≢ Err (MemberFault.Table TableFault.NoMemory) }
-{
-    match taken {
-        Ok(_) => false,
-        Err(MemberFault::Packet(_, _)) => false,
-        Err(MemberFault::Table(TableFault::NoMemory)) => true,
-        Err(MemberFault::Table(TableFault::MisplacedFirst)) => false,
-        Err(MemberFault::Table(TableFault::TooLong)) => false,
-        Err(MemberFault::Table(TableFault::FullSource(_))) => false,
-        Err(MemberFault::Table(TableFault::Full(_))) => false,
-    }
+    text.clear();
+    push_comment(comments, line, text)
 }

@@ -1,5 +1,5 @@
 -- Lines: one value at most, and one of three kinds.
-use Rattle.std.proofs.Common.{◌≡◌, ◌≢◌, ℕ, zero, ◌%◌, ◌^◌, Bool, true, false, List, [], ◌∷◌, ◌++◌, length, refl, sym, ap, ◌∙◌, arith, Option, Some, None, Result, Ok, Err, ◌⊎◌, inl, inr}
+use Rattle.std.proofs.Common.{◌≡◌, ◌≢◌, ℕ, zero, ◌%◌, ◌^◌, Bool, true, false, List, [], ◌∷◌, ◌++◌, length, refl, sym, ap, ◌∙◌, arith, Some, None, ◌⊎◌, inl, inr}
 use Rattle.std.specs.Prelude.{Contains, codes, slice_get}
 use Rattle.std.specs.List.{list_all}
 use Rattle.std.specs.Char.{is_ascii_digit, is_ascii_hexdigit}
@@ -10,14 +10,12 @@ use Rattle.std.proofs.lemmas.List.Elements.{Contains-append_right}
 use Rattle.std.proofs.lemmas.Slice.Eq.{bytes_eq-Decides}
 use Rattle.nb_member.specs.declared.line.Line.{Line}
 use Rattle.nb_member.specs.declared.line.Line.TheVariants.{Packet, Tick}
-use Rattle.nb_member.specs.declared.line_fault.LineFault.{LineFault}
-use Rattle.nb_member.specs.declared.line_fault.LineFault.TheVariants.{BadLine, NoMemory}
 use Rattle.nb_member.specs.declared.limits.TheConstants.{MAX_LINE, MAX_MOMENT_DIGITS}
 use Rattle.nb_member.proofs.CaptureLemmas.Digits.{AllDigits-from_test, test-from_AllDigits}
 use Rattle.nb_names.specs.HexadecimalFacts.{HexText-from_test, test-from_HexText, DataText-cases}
 use Rattle.nb_member.proofs.CaptureLemmas.Payloads.{no_odd_hex, one_payload}
 use Rattle.nb_member.proofs.CaptureLemmas.Words.{Contains-behind, Contains-before, Blank-cases, Says-cases, packet_behind, packet_at_space, packet_has_space, tick_behind, moment_no_space, port_no_space, tick_no_space, one_split}
-use Rattle.nb_member.specs.Capture.{PortText, names, datagrams, sessions, MomentText, HasWords, packet, tick, Blank, nothing, comment, HasValue, SaysNothing, IsMalformed, Reads}
+use Rattle.nb_member.specs.Capture.{PortText, names, datagrams, sessions, MomentText, HasWords, packet, tick, Blank, nothing, comment, HasValue, SaysNothing, IsMalformed}
 use Rattle.nb_names.specs.Hexadecimal.{DataText, empty, digits}
 
 -- ---- one value
@@ -293,27 +291,3 @@ one_of_three line =
         ]
       ]
     ]
-
--- ---- one answer
-
-pub value_answer : (line : List ℕ) (result : Result (Option Line) LineFault) (value : Line) → Reads line result
-    → HasValue line value → (result ≡ Ok (Some value)) ⊎ (result ≡ Err NoMemory)
-value_answer line (Ok None) value r h = absurd (not_blank line value h.says r.blank)
-value_answer line (Ok (Some other)) value r h =
-    inl (ap (λ (v : Line). Ok (Some v)) (one_value line other value r.says h.says))
-value_answer line (Err BadLine) value r h = absurd (r.no_value value h)
-value_answer line (Err NoMemory) value r h = inr refl
-
-pub nothing_answer : (line : List ℕ) (result : Result (Option Line) LineFault) → Reads line result
-    → SaysNothing line → result ≡ Ok None
-nothing_answer line (Ok None) r h = refl
-nothing_answer line (Ok (Some value)) r h = absurd (not_blank line value r.says h.blank)
-nothing_answer line (Err BadLine) r h = absurd (r.not_blank h)
-nothing_answer line (Err NoMemory) r h = absurd (not_blank line r.0 r.1.says h.blank)
-
-pub malformed_answer : (line : List ℕ) (result : Result (Option Line) LineFault) → Reads line result
-    → IsMalformed line → result ≡ Err BadLine
-malformed_answer line (Ok None) r h = absurd (h.not_blank r)
-malformed_answer line (Ok (Some value)) r h = absurd (h.no_value value r)
-malformed_answer line (Err BadLine) r h = refl
-malformed_answer line (Err NoMemory) r h = absurd (h.no_value r.0 r.1)

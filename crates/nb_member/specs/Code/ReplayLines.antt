@@ -3,6 +3,8 @@ use Rattle.std.specs.Prelude.{ℕ, List, ◌≡◌, ◌≢◌, ◌⊎◌, Option
 use Rattle.std.specs.Io.KnownBytes.{Appends, Keeps}
 use Rattle.nb_names.specs.Counted.{CountedOf}
 use Rattle.nb_names.specs.Devices.{AppendsFront, GrowTo, ShowsWriteFault}
+use Rattle.nb_telling.specs.Fields.{Field}
+use Rattle.nb_telling.specs.Texts.{text_of}
 use Rattle.nb_member.specs.declared.comments.Comments.{Comments}
 use Rattle.nb_member.specs.declared.event.Event.{Event}
 use Rattle.nb_member.specs.declared.line.Line.{Line as Value}
@@ -10,8 +12,9 @@ use Rattle.nb_member.specs.declared.replay_fault.ReplayFault.{ReplayFault}
 use Rattle.nb_member.specs.declared.replay_fault.ReplayFault.TheVariants.{Read, Write, NoMemory}
 use Rattle.nb_member.specs.Live.{Timed}
 use Rattle.nb_member.specs.Member.{MemberValue, StandsOver}
-use Rattle.nb_member.specs.Report.{ReportOfLine}
-use Rattle.nb_member.specs.Capture.{HasValue, Reads}
+use Rattle.nb_member.specs.Report.{ReportOfLine, numbered}
+use Rattle.nb_member.specs.ReportFields.{OutcomeFields}
+use Rattle.nb_member.specs.Capture.{Reads}
 use Rattle.nb_member.specs.Code.Members.{KeepsStation}
 
 -- ReportsLine comments m L n line new text: the member m, which stands for the fragments L, acted on line n of a capture
@@ -44,14 +47,11 @@ HasNoWholeReport comments m L n line new before after Write = WritesFront commen
 HasNoWholeReport comments m L n line new before after NoMemory = MayReportLine comments m L n line new × Keeps before after
 HasNoWholeReport comments m L n line new before after _ = ⊥
 
--- ReportsValue m L n value new text: the member acted on each line that has this value, with comments in the report or
--- without
-abbrev pub ReportsValue : MemberValue → List Timed → ℕ → Value → MemberValue → List ℕ → Type 0
-ReportsValue m L n value new text = (comments : Comments) (line : List ℕ) → HasValue line value → ReportsLine comments m L n line new text
-
--- MayReportValue m L n value new: the same, or the member stayed as it was
-abbrev pub MayReportValue : MemberValue → List Timed → ℕ → Value → MemberValue → Type 0
-MayReportValue m L n value new = (comments : Comments) (line : List ℕ) → HasValue line value → MayReportLine comments m L n line new
+-- WritesOutcome n value m new text: the member m did what line n says and became new, and text is the line of the report about it
+pub record WritesOutcome (n : ℕ) (value : Value) (m new : MemberValue) (text : List ℕ) : Type 0 where
+  pub fields : List Field
+  pub are : OutcomeFields value m new fields
+  pub written : text ≡ numbered n (text_of fields)
 
 -- ---- lines that are given to a replay
 

@@ -1,5 +1,5 @@
 //! Finding line feeds.
-ghost use Rattle.std.specs.Prelude.{◌≡◌, ◌<◌, ◌≤◌, ◌+◌, ◌++◌, ◌∷◌, Contains, MatchOption, length, take, drop};
+ghost use Rattle.std.specs.Prelude.{◌<◌, ◌≤◌, ◌+◌, Contains, MatchOption, length, take};
 ghost use Rattle.nb_member.specs.Code.LineSteps.{IsFeedAt};
 
 use memchr::memchr;

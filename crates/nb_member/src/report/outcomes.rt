@@ -1,4 +1,4 @@
-//! What a member makes of a line of a capture, told to a sink.
+//! The fields of what became of a line of a capture (our choice), told to a sink.
 #![tactic(auto, using(nb_telling::proofs::FoldLemmas::told_both))]
 
 ghost use Rattle.std.specs.Prelude.{◌≡◌, ◌∷◌, [], OnOk, fold};
@@ -71,8 +71,13 @@ pub fn tell_dropped<S: Sink>(dropped: Dropped, sink: &mut S) -> Result<(), NoMem
     sink.number(COUNT, u64::from(dropped.keys))
 }
 
-/// Tells what became of a payload that was taken.
-fn tell_outcome<S: Sink>(alloc: Global, outcome: &Outcome, sink: &mut S) -> Result<(), NoMemory>
+/// Tells what became of a payload that was taken. Memory is taken for the bytes of an error packet,
+/// and by the sink.
+pub(crate) fn tell_outcome<S: Sink>(
+    alloc: Global,
+    outcome: &Outcome,
+    sink: &mut S,
+) -> Result<(), NoMemory>
     ensures told { OnOk result
         (S.seen sink.new ≡ fold S.after (S.seen sink.old) (outcome_fields outcome.now)) }
     ensures front { Grows S.is_front (S.seen sink.old) (S.seen sink.new) }
@@ -123,7 +128,11 @@ fn tell_unheard<S: Sink>(
 }
 
 /// Tells why a payload was refused.
-fn tell_refused<S: Sink>(alloc: Global, fault: MemberFault, sink: &mut S) -> Result<(), NoMemory>
+pub(crate) fn tell_refused<S: Sink>(
+    alloc: Global,
+    fault: MemberFault,
+    sink: &mut S,
+) -> Result<(), NoMemory>
     ensures told { OnOk result
         (S.seen sink.new ≡ fold S.after (S.seen sink.old) (refused_fields fault)) }
     ensures front { Grows S.is_front (S.seen sink.old) (S.seen sink.new) }

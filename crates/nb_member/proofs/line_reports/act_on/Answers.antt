@@ -1,7 +1,7 @@
 use Rattle.std.proofs.Common.{Option, Ok, List, ℕ, refl, subst, sym, inl}
-use Rattle.std.proofs.lemmas.Result.{on_err_weaker, on_ok_weaker}
+use Rattle.std.proofs.lemmas.Result.{on_ok_weaker}
 use Rattle.nb_member.specs.declared.line.Line.{Line}
-use Rattle.nb_member.proofs.ReplayLemmas.LineReports.{always_on_err, quiet}
+use Rattle.nb_member.proofs.ReplayLemmas.LineReports.{MembersKnown, acted_keeps, always_on_err, may_report, quiet, reported}
 use Rattle.nb_member.proofs.line_reports.act_on.Goals as goal
 use Rattle.nb_member.specs.Code.ReplayLines.{ReportsLine}
 use Rattle.nb_member.specs.Capture.{Reads}
@@ -19,12 +19,26 @@ returns-in-None-clause-fault c = always_on_err c.comment_line.result (λ reads L
 
 pub returns-in-Some-clause-acted : goal.returns-in-Some-clause-acted
 returns-in-Some-clause-acted c =
-    on_ok_weaker c.act.result
-    (λ acted reads L s. acted L s c.args.comments c.args.line.now (subst (λ (said : Option Line). Reads c.args.line.now (Ok said)) c.in-Some.is reads))
-    c.act.ensures.acted
+    let known : MembersKnown = record {
+      says = c.a_member_does_what_is_said.ensures.says;
+      does = c.a_member_does_what_is_said.ensures.does;
+      clock = c.a_member_drops_what_the_clock_ends.ensures;
+    } in
+    on_ok_weaker c.outcome_line.result
+    (λ w reads L s. reported known c.args.comments L c.args.number c.args.line.now w s
+    (subst (λ (said : Option Line). Reads c.args.line.now (Ok said)) c.in-Some.is reads))
+    c.outcome_line.ensures.written
 
 pub returns-in-Some-clause-fault : goal.returns-in-Some-clause-fault
 returns-in-Some-clause-fault c =
-    on_err_weaker c.act.result
-    (λ acted reads L s. acted L s c.args.comments c.args.line.now (subst (λ (said : Option Line). Reads c.args.line.now (Ok said)) c.in-Some.is reads))
-    c.act.ensures.fault
+    let known : MembersKnown = record {
+      says = c.a_member_does_what_is_said.ensures.says;
+      does = c.a_member_does_what_is_said.ensures.does;
+      clock = c.a_member_drops_what_the_clock_ends.ensures;
+    } in
+    always_on_err c.outcome_line.result
+    (λ reads L s. may_report known c.args.comments L c.args.number c.args.line.now c.outcome_line.ensures.acted s
+    (subst (λ (said : Option Line). Reads c.args.line.now (Ok said)) c.in-Some.is reads))
+
+pub returns-in-Some-clause-kept : goal.returns-in-Some-clause-kept
+returns-in-Some-clause-kept c = acted_keeps c.outcome_line.ensures.acted

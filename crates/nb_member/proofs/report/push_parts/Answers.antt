@@ -3,7 +3,7 @@ use Rattle.std.proofs.lemmas.Result.{on_ok_weaker}
 use Rattle.nb_telling.specs.Texts.{field_text}
 use Rattle.nb_telling.proofs.FoldLemmas.{appended}
 use Rattle.nb_member.specs.ReportFields.{parts_fields}
-use Rattle.nb_member.proofs.report.texts.push_parts.Goals as goal
+use Rattle.nb_member.proofs.report.push_parts.Goals as goal
 
 pub returns-clause-added : goal.returns-clause-added
 returns-clause-added c =

@@ -22,6 +22,7 @@ function refused(call) {
     } catch (error) {
         assert.ok(error instanceof NbtError, String(error.stack));
         assert.equal(error.number, Status[error.status]);
+        assert.equal(error.missing, error.status === 'MORE' ? error.at : null);
         return [error.status, error.at];
     }
     assert.fail('it is done');

@@ -53,9 +53,15 @@ impl Error {
     }
 
     /// Where the fault stands, in bytes from the start of the input that has it, counted from 0; `None` where it has no
-    /// place.
+    /// place. Of [`Status::More`] it is no place, but what [`Error::missing`] answers.
     pub fn at(self) -> Option<usize> {
         self.at
+    }
+
+    /// How many bytes of a packet are missing, at least, where it isn't there whole yet; `None` of any other status than
+    /// [`Status::More`].
+    pub fn missing(self) -> Option<usize> {
+        self.at.filter(|_| self.status == Status::More)
     }
 }
 

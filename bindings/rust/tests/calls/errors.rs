@@ -11,6 +11,7 @@ fn errors_of_streams() {
         (text(b"").unwrap_err(), io::ErrorKind::InvalidData),
         (Status::try_from(130).unwrap_err(), io::ErrorKind::Other),
     ] {
+        assert_eq!(error.missing(), None);
         let found = io::Error::from(error);
         assert_eq!((found.kind(), found.to_string()), (kind, error.to_string()));
         let within = found.get_ref().and_then(|it| it.downcast_ref::<Error>());

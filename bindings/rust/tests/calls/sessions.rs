@@ -41,10 +41,9 @@ fn bytes_are_missing() {
         (b"\0\x01\xff\xff", 131_071),
     ] {
         assert_eq!(read(bytes), Ok(Next::More(missing)));
-        assert_eq!(
-            refused(Packet::try_from(bytes)),
-            (Status::More, Some(missing))
-        );
+        let error = Packet::try_from(bytes).unwrap_err();
+        let told = (error.status(), error.missing(), error.at());
+        assert_eq!(told, (Status::More, Some(missing), Some(missing)));
     }
 }
 

@@ -24,8 +24,7 @@
 use std::net::{Ipv4Addr, SocketAddrV4};
 
 use crate::header::{
-    datagram_flag, nbt_datagram_error, nbt_datagram_query, nbt_datagram_read, nbt_datagram_write,
-    FoundDatagram, DONE,
+    datagram_flag, nbt_datagram_error, nbt_datagram_query, nbt_datagram_read, nbt_datagram_write, FoundDatagram, DONE,
 };
 use crate::room::written;
 use crate::{Error, Result, Spelling};
@@ -249,19 +248,7 @@ impl<'a> Iterator for Iter<'a> {
 pub fn write_error(identifier: u16, sender: SocketAddrV4, code: u8) -> Result<Vec<u8>> {
     let (address, port) = (u32::from(*sender.ip()), sender.port());
     // SAFETY: the room's parts lie apart from each other.
-    unsafe {
-        written(|room| {
-            nbt_datagram_error(
-                identifier,
-                address,
-                port,
-                code,
-                room.into,
-                room.length,
-                room.used,
-            )
-        })
-    }
+    unsafe { written(|room| nbt_datagram_error(identifier, address, port, code, room.into, room.length, room.used)) }
 }
 
 /// A query to a distribution server about the name with this text, or its answer.
@@ -269,12 +256,7 @@ pub fn write_error(identifier: u16, sender: SocketAddrV4, code: u8) -> Result<Ve
 /// # Errors
 ///
 /// `BadText`, `LongText`, `NoMemory`, judged in this order.
-pub fn write_query(
-    query: Query,
-    identifier: u16,
-    sender: SocketAddrV4,
-    name: &str,
-) -> Result<Vec<u8>> {
+pub fn write_query(query: Query, identifier: u16, sender: SocketAddrV4, name: &str) -> Result<Vec<u8>> {
     // SAFETY: the name is a slice, and the room's parts lie apart from it.
     unsafe {
         written(|room| {

@@ -76,19 +76,13 @@ pub struct Front<'a> {
 pub fn read_front(payload: &[u8]) -> Front<'_> {
     let (mut found, mut at) = (FoundDatagramFront::EMPTY, 0);
     // SAFETY: the payload is a slice, and what is written lies apart from it.
-    let status =
-        unsafe { nbt_datagram_front(payload.as_ptr(), payload.len(), &mut found, &mut at) };
-    Front {
-        header: (status == DONE).then(|| header_of(payload, &found)),
-        fault: read(payload).err(),
-    }
+    let status = unsafe { nbt_datagram_front(payload.as_ptr(), payload.len(), &mut found, &mut at) };
+    Front { header: (status == DONE).then(|| header_of(payload, &found)), fault: read(payload).err() }
 }
 
 /// The header that was found in this payload.
 fn header_of<'a>(payload: &'a [u8], found: &FoundDatagramFront) -> Header<'a> {
-    let name = |start: usize, length: usize| {
-        (length > 0).then(|| Spelling(&payload[start..start + length]))
-    };
+    let name = |start: usize, length: usize| (length > 0).then(|| Spelling(&payload[start..start + length]));
     Header {
         message_type: found.kind,
         flags: found.flags,

@@ -20,18 +20,7 @@ use crate::{Error, Result};
 /// `BadText`, `LongText`, `NoMemory`, judged in this order.
 pub fn spell(text: &str) -> Result<Vec<u8>> {
     // SAFETY: the text is a slice, and the room's parts lie apart from it.
-    unsafe {
-        written(|room| {
-            nbt_name_spell(
-                text.as_ptr(),
-                text.len(),
-                room.into,
-                room.length,
-                room.used,
-                room.at,
-            )
-        })
-    }
+    unsafe { written(|room| nbt_name_spell(text.as_ptr(), text.len(), room.into, room.length, room.used, room.at)) }
 }
 
 /// The text of the name with this spelling, which is without pointers and has no byte after it.
@@ -42,16 +31,7 @@ pub fn spell(text: &str) -> Result<Vec<u8>> {
 pub fn text(spelling: &[u8]) -> Result<String> {
     // SAFETY: the spelling is a slice, and the room's parts lie apart from it.
     let bytes = unsafe {
-        written(|room| {
-            nbt_name_text(
-                spelling.as_ptr(),
-                spelling.len(),
-                room.into,
-                room.length,
-                room.used,
-                room.at,
-            )
-        })
+        written(|room| nbt_name_text(spelling.as_ptr(), spelling.len(), room.into, room.length, room.used, room.at))
     };
     Ok(text_of(bytes?))
 }

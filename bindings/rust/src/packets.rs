@@ -26,16 +26,7 @@ pub fn show(port: u16, payload: &[u8]) -> Result<String> {
 pub fn show_into(port: u16, payload: &[u8], text: &mut Vec<u8>) -> Result<()> {
     // SAFETY: the payload is a slice, and the room's parts lie apart from it.
     unsafe {
-        write_into(text, |room| {
-            nbt_show(
-                port,
-                payload.as_ptr(),
-                payload.len(),
-                room.into,
-                room.length,
-                room.used,
-            )
-        })
+        write_into(text, |room| nbt_show(port, payload.as_ptr(), payload.len(), room.into, room.length, room.used))
     }
 }
 
@@ -65,16 +56,7 @@ pub fn json(port: u16, payload: &[u8]) -> Result<String> {
 pub fn json_into(port: u16, payload: &[u8], text: &mut Vec<u8>) -> Result<()> {
     // SAFETY: the payload is a slice, and the room's parts lie apart from it.
     unsafe {
-        write_into(text, |room| {
-            nbt_json(
-                port,
-                payload.as_ptr(),
-                payload.len(),
-                room.into,
-                room.length,
-                room.used,
-            )
-        })
+        write_into(text, |room| nbt_json(port, payload.as_ptr(), payload.len(), room.into, room.length, room.used))
     }
 }
 
@@ -103,16 +85,7 @@ pub fn brief(port: u16, payload: &[u8]) -> Result<String> {
 pub fn brief_into(port: u16, payload: &[u8], text: &mut Vec<u8>) -> Result<()> {
     // SAFETY: the payload is a slice, and the room's parts lie apart from it.
     unsafe {
-        write_into(text, |room| {
-            nbt_brief(
-                port,
-                payload.as_ptr(),
-                payload.len(),
-                room.into,
-                room.length,
-                room.used,
-            )
-        })
+        write_into(text, |room| nbt_brief(port, payload.as_ptr(), payload.len(), room.into, room.length, room.used))
     }
 }
 

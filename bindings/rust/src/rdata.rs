@@ -4,8 +4,8 @@ use std::net::Ipv4Addr;
 
 use crate::header::service::NodeType;
 use crate::header::{
-    name_flag, nbt_service_address, nbt_service_node, nbt_service_unit, FoundServiceAddress,
-    FoundServiceNode, FoundServiceUnit, DONE, NO_PART,
+    name_flag, nbt_service_address, nbt_service_node, nbt_service_unit, FoundServiceAddress, FoundServiceNode,
+    FoundServiceUnit, DONE, NO_PART,
 };
 use crate::service::{Entry, NB, NBSTAT, NS};
 use crate::Name;
@@ -34,12 +34,8 @@ impl<'a> Rdata<'a> {
         match kind {
             NS => server.map_or(Rdata::Other(data), Rdata::NameServer),
             NB => Addresses::of(data).map_or(Rdata::Other(data), Rdata::Addresses),
-            NBSTAT => NodeNames::of(data).map_or(Rdata::Other(data), |names| {
-                Rdata::NodeStatus(NodeStatus {
-                    names,
-                    unit: unit_of(data),
-                })
-            }),
+            NBSTAT => NodeNames::of(data)
+                .map_or(Rdata::Other(data), |names| Rdata::NodeStatus(NodeStatus { names, unit: unit_of(data) })),
             _ => Rdata::Other(data),
         }
     }
@@ -57,11 +53,7 @@ impl<'a> Addresses<'a> {
     /// Those of RDATA, which has a form if a call past the last one says how many there are.
     fn of(data: &'a [u8]) -> Option<Addresses<'a>> {
         let (status, _, count) = address_at(data, usize::MAX);
-        (status == NO_PART).then_some(Addresses {
-            data,
-            next: 0,
-            count,
-        })
+        (status == NO_PART).then_some(Addresses { data, next: 0, count })
     }
 }
 
@@ -74,10 +66,7 @@ impl Iterator for Addresses<'_> {
             return None;
         }
         self.next += 1;
-        Some(Entry {
-            nb_flags: found.flags,
-            address: Ipv4Addr::from(found.address),
-        })
+        Some(Entry { nb_flags: found.flags, address: Ipv4Addr::from(found.address) })
     }
 
     fn size_hint(&self) -> (usize, Option<usize>) {
@@ -92,8 +81,7 @@ impl ExactSizeIterator for Addresses<'_> {}
 fn address_at(data: &[u8], number: usize) -> (u32, FoundServiceAddress, usize) {
     let (mut found, mut at) = (FoundServiceAddress::EMPTY, 0);
     // SAFETY: the data is a slice, and what is written lies apart from it.
-    let status =
-        unsafe { nbt_service_address(NB, data.as_ptr(), data.len(), number, &mut found, &mut at) };
+    let status = unsafe { nbt_service_address(NB, data.as_ptr(), data.len(), number, &mut found, &mut at) };
     (status, found, at)
 }
 
@@ -104,10 +92,7 @@ pub struct NodeStatus<'a> {
     /// The names.
     pub names: NodeNames<'a>,
     /// UNIT_ID; `None` where the RDATA ends before it.
-    #[cfg_attr(
-        feature = "serde",
-        serde(serialize_with = "crate::serialized::digits_if")
-    )]
+    #[cfg_attr(feature = "serde", serde(serialize_with = "crate::serialized::digits_if"))]
     pub unit: Option<[u8; 6]>,
 }
 
@@ -165,11 +150,7 @@ impl<'a> NodeNames<'a> {
     /// Those of RDATA, which has a form if a call past the last one says how many there are.
     fn of(data: &'a [u8]) -> Option<NodeNames<'a>> {
         let (status, _, count) = node_at(data, usize::MAX);
-        (status == NO_PART).then_some(NodeNames {
-            data,
-            next: 0,
-            count,
-        })
+        (status == NO_PART).then_some(NodeNames { data, next: 0, count })
     }
 }
 
@@ -182,10 +163,7 @@ impl Iterator for NodeNames<'_> {
             return None;
         }
         self.next += 1;
-        Some(NodeName {
-            name: Name::from(found.name),
-            flags: found.flags,
-        })
+        Some(NodeName { name: Name::from(found.name), flags: found.flags })
     }
 
     fn size_hint(&self) -> (usize, Option<usize>) {
@@ -200,16 +178,7 @@ impl ExactSizeIterator for NodeNames<'_> {}
 fn node_at(data: &[u8], number: usize) -> (u32, FoundServiceNode, usize) {
     let (mut found, mut at) = (FoundServiceNode::EMPTY, 0);
     // SAFETY: the data is a slice, and what is written lies apart from it.
-    let status = unsafe {
-        nbt_service_node(
-            NBSTAT,
-            data.as_ptr(),
-            data.len(),
-            number,
-            &mut found,
-            &mut at,
-        )
-    };
+    let status = unsafe { nbt_service_node(NBSTAT, data.as_ptr(), data.len(), number, &mut found, &mut at) };
     (status, found, at)
 }
 

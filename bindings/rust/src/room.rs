@@ -32,21 +32,12 @@ pub(crate) unsafe fn written(call: impl FnMut(Room<'_>) -> u32) -> Result<Vec<u8
 /// # Safety
 ///
 /// The call writes into its room alone, and where it answers DONE, as many bytes at the front as `used` then says.
-pub(crate) unsafe fn write_into(
-    into: &mut Vec<u8>,
-    mut call: impl FnMut(Room<'_>) -> u32,
-) -> Result<()> {
+pub(crate) unsafe fn write_into(into: &mut Vec<u8>, mut call: impl FnMut(Room<'_>) -> u32) -> Result<()> {
     let (mut used, mut at, mut wanted) = (0, 0, ROOM);
     into.clear();
     loop {
-        into.try_reserve_exact(wanted)
-            .map_err(|_| Error::NO_MEMORY)?;
-        let status = call(Room {
-            into: into.as_mut_ptr(),
-            length: into.capacity(),
-            used: &mut used,
-            at: &mut at,
-        });
+        into.try_reserve_exact(wanted).map_err(|_| Error::NO_MEMORY)?;
+        let status = call(Room { into: into.as_mut_ptr(), length: into.capacity(), used: &mut used, at: &mut at });
         match status {
             DONE => {
                 // SAFETY: the call wrote `used` bytes at the front, of at most the capacity.
@@ -61,6 +52,5 @@ pub(crate) unsafe fn write_into(
 
 /// The text of bytes that the library wrote. It writes plain ASCII, so nothing is ever replaced.
 pub(crate) fn text_of(bytes: Vec<u8>) -> String {
-    String::from_utf8(bytes)
-        .unwrap_or_else(|error| String::from_utf8_lossy(error.as_bytes()).into_owned())
+    String::from_utf8(bytes).unwrap_or_else(|error| String::from_utf8_lossy(error.as_bytes()).into_owned())
 }

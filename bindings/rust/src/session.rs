@@ -19,9 +19,8 @@ use std::iter::FusedIterator;
 use std::net::{Ipv4Addr, SocketAddrV4};
 
 use crate::header::{
-    nbt_session_front, nbt_session_names, nbt_session_read, nbt_session_retarget,
-    nbt_session_write, FoundSession, FoundSessionFront, FoundSessionNames, FoundSessionRetarget,
-    DONE, MORE,
+    nbt_session_front, nbt_session_names, nbt_session_read, nbt_session_retarget, nbt_session_write, FoundSession,
+    FoundSessionFront, FoundSessionNames, FoundSessionRetarget, DONE, MORE,
 };
 use crate::room::written;
 use crate::{Error, Result, Spelling};
@@ -64,9 +63,7 @@ impl<'a> Packet<'a> {
     pub fn names(&self) -> Option<(Spelling<'a>, Spelling<'a>)> {
         let (mut found, mut at) = (FoundSessionNames::EMPTY, 0);
         // SAFETY: the packet is a slice, and what is written lies apart from it.
-        let status = unsafe {
-            nbt_session_names(self.whole.as_ptr(), self.whole.len(), &mut found, &mut at)
-        };
+        let status = unsafe { nbt_session_names(self.whole.as_ptr(), self.whole.len(), &mut found, &mut at) };
         if status != DONE {
             return None;
         }
@@ -81,9 +78,7 @@ impl<'a> Packet<'a> {
     pub fn retarget(&self) -> Option<SocketAddrV4> {
         let (mut found, mut at) = (FoundSessionRetarget::EMPTY, 0);
         // SAFETY: the packet is a slice, and what is written lies apart from it.
-        let status = unsafe {
-            nbt_session_retarget(self.whole.as_ptr(), self.whole.len(), &mut found, &mut at)
-        };
+        let status = unsafe { nbt_session_retarget(self.whole.as_ptr(), self.whole.len(), &mut found, &mut at) };
         let other = SocketAddrV4::new(Ipv4Addr::from(found.address), found.port);
         (status == DONE).then_some(other)
     }
@@ -173,25 +168,14 @@ pub fn read_front(bytes: &[u8]) -> Front {
     let (mut found, mut at) = (FoundSessionFront::EMPTY, 0);
     // SAFETY: the bytes are a slice, and what is written lies apart from it.
     let status = unsafe { nbt_session_front(bytes.as_ptr(), bytes.len(), &mut found, &mut at) };
-    let header = Header {
-        packet_type: found.kind,
-        flags: found.flags,
-        body_length: found.body_length,
-    };
-    Front {
-        header: (status == DONE).then_some(header),
-        fault: Packet::try_from(bytes).err(),
-    }
+    let header = Header { packet_type: found.kind, flags: found.flags, body_length: found.body_length };
+    Front { header: (status == DONE).then_some(header), fault: Packet::try_from(bytes).err() }
 }
 
 /// The packets of what came over a connection to port 139, one after the other. Those that are there whole are handed out, and
 /// after them the error with which [`read`] refuses what follows, if it does.
 pub fn packets(bytes: &[u8]) -> Packets<'_> {
-    Packets {
-        rest: bytes,
-        missing: 0,
-        ended: false,
-    }
+    Packets { rest: bytes, missing: 0, ended: false }
 }
 
 /// The packets that haven't been handed out yet.
@@ -250,15 +234,7 @@ pub fn write(kind: Kind, body: &[u8]) -> Result<Vec<u8>> {
     // SAFETY: the body is a slice, and the room's parts lie apart from it.
     unsafe {
         written(|room| {
-            nbt_session_write(
-                kind as u8,
-                body.as_ptr(),
-                body.len(),
-                room.into,
-                room.length,
-                room.used,
-                room.at,
-            )
+            nbt_session_write(kind as u8, body.as_ptr(), body.len(), room.into, room.length, room.used, room.at)
         })
     }
 }

@@ -3,9 +3,7 @@
 
 use std::net::{Ipv4Addr, SocketAddrV4};
 
-use crate::header::{
-    nbt_table_differ, nbt_table_json, nbt_table_list, nbt_table_merge, FoundDifference, DONE, KEYS,
-};
+use crate::header::{nbt_table_differ, nbt_table_json, nbt_table_list, nbt_table_merge, FoundDifference, DONE, KEYS};
 use crate::room::{text_of, written};
 use crate::station::Key;
 use crate::{Error, Result};
@@ -22,10 +20,7 @@ pub struct Limits {
 
 impl Default for Limits {
     fn default() -> Limits {
-        Limits {
-            keys: KEYS,
-            per_source: u32::MAX,
-        }
+        Limits { keys: KEYS, per_source: u32::MAX }
     }
 }
 
@@ -79,16 +74,7 @@ pub fn merge(first: &[u8], second: &[u8], limits: Limits) -> Result<Vec<u8>> {
 pub fn list_table(table: &[u8]) -> Result<String> {
     // SAFETY: the table is a slice, and the room's parts lie apart from it.
     let lines = unsafe {
-        written(|room| {
-            nbt_table_list(
-                table.as_ptr(),
-                table.len(),
-                room.into,
-                room.length,
-                room.used,
-                room.at,
-            )
-        })
+        written(|room| nbt_table_list(table.as_ptr(), table.len(), room.into, room.length, room.used, room.at))
     }?;
     Ok(text_of(lines))
 }
@@ -109,16 +95,7 @@ pub fn list_table(table: &[u8]) -> Result<String> {
 pub fn table_json(table: &[u8]) -> Result<String> {
     // SAFETY: the table is a slice, and the room's parts lie apart from it.
     let objects = unsafe {
-        written(|room| {
-            nbt_table_json(
-                table.as_ptr(),
-                table.len(),
-                room.into,
-                room.length,
-                room.used,
-                room.at,
-            )
-        })
+        written(|room| nbt_table_json(table.as_ptr(), table.len(), room.into, room.length, room.used, room.at))
     };
     objects.map(text_of)
 }
@@ -140,22 +117,12 @@ pub fn table_json(table: &[u8]) -> Result<String> {
 pub fn differ(first: &[u8], second: &[u8]) -> Result<Option<Key>> {
     let (mut found, mut at) = (FoundDifference::EMPTY, 0);
     // SAFETY: the tables are slices, and what is written lies apart from them.
-    let status = unsafe {
-        nbt_table_differ(
-            first.as_ptr(),
-            first.len(),
-            second.as_ptr(),
-            second.len(),
-            &mut found,
-            &mut at,
-        )
-    };
+    let status =
+        unsafe { nbt_table_differ(first.as_ptr(), first.len(), second.as_ptr(), second.len(), &mut found, &mut at) };
     if status != DONE {
         return Err(Error::new(status, at));
     }
-    let key = Key {
-        sender: SocketAddrV4::new(Ipv4Addr::from(found.address), found.port),
-        identifier: found.identifier,
-    };
+    let key =
+        Key { sender: SocketAddrV4::new(Ipv4Addr::from(found.address), found.port), identifier: found.identifier };
     Ok((found.differ != 0).then_some(key))
 }

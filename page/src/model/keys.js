@@ -1,7 +1,6 @@
 /** The keys of a table, as the library lists them: `KEY whole ..`, `KEY partial ..`, `KEY spoilt`. docs/FORMATS.md, "`nbt list`". */
 
-/**
- * @typedef {object} Key
+/** @typedef {object} Key
  * @property {string} line
  * @property {string} key
  * @property {string} state whole, partial or spoilt
@@ -12,13 +11,10 @@
  * @property {number} held how many bytes are there
  * @property {number | null} end how many bytes the datagram has, if that is known
  * @property {number} wide up to where anything is known or promised
- * @property {string} data digits of a whole one
- */
+ * @property {string} data digits of a whole one */
 
-/**
- * @param {string} line
- * @returns {Key}
- */
+/** @param {string} line
+ * @returns {Key} */
 export function keyOf(line) {
     const [key, state, kind = '', source = '', destination = '', ...rest] = line.split(' ');
     /** @type {Key} */

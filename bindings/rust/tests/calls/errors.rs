@@ -18,10 +18,7 @@ fn errors_of_streams() {
         assert_eq!(within, Some(&error));
     }
     let question_mark = || -> io::Result<Name> { Ok("FRED".parse::<Name>()?) };
-    assert_eq!(
-        question_mark().unwrap_err().kind(),
-        io::ErrorKind::InvalidInput
-    );
+    assert_eq!(question_mark().unwrap_err().kind(), io::ErrorKind::InvalidInput);
 }
 
 #[test]
@@ -31,9 +28,6 @@ fn numbers_are_statuses() {
     }
     for number in [0, 1, 3, 130, u32::MAX] {
         let error = Status::try_from(number).unwrap_err();
-        assert_eq!(
-            (error.status(), error.number(), error.at()),
-            (Status::UnknownStatus, number, None)
-        );
+        assert_eq!((error.status(), error.number(), error.at()), (Status::UnknownStatus, number, None));
     }
 }

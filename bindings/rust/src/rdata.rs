@@ -7,6 +7,7 @@ use crate::header::{
     name_flag, nbt_service_address, nbt_service_node, nbt_service_unit, FoundServiceAddress, FoundServiceNode,
     FoundServiceUnit, DONE, NO_PART,
 };
+use crate::room::found;
 use crate::service::{Entry, NB, NBSTAT, NS};
 use crate::Name;
 
@@ -79,10 +80,7 @@ impl ExactSizeIterator for Addresses<'_> {}
 
 /// What the library answers for the address of a number.
 fn address_at(data: &[u8], number: usize) -> (u32, FoundServiceAddress, usize) {
-    let (mut found, mut at) = (FoundServiceAddress::EMPTY, 0);
-    // SAFETY: the data is a slice, and what is written lies apart from it.
-    let status = unsafe { nbt_service_address(NB, data.as_ptr(), data.len(), number, &mut found, &mut at) };
-    (status, found, at)
+    found!(FoundServiceAddress, nbt_service_address(NB, [data], number))
 }
 
 /// The names of a node: RFC 1002 section 4.2.18.
@@ -176,16 +174,11 @@ impl ExactSizeIterator for NodeNames<'_> {}
 
 /// What the library answers for the name of a number.
 fn node_at(data: &[u8], number: usize) -> (u32, FoundServiceNode, usize) {
-    let (mut found, mut at) = (FoundServiceNode::EMPTY, 0);
-    // SAFETY: the data is a slice, and what is written lies apart from it.
-    let status = unsafe { nbt_service_node(NBSTAT, data.as_ptr(), data.len(), number, &mut found, &mut at) };
-    (status, found, at)
+    found!(FoundServiceNode, nbt_service_node(NBSTAT, [data], number))
 }
 
 /// The unit that stands behind the names, if it does.
 fn unit_of(data: &[u8]) -> Option<[u8; 6]> {
-    let (mut unit, mut at) = (FoundServiceUnit::EMPTY, 0);
-    // SAFETY: the data is a slice, and what is written lies apart from it.
-    let status = unsafe { nbt_service_unit(NBSTAT, data.as_ptr(), data.len(), &mut unit, &mut at) };
+    let (status, unit, _) = found!(FoundServiceUnit, nbt_service_unit(NBSTAT, [data]));
     (status == DONE).then_some(unit.bytes)
 }

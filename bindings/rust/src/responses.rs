@@ -131,25 +131,10 @@ impl<'a> Response<'a> {
     pub fn write_into(&self, packet: &mut Vec<u8>) -> Result<()> {
         packet.clear();
         let (kind, data) = self.answer.packed()?;
-        // SAFETY: the name and the data are slices, and the room's parts lie apart from them.
-        unsafe {
-            write_into(packet, |room| {
-                nbt_service_response(
-                    self.identifier,
-                    self.word,
-                    self.name.as_ptr(),
-                    self.name.len(),
-                    kind,
-                    self.time_to_live,
-                    data.as_ptr(),
-                    data.len(),
-                    room.into,
-                    room.length,
-                    room.used,
-                    room.at,
-                )
-            })
-        }
+        write_into!(
+            packet,
+            nbt_service_response(self.identifier, self.word, [self.name], kind, self.time_to_live, [data], at)
+        )
     }
 }
 

@@ -88,25 +88,8 @@ impl Request {
     /// `BadText`, `LongText`, `NoMemory`, judged in this order.
     pub fn write(self, identifier: u16, name: &str, broadcast: bool) -> Result<Vec<u8>> {
         let (number, seconds, entry) = self.parts();
-        // SAFETY: the name is a slice, and the room's parts lie apart from it.
-        unsafe {
-            written(|room| {
-                nbt_service_request(
-                    number,
-                    identifier,
-                    broadcast,
-                    name.as_ptr(),
-                    name.len(),
-                    seconds,
-                    entry.nb_flags,
-                    u32::from(entry.address),
-                    room.into,
-                    room.length,
-                    room.used,
-                    room.at,
-                )
-            })
-        }
+        let address = u32::from(entry.address);
+        written!(nbt_service_request(number, identifier, broadcast, [name], seconds, entry.nb_flags, address, at))
     }
 
     /// Its number of `enum nbt_request`, its time to live, and what it says of the name.

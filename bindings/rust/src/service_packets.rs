@@ -7,6 +7,7 @@ use crate::header::{
     nbt_service_header, nbt_service_items, nbt_service_read, FoundServiceEntry, FoundServiceHeader, DONE, NO_ITEM,
 };
 use crate::rdata::Rdata;
+use crate::room::{found, passed};
 use crate::service_header::Header;
 use crate::{Error, Name, Result};
 
@@ -137,9 +138,7 @@ type ReadsHeader = unsafe extern "C" fn(*const u8, usize, *mut FoundServiceHeade
 
 /// The header at the front of a payload, and how many bytes were used, by one of the two calls that read it.
 fn found_header(payload: &[u8], call: ReadsHeader) -> Result<(Header, usize)> {
-    let (mut found, mut at) = (FoundServiceHeader::EMPTY, 0);
-    // SAFETY: the payload is a slice, and what is written lies apart from it.
-    let status = unsafe { call(payload.as_ptr(), payload.len(), &mut found, &mut at) };
+    let (status, found, at) = found!(FoundServiceHeader, call([payload]));
     if status != DONE {
         return Err(Error::new(status, at));
     }
@@ -196,20 +195,10 @@ impl<'a> Walk<'a> {
     /// Reads as many as are read at once; none where the header counts no more.
     fn read_more(&mut self) -> Result<()> {
         (self.filled, self.given) = (0, 0);
-        let mut at = 0;
+        let (into, mut at) = (self.read.as_mut_ptr(), 0);
+        let Walk { payload, number, place, ref mut filled, .. } = *self;
         // SAFETY: the payload is a slice, and what is written lies apart from it.
-        let status = unsafe {
-            nbt_service_items(
-                self.payload.as_ptr(),
-                self.payload.len(),
-                self.number,
-                self.place,
-                self.read.as_mut_ptr(),
-                AT_ONCE,
-                &mut self.filled,
-                &mut at,
-            )
-        };
+        let status = unsafe { passed!(nbt_service_items () [payload], number, place, into, AT_ONCE, filled, &mut at;) };
         match status {
             DONE | NO_ITEM => Ok(()),
             _ => Err(Error::new(status, at)),

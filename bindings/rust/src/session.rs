@@ -22,7 +22,7 @@ use crate::header::{
     nbt_session_front, nbt_session_names, nbt_session_read, nbt_session_retarget, nbt_session_write, FoundSession,
     FoundSessionFront, FoundSessionNames, FoundSessionRetarget, DONE, MORE,
 };
-use crate::room::written;
+use crate::room::{found, written};
 use crate::{Error, Result, Spelling};
 
 pub use crate::header::session::Kind;
@@ -61,9 +61,7 @@ impl<'a> Packet<'a> {
 
     /// CALLED_NAME and CALLING_NAME, of a request.
     pub fn names(&self) -> Option<(Spelling<'a>, Spelling<'a>)> {
-        let (mut found, mut at) = (FoundSessionNames::EMPTY, 0);
-        // SAFETY: the packet is a slice, and what is written lies apart from it.
-        let status = unsafe { nbt_session_names(self.whole.as_ptr(), self.whole.len(), &mut found, &mut at) };
+        let (status, found, _) = found!(FoundSessionNames, nbt_session_names([self.whole]));
         if status != DONE {
             return None;
         }
@@ -76,9 +74,7 @@ impl<'a> Packet<'a> {
 
     /// Whom to call instead: RETARGET_IP_ADDRESS and RETARGET_PORT, of a retarget.
     pub fn retarget(&self) -> Option<SocketAddrV4> {
-        let (mut found, mut at) = (FoundSessionRetarget::EMPTY, 0);
-        // SAFETY: the packet is a slice, and what is written lies apart from it.
-        let status = unsafe { nbt_session_retarget(self.whole.as_ptr(), self.whole.len(), &mut found, &mut at) };
+        let (status, found, _) = found!(FoundSessionRetarget, nbt_session_retarget([self.whole]));
         let other = SocketAddrV4::new(Ipv4Addr::from(found.address), found.port);
         (status == DONE).then_some(other)
     }
@@ -102,9 +98,7 @@ pub enum Next<'a> {
 /// `UnknownType`, `ReservedFlags`, `BadLength`, and of a request `NameTruncated` to `NameNotNetbios`, `TrailingBytes`,
 /// judged in this order.
 pub fn read(bytes: &[u8]) -> Result<Next<'_>> {
-    let (mut found, mut at) = (FoundSession::EMPTY, 0);
-    // SAFETY: the bytes are a slice, and what is written lies apart from it.
-    let status = unsafe { nbt_session_read(bytes.as_ptr(), bytes.len(), &mut found, &mut at) };
+    let (status, found, at) = found!(FoundSession, nbt_session_read([bytes]));
     match status {
         DONE => Ok(Next::Packet(Packet {
             kind: Kind::try_from(found.kind)?,
@@ -165,9 +159,7 @@ pub struct Front {
 /// assert_eq!(front.fault.map(|it| it.status()), Some(Status::BadLength));
 /// ```
 pub fn read_front(bytes: &[u8]) -> Front {
-    let (mut found, mut at) = (FoundSessionFront::EMPTY, 0);
-    // SAFETY: the bytes are a slice, and what is written lies apart from it.
-    let status = unsafe { nbt_session_front(bytes.as_ptr(), bytes.len(), &mut found, &mut at) };
+    let (status, found, _) = found!(FoundSessionFront, nbt_session_front([bytes]));
     let header = Header { packet_type: found.kind, flags: found.flags, body_length: found.body_length };
     Front { header: (status == DONE).then_some(header), fault: Packet::try_from(bytes).err() }
 }
@@ -231,10 +223,5 @@ impl FusedIterator for Packets<'_> {}
 /// `BadLength`, and of a request `NameTruncated` to `NameNotNetbios`, `TrailingBytes`, whose places count from the front
 /// of the packet; `NoMemory`.
 pub fn write(kind: Kind, body: &[u8]) -> Result<Vec<u8>> {
-    // SAFETY: the body is a slice, and the room's parts lie apart from it.
-    unsafe {
-        written(|room| {
-            nbt_session_write(kind as u8, body.as_ptr(), body.len(), room.into, room.length, room.used, room.at)
-        })
-    }
+    written!(nbt_session_write(kind as u8, [body], at))
 }

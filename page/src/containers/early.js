@@ -4,8 +4,7 @@ const MOST_BYTES = 4 << 20;
 const MOST_PIECES = 4_096;
 
 /** @typedef {object} Piece
- * @property {number} place
- * @property {Uint8Array} bytes
+ * @property {number} place @property {Uint8Array} bytes
  * @property {import('./report.js').Mark} mark the frame that had them */
 
 /** Pieces in order, none over another: what came first stays. */

@@ -11,12 +11,10 @@ const MOST_PARTS = 8_192;
 const DIFFER = 'its fragments differ where they overlap';
 
 /** @typedef {object} Part
- * @property {number} offset
- * @property {Uint8Array} bytes
+ * @property {number} offset @property {Uint8Array} bytes
  * @typedef {object} Waiting
  * @property {bigint | null} first when the first fragment came of which the file has all
- * @property {bigint | null} last
- * @property {{mark: import('./report.js').Mark, isCut: boolean}[]} marks
+ * @property {bigint | null} last @property {{mark: import('./report.js').Mark, isCut: boolean}[]} marks
  * @property {Part[]} parts
  * @property {number | null} end where the packet ends, once its last fragment came
  * @property {string | null} why why it can't be taken

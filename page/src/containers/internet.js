@@ -11,10 +11,7 @@ const MOST_EXTENSIONS = 16;
 
 /** What a header of IP says. `payload` is what the file has of the bytes after it, of which there were `size`.
  * @typedef {object} Internet
- * @property {string} source
- * @property {string} destination
- * @property {number} protocol
- * @property {Uint8Array} payload
+ * @property {string} source @property {string} destination @property {number} protocol @property {Uint8Array} payload
  * @property {number} size
  * @property {{key: string, offset: number, more: boolean} | null} fragment null of a packet that is whole */
 

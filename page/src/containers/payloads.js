@@ -17,9 +17,7 @@ const NOTHING = ['no IP', 'cut'];
 
 /** A payload: what one packet of these ports has, and the frame that completes it.
  * @typedef {object} Payload
- * @property {'payload'} kind
- * @property {137 | 138 | 139} port
- * @property {import('./report.js').Mark} mark
+ * @property {'payload'} kind @property {137 | 138 | 139} port @property {import('./report.js').Mark} mark
  * @property {string | null} mac that of who sent the frame
  * @property {number | null} vlan
  * @property {Uint8Array} bytes a part of what is held of the file

@@ -19,8 +19,7 @@ const MICROSECOND = { per: 1_000_000n, seconds: 0n };
 
 /** An interface: its link type, how many bytes of a frame are kept at most (0: all), and its clock.
  * @typedef {object} Interface
- * @property {number} link
- * @property {number} snap
+ * @property {number} link @property {number} snap
  * @property {{per: bigint, seconds: bigint}} clock how many units a second has, and what is added to its seconds */
 
 /** Whether a file begins as pcapng does.

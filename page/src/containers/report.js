@@ -16,12 +16,8 @@ export const DIFFERING = 'sent again with other bytes';
 
 /** A frame, as far as it is named: addresses with ports, where they are known.
  * @typedef {object} Mark
- * @property {number} frame
- * @property {bigint | null} time
- * @property {string} source
- * @property {string} destination
- * @property {number} captured
- * @property {number} size
+ * @property {number} frame @property {bigint | null} time @property {string} source @property {string} destination
+ * @property {number} captured @property {number} size
  * @property {boolean} counted whether something of it is left out
  * @typedef {{kind: 'left out', mark: Mark, why: string}} LeftOut
  * @typedef {{kind: 'comment', text: string}} Comment */

@@ -10,23 +10,14 @@ const LEAST_OF_TCP = 16;
 
 /** A datagram. `payload` is what the file has of its bytes, of which there were `size`; it is null where the header isn't whole.
  * @typedef {object} Datagram
- * @property {number} source
- * @property {number} destination
- * @property {Uint8Array | null} payload
- * @property {number} size */
+ * @property {number} source @property {number} destination @property {Uint8Array | null} payload @property {number} size */
 
 /** A segment. `payload` is what the file has of its bytes, of which there were `size`; it is null where the header isn't whole.
  * @typedef {object} Segment
- * @property {number} source
- * @property {number} destination
- * @property {number} sequence
+ * @property {number} source @property {number} destination @property {number} sequence
  * @property {number} acknowledged the place that it says comes next from the other side, where `ack` is set
- * @property {boolean} syn
- * @property {boolean} fin
- * @property {boolean} rst
- * @property {boolean} ack
- * @property {Uint8Array | null} payload
- * @property {number} size */
+ * @property {boolean} syn @property {boolean} fin @property {boolean} rst @property {boolean} ack
+ * @property {Uint8Array | null} payload @property {number} size */
 
 /** The ports of a datagram or a segment; null where the file ends before them.
  * @param {Uint8Array} bytes */

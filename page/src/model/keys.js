@@ -1,13 +1,9 @@
 /** The keys of a table, as the library lists them: `KEY whole ..`, `KEY partial ..`, `KEY spoilt`. docs/FORMATS.md, "`nbt list`". */
 
 /** @typedef {object} Key
- * @property {string} line
- * @property {string} key
+ * @property {string} line @property {string} key
  * @property {string} state whole, partial or spoilt
- * @property {string} kind
- * @property {string} source
- * @property {string} destination
- * @property {[number, number][]} places
+ * @property {string} kind @property {string} source @property {string} destination @property {[number, number][]} places
  * @property {number} held how many bytes are there
  * @property {number | null} end how many bytes the datagram has, if that is known
  * @property {number} wide up to where anything is known or promised

@@ -5,18 +5,13 @@ import { MULTIHOMED, NOBODYS, STATUS_TYPE, WORD } from './vocabulary.js';
 /** @typedef {import('./vocabulary.js').Act} Act
  * @typedef {{name: string, address: string, group: boolean | null, lifetime: number | null}} Place where a front doesn't say it, there is no group and no lifetime
  * @typedef {object} Message
- * @property {Act} act
- * @property {import('./parts.js').Front} front
+ * @property {Act} act @property {import('./parts.js').Front} front
  * @property {string | null} name that the packet is about; null where none stands in a front
  * @property {string} number the identifier that a response has of its request
  * @property {string} code
  * @property {bigint} at nanoseconds since 1970
- * @property {number} frame
- * @property {string} source
- * @property {string} target
- * @property {string | null} mac
- * @property {boolean} isBroadcast
- * @property {boolean} isMultihomed
+ * @property {number} frame @property {string} source @property {string} target @property {string | null} mac
+ * @property {boolean} isBroadcast @property {boolean} isMultihomed
  * @property {number | null} lifetime of its first record, in seconds
  * @property {Place[]} places name and address of each entry in its answers and additional records; of a claim or release of which no record
  *     stands its sender's

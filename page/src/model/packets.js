@@ -13,22 +13,14 @@ export const LEFT_OUT = 0;
 
 /** A packet as it is kept, or a frame that is left out: then it has no bytes, and `port` is LEFT_OUT.
  * @typedef {object} Kept
- * @property {number} frame
- * @property {bigint | null} time
- * @property {number} port
+ * @property {number} frame @property {bigint | null} time @property {number} port
  * @property {string} source an address and a port, where they are known
- * @property {string} destination
- * @property {string} mac
- * @property {number | null} vlan
- * @property {number} captured
- * @property {number} size
- * @property {Uint8Array} bytes
+ * @property {string} destination @property {string} mac @property {number | null} vlan @property {number} captured
+ * @property {number} size @property {Uint8Array} bytes
  *
  * Rows, as the page gets them: columns, of which some have numbers of texts.
  * @typedef {object} Rows
- * @property {Uint32Array} frame
- * @property {BigInt64Array} time
- * @property {Uint8Array} port
+ * @property {Uint32Array} frame @property {BigInt64Array} time @property {Uint8Array} port
  * @property {Uint32Array} source where a packet comes from, in words
  * @property {Uint32Array} destination
  * @property {Uint32Array} sender its address

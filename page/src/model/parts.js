@@ -5,45 +5,23 @@ import { NAME_FLAG } from './vocabulary.js';
  * @typedef {{flags: string, ont: string, address: string}} Entry
  * @typedef {{name: string, flags: string, ont: string, set: string[]}} NodeName
  * @typedef {object} ResourceRecord
- * @property {string} name
- * @property {string} type
- * @property {number} ttl
- * @property {string} [data]
- * @property {Entry[]} [entries]
- * @property {NodeName[]} [names]
- * @property {string} [unit]
+ * @property {string} name @property {string} type @property {number} ttl @property {string} [data]
+ * @property {Entry[]} [entries] @property {NodeName[]} [names] @property {string} [unit]
  * @typedef {import('./vocabulary.js').Front} Front
  *
  * A packet of port 137, or what stands of one.
  * @typedef {object} Service
- * @property {boolean} [cut]
- * @property {string} [refused]
- * @property {{name: string, type?: string}} [about]
- * @property {string} id
- * @property {string} word
- * @property {string | number} op
- * @property {string | number} rcode
- * @property {Question[]} questions
- * @property {ResourceRecord[]} answers
- * @property {ResourceRecord[]} authorities
+ * @property {boolean} [cut] @property {string} [refused] @property {{name: string, type?: string}} [about]
+ * @property {string} id @property {string} word @property {string | number} op @property {string | number} rcode
+ * @property {Question[]} questions @property {ResourceRecord[]} answers @property {ResourceRecord[]} authorities
  * @property {ResourceRecord[]} additional
  *
  * Any packet, as far as the page looks at it.
  * @typedef {object} Others
- * @property {string} [kind]
- * @property {string} [key]
- * @property {string} [source]
- * @property {string} [destination]
- * @property {string} [called]
- * @property {string} [calling]
- * @property {string} [code]
- * @property {string} [refused]
- * @property {number} [at]
- * @property {number} [length]
- * @property {string} [flags]
- * @property {number} [offset]
- * @property {string} [address]
- * @property {number} [to_port]
+ * @property {string} [kind] @property {string} [key] @property {string} [source] @property {string} [destination]
+ * @property {string} [called] @property {string} [calling] @property {string} [code] @property {string} [refused]
+ * @property {number} [at] @property {number} [length] @property {string} [flags] @property {number} [offset]
+ * @property {string} [address] @property {number} [to_port]
  * @property {boolean} [cut] the snap length cut it, and this is what stands
  * @property {{name: string, type?: string}} [about] the first name of a front in which no question or record stands whole
  * @typedef {Partial<Service> & Others} Told */
@@ -98,14 +76,3 @@ export function entriesOf(service) {
     return recordsOf(service).flatMap((record) => record.entries ?? []);
 }
 
-/** The texts of all names in a packet.
- * @param {Told} told
- * @returns {string[]} */
-export function namesIn(told) {
-    const single = [told.source, told.destination, told.called, told.calling];
-    const service = serviceOf(told);
-    const listed = service ? [...service.questions, ...recordsOf(service)] : [];
-    const inside = service ? recordsOf(service).flatMap((record) => record.names ?? []) : [];
-    const texts = [...single, ...listed.map((each) => each.name), ...inside.map((each) => each.name)];
-    return texts.flatMap((each) => (each === undefined ? [] : [each]));
-}

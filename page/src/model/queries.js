@@ -9,14 +9,9 @@ import { Waiting } from './waiting.js';
  * @typedef {import('./waiting.js').Request<Answer>} Request */
 
 /** @typedef {object} Query
- * @property {string} name
- * @property {string} kind
- * @property {string} by
- * @property {string} asked
- * @property {number} times
+ * @property {string} name @property {string} kind @property {string} by @property {string} asked @property {number} times
  * @property {number[]} frames those of the first of them
- * @property {bigint} since
- * @property {Answer} answer */
+ * @property {bigint} since @property {Answer} answer */
 
 /** The requests that wait, and those without an answer, by name, asker and station asked. */
 export class Queries {

@@ -16,9 +16,7 @@ import { MOST_KEYS, PIECES, PORT } from './vocabulary.js';
  * @property {number} port the service's
  * @property {bigint | null} time nanoseconds since 1970
  * @property {string} source an address
- * @property {string} sourcePort
- * @property {string} destination
- * @property {string} destinationPort
+ * @property {string} sourcePort @property {string} destination @property {string} destinationPort
  * @property {string | null} mac
  * @typedef {import('./parts.js').Told} Told
  * @typedef {{reason: string, packets: number, frame: number, payload_byte: number | null}} Refusal

@@ -7,25 +7,15 @@ const PORT_TEXT = String(PORT.SESSIONS);
 
 /** The sessions of one caller with one station, by their names.
  * @typedef {object} Calls
- * @property {string} calling
- * @property {string} called
- * @property {string} from
- * @property {string} to
- * @property {number} calls
- * @property {number} accepted
- * @property {Map<string, number>} refused
- * @property {number} sent
- * @property {number} received
+ * @property {string} calling @property {string} called @property {string} from @property {string} to @property {number} calls
+ * @property {number} accepted @property {Map<string, number>} refused @property {number} sent @property {number} received
  *
  * An end of a connection.
  * @typedef {{address: string, port: string}} Side
  *
  * A session: who opened its connection, with the sequence number of the SYN, and whom that one called as whom.
  * @typedef {object} Session
- * @property {Side} caller
- * @property {Side} callee
- * @property {number | null} sequence
- * @property {string} calling
+ * @property {Side} caller @property {Side} callee @property {number | null} sequence @property {string} calling
  * @property {string} called
  * @property {boolean} isBegun a packet of it has come
  * @property {boolean} isAccepted

@@ -5,9 +5,7 @@ import { Room } from './rooms.js';
 import { MOST_OF_STATION } from './vocabulary.js';
 
 /** @typedef {object} Station
- * @property {string} address
- * @property {string | null} mac
- * @property {number} packets
+ * @property {string} address @property {string | null} mac @property {number} packets
  * @property {Set<string>} names those that it uses
  * @property {string[]} status those that a node status said
  * @property {string | null} unit */

@@ -8,14 +8,8 @@ const WITHOUT_END = 1n << 64n;
  * @template T
  * @typedef {object} Request
  * @property {string | null} kind null where it isn't known
- * @property {string | null} name
- * @property {string} asker
- * @property {string} asked
- * @property {boolean} isBroadcast
- * @property {bigint} since
- * @property {bigint} until
- * @property {number} times
- * @property {number[]} frames
+ * @property {string | null} name @property {string} asker @property {string} asked @property {boolean} isBroadcast
+ * @property {bigint} since @property {bigint} until @property {number} times @property {number[]} frames
  * @property {T | null} subject what its taker keeps with it */
 
 /** The requests, by who sent them and their identifier. `over` is handed each that is over.

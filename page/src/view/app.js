@@ -18,15 +18,10 @@ const PATIENCE = 2_000;
 
 /** A file that is open.
  * @typedef {object} Tap
- * @property {string} name
- * @property {number} size
- * @property {'frames' | 'lines' | 'table'} kind
+ * @property {string} name @property {number} size @property {'frames' | 'lines' | 'table'} kind
  * @property {boolean} isPacked whether gzip packed it
- * @property {Rows} rows
- * @property {bigint | null} first
- * @property {import('./desk.js').Counts} counts
- * @property {boolean} isRead
- * @property {string | null} fault
+ * @property {Rows} rows @property {bigint | null} first @property {import('./desk.js').Counts} counts
+ * @property {boolean} isRead @property {string | null} fault
  * @property {number} incomplete how many keys lack a piece
  * @property {number | null} closes the tap that is closed once this one can be read */
 

@@ -4,18 +4,11 @@
  * @typedef {object} News
  * @property {number} opened which of the files that were opened
  * @property {number} done how many bytes are read
- * @property {number} size
- * @property {'frames' | 'lines' | 'table'} kind
- * @property {import('../model/packets.js').Rows} rows
+ * @property {number} size @property {'frames' | 'lines' | 'table'} kind @property {import('../model/packets.js').Rows} rows
  * @property {Counts} counts
  * @typedef {object} Counts
- * @property {number} frames
- * @property {number} packets
- * @property {number} refused
- * @property {number} leftOut
- * @property {number} names
- * @property {number} conflicts
- * @property {import('../model/unread.js').UnreadCounts} unread */
+ * @property {number} frames @property {number} packets @property {number} refused @property {number} leftOut
+ * @property {number} names @property {number} conflicts @property {import('../model/unread.js').UnreadCounts} unread */
 
 export class Desk {
     /** @param {string} code the worker's

@@ -9,8 +9,7 @@ const MOST_HIGH = 8_000_000;
 /** A column: its name, and what stands in it.
  * @typedef {{name: string, title: string}} Heading
  * @typedef {object} Source
- * @property {() => number} count
- * @property {(at: number) => {cells: string[], kind: string}} row
+ * @property {() => number} count @property {(at: number) => {cells: string[], kind: string}} row
  * @property {(at: number) => void} select */
 
 export class Grid {

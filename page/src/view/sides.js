@@ -10,8 +10,7 @@ import { counted, number } from './dom.js';
  * @property {Row[]} all
  * @property {Row[]} joined whole in the join alone
  * @property {Row[]} one those of which the other tap has nothing
- * @property {Row[]} other
- * @property {Row[]} differing
+ * @property {Row[]} other @property {Row[]} differing
  * @property {number} equal how many both know the same of */
 
 /** @param {{first: string[], second: string[], both: string[]}} lines

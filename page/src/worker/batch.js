@@ -4,14 +4,8 @@ import { NO_TIME } from '../model/packets.js';
 
 /** A row: where a packet comes from and goes to, what it says, and the words by which it is filtered.
  * @typedef {object} Row
- * @property {number} frame
- * @property {bigint | null} time
- * @property {number} port
- * @property {string} source
- * @property {string} destination
- * @property {string} sender
- * @property {string} kinds
- * @property {string} reason
+ * @property {number} frame @property {bigint | null} time @property {number} port @property {string} source
+ * @property {string} destination @property {string} sender @property {string} kinds @property {string} reason
  * @property {string} said */
 
 export class Batch {

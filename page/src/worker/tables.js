@@ -14,9 +14,7 @@ const NO_ROOM = ['FULL', 'FULL_SOURCE'];
  * @typedef {object} Handed
  * @property {number | null} row
  * @property {string} moment milliseconds
- * @property {string} key
- * @property {string} source
- * @property {string} destination
+ * @property {string} key @property {string} source @property {string} destination
  * @property {string} data digits */
 
 /** The table of all of a file, whatever time its fragments took.

@@ -25,6 +25,13 @@ export class Claims {
         /** @type {Map<string, Set<Tenure>>} by who claims: the tenures to which somebody may object */
         this.openTo = new Map();
         this.latest = 0n;
+        /** @type {Record<string, (message: Message) => boolean>} what an act does; any other settles nothing */
+        this.acts = {
+            'claims': (it) => this.claimed(it), 'overwrites': (it) => this.claimed(it), 'grants': (it) => this.granted(it),
+            'refuses': (it) => this.refused(it), 'demands': (it) => this.refusedOrDemanded(it), 'releases': (it) => this.releases(it),
+            'released': (it) => this.released(it), 'answers': (it) => this.answered(it), 'finds none': (it) => this.findsNone(it),
+            'waits': (it) => this.waits(it),
+        };
     }
 
     /** Takes the time of any packet: claims are over at the end of the capture that are over by then.
@@ -39,28 +46,21 @@ export class Claims {
         const { isBroadcast, mac, source } = message;
         if (message.name !== null) this.settle(message.name, message.at);
         if (isBroadcast && mac) this.owners.join(mac, source);
-        switch (message.act) {
-            case 'claims':
-            case 'overwrites':
-                return this.claimed(message);
-            case 'grants':
-                return this.granted(message);
-            case 'refuses':
-                return this.refused(message);
-            case 'demands':
-                return message.name === null || this.askedFor(message).length ? this.refused(message) : this.demanded(message, message.name);
-            case 'releases':
-                return this.releases(message);
-            case 'released':
-                return this.released(message);
-            case 'answers':
-                return this.answered(message);
-            case 'finds none':
-                return this.findsNone(message);
-            default:
-                if (message.act === 'waits') [this.claiming, this.releasing].forEach((each) => each.wait(message));
-                return false;
-        }
+        return this.acts[message.act]?.(message) ?? false;
+    }
+
+    /** CFT_ERR with the identifier of a claim refuses it; with another one it is a conflict demand to its target.
+     * @param {Message} message */
+    refusedOrDemanded(message) {
+        return message.name === null || this.askedFor(message).length ? this.refused(message) : this.demanded(message, message.name);
+    }
+
+    /** A WACK, of whichever it is.
+     * @param {Message} message */
+    waits(message) {
+        this.claiming.wait(message);
+        this.releasing.wait(message);
+        return false;
     }
 
     /** A claim holds by an overwrite demand, and without one where nobody objects to a broadcast.

@@ -444,7 +444,7 @@ in_rust_too() {
 # Programs that don't ask for the feature serde need no registry.
 rust() {
     local each
-    mkdir "$room/rust" && cp -R "$top"/bindings/rust/{Cargo.toml,build.rs,src,examples,tests} "$room/rust"
+    mkdir "$room/rust" && cp -R "$top"/bindings/rust/{Cargo.toml,build.rs,rustfmt.toml,src,examples,tests} "$room/rust"
     in_rust test "${debian[@]}" --features serde
     passed=$((passed + $(awk '/^test result: ok/ { sum += $4 } END { print sum + 0 }' "$room/log")))
     in_rust_too fmt --check

@@ -22,8 +22,10 @@ export declare class NbtError extends Error {
     /** The name of the status: 'BAD_TEXT'; 'UNKNOWN_STATUS' of one that only a newer module knows. */
     readonly status: string;
     readonly number: number;
-    /** Where the fault stands, in bytes from the start of what has it; at MORE how many bytes are missing, at least; else null. */
+    /** Where the fault stands, in bytes from the start of what has it, or null; at MORE it is no place, but what `missing` is. */
     readonly at: number | null;
+    /** At MORE, how many bytes of the packet are missing, at least; else null. */
+    readonly missing: number | null;
     constructor(number: number, at: number | null, words: string);
 }
 

@@ -57,6 +57,7 @@ export class NbtError extends Error {
         this.status = STATUS_NAMES.get(number) ?? 'UNKNOWN_STATUS';
         this.number = number;
         this.at = at;
+        this.missing = number === Status.MORE ? at : null;
     }
 }
 

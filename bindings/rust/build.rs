@@ -7,13 +7,7 @@ use std::path::Path;
 use std::process::{exit, Command};
 
 /// What the answer depends on.
-const ASKED: [&str; 5] = [
-    "PKG_CONFIG",
-    "PKG_CONFIG_PATH",
-    "PKG_CONFIG_LIBDIR",
-    "PKG_CONFIG_SYSROOT_DIR",
-    "NBT_STATIC",
-];
+const ASKED: [&str; 5] = ["PKG_CONFIG", "PKG_CONFIG_PATH", "PKG_CONFIG_LIBDIR", "PKG_CONFIG_SYSROOT_DIR", "NBT_STATIC"];
 
 fn main() {
     println!("cargo:rerun-if-changed=build.rs");
@@ -37,9 +31,7 @@ fn main() {
 fn link_own() -> bool {
     let of = |name| env::var(name).unwrap_or_default();
     let target = of("CARGO_CFG_TARGET_ARCH") + "-" + &of("CARGO_CFG_TARGET_OS");
-    let folder = Path::new(&of("CARGO_MANIFEST_DIR"))
-        .join("lib")
-        .join(target);
+    let folder = Path::new(&of("CARGO_MANIFEST_DIR")).join("lib").join(target);
     if !folder.join("libnbt.a").exists() {
         return false;
     }
@@ -51,10 +43,8 @@ fn link_own() -> bool {
 /// What pkg-config says that the linker has to be told.
 fn linker_flags() -> Result<String, String> {
     let program = env::var("PKG_CONFIG").unwrap_or_else(|_| "pkg-config".into());
-    let done = Command::new(&program)
-        .args(["--libs", "nbt"])
-        .output()
-        .map_err(|error| format!("{program}: {error}"))?;
+    let done =
+        Command::new(&program).args(["--libs", "nbt"]).output().map_err(|error| format!("{program}: {error}"))?;
     if done.status.success() {
         Ok(String::from_utf8_lossy(&done.stdout).into_owned())
     } else {
@@ -82,11 +72,7 @@ fn link(word: &str) {
     if let Some(folder) = word.strip_prefix("-L") {
         println!("cargo:rustc-link-search=native={folder}");
     } else if let Some(library) = word.strip_prefix("-l") {
-        let kind = if env::var("NBT_STATIC").as_deref() == Ok("1") {
-            "static"
-        } else {
-            "dylib"
-        };
+        let kind = if env::var("NBT_STATIC").as_deref() == Ok("1") { "static" } else { "dylib" };
         println!("cargo:rustc-link-lib={kind}={library}");
     } else {
         println!("cargo:rustc-link-arg={word}");

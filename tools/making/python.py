@@ -18,26 +18,37 @@ def layout(header, name):
 
 
 def python_type(kind, pointer, length):
-    found = 'ctypes.c_void_p' if pointer else f'ctypes.c_{kind.removesuffix("_t")}' + '_t' * (kind == 'size_t')
+    found = 'c_void_p' if pointer else f'c_{kind.removesuffix("_t")}' + '_t' * (kind == 'size_t')
     return f'{found} * {length}' if length else found
 
 
+def together(pairs):
+    """Constants of one enumeration, in a line."""
+    names, digits = zip(*pairs)
+    return f"{', '.join(names)} = {', '.join(digits)}"
+
+
+def python_structure(name, fields):
+    """A structure as C has it."""
+    lines = [f"('{field}', {python_type(kind, pointer, length)})," for kind, pointer, field, length in fields]
+    return f'class {camel(name)}(Structure):\n    """struct nbt_{name}."""\n\n    _fields_ = [' + in_lines(lines, ' ' * 16, 140).strip().rstrip(',') + ']'
+
+
 def python_file(header):
-    parts = [f'"""The numbers and structures of include/nbt.h. {MADE}"""\nfrom __future__ import annotations\n\nimport ctypes\nimport enum\nimport struct']
+    parts = [f'"""The numbers and structures of include/nbt.h. {MADE}"""\nfrom __future__ import annotations\n\nimport enum\nimport struct\n'
+             'from ctypes import Structure, c_size_t, c_uint8, c_uint16, c_uint32, c_uint64, c_void_p']
     for enum, name in IN_PYTHON.items():
         lines = [f'    {each.name} = {each.digits}' for each in header.enums[enum]]
         said = PYTHON_SAYS.get(enum) or header.titles[enum]
         parts.append('\n'.join([f'class {name}(enum.IntEnum):', f'    """{said}"""', '', *lines]))
     numbers = in_lines([f'{it},' for it in sorted(header.placed)], '    ', 120)
-    constants = [f'{each.name} = {each.digits}' for enum in CONSTANTS for each in header.enums[enum]]
+    constants = [together((each.name, each.digits) for each in header.enums[enum]) for enum in CONSTANTS]
     limits = [f'{name} = {number:_}' for name, number in header.limits.items()]
     parts.append('\n'.join(['# The statuses that say where the fault stands.', f'PLACED = frozenset(Status(it) for it in (\n{numbers}\n))',
                             '# Numbers of packets.', *constants, '# Limits.', *limits]))
     for name, fields in header.structures.items():
         if name not in PACKED | {'service_item', 'service_unit'}:
-            lines = [f"('{field}', {python_type(kind, pointer, length)})," for kind, pointer, field, length in fields]
-            parts.append(f'class {camel(name)}(ctypes.Structure):\n    """struct nbt_{name}."""\n\n    _fields_ = [\n'
-                         + in_lines(lines, '        ', 120) + '\n    ]')
+            parts.append(python_structure(name, fields))
     parts.append('# Structures that are many, as they lie.\n'
                  + '\n'.join(f"{name.upper()} = struct.Struct('@{layout(header, name)}')" for name in header.structures if name in PACKED))
     return '\n\n\n'.join(parts) + '\n'

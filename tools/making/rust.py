@@ -21,8 +21,17 @@ RUST_NAMES = {'FMT_ERR': 'FormatError', 'SRV_ERR': 'ServerFailure', 'NAM_ERR': '
 RUST_WORDS = {'OTHER_REFRESH': 'refresh'}
 RUST_SAYS = {'NO_MEMORY': 'memory ran out', 'UNKNOWN_STATUS': "a number that this version of the crate doesn't know: [`crate::Error::number`] keeps it"}
 RUST_TYPES = {'uint8_t': 'u8', 'uint16_t': 'u16', 'uint32_t': 'u32', 'uint64_t': 'u64', 'size_t': 'usize', 'void': 'c_void'}
+# No copy of a station is good after a call that was given another.
+HANDLE = """/// struct nbt_station.
+#[repr(C)]
+pub struct Handle {
+    pub at: *mut c_void,
+}
+
+impl Handle {
+    pub const EMPTY: Handle = Handle { at: std::ptr::null_mut() };
+}"""
 SERDE = '#[cfg_attr(feature = "serde", serde(%s))]'
-DERIVES = '#[derive(Clone, Copy, Debug, PartialEq, Eq, PartialOrd, Ord, Hash)]\n#[cfg_attr(feature = "serde", derive(serde::Serialize, serde::Deserialize))]'
 # Numbers that are no type's, by the module in which they stand, and how wide they are.
 RUST_NUMBERS = {'status': ('', 'u32'), 'line_kind': ('', 'u32'), 'request': ('', 'u32'), 'outcome': ('', 'u32'), 'record_type': ('record_type', 'u16'),
                 'word': ('word', 'u16'), 'name_flag': ('name_flag', 'u16'), 'datagram_flag': ('datagram_flag', 'u8')}
@@ -46,29 +55,21 @@ def rust_status(each, statuses):
         other = next((it.name for it in statuses if it.number == int(alike[1]) + each.number % 10), 'no other')
         group = f"{group.partition('; as those')[0]}: as NBT_{other}"
     said = '; '.join(filter(None, (group, said))) if alike else ': '.join(filter(None, (group, said)))
-    return f'    /// {sentence(said)}\n    {rust_name(each.name)} = {each.digits},'
+    return f'        /// {sentence(said)}\n        {rust_name(each.name)} {each.name} = {each.digits};'
 
 
 def rust_statuses(header):
     told = [it for it in header.enums['status'] if it.name not in ('DONE', 'NO_ROOM')]
-    names = in_lines([f'Status::{rust_name(it.name)},' for it in told], '        ', 120)
     placed = in_lines([f'{it}' + ' |' * (it != max(header.placed)) for it in sorted(header.placed)], '            ', 120)
-    return f"""/// Why a call did nothing. Each is a number of `enum nbt_status`, which stands for one thing in all versions; its text
-/// is the library's words, as in `bad text`.
-{DERIVES}
-{SERDE % 'rename_all = "SCREAMING_SNAKE_CASE"'}
-#[non_exhaustive]
-#[repr(u32)]
-pub enum Status {{
+    return f"""statuses! {{
+    /// Why a call did nothing. Each is a number of `enum nbt_status`, which stands for one thing in all versions; its text
+    /// is the library's words, as in `bad text`.
+    Status {{
 {chr(10).join(rust_status(it, told) for it in told)}
+    }}
 }}
 
 impl Status {{
-    /// All of them, by number.
-    pub const ALL: [Status; {len(told)}] = [
-{names}
-    ];
-
     /// Whether it comes with a place, in bytes of the input.
     pub fn has_place(self) -> bool {{
         matches!(self as u32,
@@ -96,26 +97,25 @@ def word_of(enum, name):
     return RUST_WORDS.get(name, name.lower())
 
 
+def rust_constants(module, width, numbers, most):
+    """Numbers of one width, in a module if it has a name."""
+    lines = f'constants! {{ {width}:\n' + in_lines(numbers, '    ', most) + '\n}'
+    return rust_module(module, [f'crate::codes::{lines}']) if module else lines
+
+
 def rust_module(name, parts):
     inner = '\n\n'.join(parts)
     return f'pub mod {name} {{\n' + re.sub(r'^(?=.)', '    ', inner, flags=re.MULTILINE) + '\n}'
 
 
 def rust_structure(header, name, fields):
-    """A structure as C has it, and an empty one, which a call fills in."""
-    lines, empty = [], []
-    for kind, pointer, field, length in fields:
-        field = {'type': 'kind'}.get(field, field)
-        inner = kind.removeprefix('nbt_') in header.structures
-        one = rust_structure_name(kind.removeprefix('nbt_')) if inner else ('*mut ' if pointer else '') + RUST_TYPES[kind]
-        lines.append(f'    pub {field}: [{one}; {length}],' if length else f'    pub {field}: {one},')
-        zero = f'{one}::EMPTY' if inner else 'std::ptr::null_mut()' if pointer else '0'
-        empty.append(f'{field}: [0; {length}]' if length else f'{field}: {zero}')
-    # No copy of a station is good after a call that was given another.
-    derived = '' if name == 'station' else '#[derive(Clone, Copy, Debug)]\n'
-    told = rust_structure_name(name)
-    return (f'/// struct nbt_{name}.\n#[repr(C)]\n{derived}pub struct {told} {{\n' + '\n'.join(lines)
-            + f'\n}}\n\nimpl {told} {{\n    pub const EMPTY: {told} = {told} {{ ' + ', '.join(empty) + ' };\n}')
+    """The row of a structure as C has it."""
+    rows = []
+    for kind, _, field, length in fields:
+        field, kind = {'type': 'kind'}.get(field, field), kind.removeprefix('nbt_')
+        one = rust_structure_name(kind) if kind in header.structures else RUST_TYPES[kind]
+        rows.append(f'{field}: [{one}; {length}],' if length else f'{field}: {one},')
+    return f'    /// struct nbt_{name}.\n    {rust_structure_name(name)} {{\n' + in_lines(rows, '        ', 120) + '\n    }'
 
 
 def rust_structure_name(name):
@@ -143,15 +143,19 @@ def rust_file(header):
 //! No pointer may be null, each has to be that of as many bytes as its length says, and what a call writes may overlap
 //! nothing else of that call. Slices, and references to values apart, are such pointers. The library keeps none of them.
 
-use std::ffi::c_void;""", rust_statuses(header)]
+use std::ffi::c_void;
+
+use crate::codes::{{constants, statuses, structures}};""", rust_statuses(header)]
     for enum, (module, width) in RUST_NUMBERS.items():
         # Those of records are handed out.
-        numbers = [f'/// {sentence(it.said)}\n' * (enum == 'record_type') + f'pub const {it.name}: {width} = {it.digits};' for it in header.enums[enum]]
-        parts.append(rust_module(module, ['\n'.join(numbers)]) if module else '\n'.join(numbers))
-    parts.append('\n'.join(f'pub const {name}: u32 = {number:_};' for name, number in header.limits.items()))
+        numbers = [f'/// {sentence(it.said)}\n    ' * (enum == 'record_type') + f'{it.name} = {it.digits};' for it in header.enums[enum]
+                   if enum != 'status' or it.name in ('DONE', 'NO_ROOM')]
+        parts.append(rust_constants(module, width, numbers, 4 if enum == 'record_type' else 120))
+    parts.append(rust_constants('', 'u32', [f'{name} = {number:_};' for name, number in header.limits.items()], 120))
     for module in dict.fromkeys(it for it, _ in IN_RUST):
         types = [rust_enum(header, place, *said) for place, said in IN_RUST.items() if place[0] == module]
         parts.append(rust_module(module, ['use crate::codes::numbered;', *types]))
-    parts += [rust_structure(header, *each) for each in header.structures.items()]
+    parts.append('structures! {\n' + '\n'.join(rust_structure(header, *each) for each in header.structures.items() if each[0] != 'station') + '\n}')
+    parts.append(HANDLE)
     parts.append('extern "C" {\n' + '\n'.join(rust_call(*each) for each in header.calls) + '\n}')
     return '\n\n'.join(parts) + '\n'

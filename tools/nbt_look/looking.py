@@ -59,9 +59,10 @@ def at_frames(options, settings, errors, pipe, merged):
         pipe.go_on_to(os.dup(child.stdin.fileno()))
         child.stdin.close()
     progress = Progress(options, child, look.is_silent)
-    stopping = tshark.Stopping(child, tshark.ENDING if options.live else ())
+    stopping, listening = tshark.Stopping(child, tshark.ENDING if options.live else ()), tshark.Listening(options, errors)
     try:
         for rows in tshark.rows_of(child.stdout.fileno(), options.live):
+            listening.look(rows)
             for row in rows:
                 frames.row(row)
             if not rows:
@@ -82,7 +83,7 @@ def at_frames(options, settings, errors, pipe, merged):
         merged.judge()
     if status == 0 and not options.live and not frames.report.frames:
         raise Stopped(2, ', '.join(map(pcap_arguments.title_of, options.files)) + ': the file holds no packets: it has no frame')
-    if frames.report.frames:
+    if frames.report.frames or (options.live and status == 0):
         look.tally.frames, look.tally.without, look.tally.sought = frames.report.frames, frames.without(), frames.sought
         look.end(frames.notes())
     return status, look.sink.status

@@ -1,12 +1,13 @@
 """tshark as a process: what is asked of it, the rows that it prints, and how it ends."""
 import ctypes
 import os
+import re
 import select
 import signal
 import subprocess
 
 from . import listening
-from .process import ReaderEnded
+from .process import ReaderEnded, say
 from .rows import BETWEEN, FIELDS
 
 PART = 65_536
@@ -29,6 +30,8 @@ PREFERENCES = ('ip.defragment:TRUE', 'ipv6.defragment:TRUE', 'tcp.relative_seque
 # How tshark counts all frames.
 COUNTING = 'plen,tree'
 NO_CAPTURE = b"isn't a capture file"
+# What it says once it captures, and of which interface.
+STARTED, TITLE = b'-- Capture started.', re.compile(rb"^Capturing on '(.*)'$", re.MULTILINE)
 CHATTER = (b'Running as user', b'Capturing on', b' ** (tshark:', b'tshark: \n')
 
 
@@ -77,6 +80,24 @@ def environment(settings):
 def end_with_us():
     """Called in the child: it is ended where this process is."""
     ctypes.CDLL(None).prctl(1, signal.SIGTERM)
+
+
+class Listening:
+    """What says on standard error on which interface a network's capture listens, once it does."""
+
+    def __init__(self, options, errors):
+        self.interface, self.errors = options.interface, errors.fileno()
+        self.is_said = options.quiet or not options.live
+
+    def look(self, rows):
+        """Looks at what tshark said, without moving the place where it goes on; rows show it too."""
+        if self.is_said:
+            return
+        text = os.pread(self.errors, PART, 0)
+        if rows or STARTED in text:
+            self.is_said = True
+            title = self.interface.encode(errors='surrogateescape') if self.interface else b''.join(TITLE.findall(text)[:1])
+            say(b'listening on %s; Ctrl-C ends it' % title)
 
 
 class Stopping:

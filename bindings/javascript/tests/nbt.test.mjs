@@ -22,6 +22,7 @@ function refused(call) {
     } catch (error) {
         assert.ok(error instanceof NbtError, String(error.stack));
         assert.equal(error.number, Status[error.status]);
+        assert.equal(error.missing, error.status === 'MORE' ? error.at : null);
         return [error.status, error.at];
     }
     assert.fail('it is done');
@@ -696,7 +697,7 @@ test('package.json says which node runs it without a flag', async () => {
 test('the types have each call, and each that docs/CALLING.md shows', () => {
     const types = readFileSync(new URL('../nbt.d.mts', import.meta.url), 'utf8');
     const page = readFileSync(new URL('../../../docs/CALLING.md', import.meta.url), 'utf8').match(/^## From JavaScript\n(.*?)^## /ms)[1];
-    const shown = Array.from(page.matchAll(/`([A-Za-z]+)`/g), ([, name]) => name).filter((name) => !['load', 'NbtError', 'status', 'at', 'limit'].includes(name));
+    const shown = Array.from(page.matchAll(/`([A-Za-z]+)`/g), ([, name]) => name).filter((name) => !['load', 'NbtError', 'status', 'at', 'missing', 'limit'].includes(name));
     assert.ok(shown.length >= 20);
     for (const name of [...Object.keys(nbt), ...shown]) {
         assert.ok(name in nbt, `${name} is a call`);

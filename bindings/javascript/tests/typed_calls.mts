@@ -21,7 +21,7 @@ const lines: string = station.list() + nbt.tableJson(joined);
 try {
     nbt.request('nodeStatus', { identifier: count, name: name ?? '*<00>' });
 } catch (error) {
-    if (error instanceof NbtError) nbt.words(error.number + (error.at ?? 0)).concat(error.status);
+    if (error instanceof NbtError) nbt.words(error.number + (error.at ?? 0)).concat(error.status, String((error.missing ?? 0) + 1));
 }
 
 const front: DatagramFront = nbt.readDatagramFront(pieces[0], 1);

@@ -1,9 +1,9 @@
 """The numbers and structures of include/nbt.h. tools/lists.py --write makes this file."""
 from __future__ import annotations
 
-import ctypes
 import enum
 import struct
+from ctypes import Structure, c_size_t, c_uint8, c_uint16, c_uint32, c_uint64, c_void_p
 
 
 class Status(enum.IntEnum):
@@ -165,27 +165,10 @@ PLACED = frozenset(Status(it) for it in (
     100, 101,
 ))
 # Numbers of packets.
-NS = 0x0002
-NULL = 0x000a
-NB = 0x0020
-NBSTAT = 0x0021
-R = 0x8000
-OPCODE = 0x7800
-NM_FLAGS = 0x07f0
-AA = 0x0400
-TC = 0x0200
-RD = 0x0100
-RA = 0x0080
-B = 0x0010
-RCODE = 0x000f
-G = 0x8000
-ONT = 0x6000
-DRG = 0x1000
-CNF = 0x0800
-ACT = 0x0400
-PRM = 0x0200
-MORE = 0x01
-FIRST = 0x02
+NS, NULL, NB, NBSTAT = 0x0002, 0x000a, 0x0020, 0x0021
+R, OPCODE, NM_FLAGS, AA, TC, RD, RA, B, RCODE = 0x8000, 0x7800, 0x07f0, 0x0400, 0x0200, 0x0100, 0x0080, 0x0010, 0x000f
+G, ONT, DRG, CNF, ACT, PRM = 0x8000, 0x6000, 0x1000, 0x0800, 0x0400, 0x0200
+MORE, FIRST = 0x01, 0x02
 # Limits.
 STACK = 65_536
 NAME_ROOM = 704
@@ -202,97 +185,70 @@ KEPT_FOR = 2_000
 TAKE_ROOM = 66_045
 
 
-class Line(ctypes.Structure):
+class Line(Structure):
     """struct nbt_line."""
 
-    _fields_ = [
-        ('kind', ctypes.c_uint32), ('port', ctypes.c_uint16), ('moment', ctypes.c_uint64),
-    ]
+    _fields_ = [('kind', c_uint32), ('port', c_uint16), ('moment', c_uint64)]
 
 
-class Datagram(ctypes.Structure):
+class Datagram(Structure):
     """struct nbt_datagram."""
 
-    _fields_ = [
-        ('type', ctypes.c_uint8), ('flags', ctypes.c_uint8), ('identifier', ctypes.c_uint16),
-        ('address', ctypes.c_uint32), ('port', ctypes.c_uint16), ('offset', ctypes.c_uint16),
-        ('source', ctypes.c_size_t), ('source_length', ctypes.c_size_t), ('destination', ctypes.c_size_t),
-        ('destination_length', ctypes.c_size_t), ('data', ctypes.c_size_t), ('data_length', ctypes.c_size_t),
-        ('used', ctypes.c_size_t),
-    ]
+    _fields_ = [('type', c_uint8), ('flags', c_uint8), ('identifier', c_uint16), ('address', c_uint32), ('port', c_uint16),
+                ('offset', c_uint16), ('source', c_size_t), ('source_length', c_size_t), ('destination', c_size_t),
+                ('destination_length', c_size_t), ('data', c_size_t), ('data_length', c_size_t), ('used', c_size_t)]
 
 
-class DatagramFront(ctypes.Structure):
+class DatagramFront(Structure):
     """struct nbt_datagram_front."""
 
-    _fields_ = [
-        ('type', ctypes.c_uint8), ('flags', ctypes.c_uint8), ('identifier', ctypes.c_uint16),
-        ('address', ctypes.c_uint32), ('port', ctypes.c_uint16), ('offset', ctypes.c_uint16),
-        ('source', ctypes.c_size_t), ('source_length', ctypes.c_size_t), ('destination', ctypes.c_size_t),
-        ('destination_length', ctypes.c_size_t),
-    ]
+    _fields_ = [('type', c_uint8), ('flags', c_uint8), ('identifier', c_uint16), ('address', c_uint32), ('port', c_uint16),
+                ('offset', c_uint16), ('source', c_size_t), ('source_length', c_size_t), ('destination', c_size_t),
+                ('destination_length', c_size_t)]
 
 
-class Session(ctypes.Structure):
+class Session(Structure):
     """struct nbt_session."""
 
-    _fields_ = [
-        ('type', ctypes.c_uint8), ('body', ctypes.c_size_t), ('body_length', ctypes.c_size_t),
-        ('used', ctypes.c_size_t),
-    ]
+    _fields_ = [('type', c_uint8), ('body', c_size_t), ('body_length', c_size_t), ('used', c_size_t)]
 
 
-class SessionFront(ctypes.Structure):
+class SessionFront(Structure):
     """struct nbt_session_front."""
 
-    _fields_ = [
-        ('type', ctypes.c_uint8), ('flags', ctypes.c_uint8), ('body_length', ctypes.c_size_t),
-    ]
+    _fields_ = [('type', c_uint8), ('flags', c_uint8), ('body_length', c_size_t)]
 
 
-class SessionNames(ctypes.Structure):
+class SessionNames(Structure):
     """struct nbt_session_names."""
 
-    _fields_ = [
-        ('called_length', ctypes.c_uint8), ('called', ctypes.c_uint8 * 255), ('calling_length', ctypes.c_uint8),
-        ('calling', ctypes.c_uint8 * 255),
-    ]
+    _fields_ = [('called_length', c_uint8), ('called', c_uint8 * 255), ('calling_length', c_uint8), ('calling', c_uint8 * 255)]
 
 
-class SessionRetarget(ctypes.Structure):
+class SessionRetarget(Structure):
     """struct nbt_session_retarget."""
 
-    _fields_ = [
-        ('address', ctypes.c_uint32), ('port', ctypes.c_uint16),
-    ]
+    _fields_ = [('address', c_uint32), ('port', c_uint16)]
 
 
-class Difference(ctypes.Structure):
+class Difference(Structure):
     """struct nbt_difference."""
 
-    _fields_ = [
-        ('address', ctypes.c_uint32), ('port', ctypes.c_uint16), ('identifier', ctypes.c_uint16),
-        ('differ', ctypes.c_uint8),
-    ]
+    _fields_ = [('address', c_uint32), ('port', c_uint16), ('identifier', c_uint16), ('differ', c_uint8)]
 
 
-class Station(ctypes.Structure):
+class Station(Structure):
     """struct nbt_station."""
 
-    _fields_ = [
-        ('at', ctypes.c_void_p),
-    ]
+    _fields_ = [('at', c_void_p)]
 
 
-class Taken(ctypes.Structure):
+class Taken(Structure):
     """struct nbt_taken."""
 
-    _fields_ = [
-        ('outcome', ctypes.c_uint32), ('address', ctypes.c_uint32), ('port', ctypes.c_uint16),
-        ('identifier', ctypes.c_uint16), ('type', ctypes.c_uint8), ('source_length', ctypes.c_size_t),
-        ('destination_length', ctypes.c_size_t), ('data_length', ctypes.c_size_t), ('error_length', ctypes.c_size_t),
-        ('refusal', ctypes.c_uint32), ('refused_at', ctypes.c_size_t),
-    ]
+    _fields_ = [('outcome', c_uint32), ('address', c_uint32), ('port', c_uint16), ('identifier', c_uint16), ('type', c_uint8),
+                ('source_length', c_size_t), ('destination_length', c_size_t), ('data_length', c_size_t), ('error_length', c_size_t),
+                ('refusal', c_uint32), ('refused_at', c_size_t)]
 
 
 # Structures that are many, as they lie.

@@ -36,7 +36,7 @@ class NbtError(ValueError):
 
 
 class MoreNeeded(NbtError):
-    """The packet isn't there whole yet: `missing` is how many bytes of it are missing, at least."""
+    """The packet isn't there whole yet: `missing` is how many bytes of it are missing, at least. `at` has the same number, and is no place."""
 
     @property
     def missing(self) -> int:

@@ -166,7 +166,8 @@ class Sessions(unittest.TestCase):
         for data, missing in [(b'', 4), (b'\x85', 3), (b'\0\0\0\x05he', 3)]:
             with self.assertRaises(nbt.MoreNeeded) as caught:
                 nbt.SessionPacket.read(data)
-            self.assertEqual((caught.exception.status, caught.exception.missing), (Status.MORE, missing))
+            more = caught.exception
+            self.assertEqual((more.status, more.missing, more.at), (Status.MORE, missing, missing))
 
     def test_refused(self):
         for data, status, at in [(b'\x86\0\0\0', Status.UNKNOWN_TYPE, None), (b'\0\2\0\0', Status.RESERVED_FLAGS, None),

@@ -22,11 +22,6 @@ fn bytes_of(digits: &str) -> Result<Vec<u8>, Box<dyn Error>> {
     let digits = if digits == "empty" { "" } else { digits };
     (0..digits.len())
         .step_by(2)
-        .map(|at| {
-            Ok(u8::from_str_radix(
-                digits.get(at..at + 2).ok_or("an odd digit")?,
-                16,
-            )?)
-        })
+        .map(|at| Ok(u8::from_str_radix(digits.get(at..at + 2).ok_or("an odd digit")?, 16)?))
         .collect()
 }

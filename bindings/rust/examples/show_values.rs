@@ -50,10 +50,8 @@ fn service_lines(payload: &[u8]) -> nbt::Result<String> {
 /// The lines of a packet, or of what stands of one.
 fn standing(packet: &Packet<'_>) -> String {
     let (header, [qd, an, ns, ar]) = (packet.header, packet.header.counts);
-    let mut said = format!(
-        "\n  header {:04x} {:04x} {qd} {an} {ns} {ar} used {}",
-        header.identifier, header.word, packet.used
-    );
+    let mut said =
+        format!("\n  header {:04x} {:04x} {qd} {an} {ns} {ar} used {}", header.identifier, header.word, packet.used);
     for it in packet.questions() {
         said += &format!("\n  0 {} {:04x} {:04x}", marked(it.name), it.kind, it.class);
     }
@@ -87,15 +85,13 @@ fn marked(name: Name) -> String {
 /// What RDATA says.
 fn rdata_words(rdata: &Rdata<'_>) -> String {
     match rdata {
-        Rdata::Addresses(addresses) => addresses.clone().fold("addresses".into(), |said, it| {
-            format!("{said} {:04x}/{}", it.nb_flags, it.address)
-        }),
+        Rdata::Addresses(addresses) => {
+            addresses.clone().fold("addresses".into(), |said, it| format!("{said} {:04x}/{}", it.nb_flags, it.address))
+        }
         Rdata::NodeStatus(status) => {
             let unit = status.unit.map_or("-".into(), |it| digits_of(&it));
             let names = status.names.clone();
-            names.fold(format!("nodes {unit}"), |said, it| {
-                format!("{said} {:04x}/{}", it.flags, it.name)
-            })
+            names.fold(format!("nodes {unit}"), |said, it| format!("{said} {:04x}/{}", it.flags, it.name))
         }
         Rdata::NameServer(name) => format!("domain {name}"),
         Rdata::Other(data) => format!("bytes {}", digits_of(data)),
@@ -133,9 +129,7 @@ fn datagram_line(payload: &[u8]) -> nbt::Result<String> {
         Body::Query(query, name) => (query as u8, format!("0 - {name} empty")),
     };
     let used = packet.used;
-    Ok(format!(
-        "{kind:02x} {flags:02x} {sender}/{number:04x} {said} used {used}"
-    ))
+    Ok(format!("{kind:02x} {flags:02x} {sender}/{number:04x} {said} used {used}"))
 }
 
 /// The lines of a payload of port 139: its packet, and the header at its front.
@@ -183,11 +177,6 @@ fn bytes_of(digits: &str) -> Result<Vec<u8>, Box<dyn Error>> {
     let digits = if digits == "empty" { "" } else { digits };
     (0..digits.len())
         .step_by(2)
-        .map(|at| {
-            Ok(u8::from_str_radix(
-                digits.get(at..at + 2).ok_or("an odd digit")?,
-                16,
-            )?)
-        })
+        .map(|at| Ok(u8::from_str_radix(digits.get(at..at + 2).ok_or("an odd digit")?, 16)?))
         .collect()
 }

@@ -18,10 +18,7 @@ pub enum Line {
         /// Its bytes.
         #[cfg_attr(
             feature = "serde",
-            serde(
-                serialize_with = "crate::serialized::digits",
-                deserialize_with = "crate::serialized::bytes"
-            )
+            serde(serialize_with = "crate::serialized::digits", deserialize_with = "crate::serialized::bytes")
         )]
         payload: Vec<u8>,
     },
@@ -50,26 +47,10 @@ pub enum Line {
 /// `BadLine` for any other line, and for one of more than 262,200 bytes; `NoMemory`.
 pub fn capture_line(line: &[u8]) -> Result<Option<Line>> {
     let mut said = FoundLine::EMPTY;
-    // SAFETY: the line is a slice, and what is written lies apart from it.
-    let payload = unsafe {
-        written(|room| {
-            nbt_capture_line(
-                line.as_ptr(),
-                line.len(),
-                &mut said,
-                room.into,
-                room.length,
-                room.used,
-            )
-        })
-    }?;
+    let payload = written!(nbt_capture_line([line], &mut said))?;
     let FoundLine { kind, port, moment } = said;
     Ok(match kind {
-        PACKET => Some(Line::Packet {
-            port,
-            moment,
-            payload,
-        }),
+        PACKET => Some(Line::Packet { port, moment, payload }),
         TICK => Some(Line::Tick { now: moment }),
         _ => None,
     })

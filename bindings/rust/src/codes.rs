@@ -1,4 +1,68 @@
-//! What enumerations of the numbers of packets have alike.
+//! What the numbers, enumerations and structures of the library have alike.
+
+/// Constants of one width.
+macro_rules! constants {
+    ($width:ty: $($(#[$each:meta])* $name:ident = $number:literal;)*) => {
+        $($(#[$each])* pub const $name: $width = $number;)*
+    };
+}
+
+/// The statuses, and a constant for each.
+macro_rules! statuses {
+    ($(#[$of:meta])* $name:ident { $($(#[$each:meta])* $member:ident $constant:ident = $number:literal;)* }) => {
+        $(#[$of])*
+        #[derive(Clone, Copy, Debug, PartialEq, Eq, PartialOrd, Ord, Hash)]
+        #[cfg_attr(feature = "serde", derive(serde::Serialize, serde::Deserialize))]
+        #[cfg_attr(feature = "serde", serde(rename_all = "SCREAMING_SNAKE_CASE"))]
+        #[non_exhaustive]
+        #[repr(u32)]
+        pub enum $name {
+            $($(#[$each])* $member = $number,)*
+        }
+
+        impl $name {
+            /// All of them, by number.
+            pub const ALL: [$name; [$($number),*].len()] = [$($name::$member),*];
+        }
+
+        $(pub const $constant: u32 = $number;)*
+    };
+}
+
+/// What a structure has before a call fills it in.
+pub(crate) trait Empty {
+    const EMPTY: Self;
+}
+
+macro_rules! empty {
+    ($($number:ty)*) => { $(impl Empty for $number { const EMPTY: $number = 0; })* };
+}
+
+empty! { u8 u16 u32 u64 usize }
+
+impl<const LENGTH: usize> Empty for [u8; LENGTH] {
+    const EMPTY: [u8; LENGTH] = [0; LENGTH];
+}
+
+/// Structures as C has them, which calls fill in.
+macro_rules! structures {
+    ($($(#[$of:meta])* $name:ident { $($field:ident: $kind:ty,)* })*) => {
+        $($(#[$of])*
+        #[repr(C)]
+        #[derive(Clone, Copy, Debug)]
+        pub struct $name {
+            $(pub $field: $kind,)*
+        }
+
+        impl $name {
+            pub const EMPTY: $name = $name { $($field: <$kind as crate::codes::Empty>::EMPTY,)* };
+        }
+
+        impl crate::codes::Empty for $name {
+            const EMPTY: $name = $name::EMPTY;
+        })*
+    };
+}
 
 /// An enumeration of numbers of eight bits, each with its word; and, where something is said of other numbers, which one has a
 /// number.
@@ -38,4 +102,4 @@ macro_rules! numbered {
     };
 }
 
-pub(crate) use numbered;
+pub(crate) use {constants, numbered, statuses, structures};

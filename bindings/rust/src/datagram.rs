@@ -24,10 +24,9 @@
 use std::net::{Ipv4Addr, SocketAddrV4};
 
 use crate::header::{
-    datagram_flag, nbt_datagram_error, nbt_datagram_query, nbt_datagram_read, nbt_datagram_write,
-    FoundDatagram, DONE,
+    datagram_flag, nbt_datagram_error, nbt_datagram_query, nbt_datagram_read, nbt_datagram_write, FoundDatagram, DONE,
 };
-use crate::room::written;
+use crate::room::{found, written};
 use crate::{Error, Result, Spelling};
 
 pub use crate::datagram_front::{read_front, Front, Header};
@@ -99,9 +98,7 @@ impl Packet<'_> {
 /// `Truncated` for less than the ten bytes of a header, `UnknownType`, `Truncated`, `SourceTruncated` to
 /// `SourceNotNetbios`, `DestinationTruncated` to `DestinationNotNetbios`, judged in this order.
 pub fn read(payload: &[u8]) -> Result<Packet<'_>> {
-    let (mut found, mut at) = (FoundDatagram::EMPTY, 0);
-    // SAFETY: the payload is a slice, and what is written lies apart from it.
-    let status = unsafe { nbt_datagram_read(payload.as_ptr(), payload.len(), &mut found, &mut at) };
+    let (status, found, at) = found!(FoundDatagram, nbt_datagram_read([payload]));
     if status != DONE {
         return Err(Error::new(status, at));
     }
@@ -172,29 +169,10 @@ impl Datagram<'_> {
     /// `SourceBadText` to `DestinationLongText`, `LongData` for data over 65,535 bytes, `ZeroPiece`, `LongData` where
     /// the longest packet would pass 65,535 bytes, `NoMemory`.
     pub fn cut(&self, most: u16) -> Result<Packets> {
-        // SAFETY: texts and data are slices, and the room's parts lie apart from them.
-        let bytes = unsafe {
-            written(|room| {
-                nbt_datagram_write(
-                    self.kind as u8,
-                    self.identifier,
-                    u32::from(*self.sender.ip()),
-                    self.sender.port(),
-                    self.source.as_ptr(),
-                    self.source.len(),
-                    self.destination.as_ptr(),
-                    self.destination.len(),
-                    self.data.as_ptr(),
-                    self.data.len(),
-                    most,
-                    room.into,
-                    room.length,
-                    room.used,
-                    room.at,
-                )
-            })
-        };
-        Ok(Packets(bytes?))
+        let Datagram { kind, identifier, sender, source, destination, data } = *self;
+        let (kind, address, port) = (kind as u8, u32::from(*sender.ip()), sender.port());
+        written!(nbt_datagram_write(kind, identifier, address, port, [source], [destination], [data], most, at))
+            .map(Packets)
     }
 }
 
@@ -248,20 +226,7 @@ impl<'a> Iterator for Iter<'a> {
 /// `NoMemory`.
 pub fn write_error(identifier: u16, sender: SocketAddrV4, code: u8) -> Result<Vec<u8>> {
     let (address, port) = (u32::from(*sender.ip()), sender.port());
-    // SAFETY: the room's parts lie apart from each other.
-    unsafe {
-        written(|room| {
-            nbt_datagram_error(
-                identifier,
-                address,
-                port,
-                code,
-                room.into,
-                room.length,
-                room.used,
-            )
-        })
-    }
+    written!(nbt_datagram_error(identifier, address, port, code))
 }
 
 /// A query to a distribution server about the name with this text, or its answer.
@@ -269,27 +234,7 @@ pub fn write_error(identifier: u16, sender: SocketAddrV4, code: u8) -> Result<Ve
 /// # Errors
 ///
 /// `BadText`, `LongText`, `NoMemory`, judged in this order.
-pub fn write_query(
-    query: Query,
-    identifier: u16,
-    sender: SocketAddrV4,
-    name: &str,
-) -> Result<Vec<u8>> {
-    // SAFETY: the name is a slice, and the room's parts lie apart from it.
-    unsafe {
-        written(|room| {
-            nbt_datagram_query(
-                query as u8,
-                identifier,
-                u32::from(*sender.ip()),
-                sender.port(),
-                name.as_ptr(),
-                name.len(),
-                room.into,
-                room.length,
-                room.used,
-                room.at,
-            )
-        })
-    }
+pub fn write_query(query: Query, identifier: u16, sender: SocketAddrV4, name: &str) -> Result<Vec<u8>> {
+    let (address, port) = (u32::from(*sender.ip()), sender.port());
+    written!(nbt_datagram_query(query as u8, identifier, address, port, [name], at))
 }

@@ -4,6 +4,7 @@ use std::net::{Ipv4Addr, SocketAddrV4};
 
 use crate::datagram::read;
 use crate::header::{datagram_flag, nbt_datagram_front, FoundDatagramFront, DONE};
+use crate::room::found;
 use crate::{Error, Spelling};
 
 /// The header of a packet of port 138, whether or not the packet stands, and the names of a fragment that are there whole.
@@ -74,21 +75,13 @@ pub struct Front<'a> {
 /// # Ok::<(), Box<dyn std::error::Error>>(())
 /// ```
 pub fn read_front(payload: &[u8]) -> Front<'_> {
-    let (mut found, mut at) = (FoundDatagramFront::EMPTY, 0);
-    // SAFETY: the payload is a slice, and what is written lies apart from it.
-    let status =
-        unsafe { nbt_datagram_front(payload.as_ptr(), payload.len(), &mut found, &mut at) };
-    Front {
-        header: (status == DONE).then(|| header_of(payload, &found)),
-        fault: read(payload).err(),
-    }
+    let (status, found, _) = found!(FoundDatagramFront, nbt_datagram_front([payload]));
+    Front { header: (status == DONE).then(|| header_of(payload, &found)), fault: read(payload).err() }
 }
 
 /// The header that was found in this payload.
 fn header_of<'a>(payload: &'a [u8], found: &FoundDatagramFront) -> Header<'a> {
-    let name = |start: usize, length: usize| {
-        (length > 0).then(|| Spelling(&payload[start..start + length]))
-    };
+    let name = |start: usize, length: usize| (length > 0).then(|| Spelling(&payload[start..start + length]));
     Header {
         message_type: found.kind,
         flags: found.flags,

@@ -20,26 +20,15 @@ impl Error {
     /// The error of a status that the library answered, and of the place that it wrote.
     pub(crate) fn new(number: u32, at: usize) -> Error {
         let status = Status::from_number(number);
-        Error {
-            status,
-            number,
-            at: status.has_place().then_some(at),
-        }
+        Error { status, number, at: status.has_place().then_some(at) }
     }
 
     /// Want of memory.
-    pub(crate) const NO_MEMORY: Error = Error {
-        status: Status::NoMemory,
-        number: Status::NoMemory as u32,
-        at: None,
-    };
+    pub(crate) const NO_MEMORY: Error = Error { status: Status::NoMemory, number: Status::NoMemory as u32, at: None };
 
     /// A number that no packet has for its type.
-    pub(crate) const UNKNOWN_TYPE: Error = Error {
-        status: Status::UnknownType,
-        number: Status::UnknownType as u32,
-        at: None,
-    };
+    pub(crate) const UNKNOWN_TYPE: Error =
+        Error { status: Status::UnknownType, number: Status::UnknownType as u32, at: None };
 
     /// Why the call did nothing.
     pub fn status(self) -> Status {
@@ -53,9 +42,15 @@ impl Error {
     }
 
     /// Where the fault stands, in bytes from the start of the input that has it, counted from 0; `None` where it has no
-    /// place.
+    /// place. Of [`Status::More`] it is no place, but what [`Error::missing`] answers.
     pub fn at(self) -> Option<usize> {
         self.at
+    }
+
+    /// How many bytes of a packet are missing, at least, where it isn't there whole yet; `None` of any other status than
+    /// [`Status::More`].
+    pub fn missing(self) -> Option<usize> {
+        self.at.filter(|_| self.status == Status::More)
     }
 }
 

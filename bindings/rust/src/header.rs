@@ -5,157 +5,138 @@
 
 use std::ffi::c_void;
 
-/// Why a call did nothing. Each is a number of `enum nbt_status`, which stands for one thing in all versions; its text
-/// is the library's words, as in `bad text`.
-#[derive(Clone, Copy, Debug, PartialEq, Eq, PartialOrd, Ord, Hash)]
-#[cfg_attr(feature = "serde", derive(serde::Serialize, serde::Deserialize))]
-#[cfg_attr(feature = "serde", serde(rename_all = "SCREAMING_SNAKE_CASE"))]
-#[non_exhaustive]
-#[repr(u32)]
-pub enum Status {
-    /// Memory ran out.
-    NoMemory = 2,
-    /// A text is no name's: it hasn't the form; the place: how many bytes at its front some name begins with.
-    BadText = 10,
-    /// A text is no name's: a name of more than 15 characters, a label of more than 63, or too long a scope.
-    LongText = 11,
-    /// A text is no name's: as [`Status::BadText`], of the source's text; the place counts in it.
-    SourceBadText = 12,
-    /// A text is no name's: as [`Status::LongText`], of the source's text.
-    SourceLongText = 13,
-    /// A text is no name's: as [`Status::BadText`], of the destination's text; the place counts in it.
-    DestinationBadText = 14,
-    /// A text is no name's: as [`Status::LongText`], of the destination's text.
-    DestinationLongText = 15,
-    /// A name can't be read in a packet or a spelling (RFC 1002 section 4.1): it ends too early; the place: where.
-    NameTruncated = 20,
-    /// A name can't be read in a packet or a spelling (RFC 1002 section 4.1): a length byte begins with the bits 01 or 10; the place: where it stands.
-    NameReservedLabel = 21,
-    /// A name can't be read in a packet or a spelling (RFC 1002 section 4.1): a pointer stands where none may; the place: where.
-    NamePointer = 22,
-    /// A name can't be read in a packet or a spelling (RFC 1002 section 4.1): a label makes the spelling longer than 255 bytes; the place: where it stands.
-    NameLong = 23,
-    /// A name can't be read in a packet or a spelling (RFC 1002 section 4.1): labels that no NetBIOS name has; the place: a place in their spelling. In a payload in which the name has no pointer, byte the place after the one where the name begins: 4 for the first name of a session request, 14 for the source of a datagram, 10 for the name of a query of port 138; a second name begins after the zero byte of the first.
-    NameNotNetbios = 24,
-    /// A name can't be read in a packet or a spelling (RFC 1002 section 4.1): bytes after the spelling; the place: where they begin.
-    NameTrailingBytes = 25,
-    /// A name can't be read in a packet or a spelling (RFC 1002 section 4.1): a pointer that doesn't go back; the place: where; of names of the name service alone.
-    NameBadPointer = 26,
-    /// The source's name in a datagram packet: as [`Status::NameTruncated`].
-    SourceTruncated = 30,
-    /// The source's name in a datagram packet: as [`Status::NameReservedLabel`].
-    SourceReservedLabel = 31,
-    /// The source's name in a datagram packet: as [`Status::NamePointer`].
-    SourcePointer = 32,
-    /// The source's name in a datagram packet: as [`Status::NameLong`].
-    SourceLong = 33,
-    /// The source's name in a datagram packet: as [`Status::NameNotNetbios`].
-    SourceNotNetbios = 34,
-    /// The source's name in a datagram packet: as [`Status::NameBadPointer`]; no call of this version answers it.
-    SourceBadPointer = 36,
-    /// The destination's name in a datagram packet: as [`Status::NameTruncated`].
-    DestinationTruncated = 40,
-    /// The destination's name in a datagram packet: as [`Status::NameReservedLabel`].
-    DestinationReservedLabel = 41,
-    /// The destination's name in a datagram packet: as [`Status::NamePointer`].
-    DestinationPointer = 42,
-    /// The destination's name in a datagram packet: as [`Status::NameLong`].
-    DestinationLong = 43,
-    /// The destination's name in a datagram packet: as [`Status::NameNotNetbios`].
-    DestinationNotNetbios = 44,
-    /// The destination's name in a datagram packet: as [`Status::NameBadPointer`]; no call of this version answers it.
-    DestinationBadPointer = 46,
-    /// A packet: the payload ends inside the packet; the place: where it ends.
-    Truncated = 50,
-    /// A packet: no packet has this type.
-    UnknownType = 51,
-    /// A packet: the packet isn't there whole yet; the place: how many bytes are missing, at least.
-    More = 52,
-    /// A packet: a flag that has to be zero is set (RFC 1002 section 4.3.1).
-    ReservedFlags = 53,
-    /// A packet: no packet of this type has a body of this length.
-    BadLength = 54,
-    /// A packet: bytes after the names of a session request; the place: where they begin.
-    TrailingBytes = 55,
-    /// A packet: the name in RDATA of type NS ends elsewhere than the RDATA; the place: where the RDATA begins.
-    NameRdata = 56,
-    /// A packet: the header counts fewer questions and records.
-    NoItem = 57,
-    /// A packet: RDATA of another type, or not of the form that its type has.
-    OtherRdata = 58,
-    /// A packet: RDATA has fewer parts; the place: how many.
-    NoPart = 59,
-    /// What was asked to be written: no number of enum nbt_request.
-    UnknownRequest = 60,
-    /// What was asked to be written: pieces of no bytes.
-    ZeroPiece = 61,
-    /// What was asked to be written: the data passes 65,535 bytes, or a packet of it does.
-    LongData = 62,
-    /// A saved table; of two, the first: it begins with neither NBT2 nor NBT1.
-    TableBadMagic = 70,
-    /// A saved table; of two, the first: it ends before or inside a field that has to follow.
-    TableTruncated = 71,
-    /// A saved table; of two, the first: no saved table has there what it has; the place: where.
-    TableNotCanonical = 72,
-    /// A saved table; of two, the first: a datagram longer than the longest; no call of this version answers it.
-    TableLong = 73,
-    /// A saved table; of two, the first: more keys of one address than may be held.
-    TableFullSource = 74,
-    /// A saved table; of two, the first: more keys than may be held in all.
-    TableFull = 75,
-    /// The second of two saved tables: as [`Status::TableBadMagic`].
-    SecondBadMagic = 80,
-    /// The second of two saved tables: as [`Status::TableTruncated`].
-    SecondTruncated = 81,
-    /// The second of two saved tables: as [`Status::TableNotCanonical`]; the place counts in the second.
-    SecondNotCanonical = 82,
-    /// The second of two saved tables: as [`Status::TableLong`]; no call of this version answers it.
-    SecondLong = 83,
-    /// The second of two saved tables: as [`Status::TableFullSource`].
-    SecondFullSource = 84,
-    /// The second of two saved tables: as [`Status::TableFull`].
-    SecondFull = 85,
-    /// A table, and the fragment or the table that it doesn't take in: a fragment has the flag 0x02 at an offset other than 0, or lacks it at 0.
-    MisplacedFirst = 90,
-    /// A table, and the fragment or the table that it doesn't take in: a fragment reaches past the longest datagram, 65,535 bytes.
-    Long = 91,
-    /// A table, and the fragment or the table that it doesn't take in: as many keys of the address are held as may be, and a further one is new.
-    FullSource = 92,
-    /// A table, and the fragment or the table that it doesn't take in: as many keys are held as may be in all, and a further one is new.
-    Full = 93,
-    /// A station, and its names: a name stands there twice; the place: where its second text begins.
-    NamePresent = 100,
-    /// A station, and its names: more than 254 names; the place: where the text of the 255th begins.
-    TooManyNames = 101,
-    /// A station, and its names: the station is none.
-    NoStation = 102,
-    /// A part of a packet: the packet stands, but its type isn't the one that has the part.
-    OtherType = 110,
-    /// A line of a capture: it is none of a capture's.
-    BadLine = 120,
-    /// A number that this version of the crate doesn't know: [`crate::Error::number`] keeps it.
-    UnknownStatus = 255,
+use crate::codes::{constants, statuses, structures};
+
+statuses! {
+    /// Why a call did nothing. Each is a number of `enum nbt_status`, which stands for one thing in all versions; its text
+    /// is the library's words, as in `bad text`.
+    Status {
+        /// Memory ran out.
+        NoMemory NO_MEMORY = 2;
+        /// A text is no name's: it hasn't the form; the place: how many bytes at its front some name begins with.
+        BadText BAD_TEXT = 10;
+        /// A text is no name's: a name of more than 15 characters, a label of more than 63, or too long a scope.
+        LongText LONG_TEXT = 11;
+        /// A text is no name's: as [`Status::BadText`], of the source's text; the place counts in it.
+        SourceBadText SOURCE_BAD_TEXT = 12;
+        /// A text is no name's: as [`Status::LongText`], of the source's text.
+        SourceLongText SOURCE_LONG_TEXT = 13;
+        /// A text is no name's: as [`Status::BadText`], of the destination's text; the place counts in it.
+        DestinationBadText DESTINATION_BAD_TEXT = 14;
+        /// A text is no name's: as [`Status::LongText`], of the destination's text.
+        DestinationLongText DESTINATION_LONG_TEXT = 15;
+        /// A name can't be read in a packet or a spelling (RFC 1002 section 4.1): it ends too early; the place: where.
+        NameTruncated NAME_TRUNCATED = 20;
+        /// A name can't be read in a packet or a spelling (RFC 1002 section 4.1): a length byte begins with the bits 01 or 10; the place: where it stands.
+        NameReservedLabel NAME_RESERVED_LABEL = 21;
+        /// A name can't be read in a packet or a spelling (RFC 1002 section 4.1): a pointer stands where none may; the place: where.
+        NamePointer NAME_POINTER = 22;
+        /// A name can't be read in a packet or a spelling (RFC 1002 section 4.1): a label makes the spelling longer than 255 bytes; the place: where it stands.
+        NameLong NAME_LONG = 23;
+        /// A name can't be read in a packet or a spelling (RFC 1002 section 4.1): labels that no NetBIOS name has; the place: a place in their spelling. In a payload in which the name has no pointer, byte the place after the one where the name begins: 4 for the first name of a session request, 14 for the source of a datagram, 10 for the name of a query of port 138; a second name begins after the zero byte of the first.
+        NameNotNetbios NAME_NOT_NETBIOS = 24;
+        /// A name can't be read in a packet or a spelling (RFC 1002 section 4.1): bytes after the spelling; the place: where they begin.
+        NameTrailingBytes NAME_TRAILING_BYTES = 25;
+        /// A name can't be read in a packet or a spelling (RFC 1002 section 4.1): a pointer that doesn't go back; the place: where; of names of the name service alone.
+        NameBadPointer NAME_BAD_POINTER = 26;
+        /// The source's name in a datagram packet: as [`Status::NameTruncated`].
+        SourceTruncated SOURCE_TRUNCATED = 30;
+        /// The source's name in a datagram packet: as [`Status::NameReservedLabel`].
+        SourceReservedLabel SOURCE_RESERVED_LABEL = 31;
+        /// The source's name in a datagram packet: as [`Status::NamePointer`].
+        SourcePointer SOURCE_POINTER = 32;
+        /// The source's name in a datagram packet: as [`Status::NameLong`].
+        SourceLong SOURCE_LONG = 33;
+        /// The source's name in a datagram packet: as [`Status::NameNotNetbios`].
+        SourceNotNetbios SOURCE_NOT_NETBIOS = 34;
+        /// The source's name in a datagram packet: as [`Status::NameBadPointer`]; no call of this version answers it.
+        SourceBadPointer SOURCE_BAD_POINTER = 36;
+        /// The destination's name in a datagram packet: as [`Status::NameTruncated`].
+        DestinationTruncated DESTINATION_TRUNCATED = 40;
+        /// The destination's name in a datagram packet: as [`Status::NameReservedLabel`].
+        DestinationReservedLabel DESTINATION_RESERVED_LABEL = 41;
+        /// The destination's name in a datagram packet: as [`Status::NamePointer`].
+        DestinationPointer DESTINATION_POINTER = 42;
+        /// The destination's name in a datagram packet: as [`Status::NameLong`].
+        DestinationLong DESTINATION_LONG = 43;
+        /// The destination's name in a datagram packet: as [`Status::NameNotNetbios`].
+        DestinationNotNetbios DESTINATION_NOT_NETBIOS = 44;
+        /// The destination's name in a datagram packet: as [`Status::NameBadPointer`]; no call of this version answers it.
+        DestinationBadPointer DESTINATION_BAD_POINTER = 46;
+        /// A packet: the payload ends inside the packet; the place: where it ends.
+        Truncated TRUNCATED = 50;
+        /// A packet: no packet has this type.
+        UnknownType UNKNOWN_TYPE = 51;
+        /// A packet: the packet isn't there whole yet; the place: how many bytes are missing, at least.
+        More MORE = 52;
+        /// A packet: a flag that has to be zero is set (RFC 1002 section 4.3.1).
+        ReservedFlags RESERVED_FLAGS = 53;
+        /// A packet: no packet of this type has a body of this length.
+        BadLength BAD_LENGTH = 54;
+        /// A packet: bytes after the names of a session request; the place: where they begin.
+        TrailingBytes TRAILING_BYTES = 55;
+        /// A packet: the name in RDATA of type NS ends elsewhere than the RDATA; the place: where the RDATA begins.
+        NameRdata NAME_RDATA = 56;
+        /// A packet: the header counts fewer questions and records.
+        NoItem NO_ITEM = 57;
+        /// A packet: RDATA of another type, or not of the form that its type has.
+        OtherRdata OTHER_RDATA = 58;
+        /// A packet: RDATA has fewer parts; the place: how many.
+        NoPart NO_PART = 59;
+        /// What was asked to be written: no number of enum nbt_request.
+        UnknownRequest UNKNOWN_REQUEST = 60;
+        /// What was asked to be written: pieces of no bytes.
+        ZeroPiece ZERO_PIECE = 61;
+        /// What was asked to be written: the data passes 65,535 bytes, or a packet of it does.
+        LongData LONG_DATA = 62;
+        /// A saved table; of two, the first: it begins with neither NBT2 nor NBT1.
+        TableBadMagic TABLE_BAD_MAGIC = 70;
+        /// A saved table; of two, the first: it ends before or inside a field that has to follow.
+        TableTruncated TABLE_TRUNCATED = 71;
+        /// A saved table; of two, the first: no saved table has there what it has; the place: where.
+        TableNotCanonical TABLE_NOT_CANONICAL = 72;
+        /// A saved table; of two, the first: a datagram longer than the longest; no call of this version answers it.
+        TableLong TABLE_LONG = 73;
+        /// A saved table; of two, the first: more keys of one address than may be held.
+        TableFullSource TABLE_FULL_SOURCE = 74;
+        /// A saved table; of two, the first: more keys than may be held in all.
+        TableFull TABLE_FULL = 75;
+        /// The second of two saved tables: as [`Status::TableBadMagic`].
+        SecondBadMagic SECOND_BAD_MAGIC = 80;
+        /// The second of two saved tables: as [`Status::TableTruncated`].
+        SecondTruncated SECOND_TRUNCATED = 81;
+        /// The second of two saved tables: as [`Status::TableNotCanonical`]; the place counts in the second.
+        SecondNotCanonical SECOND_NOT_CANONICAL = 82;
+        /// The second of two saved tables: as [`Status::TableLong`]; no call of this version answers it.
+        SecondLong SECOND_LONG = 83;
+        /// The second of two saved tables: as [`Status::TableFullSource`].
+        SecondFullSource SECOND_FULL_SOURCE = 84;
+        /// The second of two saved tables: as [`Status::TableFull`].
+        SecondFull SECOND_FULL = 85;
+        /// A table, and the fragment or the table that it doesn't take in: a fragment has the flag 0x02 at an offset other than 0, or lacks it at 0.
+        MisplacedFirst MISPLACED_FIRST = 90;
+        /// A table, and the fragment or the table that it doesn't take in: a fragment reaches past the longest datagram, 65,535 bytes.
+        Long LONG = 91;
+        /// A table, and the fragment or the table that it doesn't take in: as many keys of the address are held as may be, and a further one is new.
+        FullSource FULL_SOURCE = 92;
+        /// A table, and the fragment or the table that it doesn't take in: as many keys are held as may be in all, and a further one is new.
+        Full FULL = 93;
+        /// A station, and its names: a name stands there twice; the place: where its second text begins.
+        NamePresent NAME_PRESENT = 100;
+        /// A station, and its names: more than 254 names; the place: where the text of the 255th begins.
+        TooManyNames TOO_MANY_NAMES = 101;
+        /// A station, and its names: the station is none.
+        NoStation NO_STATION = 102;
+        /// A part of a packet: the packet stands, but its type isn't the one that has the part.
+        OtherType OTHER_TYPE = 110;
+        /// A line of a capture: it is none of a capture's.
+        BadLine BAD_LINE = 120;
+        /// A number that this version of the crate doesn't know: [`crate::Error::number`] keeps it.
+        UnknownStatus UNKNOWN_STATUS = 255;
+    }
 }
 
 impl Status {
-    /// All of them, by number.
-    pub const ALL: [Status; 61] = [
-        Status::NoMemory, Status::BadText, Status::LongText, Status::SourceBadText, Status::SourceLongText,
-        Status::DestinationBadText, Status::DestinationLongText, Status::NameTruncated, Status::NameReservedLabel,
-        Status::NamePointer, Status::NameLong, Status::NameNotNetbios, Status::NameTrailingBytes,
-        Status::NameBadPointer, Status::SourceTruncated, Status::SourceReservedLabel, Status::SourcePointer,
-        Status::SourceLong, Status::SourceNotNetbios, Status::SourceBadPointer, Status::DestinationTruncated,
-        Status::DestinationReservedLabel, Status::DestinationPointer, Status::DestinationLong,
-        Status::DestinationNotNetbios, Status::DestinationBadPointer, Status::Truncated, Status::UnknownType,
-        Status::More, Status::ReservedFlags, Status::BadLength, Status::TrailingBytes, Status::NameRdata,
-        Status::NoItem, Status::OtherRdata, Status::NoPart, Status::UnknownRequest, Status::ZeroPiece, Status::LongData,
-        Status::TableBadMagic, Status::TableTruncated, Status::TableNotCanonical, Status::TableLong,
-        Status::TableFullSource, Status::TableFull, Status::SecondBadMagic, Status::SecondTruncated,
-        Status::SecondNotCanonical, Status::SecondLong, Status::SecondFullSource, Status::SecondFull,
-        Status::MisplacedFirst, Status::Long, Status::FullSource, Status::Full, Status::NamePresent,
-        Status::TooManyNames, Status::NoStation, Status::OtherType, Status::BadLine, Status::UnknownStatus,
-    ];
-
     /// Whether it comes with a place, in bytes of the input.
     pub fn has_place(self) -> bool {
         matches!(self as u32,
@@ -164,137 +145,59 @@ impl Status {
     }
 }
 
-pub const DONE: u32 = 0;
-pub const NO_ROOM: u32 = 1;
-pub const NO_MEMORY: u32 = 2;
-pub const BAD_TEXT: u32 = 10;
-pub const LONG_TEXT: u32 = 11;
-pub const SOURCE_BAD_TEXT: u32 = 12;
-pub const SOURCE_LONG_TEXT: u32 = 13;
-pub const DESTINATION_BAD_TEXT: u32 = 14;
-pub const DESTINATION_LONG_TEXT: u32 = 15;
-pub const NAME_TRUNCATED: u32 = 20;
-pub const NAME_RESERVED_LABEL: u32 = 21;
-pub const NAME_POINTER: u32 = 22;
-pub const NAME_LONG: u32 = 23;
-pub const NAME_NOT_NETBIOS: u32 = 24;
-pub const NAME_TRAILING_BYTES: u32 = 25;
-pub const NAME_BAD_POINTER: u32 = 26;
-pub const SOURCE_TRUNCATED: u32 = 30;
-pub const SOURCE_RESERVED_LABEL: u32 = 31;
-pub const SOURCE_POINTER: u32 = 32;
-pub const SOURCE_LONG: u32 = 33;
-pub const SOURCE_NOT_NETBIOS: u32 = 34;
-pub const SOURCE_BAD_POINTER: u32 = 36;
-pub const DESTINATION_TRUNCATED: u32 = 40;
-pub const DESTINATION_RESERVED_LABEL: u32 = 41;
-pub const DESTINATION_POINTER: u32 = 42;
-pub const DESTINATION_LONG: u32 = 43;
-pub const DESTINATION_NOT_NETBIOS: u32 = 44;
-pub const DESTINATION_BAD_POINTER: u32 = 46;
-pub const TRUNCATED: u32 = 50;
-pub const UNKNOWN_TYPE: u32 = 51;
-pub const MORE: u32 = 52;
-pub const RESERVED_FLAGS: u32 = 53;
-pub const BAD_LENGTH: u32 = 54;
-pub const TRAILING_BYTES: u32 = 55;
-pub const NAME_RDATA: u32 = 56;
-pub const NO_ITEM: u32 = 57;
-pub const OTHER_RDATA: u32 = 58;
-pub const NO_PART: u32 = 59;
-pub const UNKNOWN_REQUEST: u32 = 60;
-pub const ZERO_PIECE: u32 = 61;
-pub const LONG_DATA: u32 = 62;
-pub const TABLE_BAD_MAGIC: u32 = 70;
-pub const TABLE_TRUNCATED: u32 = 71;
-pub const TABLE_NOT_CANONICAL: u32 = 72;
-pub const TABLE_LONG: u32 = 73;
-pub const TABLE_FULL_SOURCE: u32 = 74;
-pub const TABLE_FULL: u32 = 75;
-pub const SECOND_BAD_MAGIC: u32 = 80;
-pub const SECOND_TRUNCATED: u32 = 81;
-pub const SECOND_NOT_CANONICAL: u32 = 82;
-pub const SECOND_LONG: u32 = 83;
-pub const SECOND_FULL_SOURCE: u32 = 84;
-pub const SECOND_FULL: u32 = 85;
-pub const MISPLACED_FIRST: u32 = 90;
-pub const LONG: u32 = 91;
-pub const FULL_SOURCE: u32 = 92;
-pub const FULL: u32 = 93;
-pub const NAME_PRESENT: u32 = 100;
-pub const TOO_MANY_NAMES: u32 = 101;
-pub const NO_STATION: u32 = 102;
-pub const OTHER_TYPE: u32 = 110;
-pub const BAD_LINE: u32 = 120;
-pub const UNKNOWN_STATUS: u32 = 255;
+constants! { u32:
+    DONE = 0; NO_ROOM = 1;
+}
 
-pub const BLANK: u32 = 0;
-pub const PACKET: u32 = 1;
-pub const TICK: u32 = 2;
+constants! { u32:
+    BLANK = 0; PACKET = 1; TICK = 2;
+}
 
-pub const QUERY: u32 = 0;
-pub const NODE_STATUS: u32 = 1;
-pub const REGISTRATION: u32 = 2;
-pub const REFRESH: u32 = 3;
-pub const RELEASE: u32 = 4;
+constants! { u32:
+    QUERY = 0; NODE_STATUS = 1; REGISTRATION = 2; REFRESH = 3; RELEASE = 4;
+}
 
-pub const KEPT: u32 = 0;
-pub const SPOILT: u32 = 1;
-pub const DELIVERED: u32 = 2;
-pub const UNHEARD: u32 = 3;
-pub const OTHER: u32 = 4;
-pub const REFUSED: u32 = 5;
+constants! { u32:
+    KEPT = 0; SPOILT = 1; DELIVERED = 2; UNHEARD = 3; OTHER = 4; REFUSED = 5;
+}
 
 pub mod record_type {
-    /// RR_TYPE of a name server.
-    pub const NS: u16 = 0x0002;
-    /// RR_TYPE of an answer that says nothing of the name.
-    pub const NULL: u16 = 0x000a;
-    /// RR_TYPE of an address of a NetBIOS name.
-    pub const NB: u16 = 0x0020;
-    /// RR_TYPE of the status of a node.
-    pub const NBSTAT: u16 = 0x0021;
+    crate::codes::constants! { u16:
+        /// RR_TYPE of a name server.
+        NS = 0x0002;
+        /// RR_TYPE of an answer that says nothing of the name.
+        NULL = 0x000a;
+        /// RR_TYPE of an address of a NetBIOS name.
+        NB = 0x0020;
+        /// RR_TYPE of the status of a node.
+        NBSTAT = 0x0021;
+    }
 }
 
 pub mod word {
-    pub const R: u16 = 0x8000;
-    pub const OPCODE: u16 = 0x7800;
-    pub const NM_FLAGS: u16 = 0x07f0;
-    pub const AA: u16 = 0x0400;
-    pub const TC: u16 = 0x0200;
-    pub const RD: u16 = 0x0100;
-    pub const RA: u16 = 0x0080;
-    pub const B: u16 = 0x0010;
-    pub const RCODE: u16 = 0x000f;
+    crate::codes::constants! { u16:
+        R = 0x8000; OPCODE = 0x7800; NM_FLAGS = 0x07f0; AA = 0x0400; TC = 0x0200; RD = 0x0100; RA = 0x0080; B = 0x0010;
+        RCODE = 0x000f;
+    }
 }
 
 pub mod name_flag {
-    pub const G: u16 = 0x8000;
-    pub const ONT: u16 = 0x6000;
-    pub const DRG: u16 = 0x1000;
-    pub const CNF: u16 = 0x0800;
-    pub const ACT: u16 = 0x0400;
-    pub const PRM: u16 = 0x0200;
+    crate::codes::constants! { u16:
+        G = 0x8000; ONT = 0x6000; DRG = 0x1000; CNF = 0x0800; ACT = 0x0400; PRM = 0x0200;
+    }
 }
 
 pub mod datagram_flag {
-    pub const MORE: u8 = 0x01;
-    pub const FIRST: u8 = 0x02;
+    crate::codes::constants! { u8:
+        MORE = 0x01; FIRST = 0x02;
+    }
 }
 
-pub const STACK: u32 = 65_536;
-pub const NAME_ROOM: u32 = 704;
-pub const BRIEF_ROOM: u32 = 2_048;
-pub const MOST_LINE: u32 = 262_200;
-pub const LINE_ROOM: u32 = 131_097;
-pub const MOST_DATAGRAM: u32 = 65_535;
-pub const MOST_BODY: u32 = 131_071;
-pub const KEYS: u32 = 1_024;
-pub const MOST_KEYS: u32 = 65_535;
-pub const INPUT: u32 = 16_777_216;
-pub const MOST_NAMES: u32 = 254;
-pub const KEPT_FOR: u32 = 2_000;
-pub const TAKE_ROOM: u32 = 66_045;
+constants! { u32:
+    STACK = 65_536; NAME_ROOM = 704; BRIEF_ROOM = 2_048; MOST_LINE = 262_200; LINE_ROOM = 131_097;
+    MOST_DATAGRAM = 65_535; MOST_BODY = 131_071; KEYS = 1_024; MOST_KEYS = 65_535; INPUT = 16_777_216; MOST_NAMES = 254;
+    KEPT_FOR = 2_000; TAKE_ROOM = 66_045;
+}
 
 pub mod service {
     use crate::codes::numbered;
@@ -439,212 +342,71 @@ pub mod session {
     }
 }
 
-/// struct nbt_line.
-#[repr(C)]
-#[derive(Clone, Copy, Debug)]
-pub struct FoundLine {
-    pub kind: u32,
-    pub port: u16,
-    pub moment: u64,
-}
-
-impl FoundLine {
-    pub const EMPTY: FoundLine = FoundLine { kind: 0, port: 0, moment: 0 };
-}
-
-/// struct nbt_service_header.
-#[repr(C)]
-#[derive(Clone, Copy, Debug)]
-pub struct FoundServiceHeader {
-    pub identifier: u16,
-    pub word: u16,
-    pub questions: u16,
-    pub answers: u16,
-    pub authorities: u16,
-    pub additional: u16,
-    pub used: usize,
-}
-
-impl FoundServiceHeader {
-    pub const EMPTY: FoundServiceHeader = FoundServiceHeader { identifier: 0, word: 0, questions: 0, answers: 0, authorities: 0, additional: 0, used: 0 };
-}
-
-/// struct nbt_service_item.
-#[repr(C)]
-#[derive(Clone, Copy, Debug)]
-pub struct FoundServiceItem {
-    pub section: u32,
-    pub time_to_live: u32,
-    pub kind: u16,
-    pub class_number: u16,
-    pub data: usize,
-    pub data_length: usize,
-    pub next: usize,
-    pub netbios: u8,
-    pub name_length: u8,
-    pub name: [u8; 255],
-}
-
-impl FoundServiceItem {
-    pub const EMPTY: FoundServiceItem = FoundServiceItem { section: 0, time_to_live: 0, kind: 0, class_number: 0, data: 0, data_length: 0, next: 0, netbios: 0, name_length: 0, name: [0; 255] };
-}
-
-/// struct nbt_service_entry.
-#[repr(C)]
-#[derive(Clone, Copy, Debug)]
-pub struct FoundServiceEntry {
-    pub item: FoundServiceItem,
-    pub server_length: u8,
-    pub server: [u8; 255],
-}
-
-impl FoundServiceEntry {
-    pub const EMPTY: FoundServiceEntry = FoundServiceEntry { item: FoundServiceItem::EMPTY, server_length: 0, server: [0; 255] };
-}
-
-/// struct nbt_service_address.
-#[repr(C)]
-#[derive(Clone, Copy, Debug)]
-pub struct FoundServiceAddress {
-    pub address: u32,
-    pub flags: u16,
-}
-
-impl FoundServiceAddress {
-    pub const EMPTY: FoundServiceAddress = FoundServiceAddress { address: 0, flags: 0 };
-}
-
-/// struct nbt_service_node.
-#[repr(C)]
-#[derive(Clone, Copy, Debug)]
-pub struct FoundServiceNode {
-    pub flags: u16,
-    pub name: [u8; 16],
-}
-
-impl FoundServiceNode {
-    pub const EMPTY: FoundServiceNode = FoundServiceNode { flags: 0, name: [0; 16] };
-}
-
-/// struct nbt_service_unit.
-#[repr(C)]
-#[derive(Clone, Copy, Debug)]
-pub struct FoundServiceUnit {
-    pub bytes: [u8; 6],
-}
-
-impl FoundServiceUnit {
-    pub const EMPTY: FoundServiceUnit = FoundServiceUnit { bytes: [0; 6] };
-}
-
-/// struct nbt_datagram.
-#[repr(C)]
-#[derive(Clone, Copy, Debug)]
-pub struct FoundDatagram {
-    pub kind: u8,
-    pub flags: u8,
-    pub identifier: u16,
-    pub address: u32,
-    pub port: u16,
-    pub offset: u16,
-    pub source: usize,
-    pub source_length: usize,
-    pub destination: usize,
-    pub destination_length: usize,
-    pub data: usize,
-    pub data_length: usize,
-    pub used: usize,
-}
-
-impl FoundDatagram {
-    pub const EMPTY: FoundDatagram = FoundDatagram { kind: 0, flags: 0, identifier: 0, address: 0, port: 0, offset: 0, source: 0, source_length: 0, destination: 0, destination_length: 0, data: 0, data_length: 0, used: 0 };
-}
-
-/// struct nbt_datagram_front.
-#[repr(C)]
-#[derive(Clone, Copy, Debug)]
-pub struct FoundDatagramFront {
-    pub kind: u8,
-    pub flags: u8,
-    pub identifier: u16,
-    pub address: u32,
-    pub port: u16,
-    pub offset: u16,
-    pub source: usize,
-    pub source_length: usize,
-    pub destination: usize,
-    pub destination_length: usize,
-}
-
-impl FoundDatagramFront {
-    pub const EMPTY: FoundDatagramFront = FoundDatagramFront { kind: 0, flags: 0, identifier: 0, address: 0, port: 0, offset: 0, source: 0, source_length: 0, destination: 0, destination_length: 0 };
-}
-
-/// struct nbt_session.
-#[repr(C)]
-#[derive(Clone, Copy, Debug)]
-pub struct FoundSession {
-    pub kind: u8,
-    pub body: usize,
-    pub body_length: usize,
-    pub used: usize,
-}
-
-impl FoundSession {
-    pub const EMPTY: FoundSession = FoundSession { kind: 0, body: 0, body_length: 0, used: 0 };
-}
-
-/// struct nbt_session_front.
-#[repr(C)]
-#[derive(Clone, Copy, Debug)]
-pub struct FoundSessionFront {
-    pub kind: u8,
-    pub flags: u8,
-    pub body_length: usize,
-}
-
-impl FoundSessionFront {
-    pub const EMPTY: FoundSessionFront = FoundSessionFront { kind: 0, flags: 0, body_length: 0 };
-}
-
-/// struct nbt_session_names.
-#[repr(C)]
-#[derive(Clone, Copy, Debug)]
-pub struct FoundSessionNames {
-    pub called_length: u8,
-    pub called: [u8; 255],
-    pub calling_length: u8,
-    pub calling: [u8; 255],
-}
-
-impl FoundSessionNames {
-    pub const EMPTY: FoundSessionNames = FoundSessionNames { called_length: 0, called: [0; 255], calling_length: 0, calling: [0; 255] };
-}
-
-/// struct nbt_session_retarget.
-#[repr(C)]
-#[derive(Clone, Copy, Debug)]
-pub struct FoundSessionRetarget {
-    pub address: u32,
-    pub port: u16,
-}
-
-impl FoundSessionRetarget {
-    pub const EMPTY: FoundSessionRetarget = FoundSessionRetarget { address: 0, port: 0 };
-}
-
-/// struct nbt_difference.
-#[repr(C)]
-#[derive(Clone, Copy, Debug)]
-pub struct FoundDifference {
-    pub address: u32,
-    pub port: u16,
-    pub identifier: u16,
-    pub differ: u8,
-}
-
-impl FoundDifference {
-    pub const EMPTY: FoundDifference = FoundDifference { address: 0, port: 0, identifier: 0, differ: 0 };
+structures! {
+    /// struct nbt_line.
+    FoundLine {
+        kind: u32, port: u16, moment: u64,
+    }
+    /// struct nbt_service_header.
+    FoundServiceHeader {
+        identifier: u16, word: u16, questions: u16, answers: u16, authorities: u16, additional: u16, used: usize,
+    }
+    /// struct nbt_service_item.
+    FoundServiceItem {
+        section: u32, time_to_live: u32, kind: u16, class_number: u16, data: usize, data_length: usize, next: usize,
+        netbios: u8, name_length: u8, name: [u8; 255],
+    }
+    /// struct nbt_service_entry.
+    FoundServiceEntry {
+        item: FoundServiceItem, server_length: u8, server: [u8; 255],
+    }
+    /// struct nbt_service_address.
+    FoundServiceAddress {
+        address: u32, flags: u16,
+    }
+    /// struct nbt_service_node.
+    FoundServiceNode {
+        flags: u16, name: [u8; 16],
+    }
+    /// struct nbt_service_unit.
+    FoundServiceUnit {
+        bytes: [u8; 6],
+    }
+    /// struct nbt_datagram.
+    FoundDatagram {
+        kind: u8, flags: u8, identifier: u16, address: u32, port: u16, offset: u16, source: usize, source_length: usize,
+        destination: usize, destination_length: usize, data: usize, data_length: usize, used: usize,
+    }
+    /// struct nbt_datagram_front.
+    FoundDatagramFront {
+        kind: u8, flags: u8, identifier: u16, address: u32, port: u16, offset: u16, source: usize, source_length: usize,
+        destination: usize, destination_length: usize,
+    }
+    /// struct nbt_session.
+    FoundSession {
+        kind: u8, body: usize, body_length: usize, used: usize,
+    }
+    /// struct nbt_session_front.
+    FoundSessionFront {
+        kind: u8, flags: u8, body_length: usize,
+    }
+    /// struct nbt_session_names.
+    FoundSessionNames {
+        called_length: u8, called: [u8; 255], calling_length: u8, calling: [u8; 255],
+    }
+    /// struct nbt_session_retarget.
+    FoundSessionRetarget {
+        address: u32, port: u16,
+    }
+    /// struct nbt_difference.
+    FoundDifference {
+        address: u32, port: u16, identifier: u16, differ: u8,
+    }
+    /// struct nbt_taken.
+    FoundTaken {
+        outcome: u32, address: u32, port: u16, identifier: u16, kind: u8, source_length: usize,
+        destination_length: usize, data_length: usize, error_length: usize, refusal: u32, refused_at: usize,
+    }
 }
 
 /// struct nbt_station.
@@ -655,27 +417,6 @@ pub struct Handle {
 
 impl Handle {
     pub const EMPTY: Handle = Handle { at: std::ptr::null_mut() };
-}
-
-/// struct nbt_taken.
-#[repr(C)]
-#[derive(Clone, Copy, Debug)]
-pub struct FoundTaken {
-    pub outcome: u32,
-    pub address: u32,
-    pub port: u16,
-    pub identifier: u16,
-    pub kind: u8,
-    pub source_length: usize,
-    pub destination_length: usize,
-    pub data_length: usize,
-    pub error_length: usize,
-    pub refusal: u32,
-    pub refused_at: usize,
-}
-
-impl FoundTaken {
-    pub const EMPTY: FoundTaken = FoundTaken { outcome: 0, address: 0, port: 0, identifier: 0, kind: 0, source_length: 0, destination_length: 0, data_length: 0, error_length: 0, refusal: 0, refused_at: 0 };
 }
 
 extern "C" {

@@ -133,16 +133,8 @@ impl FromStr for Name {
     fn from_str(text: &str) -> Result<Name> {
         let (mut bytes, mut used, mut at) = ([0; LONGEST], 0, 0);
         // SAFETY: the text is a slice, and what is written lies apart from it.
-        let status = unsafe {
-            nbt_name_spell(
-                text.as_ptr(),
-                text.len(),
-                bytes.as_mut_ptr(),
-                LONGEST,
-                &mut used,
-                &mut at,
-            )
-        };
+        let status =
+            unsafe { nbt_name_spell(text.as_ptr(), text.len(), bytes.as_mut_ptr(), LONGEST, &mut used, &mut at) };
         match status {
             DONE => Ok(Name::of_bytes(bytes, used as u8)),
             _ => Err(Error::new(status, at)),

@@ -19,19 +19,7 @@ use crate::{Error, Result};
 ///
 /// `BadText`, `LongText`, `NoMemory`, judged in this order.
 pub fn spell(text: &str) -> Result<Vec<u8>> {
-    // SAFETY: the text is a slice, and the room's parts lie apart from it.
-    unsafe {
-        written(|room| {
-            nbt_name_spell(
-                text.as_ptr(),
-                text.len(),
-                room.into,
-                room.length,
-                room.used,
-                room.at,
-            )
-        })
-    }
+    written!(nbt_name_spell([text], at))
 }
 
 /// The text of the name with this spelling, which is without pointers and has no byte after it.
@@ -40,20 +28,7 @@ pub fn spell(text: &str) -> Result<Vec<u8>> {
 ///
 /// `NameTruncated` to `NameNotNetbios`, `NameTrailingBytes`, `NoMemory`.
 pub fn text(spelling: &[u8]) -> Result<String> {
-    // SAFETY: the spelling is a slice, and the room's parts lie apart from it.
-    let bytes = unsafe {
-        written(|room| {
-            nbt_name_text(
-                spelling.as_ptr(),
-                spelling.len(),
-                room.into,
-                room.length,
-                room.used,
-                room.at,
-            )
-        })
-    };
-    Ok(text_of(bytes?))
+    written!(nbt_name_text([spelling], at)).map(text_of)
 }
 
 /// The spelling of a name, lent from the packet that it was read in; a [`crate::Name`] is made of it to be kept. Equality and

@@ -24,19 +24,7 @@ pub fn show(port: u16, payload: &[u8]) -> Result<String> {
 ///
 /// `NoMemory`; the buffer is then empty.
 pub fn show_into(port: u16, payload: &[u8], text: &mut Vec<u8>) -> Result<()> {
-    // SAFETY: the payload is a slice, and the room's parts lie apart from it.
-    unsafe {
-        write_into(text, |room| {
-            nbt_show(
-                port,
-                payload.as_ptr(),
-                payload.len(),
-                room.into,
-                room.length,
-                room.used,
-            )
-        })
-    }
+    write_into!(text, nbt_show(port, [payload]))
 }
 
 /// The JSON object (RFC 8259) of a payload that came to this port, without a line feed: what `nbt show --json` prints of it, but for
@@ -63,19 +51,7 @@ pub fn json(port: u16, payload: &[u8]) -> Result<String> {
 ///
 /// `NoMemory`; the buffer is then empty.
 pub fn json_into(port: u16, payload: &[u8], text: &mut Vec<u8>) -> Result<()> {
-    // SAFETY: the payload is a slice, and the room's parts lie apart from it.
-    unsafe {
-        write_into(text, |room| {
-            nbt_json(
-                port,
-                payload.as_ptr(),
-                payload.len(),
-                room.into,
-                room.length,
-                room.used,
-            )
-        })
-    }
+    write_into!(text, nbt_json(port, [payload]))
 }
 
 /// The phrase of a payload that came to this port, without a line feed: what `nbt show --brief` prints of it after the two
@@ -101,19 +77,7 @@ pub fn brief(port: u16, payload: &[u8]) -> Result<String> {
 ///
 /// `NoMemory`; the buffer is then empty.
 pub fn brief_into(port: u16, payload: &[u8], text: &mut Vec<u8>) -> Result<()> {
-    // SAFETY: the payload is a slice, and the room's parts lie apart from it.
-    unsafe {
-        write_into(text, |room| {
-            nbt_brief(
-                port,
-                payload.as_ptr(),
-                payload.len(),
-                room.into,
-                room.length,
-                room.used,
-            )
-        })
-    }
+    write_into!(text, nbt_brief(port, [payload]))
 }
 
 /// The version of the library that is called, as `nbt --version` has it.
@@ -122,6 +86,5 @@ pub fn brief_into(port: u16, payload: &[u8], text: &mut Vec<u8>) -> Result<()> {
 ///
 /// `NoMemory`.
 pub fn version() -> Result<String> {
-    // SAFETY: the room's parts lie apart from each other.
-    unsafe { written(|room| nbt_version(room.into, room.length, room.used)) }.map(text_of)
+    written!(nbt_version()).map(text_of)
 }

@@ -4,9 +4,10 @@ use std::net::Ipv4Addr;
 
 use crate::header::service::NodeType;
 use crate::header::{
-    name_flag, nbt_service_address, nbt_service_node, nbt_service_unit, FoundServiceAddress,
-    FoundServiceNode, FoundServiceUnit, DONE, NO_PART,
+    name_flag, nbt_service_address, nbt_service_node, nbt_service_unit, FoundServiceAddress, FoundServiceNode,
+    FoundServiceUnit, DONE, NO_PART,
 };
+use crate::room::found;
 use crate::service::{Entry, NB, NBSTAT, NS};
 use crate::Name;
 
@@ -34,12 +35,8 @@ impl<'a> Rdata<'a> {
         match kind {
             NS => server.map_or(Rdata::Other(data), Rdata::NameServer),
             NB => Addresses::of(data).map_or(Rdata::Other(data), Rdata::Addresses),
-            NBSTAT => NodeNames::of(data).map_or(Rdata::Other(data), |names| {
-                Rdata::NodeStatus(NodeStatus {
-                    names,
-                    unit: unit_of(data),
-                })
-            }),
+            NBSTAT => NodeNames::of(data)
+                .map_or(Rdata::Other(data), |names| Rdata::NodeStatus(NodeStatus { names, unit: unit_of(data) })),
             _ => Rdata::Other(data),
         }
     }
@@ -57,11 +54,7 @@ impl<'a> Addresses<'a> {
     /// Those of RDATA, which has a form if a call past the last one says how many there are.
     fn of(data: &'a [u8]) -> Option<Addresses<'a>> {
         let (status, _, count) = address_at(data, usize::MAX);
-        (status == NO_PART).then_some(Addresses {
-            data,
-            next: 0,
-            count,
-        })
+        (status == NO_PART).then_some(Addresses { data, next: 0, count })
     }
 }
 
@@ -74,10 +67,7 @@ impl Iterator for Addresses<'_> {
             return None;
         }
         self.next += 1;
-        Some(Entry {
-            nb_flags: found.flags,
-            address: Ipv4Addr::from(found.address),
-        })
+        Some(Entry { nb_flags: found.flags, address: Ipv4Addr::from(found.address) })
     }
 
     fn size_hint(&self) -> (usize, Option<usize>) {
@@ -90,11 +80,7 @@ impl ExactSizeIterator for Addresses<'_> {}
 
 /// What the library answers for the address of a number.
 fn address_at(data: &[u8], number: usize) -> (u32, FoundServiceAddress, usize) {
-    let (mut found, mut at) = (FoundServiceAddress::EMPTY, 0);
-    // SAFETY: the data is a slice, and what is written lies apart from it.
-    let status =
-        unsafe { nbt_service_address(NB, data.as_ptr(), data.len(), number, &mut found, &mut at) };
-    (status, found, at)
+    found!(FoundServiceAddress, nbt_service_address(NB, [data], number))
 }
 
 /// The names of a node: RFC 1002 section 4.2.18.
@@ -104,10 +90,7 @@ pub struct NodeStatus<'a> {
     /// The names.
     pub names: NodeNames<'a>,
     /// UNIT_ID; `None` where the RDATA ends before it.
-    #[cfg_attr(
-        feature = "serde",
-        serde(serialize_with = "crate::serialized::digits_if")
-    )]
+    #[cfg_attr(feature = "serde", serde(serialize_with = "crate::serialized::digits_if"))]
     pub unit: Option<[u8; 6]>,
 }
 
@@ -165,11 +148,7 @@ impl<'a> NodeNames<'a> {
     /// Those of RDATA, which has a form if a call past the last one says how many there are.
     fn of(data: &'a [u8]) -> Option<NodeNames<'a>> {
         let (status, _, count) = node_at(data, usize::MAX);
-        (status == NO_PART).then_some(NodeNames {
-            data,
-            next: 0,
-            count,
-        })
+        (status == NO_PART).then_some(NodeNames { data, next: 0, count })
     }
 }
 
@@ -182,10 +161,7 @@ impl Iterator for NodeNames<'_> {
             return None;
         }
         self.next += 1;
-        Some(NodeName {
-            name: Name::from(found.name),
-            flags: found.flags,
-        })
+        Some(NodeName { name: Name::from(found.name), flags: found.flags })
     }
 
     fn size_hint(&self) -> (usize, Option<usize>) {
@@ -198,25 +174,11 @@ impl ExactSizeIterator for NodeNames<'_> {}
 
 /// What the library answers for the name of a number.
 fn node_at(data: &[u8], number: usize) -> (u32, FoundServiceNode, usize) {
-    let (mut found, mut at) = (FoundServiceNode::EMPTY, 0);
-    // SAFETY: the data is a slice, and what is written lies apart from it.
-    let status = unsafe {
-        nbt_service_node(
-            NBSTAT,
-            data.as_ptr(),
-            data.len(),
-            number,
-            &mut found,
-            &mut at,
-        )
-    };
-    (status, found, at)
+    found!(FoundServiceNode, nbt_service_node(NBSTAT, [data], number))
 }
 
 /// The unit that stands behind the names, if it does.
 fn unit_of(data: &[u8]) -> Option<[u8; 6]> {
-    let (mut unit, mut at) = (FoundServiceUnit::EMPTY, 0);
-    // SAFETY: the data is a slice, and what is written lies apart from it.
-    let status = unsafe { nbt_service_unit(NBSTAT, data.as_ptr(), data.len(), &mut unit, &mut at) };
+    let (status, unit, _) = found!(FoundServiceUnit, nbt_service_unit(NBSTAT, [data]));
     (status == DONE).then_some(unit.bytes)
 }

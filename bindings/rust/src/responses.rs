@@ -79,24 +79,12 @@ impl<'a> Response<'a> {
     /// A positive name query response (section 4.2.13): who has the name. R, AA and RD are set; a name server sets RA, 0x0080, in
     /// `word` too.
     pub fn positive(identifier: u16, name: &'a str, who: &'a [Entry], time_to_live: u32) -> Self {
-        Response {
-            identifier,
-            word: ANSWERED,
-            name,
-            time_to_live,
-            answer: Answer::Addresses(who),
-        }
+        Response { identifier, word: ANSWERED, name, time_to_live, answer: Answer::Addresses(who) }
     }
 
     /// A negative name query response (section 4.2.14), with this RCODE. R, AA and RD are set.
     pub fn negative(identifier: u16, name: &'a str, result: ResultCode) -> Self {
-        Response {
-            identifier,
-            word: ANSWERED | result as u16,
-            name,
-            time_to_live: 0,
-            answer: Answer::Other(NULL, &[]),
-        }
+        Response { identifier, word: ANSWERED | result as u16, name, time_to_live: 0, answer: Answer::Other(NULL, &[]) }
     }
 
     /// A node status response (section 4.2.18): the names of a node, and its unit. R and AA are set.
@@ -117,19 +105,8 @@ impl<'a> Response<'a> {
     /// }
     /// # Ok::<(), nbt::Error>(())
     /// ```
-    pub fn node_status(
-        identifier: u16,
-        name: &'a str,
-        names: &'a [NodeName],
-        unit: [u8; 6],
-    ) -> Self {
-        Response {
-            identifier,
-            word: OF_A_NODE,
-            name,
-            time_to_live: 0,
-            answer: Answer::NodeStatus(names, Some(unit)),
-        }
+    pub fn node_status(identifier: u16, name: &'a str, names: &'a [NodeName], unit: [u8; 6]) -> Self {
+        Response { identifier, word: OF_A_NODE, name, time_to_live: 0, answer: Answer::NodeStatus(names, Some(unit)) }
     }
 
     /// Its packet. What is written is what [`crate::service::read`] reads.
@@ -154,25 +131,10 @@ impl<'a> Response<'a> {
     pub fn write_into(&self, packet: &mut Vec<u8>) -> Result<()> {
         packet.clear();
         let (kind, data) = self.answer.packed()?;
-        // SAFETY: the name and the data are slices, and the room's parts lie apart from them.
-        unsafe {
-            write_into(packet, |room| {
-                nbt_service_response(
-                    self.identifier,
-                    self.word,
-                    self.name.as_ptr(),
-                    self.name.len(),
-                    kind,
-                    self.time_to_live,
-                    data.as_ptr(),
-                    data.len(),
-                    room.into,
-                    room.length,
-                    room.used,
-                    room.at,
-                )
-            })
-        }
+        write_into!(
+            packet,
+            nbt_service_response(self.identifier, self.word, [self.name], kind, self.time_to_live, [data], at)
+        )
     }
 }
 

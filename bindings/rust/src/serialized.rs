@@ -38,10 +38,7 @@ pub(crate) fn digits<S: Serializer>(bytes: impl AsRef<[u8]>, out: S) -> Result<S
 }
 
 /// The same of bytes that may be missing.
-pub(crate) fn digits_if<S: Serializer>(
-    bytes: &Option<impl AsRef<[u8]>>,
-    out: S,
-) -> Result<S::Ok, S::Error> {
+pub(crate) fn digits_if<S: Serializer>(bytes: &Option<impl AsRef<[u8]>>, out: S) -> Result<S::Ok, S::Error> {
     let digits = bytes.as_ref().map(|it| digits_of(it.as_ref()));
     digits.serialize(out)
 }

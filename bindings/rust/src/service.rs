@@ -23,9 +23,7 @@
 
 use std::net::Ipv4Addr;
 
-use crate::header::{
-    name_flag, nbt_service_request, NODE_STATUS, QUERY, REFRESH, REGISTRATION, RELEASE,
-};
+use crate::header::{name_flag, nbt_service_request, NODE_STATUS, QUERY, REFRESH, REGISTRATION, RELEASE};
 use crate::room::written;
 use crate::Result;
 
@@ -34,9 +32,7 @@ pub use crate::header::service::{NodeType, Operation, ResultCode, Section};
 pub use crate::rdata::{Addresses, NodeName, NodeNames, NodeStatus, Rdata};
 pub use crate::responses::{Answer, Response};
 pub use crate::service_header::Header;
-pub use crate::service_packets::{
-    read, read_front, Front, Packet, Question, Questions, Record, Records,
-};
+pub use crate::service_packets::{read, read_front, Front, Packet, Question, Questions, Record, Records};
 
 impl NodeType {
     /// The type in NB_FLAGS, or in NAME_FLAGS.
@@ -92,33 +88,13 @@ impl Request {
     /// `BadText`, `LongText`, `NoMemory`, judged in this order.
     pub fn write(self, identifier: u16, name: &str, broadcast: bool) -> Result<Vec<u8>> {
         let (number, seconds, entry) = self.parts();
-        // SAFETY: the name is a slice, and the room's parts lie apart from it.
-        unsafe {
-            written(|room| {
-                nbt_service_request(
-                    number,
-                    identifier,
-                    broadcast,
-                    name.as_ptr(),
-                    name.len(),
-                    seconds,
-                    entry.nb_flags,
-                    u32::from(entry.address),
-                    room.into,
-                    room.length,
-                    room.used,
-                    room.at,
-                )
-            })
-        }
+        let address = u32::from(entry.address);
+        written!(nbt_service_request(number, identifier, broadcast, [name], seconds, entry.nb_flags, address, at))
     }
 
     /// Its number of `enum nbt_request`, its time to live, and what it says of the name.
     fn parts(self) -> (u32, u32, Entry) {
-        let none = Entry {
-            nb_flags: 0,
-            address: Ipv4Addr::UNSPECIFIED,
-        };
+        let none = Entry { nb_flags: 0, address: Ipv4Addr::UNSPECIFIED };
         match self {
             Request::Query => (QUERY, 0, none),
             Request::NodeStatus => (NODE_STATUS, 0, none),

@@ -4,10 +4,10 @@ use std::fmt;
 
 use crate::header::service::Section;
 use crate::header::{
-    nbt_service_header, nbt_service_items, nbt_service_read, FoundServiceEntry, FoundServiceHeader,
-    DONE, NO_ITEM,
+    nbt_service_header, nbt_service_items, nbt_service_read, FoundServiceEntry, FoundServiceHeader, DONE, NO_ITEM,
 };
 use crate::rdata::Rdata;
+use crate::room::{found, passed};
 use crate::service_header::Header;
 use crate::{Error, Name, Result};
 
@@ -32,10 +32,7 @@ pub struct Packet<'a> {
 impl<'a> Packet<'a> {
     /// Its questions.
     pub fn questions(&self) -> Questions<'a> {
-        Questions {
-            walk: Walk::of(self.payload),
-            left: usize::from(self.there[0]),
-        }
+        Questions { walk: Walk::of(self.payload), left: usize::from(self.there[0]) }
     }
 
     /// Its records, of all sections, in order.
@@ -66,10 +63,7 @@ impl<'a> Packet<'a> {
             // They stood when the packet was read.
             let _ = walk.next();
         }
-        Records {
-            walk,
-            left: count(&self.there[first..end]),
-        }
+        Records { walk, left: count(&self.there[first..end]) }
     }
 }
 
@@ -103,12 +97,7 @@ pub struct Front<'a> {
 /// of type NS one of these four of the name in its RDATA, `NameRdata`.
 pub fn read(payload: &[u8]) -> Result<Packet<'_>> {
     let (header, used) = found_header(payload, nbt_service_read)?;
-    Ok(Packet {
-        header,
-        used,
-        payload,
-        there: header.counts,
-    })
+    Ok(Packet { header, used, payload, there: header.counts })
 }
 
 /// Reads what stands of the packet at the front of a payload of port 137: its header, and the questions and records before the
@@ -130,12 +119,7 @@ pub fn read(payload: &[u8]) -> Result<Packet<'_>> {
 pub fn read_front(payload: &[u8]) -> Front<'_> {
     let header = match found_header(payload, nbt_service_header) {
         Ok((header, _)) => header,
-        Err(fault) => {
-            return Front {
-                packet: None,
-                fault: Some(fault),
-            }
-        }
+        Err(fault) => return Front { packet: None, fault: Some(fault) },
     };
     let (mut walk, mut there) = (Walk::of(payload), [0; 4]);
     let fault = loop {
@@ -145,39 +129,23 @@ pub fn read_front(payload: &[u8]) -> Front<'_> {
             Err(fault) => break Some(fault),
         }
     };
-    let packet = Packet {
-        header,
-        used: walk.place,
-        payload,
-        there,
-    };
-    Front {
-        packet: Some(packet),
-        fault,
-    }
+    let packet = Packet { header, used: walk.place, payload, there };
+    Front { packet: Some(packet), fault }
 }
 
 /// A call that reads a header.
-type ReadsHeader =
-    unsafe extern "C" fn(*const u8, usize, *mut FoundServiceHeader, *mut usize) -> u32;
+type ReadsHeader = unsafe extern "C" fn(*const u8, usize, *mut FoundServiceHeader, *mut usize) -> u32;
 
 /// The header at the front of a payload, and how many bytes were used, by one of the two calls that read it.
 fn found_header(payload: &[u8], call: ReadsHeader) -> Result<(Header, usize)> {
-    let (mut found, mut at) = (FoundServiceHeader::EMPTY, 0);
-    // SAFETY: the payload is a slice, and what is written lies apart from it.
-    let status = unsafe { call(payload.as_ptr(), payload.len(), &mut found, &mut at) };
+    let (status, found, at) = found!(FoundServiceHeader, call([payload]));
     if status != DONE {
         return Err(Error::new(status, at));
     }
     let header = Header {
         identifier: found.identifier,
         word: found.word,
-        counts: [
-            found.questions,
-            found.answers,
-            found.authorities,
-            found.additional,
-        ],
+        counts: [found.questions, found.answers, found.authorities, found.additional],
     };
     Ok((header, found.used))
 }
@@ -207,14 +175,7 @@ struct Walk<'a> {
 impl<'a> Walk<'a> {
     /// From the first one on.
     fn of(payload: &'a [u8]) -> Walk<'a> {
-        Walk {
-            payload,
-            number: 0,
-            place: FIRST,
-            read: [FoundServiceEntry::EMPTY; AT_ONCE],
-            filled: 0,
-            given: 0,
-        }
+        Walk { payload, number: 0, place: FIRST, read: [FoundServiceEntry::EMPTY; AT_ONCE], filled: 0, given: 0 }
     }
 
     /// The next one, if the header counts one more.
@@ -234,20 +195,10 @@ impl<'a> Walk<'a> {
     /// Reads as many as are read at once; none where the header counts no more.
     fn read_more(&mut self) -> Result<()> {
         (self.filled, self.given) = (0, 0);
-        let mut at = 0;
+        let (into, mut at) = (self.read.as_mut_ptr(), 0);
+        let Walk { payload, number, place, ref mut filled, .. } = *self;
         // SAFETY: the payload is a slice, and what is written lies apart from it.
-        let status = unsafe {
-            nbt_service_items(
-                self.payload.as_ptr(),
-                self.payload.len(),
-                self.number,
-                self.place,
-                self.read.as_mut_ptr(),
-                AT_ONCE,
-                &mut self.filled,
-                &mut at,
-            )
-        };
+        let status = unsafe { passed!(nbt_service_items () [payload], number, place, into, AT_ONCE, filled, &mut at;) };
         match status {
             DONE | NO_ITEM => Ok(()),
             _ => Err(Error::new(status, at)),
@@ -343,8 +294,7 @@ impl<'a> Record<'a> {
             time_to_live: found.time_to_live,
             kind: found.kind,
             data: &payload[found.data..found.data + found.data_length],
-            server: (entry.server_length > 0)
-                .then(|| Name::of_bytes(entry.server, entry.server_length)),
+            server: (entry.server_length > 0).then(|| Name::of_bytes(entry.server, entry.server_length)),
         }
     }
 

@@ -19,11 +19,10 @@ use std::iter::FusedIterator;
 use std::net::{Ipv4Addr, SocketAddrV4};
 
 use crate::header::{
-    nbt_session_front, nbt_session_names, nbt_session_read, nbt_session_retarget,
-    nbt_session_write, FoundSession, FoundSessionFront, FoundSessionNames, FoundSessionRetarget,
-    DONE, MORE,
+    nbt_session_front, nbt_session_names, nbt_session_read, nbt_session_retarget, nbt_session_write, FoundSession,
+    FoundSessionFront, FoundSessionNames, FoundSessionRetarget, DONE, MORE,
 };
-use crate::room::written;
+use crate::room::{found, written};
 use crate::{Error, Result, Spelling};
 
 pub use crate::header::session::Kind;
@@ -62,11 +61,7 @@ impl<'a> Packet<'a> {
 
     /// CALLED_NAME and CALLING_NAME, of a request.
     pub fn names(&self) -> Option<(Spelling<'a>, Spelling<'a>)> {
-        let (mut found, mut at) = (FoundSessionNames::EMPTY, 0);
-        // SAFETY: the packet is a slice, and what is written lies apart from it.
-        let status = unsafe {
-            nbt_session_names(self.whole.as_ptr(), self.whole.len(), &mut found, &mut at)
-        };
+        let (status, found, _) = found!(FoundSessionNames, nbt_session_names([self.whole]));
         if status != DONE {
             return None;
         }
@@ -79,11 +74,7 @@ impl<'a> Packet<'a> {
 
     /// Whom to call instead: RETARGET_IP_ADDRESS and RETARGET_PORT, of a retarget.
     pub fn retarget(&self) -> Option<SocketAddrV4> {
-        let (mut found, mut at) = (FoundSessionRetarget::EMPTY, 0);
-        // SAFETY: the packet is a slice, and what is written lies apart from it.
-        let status = unsafe {
-            nbt_session_retarget(self.whole.as_ptr(), self.whole.len(), &mut found, &mut at)
-        };
+        let (status, found, _) = found!(FoundSessionRetarget, nbt_session_retarget([self.whole]));
         let other = SocketAddrV4::new(Ipv4Addr::from(found.address), found.port);
         (status == DONE).then_some(other)
     }
@@ -107,9 +98,7 @@ pub enum Next<'a> {
 /// `UnknownType`, `ReservedFlags`, `BadLength`, and of a request `NameTruncated` to `NameNotNetbios`, `TrailingBytes`,
 /// judged in this order.
 pub fn read(bytes: &[u8]) -> Result<Next<'_>> {
-    let (mut found, mut at) = (FoundSession::EMPTY, 0);
-    // SAFETY: the bytes are a slice, and what is written lies apart from it.
-    let status = unsafe { nbt_session_read(bytes.as_ptr(), bytes.len(), &mut found, &mut at) };
+    let (status, found, at) = found!(FoundSession, nbt_session_read([bytes]));
     match status {
         DONE => Ok(Next::Packet(Packet {
             kind: Kind::try_from(found.kind)?,
@@ -170,28 +159,15 @@ pub struct Front {
 /// assert_eq!(front.fault.map(|it| it.status()), Some(Status::BadLength));
 /// ```
 pub fn read_front(bytes: &[u8]) -> Front {
-    let (mut found, mut at) = (FoundSessionFront::EMPTY, 0);
-    // SAFETY: the bytes are a slice, and what is written lies apart from it.
-    let status = unsafe { nbt_session_front(bytes.as_ptr(), bytes.len(), &mut found, &mut at) };
-    let header = Header {
-        packet_type: found.kind,
-        flags: found.flags,
-        body_length: found.body_length,
-    };
-    Front {
-        header: (status == DONE).then_some(header),
-        fault: Packet::try_from(bytes).err(),
-    }
+    let (status, found, _) = found!(FoundSessionFront, nbt_session_front([bytes]));
+    let header = Header { packet_type: found.kind, flags: found.flags, body_length: found.body_length };
+    Front { header: (status == DONE).then_some(header), fault: Packet::try_from(bytes).err() }
 }
 
 /// The packets of what came over a connection to port 139, one after the other. Those that are there whole are handed out, and
 /// after them the error with which [`read`] refuses what follows, if it does.
 pub fn packets(bytes: &[u8]) -> Packets<'_> {
-    Packets {
-        rest: bytes,
-        missing: 0,
-        ended: false,
-    }
+    Packets { rest: bytes, missing: 0, ended: false }
 }
 
 /// The packets that haven't been handed out yet.
@@ -247,18 +223,5 @@ impl FusedIterator for Packets<'_> {}
 /// `BadLength`, and of a request `NameTruncated` to `NameNotNetbios`, `TrailingBytes`, whose places count from the front
 /// of the packet; `NoMemory`.
 pub fn write(kind: Kind, body: &[u8]) -> Result<Vec<u8>> {
-    // SAFETY: the body is a slice, and the room's parts lie apart from it.
-    unsafe {
-        written(|room| {
-            nbt_session_write(
-                kind as u8,
-                body.as_ptr(),
-                body.len(),
-                room.into,
-                room.length,
-                room.used,
-                room.at,
-            )
-        })
-    }
+    written!(nbt_session_write(kind as u8, [body], at))
 }

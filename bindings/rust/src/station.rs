@@ -32,12 +32,11 @@ use std::{fmt, ptr};
 
 use crate::datagram::Kind;
 use crate::header::{
-    nbt_station_absorb, nbt_station_create, nbt_station_free, nbt_station_list, nbt_station_save,
-    nbt_station_take, nbt_station_tick, FoundTaken, Handle, DELIVERED, DONE, KEPT, OTHER, REFUSED,
-    SPOILT, UNHEARD,
+    nbt_station_absorb, nbt_station_create, nbt_station_free, nbt_station_list, nbt_station_save, nbt_station_take,
+    nbt_station_tick, FoundTaken, Handle, DELIVERED, DONE, KEPT, OTHER, REFUSED, SPOILT, UNHEARD,
 };
 use crate::names::spelled_length;
-use crate::room::{text_of, write_into, written};
+use crate::room::{passed, text_of, write_into, written};
 use crate::{spell, Error, Limits, Name, Result, Spelling, Status};
 
 /// A station: its names, and a table that the payloads of port 138 fill and the clock empties. A datagram is handed over
@@ -116,10 +115,7 @@ pub struct OwnedDelivery {
     /// Its data.
     #[cfg_attr(
         feature = "serde",
-        serde(
-            serialize_with = "crate::serialized::digits",
-            deserialize_with = "crate::serialized::bytes"
-        )
+        serde(serialize_with = "crate::serialized::digits", deserialize_with = "crate::serialized::bytes")
     )]
     pub data: Vec<u8>,
 }
@@ -141,10 +137,7 @@ pub enum Outcome<'a> {
         /// The datagram's key.
         key: Key,
         /// The error packet, with code 0x82.
-        #[cfg_attr(
-            feature = "serde",
-            serde(serialize_with = "crate::serialized::digits_if")
-        )]
+        #[cfg_attr(feature = "serde", serde(serialize_with = "crate::serialized::digits_if"))]
         answer: Option<&'a [u8]>,
     },
     /// An error or a query packet; the station is as it was.
@@ -154,10 +147,7 @@ pub enum Outcome<'a> {
         /// What [`crate::datagram::read`] answers to the payload.
         error: Error,
         /// The error packet, with code 0x83 or 0x84.
-        #[cfg_attr(
-            feature = "serde",
-            serde(serialize_with = "crate::serialized::digits_if")
-        )]
+        #[cfg_attr(feature = "serde", serde(serialize_with = "crate::serialized::digits_if"))]
         answer: Option<&'a [u8]>,
     },
 }
@@ -177,29 +167,15 @@ impl Station {
         N::Item: AsRef<str>,
     {
         let (texts, mut at) = (joined(names)?, 0);
-        let mut handle = Handle {
-            at: ptr::null_mut(),
-        };
+        let mut handle = Handle { at: ptr::null_mut() };
+        let (ip, port, Limits { keys, per_source }) = (u32::from(*address.ip()), address.port(), limits);
         // SAFETY: the texts are a slice, and what is written lies apart from them.
-        let status = unsafe {
-            nbt_station_create(
-                texts.as_ptr(),
-                texts.len(),
-                u32::from(*address.ip()),
-                address.port(),
-                limits.keys,
-                limits.per_source,
-                &mut handle.at,
-                &mut at,
-            )
-        };
+        let status =
+            unsafe { passed!(nbt_station_create () [texts], ip, port, keys, per_source, &mut handle.at, &mut at;) };
         if status != DONE {
             return Err(Error::new(status, at));
         }
-        Ok(Station {
-            handle,
-            given: Vec::new(),
-        })
+        Ok(Station { handle, given: Vec::new() })
     }
 
     /// Takes a payload of port 138 that came at this moment, in milliseconds since any moment of the caller's choice.
@@ -210,22 +186,8 @@ impl Station {
     /// The station is then as it was.
     pub fn take(&mut self, moment: u64, payload: &[u8]) -> Result<Outcome<'_>> {
         let mut taken = FoundTaken::EMPTY;
-        // SAFETY: the station is open, the payload is a slice, and what is written lies apart from both. Where the room
-        // is less than any outcome wants, the station is as it was, and takes the payload when there is more.
-        unsafe {
-            write_into(&mut self.given, |room| {
-                nbt_station_take(
-                    &mut self.handle,
-                    moment,
-                    payload.as_ptr(),
-                    payload.len(),
-                    &mut taken,
-                    room.into,
-                    room.length,
-                    room.used,
-                )
-            })
-        }?;
+        // Where the room is less than any outcome wants, the station is as it was, and takes the payload when there is more.
+        write_into!(&mut self.given, nbt_station_take(&mut self.handle, moment, [payload], &mut taken))?;
         outcome_of(&taken, &self.given)
     }
 
@@ -250,10 +212,7 @@ impl Station {
     ///
     /// `NoMemory`.
     pub fn save(&mut self) -> Result<Vec<u8>> {
-        // SAFETY: the station is open, and the room's parts lie apart from it.
-        unsafe {
-            written(|room| nbt_station_save(&mut self.handle, room.into, room.length, room.used))
-        }
+        written!(nbt_station_save(&mut self.handle))
     }
 
     /// What [`crate::list_table`] says of the station's table.
@@ -262,11 +221,7 @@ impl Station {
     ///
     /// `NoMemory`.
     pub fn list(&mut self) -> Result<String> {
-        // SAFETY: the station is open, and the room's parts lie apart from it.
-        let lines = unsafe {
-            written(|room| nbt_station_list(&mut self.handle, room.into, room.length, room.used))
-        };
-        lines.map(text_of)
+        written!(nbt_station_list(&mut self.handle)).map(text_of)
     }
 
     /// Joins the saved table of another station to this one's, at this moment: the keys that are new came then. Hands over
@@ -277,22 +232,8 @@ impl Station {
     /// `TableBadMagic` to `TableFull`, `FullSource`, `Full`, `NoMemory` (which may come before those that follow
     /// `TableFull`). The station is then as it was.
     pub fn absorb(&mut self, moment: u64, table: &[u8]) -> Result<Deliveries<'_>> {
-        // SAFETY: the station is open, the table is a slice, and what is written lies apart from both. Where the room is
-        // too little the station is as it was, and joins the table when there is more.
-        unsafe {
-            write_into(&mut self.given, |room| {
-                nbt_station_absorb(
-                    &mut self.handle,
-                    moment,
-                    table.as_ptr(),
-                    table.len(),
-                    room.into,
-                    room.length,
-                    room.used,
-                    room.at,
-                )
-            })
-        }?;
+        // Where the room is too little the station is as it was, and joins the table when there is more.
+        write_into!(&mut self.given, nbt_station_absorb(&mut self.handle, moment, [table], at))?;
         Ok(Deliveries(&self.given))
     }
 }
@@ -361,10 +302,8 @@ impl fmt::Debug for Station {
 
 /// What became of a payload, of which this was told and given.
 fn outcome_of<'a>(taken: &FoundTaken, given: &'a [u8]) -> Result<Outcome<'a>> {
-    let key = Key {
-        sender: SocketAddrV4::new(Ipv4Addr::from(taken.address), taken.port),
-        identifier: taken.identifier,
-    };
+    let key =
+        Key { sender: SocketAddrV4::new(Ipv4Addr::from(taken.address), taken.port), identifier: taken.identifier };
     let answer = given.get(..taken.error_length).filter(|it| !it.is_empty());
     match taken.outcome {
         KEPT => Ok(Outcome::Kept(key)),
@@ -372,10 +311,7 @@ fn outcome_of<'a>(taken: &FoundTaken, given: &'a [u8]) -> Result<Outcome<'a>> {
         DELIVERED => delivery(key, taken, given).map(Outcome::Delivered),
         UNHEARD => Ok(Outcome::Unheard { key, answer }),
         OTHER => Ok(Outcome::Other),
-        REFUSED => Ok(Outcome::Refused {
-            error: Error::new(taken.refusal, taken.refused_at),
-            answer,
-        }),
+        REFUSED => Ok(Outcome::Refused { error: Error::new(taken.refusal, taken.refused_at), answer }),
         // The library answers no other.
         _ => Err(Error::new(Status::UnknownStatus.number(), 0)),
     }

@@ -31,9 +31,7 @@ impl TryFrom<u32> for Status {
 
 /// The library's words for a number.
 pub(crate) fn words(number: u32) -> Result<String> {
-    // SAFETY: the room's parts lie apart, and the call writes what it says.
-    unsafe { written(|room| nbt_status_text(number, room.into, room.length, room.used)) }
-        .map(text_of)
+    written!(nbt_status_text(number)).map(text_of)
 }
 
 impl fmt::Display for Status {

@@ -3,10 +3,8 @@
 
 use std::net::{Ipv4Addr, SocketAddrV4};
 
-use crate::header::{
-    nbt_table_differ, nbt_table_json, nbt_table_list, nbt_table_merge, FoundDifference, DONE, KEYS,
-};
-use crate::room::{text_of, written};
+use crate::header::{nbt_table_differ, nbt_table_json, nbt_table_list, nbt_table_merge, FoundDifference, DONE, KEYS};
+use crate::room::{found, text_of, written};
 use crate::station::Key;
 use crate::{Error, Result};
 
@@ -22,10 +20,7 @@ pub struct Limits {
 
 impl Default for Limits {
     fn default() -> Limits {
-        Limits {
-            keys: KEYS,
-            per_source: u32::MAX,
-        }
+        Limits { keys: KEYS, per_source: u32::MAX }
     }
 }
 
@@ -45,23 +40,7 @@ impl Default for Limits {
 /// `TableBadMagic` to `TableFull` of the first, `SecondBadMagic` to `SecondFull` of the second, `FullSource`, `Full`,
 /// `NoMemory` (which may come before those that follow the first).
 pub fn merge(first: &[u8], second: &[u8], limits: Limits) -> Result<Vec<u8>> {
-    // SAFETY: the tables are slices, and the room's parts lie apart from them.
-    unsafe {
-        written(|room| {
-            nbt_table_merge(
-                first.as_ptr(),
-                first.len(),
-                second.as_ptr(),
-                second.len(),
-                limits.keys,
-                limits.per_source,
-                room.into,
-                room.length,
-                room.used,
-                room.at,
-            )
-        })
-    }
+    written!(nbt_table_merge([first], [second], limits.keys, limits.per_source, at))
 }
 
 /// What the command `nbt list` prints of a saved table: a line for each key, ascending, line feeds included (our choice).
@@ -77,20 +56,7 @@ pub fn merge(first: &[u8], second: &[u8], limits: Limits) -> Result<Vec<u8>> {
 ///
 /// `TableBadMagic`, `TableTruncated`, `TableNotCanonical`, `NoMemory`.
 pub fn list_table(table: &[u8]) -> Result<String> {
-    // SAFETY: the table is a slice, and the room's parts lie apart from it.
-    let lines = unsafe {
-        written(|room| {
-            nbt_table_list(
-                table.as_ptr(),
-                table.len(),
-                room.into,
-                room.length,
-                room.used,
-                room.at,
-            )
-        })
-    }?;
-    Ok(text_of(lines))
+    written!(nbt_table_list([table], at)).map(text_of)
 }
 
 /// What the command `nbt list --json` prints of a saved table: a JSON object (RFC 8259) for each key, ascending, line feeds
@@ -107,20 +73,7 @@ pub fn list_table(table: &[u8]) -> Result<String> {
 ///
 /// `TableBadMagic`, `TableTruncated`, `TableNotCanonical`, `NoMemory`.
 pub fn table_json(table: &[u8]) -> Result<String> {
-    // SAFETY: the table is a slice, and the room's parts lie apart from it.
-    let objects = unsafe {
-        written(|room| {
-            nbt_table_json(
-                table.as_ptr(),
-                table.len(),
-                room.into,
-                room.length,
-                room.used,
-                room.at,
-            )
-        })
-    };
-    objects.map(text_of)
+    written!(nbt_table_json([table], at)).map(text_of)
 }
 
 /// The least key at which two saved tables know different things: the least address, then port, then identifier. `None`
@@ -138,24 +91,11 @@ pub fn table_json(table: &[u8]) -> Result<String> {
 /// `TableBadMagic` to `TableNotCanonical` of the first, `SecondBadMagic` to `SecondNotCanonical` of the second, `NoMemory`
 /// (which may come before those of the second).
 pub fn differ(first: &[u8], second: &[u8]) -> Result<Option<Key>> {
-    let (mut found, mut at) = (FoundDifference::EMPTY, 0);
-    // SAFETY: the tables are slices, and what is written lies apart from them.
-    let status = unsafe {
-        nbt_table_differ(
-            first.as_ptr(),
-            first.len(),
-            second.as_ptr(),
-            second.len(),
-            &mut found,
-            &mut at,
-        )
-    };
+    let (status, found, at) = found!(FoundDifference, nbt_table_differ([first], [second]));
     if status != DONE {
         return Err(Error::new(status, at));
     }
-    let key = Key {
-        sender: SocketAddrV4::new(Ipv4Addr::from(found.address), found.port),
-        identifier: found.identifier,
-    };
+    let key =
+        Key { sender: SocketAddrV4::new(Ipv4Addr::from(found.address), found.port), identifier: found.identifier };
     Ok((found.differ != 0).then_some(key))
 }

@@ -19,10 +19,7 @@ extern "C" fn nbt_name_spell(
 #[test]
 fn keeps_the_number() {
     let error = nbt::spell("FRED<20>").unwrap_err();
-    assert_eq!(
-        (error.status(), error.number(), error.at()),
-        (Status::UnknownStatus, 130, None)
-    );
+    assert_eq!((error.status(), error.number(), error.at()), (Status::UnknownStatus, 130, None));
     let words = Status::UnknownStatus.to_string();
     assert_eq!(error.to_string(), format!("status 130: {words}"));
 }
@@ -30,8 +27,5 @@ fn keeps_the_number() {
 #[test]
 fn knows_the_others() {
     let error = nbt::text(b"").unwrap_err();
-    assert_eq!(
-        (error.status(), error.number(), error.at()),
-        (Status::NameTruncated, 20, Some(0))
-    );
+    assert_eq!((error.status(), error.number(), error.at()), (Status::NameTruncated, 20, Some(0)));
 }

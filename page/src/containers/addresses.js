@@ -1,10 +1,8 @@
 /** Addresses of IP as text: IPv4 with dots, IPv6 as RFC 5952 writes it, with dots where it holds one of IPv4. */
 import { word } from './link.js';
 
-/**
- * @param {Uint8Array} bytes
- * @param {number} at where its four stand
- */
+/** @param {Uint8Array} bytes
+ * @param {number} at where its four stand */
 export function address4(bytes, at) {
     return `${bytes[at]}.${bytes[at + 1]}.${bytes[at + 2]}.${bytes[at + 3]}`;
 }
@@ -20,11 +18,8 @@ export function address6(bytes) {
     return `${texts.slice(0, start).join(':')}::${texts.slice(start + count).join(':')}`;
 }
 
-/**
- * Where the first of the longest rows of zeros begins, and how many there are.
- *
- * @param {number[]} words
- */
+/** Where the first of the longest rows of zeros begins, and how many there are.
+ * @param {number[]} words */
 function longestZeros(words) {
     let [start, count] = [0, 0];
     for (let at = 0; at < words.length; at++) {

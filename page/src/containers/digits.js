@@ -10,11 +10,8 @@ export function digitsOf(bytes) {
     return text;
 }
 
-/**
- * The bytes that digits stand for: pairs of them, and nothing else.
- *
- * @param {string} digits
- */
+/** The bytes that digits stand for: pairs of them, and nothing else.
+ * @param {string} digits */
 export function bytesOf(digits) {
     const bytes = new Uint8Array(digits.length / 2);
     for (let at = 0; at < bytes.length; at++) bytes[at] = parseInt(digits.slice(2 * at, 2 * at + 2), 16);

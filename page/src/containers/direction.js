@@ -10,12 +10,8 @@ const [HALF, ALL] = [2 ** 31, 2 ** 32];
 
 /** One side of a stream. Places count bytes on from its first sequence number, past 2^32. */
 export class Direction {
-    /**
-     * @param {string} title
-     * @param {import('./recent.js').Recent} recent
-     * @param {import('./report.js').Report} report
-     * @param {number} first the place of its first byte
-     */
+    /** @param {string} title @param {import('./recent.js').Recent} recent @param {import('./report.js').Report} report
+     * @param {number} first the place of its first byte */
     constructor(title, recent, report, first) {
         this.title = title;
         this.recent = recent;
@@ -50,13 +46,9 @@ export class Direction {
         return this.due + modulo(sequence - this.due + HALF, ALL) - HALF;
     }
 
-    /**
-     * Keeps what is new of the latest frame's segment.
-     *
-     * @param {number} place
-     * @param {Uint8Array} bytes
-     * @returns {number} how many of its bytes differ from those that came first
-     */
+    /** Keeps what is new of the latest frame's segment.
+     * @param {number} place @param {Uint8Array} bytes
+     * @returns {number} how many of its bytes differ from those that came first */
     take(place, bytes) {
         if (this.isKeptAlive(place, bytes)) return 0;
         let differing = 0;
@@ -79,22 +71,14 @@ export class Direction {
         return differing;
     }
 
-    /**
-     * Whether it is the last byte again, whose value has no meaning then: it keeps a connection alive.
-     *
-     * @param {number} place
-     * @param {Uint8Array} bytes
-     */
+    /** Whether it is the last byte again, whose value has no meaning then: it keeps a connection alive.
+     * @param {number} place @param {Uint8Array} bytes */
     isKeptAlive(place, bytes) {
         return bytes.length === 1 && (place + 1 === this.due || place + 1 === (this.early.end ?? this.due));
     }
 
-    /**
-     * How many of these bytes differ from the latest ones.
-     *
-     * @param {number} place
-     * @param {Uint8Array} bytes
-     */
+    /** How many of these bytes differ from the latest ones.
+     * @param {number} place @param {Uint8Array} bytes */
     compare(place, bytes) {
         const start = this.due - this.past.length;
         const begin = Math.max(place, start);
@@ -102,10 +86,8 @@ export class Direction {
         return begin < end ? unlike(this.past.bytes.subarray(begin - start, end - start), bytes.subarray(begin - place, end - place)) : 0;
     }
 
-    /**
-     * @param {Uint8Array} bytes the next ones
-     * @param {import('./report.js').Mark} mark their frame
-     */
+    /** @param {Uint8Array} bytes the next ones
+     * @param {import('./report.js').Mark} mark their frame */
     append(bytes, mark) {
         this.due += bytes.length;
         this.uncut += bytes.length;
@@ -126,11 +108,8 @@ export class Direction {
         this.early = new Early();
     }
 
-    /**
-     * The session packets that are whole by now. Nothing is cut after a header that no session packet has.
-     *
-     * @returns {Generator<Uint8Array, void, void>}
-     */
+    /** The session packets that are whole by now. Nothing is cut after a header that no session packet has.
+     * @returns {Generator<Uint8Array, void, void>} */
     *packets() {
         while (this.isCut && this.held.length >= HEADER) {
             const size = sizeAt(this.held.bytes, 0);
@@ -173,20 +152,14 @@ export class Direction {
     }
 }
 
-/**
- * @param {Growing} held
- * @param {number} most
- */
+/** @param {Growing} held @param {number} most */
 function first(held, most) {
     const found = new Growing();
     found.push(held.bytes.subarray(0, most));
     return found;
 }
 
-/**
- * @param {number} number
- * @param {number} divisor
- */
+/** @param {number} number @param {number} divisor */
 function modulo(number, divisor) {
     return ((number % divisor) + divisor) % divisor;
 }

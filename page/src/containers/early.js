@@ -3,12 +3,9 @@
 const MOST_BYTES = 4 << 20;
 const MOST_PIECES = 4_096;
 
-/**
- * @typedef {object} Piece
- * @property {number} place
- * @property {Uint8Array} bytes
- * @property {import('./report.js').Mark} mark the frame that had them
- */
+/** @typedef {object} Piece
+ * @property {number} place @property {Uint8Array} bytes
+ * @property {import('./report.js').Mark} mark the frame that had them */
 
 /** Pieces in order, none over another: what came first stays. */
 export class Early {
@@ -37,11 +34,8 @@ export class Early {
         return this.size > MOST_BYTES || this.pieces.length > MOST_PIECES;
     }
 
-    /**
-     * Takes the first piece away, if it begins at a place.
-     *
-     * @param {number} place
-     */
+    /** Takes the first piece away, if it begins at a place.
+     * @param {number} place */
     at(place) {
         if (this.isEmpty || this.start !== place) return null;
         const piece = /** @type {Piece} */ (this.pieces.shift());
@@ -49,14 +43,9 @@ export class Early {
         return piece;
     }
 
-    /**
-     * Keeps those bytes that weren't there.
-     *
-     * @param {number} place
-     * @param {Uint8Array} bytes
-     * @param {import('./report.js').Mark} mark
-     * @returns {number} how many others differ from those that were
-     */
+    /** Keeps those bytes that weren't there.
+     * @param {number} place @param {Uint8Array} bytes @param {import('./report.js').Mark} mark
+     * @returns {number} how many others differ from those that were */
     put(place, bytes, mark) {
         const end = place + bytes.length;
         let differing = 0;
@@ -91,12 +80,8 @@ export class Early {
     }
 }
 
-/**
- * How many bytes differ, of two of one length.
- *
- * @param {Uint8Array} one
- * @param {Uint8Array} other
- */
+/** How many bytes differ, of two of one length.
+ * @param {Uint8Array} one @param {Uint8Array} other */
 export function unlike(one, other) {
     let count = 0;
     for (let at = 0; at < one.length; at++) count += Number(one[at] !== other[at]);

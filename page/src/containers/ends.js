@@ -7,22 +7,15 @@ export function hostOf(end) {
     return colon < 0 ? end : end.slice(0, colon);
 }
 
-/**
- * The port, or an empty text where there is none.
- *
- * @param {string} end
- */
+/** The port, or an empty text where there is none.
+ * @param {string} end */
 export function portOf(end) {
     const colon = end.indexOf(':', end.indexOf(']') + 1);
     return colon < 0 ? '' : end.slice(colon + 1);
 }
 
-/**
- * An end as it is shown: without a port that is the service's own.
- *
- * @param {string} end
- * @param {readonly string[]} own
- */
+/** An end as it is shown: without a port that is the service's own.
+ * @param {string} end @param {readonly string[]} own */
 export function shown(end, own) {
     if (end === '') return '-';
     const port = portOf(end);

@@ -10,30 +10,22 @@ const MOST_PACKET = 65_535;
 const MOST_PARTS = 8_192;
 const DIFFER = 'its fragments differ where they overlap';
 
-/**
- * @typedef {object} Part
- * @property {number} offset
- * @property {Uint8Array} bytes
- *
+/** @typedef {object} Part
+ * @property {number} offset @property {Uint8Array} bytes
  * @typedef {object} Waiting
  * @property {bigint | null} first when the first fragment came of which the file has all
- * @property {bigint | null} last
- * @property {{mark: import('./report.js').Mark, isCut: boolean}[]} marks
+ * @property {bigint | null} last @property {{mark: import('./report.js').Mark, isCut: boolean}[]} marks
  * @property {Part[]} parts
  * @property {number | null} end where the packet ends, once its last fragment came
  * @property {string | null} why why it can't be taken
  * @property {number} protocol
- *
- * @typedef {import('./internet.js').Internet} Internet
- */
+ * @typedef {import('./internet.js').Internet} Internet */
 
 /** The packets that wait for fragments. */
 export class Fragments {
-    /**
-     * @param {import('./report.js').Report} report
+    /** @param {import('./report.js').Report} report
      * @param {(packet: {protocol: number, payload: Uint8Array}) => boolean | null} isOurs whether what begins so is of these ports;
-     * null where that isn't known
-     */
+     * null where that isn't known */
     constructor(report, isOurs) {
         this.report = report;
         this.isOurs = isOurs;
@@ -42,14 +34,9 @@ export class Fragments {
         this.held = 0;
     }
 
-    /**
-     * Takes a fragment. One of which the file has a part is as one that isn't there.
-     *
-     * @param {Internet} packet
-     * @param {NonNullable<Internet['fragment']>} fragment
-     * @param {bigint} time
-     * @returns {{packet: Internet, why: string | null} | null} the packet that is whole by it, and why it can't be taken
-     */
+    /** Takes a fragment. One of which the file has a part is as one that isn't there.
+     * @param {Internet} packet @param {NonNullable<Internet['fragment']>} fragment @param {bigint} time
+     * @returns {{packet: Internet, why: string | null} | null} the packet that is whole by it, and why it can't be taken */
     take(packet, fragment, time) {
         const entry = this.entry(fragment.key, packet);
         const isCut = packet.payload.length < packet.size;
@@ -74,10 +61,7 @@ export class Fragments {
         for (const entry of this.waiting.values()) this.tell(entry);
     }
 
-    /**
-     * @param {string} key
-     * @param {Internet} packet
-     */
+    /** @param {string} key @param {Internet} packet */
     entry(key, packet) {
         const held = this.waiting.get(key);
         if (held) return held;
@@ -87,11 +71,7 @@ export class Fragments {
         return entry;
     }
 
-    /**
-     * @param {Waiting} entry
-     * @param {{offset: number, more: boolean}} fragment
-     * @param {Uint8Array} bytes
-     */
+    /** @param {Waiting} entry @param {{offset: number, more: boolean}} fragment @param {Uint8Array} bytes */
     place(entry, fragment, bytes) {
         const end = fragment.offset + bytes.length;
         const isLast = !fragment.more;
@@ -112,20 +92,14 @@ export class Fragments {
         }
     }
 
-    /**
-     * @param {string} key
-     * @param {Waiting} entry
-     */
+    /** @param {string} key @param {Waiting} entry */
     forget(key, entry) {
         this.waiting.delete(key);
         for (const part of entry.parts) this.held -= part.bytes.length;
     }
 
-    /**
-     * Counts the fragments of a packet that isn't whole, but where it is known that it is of other ports.
-     *
-     * @param {Waiting} entry
-     */
+    /** Counts the fragments of a packet that isn't whole, but where it is known that it is of other ports.
+     * @param {Waiting} entry */
     tell(entry) {
         const start = entry.parts.find((part) => part.offset === 0);
         const isOurs = this.isOurs({ protocol: entry.protocol, payload: start?.bytes ?? new Uint8Array(0) });
@@ -135,31 +109,21 @@ export class Fragments {
     }
 }
 
-/**
- * Takes the time at which a fragment came.
- *
- * @param {Waiting} entry
- * @param {bigint} time
- */
+/** Takes the time at which a fragment came.
+ * @param {Waiting} entry @param {bigint} time */
 function note(entry, time) {
     if (entry.first === null || time < entry.first) entry.first = time;
     if (entry.last === null || time > entry.last) entry.last = time;
 }
 
-/**
- * Whether the fragments lie too far apart.
- *
- * @param {Waiting} entry
- */
+/** Whether the fragments lie too far apart.
+ * @param {Waiting} entry */
 function isLate({ first, last }) {
     return first !== null && last !== null && last - first > TIMER;
 }
 
-/**
- * The bytes of a packet all of whose fragments came; null before. Of bytes at one place those of the part count that begins first.
- *
- * @param {Waiting} entry
- */
+/** The bytes of a packet all of whose fragments came; null before. Of bytes at one place those of the part count that begins first.
+ * @param {Waiting} entry */
 function joined({ parts, end }) {
     if (end === null) return null;
     parts.sort((one, other) => one.offset - other.offset);
@@ -179,13 +143,8 @@ function joined({ parts, end }) {
     return bytes;
 }
 
-/**
- * Whether a part has another byte at a place of these.
- *
- * @param {Part} part
- * @param {number} offset
- * @param {Uint8Array} bytes
- */
+/** Whether a part has another byte at a place of these.
+ * @param {Part} part @param {number} offset @param {Uint8Array} bytes */
 function contradicts(part, offset, bytes) {
     const begin = Math.max(part.offset, offset);
     const end = Math.min(part.offset + part.bytes.length, offset + bytes.length);

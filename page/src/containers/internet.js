@@ -9,36 +9,23 @@ const DESTINATION_OPTIONS = 60;
 const AUTHENTICATION = 51;
 const MOST_EXTENSIONS = 16;
 
-/**
- * What a header of IP says. `payload` is what the file has of the bytes after it, of which there were `size`.
- *
+/** What a header of IP says. `payload` is what the file has of the bytes after it, of which there were `size`.
  * @typedef {object} Internet
- * @property {string} source
- * @property {string} destination
- * @property {number} protocol
- * @property {Uint8Array} payload
+ * @property {string} source @property {string} destination @property {number} protocol @property {Uint8Array} payload
  * @property {number} size
- * @property {{key: string, offset: number, more: boolean} | null} fragment null of a packet that is whole
- */
+ * @property {{key: string, offset: number, more: boolean} | null} fragment null of a packet that is whole */
 
-/**
- * The packet that begins at a place; null where its header isn't whole, or is none of IP.
- *
- * @param {Uint8Array} bytes
- * @param {number} at
- * @returns {Internet | null}
- */
+/** The packet that begins at a place; null where its header isn't whole, or is none of IP.
+ * @param {Uint8Array} bytes @param {number} at
+ * @returns {Internet | null} */
 export function internetIn(bytes, at) {
     const version = at < bytes.length ? bytes[at] >> 4 : 0;
     if (version === 4) return internet4(bytes, at);
     return version === 6 ? internet6(bytes.subarray(at)) : null;
 }
 
-/**
- * @param {Uint8Array} bytes
- * @param {number} at
- * @returns {Internet | null}
- */
+/** @param {Uint8Array} bytes @param {number} at
+ * @returns {Internet | null} */
 function internet4(bytes, at) {
     const header = (bytes[at] & 15) * 4;
     if (header < 20 || bytes.length < at + header) return null;
@@ -54,10 +41,8 @@ function internet4(bytes, at) {
     return { source, destination, protocol, payload: bytes.subarray(at + header, at + total), size: total - header, fragment };
 }
 
-/**
- * @param {Uint8Array} bytes
- * @returns {Internet | null}
- */
+/** @param {Uint8Array} bytes
+ * @returns {Internet | null} */
 function internet6(bytes) {
     if (bytes.length < 40) return null;
     const source = `[${address6(bytes.subarray(8, 24))}]`;
@@ -81,24 +66,16 @@ function isExtension(protocol) {
     return [HOP_BY_HOP, ROUTING, FRAGMENT, DESTINATION_OPTIONS, AUTHENTICATION].includes(protocol);
 }
 
-/**
- * How many bytes an extension header has.
- *
+/** How many bytes an extension header has.
  * @param {number} protocol
- * @param {number} length what it says
- */
+ * @param {number} length what it says */
 function sizeOf(protocol, length) {
     if (protocol === FRAGMENT) return 8;
     return protocol === AUTHENTICATION ? 4 * (length + 2) : 8 * (length + 1);
 }
 
-/**
- * A fragment header: null of one that stands for a whole packet (RFC 6946).
- *
- * @param {Uint8Array} bytes
- * @param {number} at
- * @param {string} ends
- */
+/** A fragment header: null of one that stands for a whole packet (RFC 6946).
+ * @param {Uint8Array} bytes @param {number} at @param {string} ends */
 function fragmentOf(bytes, at, ends) {
     const offset = word(bytes, at + 2) & 0xfff8;
     const more = (bytes[at + 3] & 1) !== 0;

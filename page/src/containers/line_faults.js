@@ -6,10 +6,8 @@ const MOST_SHOWN = 24;
 /** What a line has to be. */
 export const FORM = 'A line has a port, a millisecond and bytes in hexadecimal, as 137 0 000301100001';
 
-/**
- * @param {string} text
- * @returns {string}
- */
+/** @param {string} text
+ * @returns {string} */
 export function faultOf(text) {
     if (text.endsWith('\r')) return 'it ends in a carriage return, and a line feed alone is wanted';
     if (/^\s*(?:[0-9a-fA-F]{2}[\s:]*){4,}$/.test(text)) return 'it has bytes alone, and a port and a millisecond are wanted before them';

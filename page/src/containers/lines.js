@@ -13,31 +13,23 @@ const latin = new TextDecoder('latin1');
 
 /** A line that no capture has. */
 export class LineFault extends Error {
-    /**
-     * @param {number} line
-     * @param {string} why
-     */
+    /** @param {number} line @param {string} why */
     constructor(line, why) {
         super(`line ${line} is none of a capture: ${why}. ${FORM}`);
         this.name = 'LineFault';
     }
 }
 
-/**
- * @typedef {{kind: 'payload', number: number, port: 137 | 138 | 139, moment: bigint, digits: string}} PayloadLine
+/** @typedef {{kind: 'payload', number: number, port: 137 | 138 | 139, moment: bigint, digits: string}} PayloadLine
  * @typedef {{kind: 'tick', number: number, moment: bigint}} TickLine
  * @typedef {{kind: 'comment', number: number, text: string}} CommentLine its text has a character a byte
  * @typedef {{kind: 'empty', number: number}} EmptyLine
- * @typedef {(PayloadLine | TickLine | CommentLine | EmptyLine) & {end: number}} Line `end` is the place in the file after it
- */
+ * @typedef {(PayloadLine | TickLine | CommentLine | EmptyLine) & {end: number}} Line `end` is the place in the file after it */
 
-/**
- * The lines of a file.
- *
+/** The lines of a file.
  * @param {import('./slices.js').Slices} file
  * @returns {Generator<Line, void, void>}
- * @throws {LineFault} where a line is none; those before it came.
- */
+ * @throws {LineFault} where a line is none; those before it came. */
 export function* linesOf(file) {
     for (let at = 0, number = 1; at < file.size; number++) {
         const bytes = file.bytes(at, at + MOST_LINE + 1);
@@ -49,22 +41,16 @@ export function* linesOf(file) {
     }
 }
 
-/**
- * Bytes as a text of a character each.
- *
- * @param {Uint8Array} bytes
- */
+/** Bytes as a text of a character each.
+ * @param {Uint8Array} bytes */
 function characters(bytes) {
     const text = latin.decode(bytes);
     // Of the bytes from 80 to 9f the decoder makes other characters.
     return /^[\0-\x7f]*$/.test(text) ? text : Array.from(bytes, (each) => String.fromCharCode(each)).join('');
 }
 
-/**
- * @param {string} text
- * @param {number} number
- * @returns {PayloadLine | TickLine | CommentLine | EmptyLine}
- */
+/** @param {string} text @param {number} number
+ * @returns {PayloadLine | TickLine | CommentLine | EmptyLine} */
 function lineOf(text, number) {
     const match = LINE.exec(text);
     const moment = BigInt(match?.[2] ?? match?.[4] ?? 0);
@@ -77,13 +63,10 @@ function lineOf(text, number) {
     return match[5] ? { kind: 'comment', number, text: match[5] } : { kind: 'empty', number };
 }
 
-/**
- * The payloads of a file, each with the frame that the comment before it names. Without one that is the number of its line; its time is
+/** The payloads of a file, each with the frame that the comment before it names. Without one that is the number of its line; its time is
  * then its moment, and it has no ends.
- *
  * @param {Iterable<Line>} lines
- * @returns {Generator<{end: number, seen: import('./payloads.js').Payload}, void, void>}
- */
+ * @returns {Generator<{end: number, seen: import('./payloads.js').Payload}, void, void>} */
 export function* payloadsIn(lines) {
     /** @type {Line | null} */
     let before = null;
@@ -97,21 +80,15 @@ export function* payloadsIn(lines) {
     }
 }
 
-/**
- * @param {PayloadLine} line
- * @param {number} size
- * @returns {import('./report.js').Mark}
- */
+/** @param {PayloadLine} line @param {number} size
+ * @returns {import('./report.js').Mark} */
 function unnamed(line, size) {
     const time = line.moment < MOST_TIME ? line.moment * 1_000_000n : null;
     return { frame: line.number, time, source: '', destination: '', captured: size, size, counted: false };
 }
 
-/**
- * @param {string} comment
- * @param {number} size
- * @returns {import('./report.js').Mark | null}
- */
+/** @param {string} comment @param {number} size
+ * @returns {import('./report.js').Mark | null} */
 function markOf(comment, size) {
     const match = COMMENT.exec(comment);
     if (!match) return null;

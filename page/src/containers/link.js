@@ -18,21 +18,14 @@ const [NULL_LOOPBACK, ETHERNET, RAW_BSD, RAW_OPENBSD, RAW, LOOPBACK, COOKED, IPV
 const FAMILY_4 = 2;
 const FAMILIES_6 = new Set([24, 28, 30, 10]);
 
-/**
- * Where IP begins, and the hardware address of who sent the frame; or why that isn't known: a packet may stand behind what isn't read here.
- *
+/** Where IP begins, and the hardware address of who sent the frame; or why that isn't known: a packet may stand behind what isn't read here.
  * @typedef {{at: number, mac: string | null, vlan: number | null}} Packet
  * @typedef {'PPPoE' | 'MPLS' | 'LLC' | 'more than 4 VLAN tags'} Wrapping
- * @typedef {'unknown link type' | 'no IP' | 'cut' | Wrapping} WhyNoPacket
- */
+ * @typedef {'unknown link type' | 'no IP' | 'cut' | Wrapping} WhyNoPacket */
 
-/**
- * Where IP begins in a frame.
- *
- * @param {number} link
- * @param {Uint8Array} bytes
- * @returns {Packet | WhyNoPacket}
- */
+/** Where IP begins in a frame.
+ * @param {number} link @param {Uint8Array} bytes
+ * @returns {Packet | WhyNoPacket} */
 export function packetIn(link, bytes) {
     switch (link) {
         case ETHERNET:
@@ -55,12 +48,10 @@ export function packetIn(link, bytes) {
     }
 }
 
-/**
- * @param {Uint8Array} bytes
+/** @param {Uint8Array} bytes
  * @param {number} place where the type of what follows stands
  * @param {string | null} mac
- * @returns {Packet | WhyNoPacket}
- */
+ * @returns {Packet | WhyNoPacket} */
 function afterType(bytes, place, mac) {
     /** @type {number | null} */
     let vlan = null;
@@ -75,38 +66,27 @@ function afterType(bytes, place, mac) {
     return 'more than 4 VLAN tags';
 }
 
-/**
- * What a frame has that is neither IP nor tagged.
- *
- * @param {number} type
- * @param {Uint8Array} bytes
+/** What a frame has that is neither IP nor tagged.
+ * @param {number} type @param {Uint8Array} bytes
  * @param {number} at where what follows the type begins
- * @returns {WhyNoPacket}
- */
+ * @returns {WhyNoPacket} */
 function withoutPacket(type, bytes, at) {
     if (type === PPPOE) return 'PPPoE';
     if (MPLS.has(type)) return 'MPLS';
     return type < LEAST_TYPE && isPacketAfterPoint(bytes, at) ? 'LLC' : 'no IP';
 }
 
-/**
- * Whether LLC says that IP follows.
- *
- * @param {Uint8Array} bytes
- * @param {number} at
- */
+/** Whether LLC says that IP follows.
+ * @param {Uint8Array} bytes @param {number} at */
 function isPacketAfterPoint(bytes, at) {
     if (at + SNAP_HEADER > bytes.length) return false;
     const inner = word(bytes, at + 6);
     return word(bytes, at) === IP_POINT || (word(bytes, at) === SNAP_POINT && (inner === IPV4 || inner === IPV6 || TAGS.has(inner)));
 }
 
-/**
- * Linux cooked capture, version 2: the type comes first.
- *
+/** Linux cooked capture, version 2: the type comes first.
  * @param {Uint8Array} bytes
- * @returns {Packet | WhyNoPacket}
- */
+ * @returns {Packet | WhyNoPacket} */
 function cooked2(bytes) {
     if (bytes.length < 20) return 'cut';
     const type = word(bytes, 0);
@@ -115,12 +95,9 @@ function cooked2(bytes) {
     return TAGS.has(type) ? afterType(bytes, 22, mac) : withoutPacket(type, bytes, 20);
 }
 
-/**
- * A loopback of BSD: the family in four bytes, in the order of the machine that wrote it.
- *
+/** A loopback of BSD: the family in four bytes, in the order of the machine that wrote it.
  * @param {Uint8Array} bytes
- * @returns {Packet | WhyNoPacket}
- */
+ * @returns {Packet | WhyNoPacket} */
 function afterFamily(bytes) {
     if (bytes.length < 4) return 'cut';
     const family = bytes[0] === 0 && bytes[1] === 0 ? word(bytes, 2) : bytes[0] | (bytes[1] << 8);
@@ -128,18 +105,12 @@ function afterFamily(bytes) {
     return isPacket ? { at: 4, mac: null, vlan: null } : 'no IP';
 }
 
-/**
- * @param {Uint8Array} bytes
- * @param {number} at
- */
+/** @param {Uint8Array} bytes @param {number} at */
 export function word(bytes, at) {
     return (bytes[at] << 8) | bytes[at + 1];
 }
 
-/**
- * @param {Uint8Array} bytes
- * @param {number} at
- */
+/** @param {Uint8Array} bytes @param {number} at */
 function macOf(bytes, at) {
     if (at + 6 > bytes.length) return null;
     let text = DIGITS[bytes[at]];

@@ -15,35 +15,23 @@ const MOST_STREAMS = 262_144;
 /** Why a frame has no packet that nbt-look would find either. */
 const NOTHING = ['no IP', 'cut'];
 
-/**
- * A payload: what one packet of these ports has, and the frame that completes it.
- *
+/** A payload: what one packet of these ports has, and the frame that completes it.
  * @typedef {object} Payload
- * @property {'payload'} kind
- * @property {137 | 138 | 139} port
- * @property {import('./report.js').Mark} mark
+ * @property {'payload'} kind @property {137 | 138 | 139} port @property {import('./report.js').Mark} mark
  * @property {string | null} mac that of who sent the frame
  * @property {number | null} vlan
  * @property {Uint8Array} bytes a part of what is held of the file
  *
  * That a connection of port 139 is opened, by an end: with a SYN, or else by the SYN that an answer acknowledges.
- *
  * @typedef {{kind: 'opened', caller: string, callee: string, sequence: number, isFirst: boolean}} Opened
  *
  * What the file has of a packet of UDP that the snap length cut.
- *
  * @typedef {{kind: 'cut', port: 137 | 138, mark: import('./report.js').Mark, mac: string | null, bytes: Uint8Array}} Cut
- *
  * @typedef {Payload | Opened | Cut | import('./unread.js').Unread | import('./report.js').LeftOut | import('./report.js').Comment} Seen
- *
- * @typedef {{mac: string | null, vlan: number | null}} Below
- */
+ * @typedef {{mac: string | null, vlan: number | null}} Below */
 
-/**
- * The frames of a file; null of one that is neither pcap nor pcapng.
- *
- * @param {import('./slices.js').Slices} file
- */
+/** The frames of a file; null of one that is neither pcap nor pcapng.
+ * @param {import('./slices.js').Slices} file */
 export function framesOf(file) {
     if (isPcap(file)) return pcapFrames(file);
     return isPcapng(file) ? pcapngFrames(file) : null;
@@ -60,10 +48,8 @@ export class PayloadReader {
         this.frames = 0;
         this.ours = 0;
         this.link = 0;
-        /**
-         * Frames that are of none of these ports, by why.
-         * @type {Map<string, number>}
-         */
+        /** Frames that are of none of these ports, by why.
+         * @type {Map<string, number>} */
         this.others = new Map();
         /** @type {bigint | null} */
         this.now = null;
@@ -97,11 +83,8 @@ export class PayloadReader {
         this.streams.finish();
     }
 
-    /**
-     * @param {import('./internet.js').Internet} internet
-     * @param {Below} below
-     * @param {string | null} why why it can't be taken
-     */
+    /** @param {import('./internet.js').Internet} internet @param {Below} below
+     * @param {string | null} why why it can't be taken */
     packet(internet, below, why) {
         if (internet.protocol !== UDP && internet.protocol !== TCP) {
             this.unread(wrappingOf(internet));
@@ -126,11 +109,7 @@ export class PayloadReader {
         this.datagram(internet, below, ports.source === PORT.NAMES || ports.source === PORT.DATAGRAMS ? ports.source : ports.destination);
     }
 
-    /**
-     * @param {import('./internet.js').Internet} internet
-     * @param {Below} below
-     * @param {number} port
-     */
+    /** @param {import('./internet.js').Internet} internet @param {Below} below @param {number} port */
     datagram(internet, below, port) {
         const { payload, size } = datagramIn(internet);
         if (!payload) return this.report.leaveOut(this.report.cut, 'the file ends inside its UDP header');
@@ -144,12 +123,8 @@ export class PayloadReader {
         this.payload(/** @type {137 | 138} */ (port), below, payload);
     }
 
-    /**
-     * @param {import('./internet.js').Internet} internet
-     * @param {Below} below
-     * @param {import('./transport.js').Segment} segment
-     * @param {number} stream
-     */
+    /** @param {import('./internet.js').Internet} internet @param {Below} below
+     * @param {import('./transport.js').Segment} segment @param {number} stream */
     segment(internet, below, segment, stream) {
         if (!segment.payload) {
             if (internet.size > TCP_HEADER) this.report.leaveOut(this.report.cut, 'the file ends inside its TCP header');
@@ -168,12 +143,9 @@ export class PayloadReader {
         this.give({ kind: 'opened', caller, callee, sequence, isFirst: !ack });
     }
 
-    /**
-     * The number of a stream: that of its ends, and a new one where they begin anew: with a SYN of another place than their first segments say,
+    /** The number of a stream: that of its ends, and a new one where they begin anew: with a SYN of another place than their first segments say,
      * those of the other side by what they acknowledge.
-     *
-     * @param {import('./transport.js').Segment} segment
-     */
+     * @param {import('./transport.js').Segment} segment */
     streamOf(segment) {
         const { source, destination } = this.report.mark;
         const ends = source < destination ? `${source} ${destination}` : `${destination} ${source}`;
@@ -192,11 +164,7 @@ export class PayloadReader {
 
     streamCount = 0;
 
-    /**
-     * @param {137 | 138 | 139} port
-     * @param {Below} below
-     * @param {Uint8Array} bytes
-     */
+    /** @param {137 | 138 | 139} port @param {Below} below @param {Uint8Array} bytes */
     payload(port, below, bytes) {
         this.give({ kind: 'payload', port, mark: this.report.mark, mac: below.mac, vlan: below.vlan, bytes });
     }
@@ -207,30 +175,21 @@ export class PayloadReader {
         this.other(why);
     }
 
-    /**
-     * Says that the latest frame has packets which aren't read here.
-     *
-     * @param {string} why an empty text where it has none
-     */
+    /** Says that the latest frame has packets which aren't read here.
+     * @param {string} why an empty text where it has none */
     unread(why) {
         if (why) this.give({ kind: 'unread', frame: this.report.mark.frame, link: linkName(this.link), why });
     }
 
-    /**
-     * Counts a frame of which nothing is of these ports.
-     *
-     * @param {string} why
-     */
+    /** Counts a frame of which nothing is of these ports.
+     * @param {string} why */
     other(why) {
         this.others.set(why, (this.others.get(why) ?? 0) + 1);
     }
 }
 
-/**
- * Whether what begins so is of these ports; null where that isn't known.
- *
- * @param {{protocol: number, payload: Uint8Array}} packet
- */
+/** Whether what begins so is of these ports; null where that isn't known.
+ * @param {{protocol: number, payload: Uint8Array}} packet */
 function isOurs(packet) {
     if (packet.protocol !== UDP && packet.protocol !== TCP) return false;
     const ports = portsIn(packet.payload);

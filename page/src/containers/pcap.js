@@ -7,22 +7,16 @@ const RECORD = 16;
 const MICROSECONDS = 0xa1b2c3d4;
 const NANOSECONDS = 0xa1b23c4d;
 
-/**
- * Whether a file begins as pcap does.
- *
- * @param {import('./slices.js').Slices} file
- */
+/** Whether a file begins as pcap does.
+ * @param {import('./slices.js').Slices} file */
 export function isPcap(file) {
     return orderOf(file) !== null;
 }
 
-/**
- * The frames of a file.
- *
+/** The frames of a file.
  * @param {import('./slices.js').Slices} file
  * @returns {Generator<import('./frames.js').Frame, void, void>}
- * @throws {FileFault} where a record isn't whole, or its lengths can't be; the frames before it came.
- */
+ * @throws {FileFault} where a record isn't whole, or its lengths can't be; the frames before it came. */
 export function* pcapFrames(file) {
     const order = orderOf(file);
     if (!order) throw new FileFault('no header of pcap', 0);
@@ -46,11 +40,8 @@ export function* pcapFrames(file) {
     }
 }
 
-/**
- * The byte order, and the nanoseconds of a unit of time; null of another file.
- *
- * @param {import('./slices.js').Slices} file
- */
+/** The byte order, and the nanoseconds of a unit of time; null of another file.
+ * @param {import('./slices.js').Slices} file */
 function orderOf(file) {
     if (file.size < 4) return null;
     for (const little of [true, false]) {

@@ -17,31 +17,21 @@ const TIME_UNIT = 9;
 const TIME_OFFSET = 14;
 const MICROSECOND = { per: 1_000_000n, seconds: 0n };
 
-/**
- * An interface: its link type, how many bytes of a frame are kept at most (0: all), and its clock.
- *
+/** An interface: its link type, how many bytes of a frame are kept at most (0: all), and its clock.
  * @typedef {object} Interface
- * @property {number} link
- * @property {number} snap
- * @property {{per: bigint, seconds: bigint}} clock how many units a second has, and what is added to its seconds
- */
+ * @property {number} link @property {number} snap
+ * @property {{per: bigint, seconds: bigint}} clock how many units a second has, and what is added to its seconds */
 
-/**
- * Whether a file begins as pcapng does.
- *
- * @param {import('./slices.js').Slices} file
- */
+/** Whether a file begins as pcapng does.
+ * @param {import('./slices.js').Slices} file */
 export function isPcapng(file) {
     return file.size >= 4 && number32(file.bytes(0, 4), 0, false) === SECTION;
 }
 
-/**
- * The frames of a file.
- *
+/** The frames of a file.
  * @param {import('./slices.js').Slices} file
  * @returns {Generator<import('./frames.js').Frame, void, void>}
- * @throws {FileFault} where a block isn't whole, or what it says can't be; the frames before it came.
- */
+ * @throws {FileFault} where a block isn't whole, or what it says can't be; the frames before it came. */
 export function* pcapngFrames(file) {
     let little = true;
     /** @type {Interface[]} */
@@ -71,12 +61,9 @@ export function* pcapngFrames(file) {
 
 /** What a block has between its lengths. */
 class Body {
-    /**
-     * @param {import('./slices.js').Slices} file
+    /** @param {import('./slices.js').Slices} file
      * @param {number} at where the block begins
-     * @param {number} size
-     * @param {boolean} little
-     */
+     * @param {number} size @param {boolean} little */
     constructor(file, at, size, little) {
         this.at = at;
         this.little = little;
@@ -97,12 +84,9 @@ class Body {
         return number16(this.bytes, place, this.little);
     }
 
-    /**
-     * The options from a place on: their codes and values.
-     *
+    /** The options from a place on: their codes and values.
      * @param {number} place
-     * @returns {Generator<[number, Uint8Array], void, void>}
-     */
+     * @returns {Generator<[number, Uint8Array], void, void>} */
     *options(place) {
         while (place + 4 <= this.bytes.length) {
             const code = this.number16(place);
@@ -115,33 +99,23 @@ class Body {
     }
 }
 
-/**
- * @param {Uint8Array} head
- * @param {number} at
- */
+/** @param {Uint8Array} head @param {number} at */
 function orderOf(head, at) {
     if (number32(head, 8, true) === ORDER) return true;
     if (number32(head, 8, false) === ORDER) return false;
     throw new FileFault('a section of no byte order', at + 8);
 }
 
-/**
- * How many bytes a block has, by what it says.
- *
- * @param {import('./slices.js').Slices} file
- * @param {number} at
- * @param {number} size
- */
+/** How many bytes a block has, by what it says.
+ * @param {import('./slices.js').Slices} file @param {number} at @param {number} size */
 function sizeOf(file, at, size) {
     if (size < LEAST || size % 4 !== 0 || size > MOST_BLOCK) throw new FileFault(`a block of ${size} bytes`, at + 4);
     if (at + size > file.size) throw new FileFault('a block is cut', at);
     return size;
 }
 
-/**
- * @param {Body} body
- * @returns {Interface}
- */
+/** @param {Body} body
+ * @returns {Interface} */
 function interfaceOf(body) {
     let { per, seconds } = MICROSECOND;
     for (const [code, value] of body.options(8)) {
@@ -153,20 +127,13 @@ function interfaceOf(body) {
     return { link: body.number16(0), snap: body.number32(4), clock: { per, seconds } };
 }
 
-/**
- * How many units a second has: a power of ten, or of two where the highest bit is set.
- *
- * @param {number} value
- */
+/** How many units a second has: a power of ten, or of two where the highest bit is set.
+ * @param {number} value */
 function unitsOf(value) {
     return value & 0x80 ? 1n << BigInt(value & 0x7f) : 10n ** BigInt(value);
 }
 
-/**
- * @param {number} type
- * @param {Body} body
- * @param {Interface[]} interfaces
- */
+/** @param {number} type @param {Body} body @param {Interface[]} interfaces */
 function frameOf(type, body, interfaces) {
     const which = type === PACKET ? body.number32(0) : type === OLD_PACKET ? body.number16(0) : 0;
     const face = interfaces[which];

@@ -13,10 +13,8 @@ export class Recent {
         this.size = 0;
     }
 
-    /**
-     * @param {Growing} past the latest bytes of a stream
-     * @param {Uint8Array} bytes
-     */
+    /** @param {Growing} past the latest bytes of a stream
+     * @param {Uint8Array} bytes */
     keep(past, bytes) {
         past.push(bytes);
         this.parts.set(this.next++, { past, count: bytes.length });

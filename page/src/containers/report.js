@@ -14,21 +14,13 @@ export const NO_REST = 'a session packet whose rest is missing';
 export const RESET = 'with RST';
 export const DIFFERING = 'sent again with other bytes';
 
-/**
- * A frame, as far as it is named: addresses with ports, where they are known.
- *
+/** A frame, as far as it is named: addresses with ports, where they are known.
  * @typedef {object} Mark
- * @property {number} frame
- * @property {bigint | null} time
- * @property {string} source
- * @property {string} destination
- * @property {number} captured
- * @property {number} size
+ * @property {number} frame @property {bigint | null} time @property {string} source @property {string} destination
+ * @property {number} captured @property {number} size
  * @property {boolean} counted whether something of it is left out
- *
  * @typedef {{kind: 'left out', mark: Mark, why: string}} LeftOut
- * @typedef {{kind: 'comment', text: string}} Comment
- */
+ * @typedef {{kind: 'comment', text: string}} Comment */
 
 export class Report {
     /** @param {(item: LeftOut | Comment) => void} give */
@@ -46,10 +38,8 @@ export class Report {
         this.cut = mark.captured < mark.size ? CUT : SHORT;
     }
 
-    /**
-     * @param {Mark} mark a frame of which bytes are in no payload
-     * @param {string} why
-     */
+    /** @param {Mark} mark a frame of which bytes are in no payload
+     * @param {string} why */
     count(mark, why) {
         if (mark.counted) return;
         mark.counted = true;
@@ -61,21 +51,14 @@ export class Report {
         this.give({ kind: 'comment', text });
     }
 
-    /**
-     * Some of the latest frame's bytes are left out.
-     *
-     * @param {string} why
-     * @param {string} text
-     */
+    /** Some of the latest frame's bytes are left out.
+     * @param {string} why @param {string} text */
     note(why, text) {
         this.count(this.mark, why);
         this.comment(text);
     }
 
-    /**
-     * @param {string} why
-     * @param {string} text
-     */
+    /** @param {string} why @param {string} text */
     leaveOut(why, text) {
         this.note(why, `frame ${this.mark.frame} is left out: ${text}`);
     }

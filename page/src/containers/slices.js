@@ -3,10 +3,7 @@
 const STEP = 4 << 20;
 
 export class Slices {
-    /**
-     * @param {number} size
-     * @param {(from: number, to: number) => Uint8Array} read
-     */
+    /** @param {number} size @param {(from: number, to: number) => Uint8Array} read */
     constructor(size, read) {
         this.size = size;
         this.read = read;
@@ -14,23 +11,15 @@ export class Slices {
         this.held = new Uint8Array(0);
     }
 
-    /**
-     * The bytes between two places, or as many of them as there are. They are a part of what is held: who keeps them copies them.
-     *
-     * @param {number} from
-     * @param {number} to
-     */
+    /** The bytes between two places, or as many of them as there are. They are a part of what is held: who keeps them copies them.
+     * @param {number} from @param {number} to */
     bytes(from, to) {
         const place = this.place(from, to);
         return this.held.subarray(place, place + Math.max(0, Math.min(to, this.size) - from));
     }
 
-    /**
-     * Where in what is held the bytes between two places begin.
-     *
-     * @param {number} from
-     * @param {number} to
-     */
+    /** Where in what is held the bytes between two places begin.
+     * @param {number} from @param {number} to */
     place(from, to) {
         const end = Math.min(to, this.size);
         if (from < this.from || end > this.from + this.held.length) {
@@ -41,20 +30,13 @@ export class Slices {
     }
 }
 
-/**
- * A file that is held.
- *
- * @param {Uint8Array} bytes
- */
+/** A file that is held.
+ * @param {Uint8Array} bytes */
 export function slicesOf(bytes) {
     return new Slices(bytes.length, (from, to) => bytes.subarray(from, to));
 }
 
-/**
- * @param {Uint8Array} bytes
- * @param {number} at
- * @param {boolean} little
- */
+/** @param {Uint8Array} bytes @param {number} at @param {boolean} little */
 export function number32(bytes, at, little) {
     const one = little ? bytes[at + 3] : bytes[at];
     const two = little ? bytes[at + 2] : bytes[at + 1];
@@ -63,11 +45,7 @@ export function number32(bytes, at, little) {
     return ((one << 24) | (two << 16) | (three << 8) | four) >>> 0;
 }
 
-/**
- * @param {Uint8Array} bytes
- * @param {number} at
- * @param {boolean} little
- */
+/** @param {Uint8Array} bytes @param {number} at @param {boolean} little */
 export function number16(bytes, at, little) {
     return little ? bytes[at] | (bytes[at + 1] << 8) : (bytes[at] << 8) | bytes[at + 1];
 }

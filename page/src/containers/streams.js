@@ -10,16 +10,13 @@ const MOST_OPEN = 16_384;
 const MOST_CLOSED = 4_096;
 const ALL = 2 ** 32;
 
-/**
- * A segment with its ends.
- *
+/** A segment with its ends.
  * @typedef {object} Sent
  * @property {number} stream the number of its stream
  * @property {string} from an address and a port
  * @property {string} to
  * @property {string} title of its side
- * @property {import('./transport.js').Segment} segment one whose header is whole
- */
+ * @property {import('./transport.js').Segment} segment one whose header is whole */
 
 /** All streams. */
 export class Streams {
@@ -34,12 +31,9 @@ export class Streams {
         this.recent = new Recent();
     }
 
-    /**
-     * Takes a segment: the session packets that are whole by it.
-     *
+    /** Takes a segment: the session packets that are whole by it.
      * @param {Sent} sent
-     * @returns {Generator<Uint8Array, void, void>}
-     */
+     * @returns {Generator<Uint8Array, void, void>} */
     *take(sent) {
         const { segment, stream, from, to } = sent;
         const key = `${stream} ${from}`;
@@ -70,13 +64,8 @@ export class Streams {
         for (const direction of this.open.values()) direction.tell();
     }
 
-    /**
-     * The side of a segment: begun anew by a SYN, or by bytes whose stream isn't open; null for other segments.
-     *
-     * @param {string} key
-     * @param {Sent} sent
-     * @param {Uint8Array} bytes
-     */
+    /** The side of a segment: begun anew by a SYN, or by bytes whose stream isn't open; null for other segments.
+     * @param {string} key @param {Sent} sent @param {Uint8Array} bytes */
     direction(key, sent, bytes) {
         const { segment, title } = sent;
         let direction = this.open.get(key) ?? null;
@@ -101,13 +90,8 @@ export class Streams {
         return direction;
     }
 
-    /**
-     * Whether a side that ended had this SYN, or these bytes, before.
-     *
-     * @param {string} key
-     * @param {import('./transport.js').Segment} segment
-     * @param {Uint8Array} bytes
-     */
+    /** Whether a side that ended had this SYN, or these bytes, before.
+     * @param {string} key @param {import('./transport.js').Segment} segment @param {Uint8Array} bytes */
     cameBefore(key, segment, bytes) {
         const closed = this.closed.get(key);
         if (!closed) return false;
@@ -117,11 +101,7 @@ export class Streams {
         return bytes.length > 0 && bytes.length <= back && back <= Math.min(due - first, MOST_RECENT);
     }
 
-    /**
-     * @param {string} key
-     * @param {string} title
-     * @param {number} first
-     */
+    /** @param {string} key @param {string} title @param {number} first */
     begin(key, title, first) {
         this.closed.delete(key);
         const direction = new Direction(title, this.recent, this.report, first);
@@ -129,14 +109,9 @@ export class Streams {
         return direction;
     }
 
-    /**
-     * The packets of a segment, in whatever order segments come, and however often.
-     *
-     * @param {Direction} direction
-     * @param {number} place
-     * @param {Uint8Array} bytes
-     * @returns {Generator<Uint8Array, void, void>}
-     */
+    /** The packets of a segment, in whatever order segments come, and however often.
+     * @param {Direction} direction @param {number} place @param {Uint8Array} bytes
+     * @returns {Generator<Uint8Array, void, void>} */
     *pieces(direction, place, bytes) {
         if (place < direction.first && !direction.isKeptAlive(place, bytes)) {
             const count = Math.min(direction.first - place, bytes.length);

@@ -8,47 +8,26 @@ export const TCP_HEADER = 20;
 /** How much of a header of TCP has to be there: up to its checksum. */
 const LEAST_OF_TCP = 16;
 
-/**
- * A datagram. `payload` is what the file has of its bytes, of which there were `size`; it is null where the header isn't whole.
- *
+/** A datagram. `payload` is what the file has of its bytes, of which there were `size`; it is null where the header isn't whole.
  * @typedef {object} Datagram
- * @property {number} source
- * @property {number} destination
- * @property {Uint8Array | null} payload
- * @property {number} size
- */
+ * @property {number} source @property {number} destination @property {Uint8Array | null} payload @property {number} size */
 
-/**
- * A segment. `payload` is what the file has of its bytes, of which there were `size`; it is null where the header isn't whole.
- *
+/** A segment. `payload` is what the file has of its bytes, of which there were `size`; it is null where the header isn't whole.
  * @typedef {object} Segment
- * @property {number} source
- * @property {number} destination
- * @property {number} sequence
+ * @property {number} source @property {number} destination @property {number} sequence
  * @property {number} acknowledged the place that it says comes next from the other side, where `ack` is set
- * @property {boolean} syn
- * @property {boolean} fin
- * @property {boolean} rst
- * @property {boolean} ack
- * @property {Uint8Array | null} payload
- * @property {number} size
- */
+ * @property {boolean} syn @property {boolean} fin @property {boolean} rst @property {boolean} ack
+ * @property {Uint8Array | null} payload @property {number} size */
 
-/**
- * The ports of a datagram or a segment; null where the file ends before them.
- *
- * @param {Uint8Array} bytes
- */
+/** The ports of a datagram or a segment; null where the file ends before them.
+ * @param {Uint8Array} bytes */
 export function portsIn(bytes) {
     return bytes.length < 4 ? null : { source: word(bytes, 0), destination: word(bytes, 2) };
 }
 
-/**
- * The datagram that is in a packet of IP whose ports are known.
- *
+/** The datagram that is in a packet of IP whose ports are known.
  * @param {import('./internet.js').Internet} packet
- * @returns {Datagram}
- */
+ * @returns {Datagram} */
 export function datagramIn(packet) {
     const bytes = packet.payload;
     const ports = { source: word(bytes, 0), destination: word(bytes, 2) };
@@ -57,12 +36,9 @@ export function datagramIn(packet) {
     return { ...ports, payload: bytes.subarray(UDP_HEADER, Math.max(UDP_HEADER, UDP_HEADER + size)), size };
 }
 
-/**
- * The segment that is in a packet of IP whose ports are known.
- *
+/** The segment that is in a packet of IP whose ports are known.
  * @param {import('./internet.js').Internet} packet
- * @returns {Segment}
- */
+ * @returns {Segment} */
 export function segmentIn(packet) {
     const bytes = packet.payload;
     const source = word(bytes, 0);

@@ -1,11 +1,8 @@
 /** Frames whose packets aren't read here: those of other link types, and those whose packet of IP is wrapped in something else. nbt-look reads them. */
 import { UDP, portsIn } from './transport.js';
 
-/**
- * A frame, its link type, and why it isn't read: 'link type', or what its packet is wrapped in.
- *
- * @typedef {{kind: 'unread', frame: number, link: string, why: string}} Unread
- */
+/** A frame, its link type, and why it isn't read: 'link type', or what its packet is wrapped in.
+ * @typedef {{kind: 'unread', frame: number, link: string, why: string}} Unread */
 
 /** Protocols of IP that carry packets (RFC 2003, RFC 4213, RFC 2784, RFC 4302). */
 const [IPV4_INSIDE, IPV6_INSIDE, GRE, AUTHENTICATION] = [4, 41, 47, 51];
@@ -23,11 +20,8 @@ export function linkName(link) {
     return name ? `${name} (${link})` : String(link);
 }
 
-/**
- * What the payload of a packet of IP is wrapped in, if it carries another packet; an empty text where it carries none.
- *
- * @param {import('./internet.js').Internet} packet
- */
+/** What the payload of a packet of IP is wrapped in, if it carries another packet; an empty text where it carries none.
+ * @param {import('./internet.js').Internet} packet */
 export function wrappingOf({ protocol, source, payload }) {
     switch (protocol) {
         case IPV4_INSIDE:

@@ -5,19 +5,13 @@ import { LEFT_OUT } from './packets.js';
 import { momentOf, utc } from '../model/times.js';
 import { KEPT_FOR } from './vocabulary.js';
 
-/**
- * A line. A payload's has the row that it is of, where the capture is made of frames.
- *
+/** A line. A payload's has the row that it is of, where the capture is made of frames.
  * @typedef {{kind: 'payload', port: number, moment: number | bigint, bytes: Uint8Array, row: number | null}} PayloadOf
- * @typedef {{kind: 'tick', moment: number | bigint} | {kind: 'comment', text: string} | {kind: 'empty'} | PayloadOf} CaptureLine
- */
+ * @typedef {{kind: 'tick', moment: number | bigint} | {kind: 'comment', text: string} | {kind: 'empty'} | PayloadOf} CaptureLine */
 
-/**
- * The lines of a file that is a capture.
- *
+/** The lines of a file that is a capture.
  * @param {import('../containers/slices.js').Slices} file
- * @returns {Generator<CaptureLine, void, void>}
- */
+ * @returns {Generator<CaptureLine, void, void>} */
 export function* written(file) {
     try {
         for (const line of linesOf(file)) {
@@ -30,12 +24,9 @@ export function* written(file) {
     }
 }
 
-/**
- * The lines that are made of frames: comments on them, payloads, and ticks of the clock.
- *
+/** The lines that are made of frames: comments on them, payloads, and ticks of the clock.
  * @param {{packets: import('./packets.js').Packets, first: bigint | null}} of
- * @returns {Generator<CaptureLine, void, void>}
- */
+ * @returns {Generator<CaptureLine, void, void>} */
 export function* made({ packets, first }) {
     const clock = new Ticks();
     let [next, moment] = [0, 0];
@@ -72,11 +63,8 @@ class Ticks {
     }
 }
 
-/**
- * A line as text.
- *
- * @param {CaptureLine} line
- */
+/** A line as text.
+ * @param {CaptureLine} line */
 export function textOf(line) {
     switch (line.kind) {
         case 'payload':
@@ -90,11 +78,8 @@ export function textOf(line) {
     }
 }
 
-/**
- * A comment as `nbt show --json` has it: a byte that isn't printable is a backslash and two digits.
- *
- * @param {string} text a character a byte
- */
+/** A comment as `nbt show --json` has it: a byte that isn't printable is a backslash and two digits.
+ * @param {string} text a character a byte */
 export function commentOf(text) {
     return text.replace(/[^\x20-\x7e]/g, (each) => `\\${each.charCodeAt(0).toString(16).padStart(2, '0')}`);
 }

@@ -25,54 +25,46 @@ export class Claims {
         /** @type {Map<string, Set<Tenure>>} by who claims: the tenures to which somebody may object */
         this.openTo = new Map();
         this.latest = 0n;
+        /** @type {Record<string, (message: Message) => boolean>} what an act does; any other settles nothing */
+        this.acts = {
+            'claims': (it) => this.claimed(it), 'overwrites': (it) => this.claimed(it), 'grants': (it) => this.granted(it),
+            'refuses': (it) => this.refused(it), 'demands': (it) => this.refusedOrDemanded(it), 'releases': (it) => this.releases(it),
+            'released': (it) => this.released(it), 'answers': (it) => this.answered(it), 'finds none': (it) => this.findsNone(it),
+            'waits': (it) => this.waits(it),
+        };
     }
 
-    /**
-     * Takes the time of any packet: claims are over at the end of the capture that are over by then.
-     *
-     * @param {bigint} at
-     */
+    /** Takes the time of any packet: claims are over at the end of the capture that are over by then.
+     * @param {bigint} at */
     see(at) {
         if (at > this.latest) this.latest = at;
     }
 
-    /**
-     * @param {Message} message
-     * @returns {boolean} whether it is of a conflict
-     */
+    /** @param {Message} message
+     * @returns {boolean} whether it is of a conflict */
     take(message) {
         const { isBroadcast, mac, source } = message;
         if (message.name !== null) this.settle(message.name, message.at);
         if (isBroadcast && mac) this.owners.join(mac, source);
-        switch (message.act) {
-            case 'claims':
-            case 'overwrites':
-                return this.claimed(message);
-            case 'grants':
-                return this.granted(message);
-            case 'refuses':
-                return this.refused(message);
-            case 'demands':
-                return message.name === null || this.askedFor(message).length ? this.refused(message) : this.demanded(message, message.name);
-            case 'releases':
-                return this.releases(message);
-            case 'released':
-                return this.released(message);
-            case 'answers':
-                return this.answered(message);
-            case 'finds none':
-                return this.findsNone(message);
-            default:
-                if (message.act === 'waits') [this.claiming, this.releasing].forEach((each) => each.wait(message));
-                return false;
-        }
+        return this.acts[message.act]?.(message) ?? false;
     }
 
-    /**
-     * A claim holds by an overwrite demand, and without one where nobody objects to a broadcast.
-     *
-     * @param {Message} message
-     */
+    /** CFT_ERR with the identifier of a claim refuses it; with another one it is a conflict demand to its target.
+     * @param {Message} message */
+    refusedOrDemanded(message) {
+        return message.name === null || this.askedFor(message).length ? this.refused(message) : this.demanded(message, message.name);
+    }
+
+    /** A WACK, of whichever it is.
+     * @param {Message} message */
+    waits(message) {
+        this.claiming.wait(message);
+        this.releasing.wait(message);
+        return false;
+    }
+
+    /** A claim holds by an overwrite demand, and without one where nobody objects to a broadcast.
+     * @param {Message} message */
     claimed(message) {
         if (message.name === null) return false;
         const { source, isBroadcast, isMultihomed } = message;
@@ -92,13 +84,8 @@ export class Claims {
         return isContested;
     }
 
-    /**
-     * A broadcast claim, and each repeat of it, gives others time to object; an overwrite demand gives none.
-     *
-     * @param {Tenure} tenure
-     * @param {Message} message
-     * @param {import('./waiting.js').Request<Tenure[]>} request
-     */
+    /** A broadcast claim, and each repeat of it, gives others time to object; an overwrite demand gives none.
+     * @param {Tenure} tenure @param {Message} message @param {import('./waiting.js').Request<Tenure[]>} request */
     wait(tenure, { at, act, source }, request) {
         if (tenure.isSilent && tenure.asking === request) tenure.begin('claims', at);
         if (tenure.standing !== 'claims') return;
@@ -112,22 +99,15 @@ export class Claims {
         this.openTo.set(source, open.add(tenure));
     }
 
-    /**
-     * Takes a frame of port 137 of which not even the header stands: it may be an objection to what its target claims.
-     *
-     * @param {string} target
-     * @param {bigint} at
-     */
+    /** Takes a frame of port 137 of which not even the header stands: it may be an objection to what its target claims.
+     * @param {string} target @param {bigint} at */
     cannotRead(target, at) {
         leaveOpen([...this.openTo.get(target) ?? []].filter(({ due }) => due !== null && at <= due));
         this.openTo.delete(target);
     }
 
-    /**
-     * A positive response; where its claim isn't in the capture, its record has the name and the address.
-     *
-     * @param {Message} message
-     */
+    /** A positive response; where its claim isn't in the capture, its record has the name and the address.
+     * @param {Message} message */
     granted(message) {
         const asked = this.askedFor(message);
         if (message.name === null) return leaveOpen(asked);
@@ -143,11 +123,8 @@ export class Claims {
         return false;
     }
 
-    /**
-     * A negative response, whatever its code: it refuses what its request claims, or its target where that isn't in the capture.
-     *
-     * @param {Message} message
-     */
+    /** A negative response, whatever its code: it refuses what its request claims, or its target where that isn't in the capture.
+     * @param {Message} message */
     refused(message) {
         const asked = this.askedFor(message);
         const { name } = message;
@@ -163,32 +140,22 @@ export class Claims {
         return isTaken;
     }
 
-    /**
-     * A conflict demand: its target loses the name.
-     *
-     * @param {Message} message
-     * @param {string} name
-     */
+    /** A conflict demand: its target loses the name.
+     * @param {Message} message @param {string} name */
     demanded(message, name) {
         for (const each of this.known(name, message.target)) each.end('lost', message.at);
         this.decide(message, name, [message.target]);
         return true;
     }
 
-    /**
-     * The tenures of the claims that a response answers.
-     *
-     * @param {Message} message
-     */
+    /** The tenures of the claims that a response answers.
+     * @param {Message} message */
     askedFor(message) {
         return this.claiming.of(message).flatMap(({ subject }) => subject ?? []);
     }
 
-    /**
-     * A broadcast release of a holder ends what it names; another one waits for its answer.
-     *
-     * @param {Message} message
-     */
+    /** A broadcast release of a holder ends what it names; another one waits for its answer.
+     * @param {Message} message */
     releases(message) {
         const { source, isBroadcast } = message;
         if (!isBroadcast && message.name !== null) this.releasing.put(message, 'release').subject = message.places;
@@ -199,11 +166,8 @@ export class Claims {
         return false;
     }
 
-    /**
-     * A positive release response. Of one whose name is cut it isn't known which it grants.
-     *
-     * @param {Message} message
-     */
+    /** A positive release response. Of one whose name is cut it isn't known which it grants.
+     * @param {Message} message */
     released(message) {
         if (message.name === null) return false;
         const asked = this.releasing.of(message).flatMap(({ subject }) => subject ?? []);
@@ -211,25 +175,16 @@ export class Claims {
         return false;
     }
 
-    /**
-     * Ends a tenure. One of which nothing was known has the mark of the release.
-     *
-     * @param {string} name
-     * @param {string} address
-     * @param {bigint} at
-     * @param {import('./parts.js').Front} front
-     */
+    /** Ends a tenure. One of which nothing was known has the mark of the release.
+     * @param {string} name @param {string} address @param {bigint} at @param {import('./parts.js').Front} front */
     release(name, address, at, front = 'whole') {
         const tenure = this.tenure(name, address, address);
         if (tenure?.standing === '' && front !== 'whole') tenure.front = front;
         tenure?.end('released', at);
     }
 
-    /**
-     * A positive query response holds for the addresses of its sender; a node status response for the names of its sender.
-     *
-     * @param {Message} message
-     */
+    /** A positive query response holds for the addresses of its sender; a node status response for the names of its sender.
+     * @param {Message} message */
     answered(message) {
         const { source, at } = message;
         const isOwn = message.named.some((address) => this.owners.areOne(address, source));
@@ -248,11 +203,7 @@ export class Claims {
         return this.status(message);
     }
 
-    /**
-     * @param {Tenure} tenure
-     * @param {boolean} group
-     * @param {Message} message
-     */
+    /** @param {Tenure} tenure @param {boolean} group @param {Message} message */
     hold(tenure, group, message) {
         const isNew = tenure.standing !== 'holds' || tenure.group !== group;
         tenure.begin('holds', message.at, message.frame);
@@ -260,11 +211,8 @@ export class Claims {
         if (isNew) this.contest(tenure, message.at);
     }
 
-    /**
-     * The names of a node status: those that are active are held, those in conflict are lost, by its sender's own word.
-     *
-     * @param {Message} message
-     */
+    /** The names of a node status: those that are active are held, those in conflict are lost, by its sender's own word.
+     * @param {Message} message */
     status(message) {
         const { source, at, frame } = message;
         let isConflict = false;
@@ -286,24 +234,16 @@ export class Claims {
         return isConflict;
     }
 
-    /**
-     * A negative query response with CFT_ERR says that a name is in conflict, and not who has it.
-     *
-     * @param {Message} message
-     */
+    /** A negative query response with CFT_ERR says that a name is in conflict, and not who has it.
+     * @param {Message} message */
     findsNone({ name, code, source, frame }) {
         if (code !== 'CFT_ERR' || name === null) return false;
         this.conflicts.decide(name, '', [], source, frame);
         return true;
     }
 
-    /**
-     * The tenure of a name at an address, made where there is none; null where there is no room for it.
-     *
-     * @param {string} name
-     * @param {string} address
-     * @param {string} station
-     */
+    /** The tenure of a name at an address, made where there is none; null where there is no room for it.
+     * @param {string} name @param {string} address @param {string} station */
     tenure(name, address, station) {
         const found = this.tenures.get(`${name} ${address}`, () => new Tenure(name, address, station));
         const kept = found && this.ofName.get(name, () => []);
@@ -313,11 +253,8 @@ export class Claims {
         return found;
     }
 
-    /**
-     * The tenures that a response's own records name.
-     *
-     * @param {Message} message
-     */
+    /** The tenures that a response's own records name.
+     * @param {Message} message */
     recorded(message) {
         return message.places.flatMap(({ name, address, group }) => {
             const tenure = this.tenure(name, address, address);
@@ -325,12 +262,8 @@ export class Claims {
         });
     }
 
-    /**
-     * The tenures of a name that a station has, or one more for its address.
-     *
-     * @param {string} name
-     * @param {string} address
-     */
+    /** The tenures of a name that a station has, or one more for its address.
+     * @param {string} name @param {string} address */
     known(name, address) {
         const found = this.of(name).filter((each) => each.isKept && this.isOf(each, address));
         const made = found.length ? null : this.tenure(name, address, address);
@@ -342,30 +275,19 @@ export class Claims {
         return this.ofName.entries.get(name) ?? [];
     }
 
-    /**
-     * Whether a tenure is the station's that has this address.
-     *
-     * @param {Tenure} tenure
-     * @param {string} address
-     */
+    /** Whether a tenure is the station's that has this address.
+     * @param {Tenure} tenure @param {string} address */
     isOf(tenure, address) {
         return address !== '' && (this.owners.areOne(tenure.address, address) || this.owners.areOne(tenure.station, address));
     }
 
-    /**
-     * Looks at the clock for the tenures of a name.
-     *
-     * @param {string} name
-     * @param {bigint} at
-     */
+    /** Looks at the clock for the tenures of a name.
+     * @param {string} name @param {bigint} at */
     settle(name, at) {
         for (const each of this.of(name)) this.settleOne(each, at);
     }
 
-    /**
-     * @param {Tenure} tenure
-     * @param {bigint} at
-     */
+    /** @param {Tenure} tenure @param {bigint} at */
     settleOne(tenure, at) {
         const held = tenure.settle(at);
         if (held !== null) this.contest(tenure, held);
@@ -376,12 +298,8 @@ export class Claims {
         for (const each of this.tenures.entries.values()) this.settleOne(each, this.latest);
     }
 
-    /**
-     * Opens a conflict with each that claims or holds the name too; answers whether one of the two holds it, or will by silence.
-     *
-     * @param {Tenure} tenure
-     * @param {bigint} at
-     */
+    /** Opens a conflict with each that claims or holds the name too; answers whether one of the two holds it, or will by silence.
+     * @param {Tenure} tenure @param {bigint} at */
     contest(tenure, at) {
         let isContested = false;
         for (const each of this.of(tenure.name)) {
@@ -393,39 +311,24 @@ export class Claims {
         return isContested;
     }
 
-    /**
-     * Whether two tenures of a name are in conflict: of two stations, and not of one group. By operation 15 two claims are of one station.
-     *
-     * @param {Tenure} other
-     * @param {Tenure} tenure
-     * @param {bigint} at
-     */
+    /** Whether two tenures of a name are in conflict: of two stations, and not of one group. By operation 15 two claims are of one station.
+     * @param {Tenure} other @param {Tenure} tenure @param {bigint} at */
     isAgainst(other, tenure, at) {
         if (other === tenure || !other.stands(at) || (other.isMultihomed && tenure.isMultihomed)) return false;
         if (other.group === null || tenure.group === null || (other.group && tenure.group)) return false;
         return !this.owners.areOne(other.station, tenure.station) && !this.owners.areOne(other.address, tenure.address);
     }
 
-    /**
-     * Somebody is refused a name, or has to give it up.
-     *
-     * @param {Message} message
-     * @param {string} name
-     * @param {string[]} addresses
-     */
+    /** Somebody is refused a name, or has to give it up.
+     * @param {Message} message @param {string} name @param {string[]} addresses */
     decide(message, name, addresses) {
         const holders = this.holders(name, addresses, message);
         for (const each of addresses) this.conflicts.decide(name, each, holders, message.source, message.frame);
     }
 
-    /**
-     * Who holds a name that others are refused: who refuses it, if that one does, with its group; else whom the response names; else those that
+    /** Who holds a name that others are refused: who refuses it, if that one does, with its group; else whom the response names; else those that
      * hold it in the capture, or are said to. Nobody is invented.
-     *
-     * @param {string} name
-     * @param {string[]} lost
-     * @param {Message} message
-     */
+     * @param {string} name @param {string[]} lost @param {Message} message */
     holders(name, lost, { source, named }) {
         const others = this.of(name).filter((each) => each.isKept && !lost.includes(each.address));
         const held = others.filter(({ standing }) => standing === 'holds');
@@ -438,24 +341,15 @@ export class Claims {
         return addresses(holding.length ? holding : others.filter(({ standing }) => standing === 'is said to be'));
     }
 
-    /**
-     * Whether a name was claimed for an address, and that was refused.
-     *
-     * @param {string} name
-     * @param {string} address
-     */
+    /** Whether a name was claimed for an address, and that was refused.
+     * @param {string} name @param {string} address */
     isRefused(name, address) {
         return this.tenures.entries.get(`${name} ${address}`)?.standing === 'refused';
     }
 }
 
-/**
- * Takes a claim; answers whether it is more than one that stood already. What is cut changes nothing that is known.
- *
- * @param {Tenure} tenure
- * @param {boolean | null} group
- * @param {Message} message
- */
+/** Takes a claim; answers whether it is more than one that stood already. What is cut changes nothing that is known.
+ * @param {Tenure} tenure @param {boolean | null} group @param {Message} message */
 function claim(tenure, group, { front, at, frame, isMultihomed }) {
     const isKnown = tenure.isClaiming;
     const isNew = !isKnown || (group !== null && group !== tenure.group);
@@ -469,11 +363,8 @@ function claim(tenure, group, { front, at, frame, isMultihomed }) {
     return isNew;
 }
 
-/**
- * An answer of which no name stands may be an objection: silence decides nothing then.
- *
- * @param {Tenure[]} tenures
- */
+/** An answer of which no name stands may be an objection: silence decides nothing then.
+ * @param {Tenure[]} tenures */
 function leaveOpen(tenures) {
     for (const each of tenures) each.due = null;
     return false;

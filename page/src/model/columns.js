@@ -4,11 +4,8 @@ const BLOCK = 4 << 20;
 
 /** @typedef {Uint8Array | Uint16Array | Uint32Array | Float64Array | BigInt64Array} Numbers */
 
-/**
- * A column that grows.
- *
- * @template {Numbers} T
- */
+/** A column that grows.
+ * @template {Numbers} T */
 export class Column {
     /** @param {new (length: number) => T} kind */
     constructor(kind) {
@@ -27,19 +24,14 @@ export class Column {
         this.room[this.length++] = value;
     }
 
-    /**
-     * @param {number} at
-     * @returns {T[number]}
-     */
+    /** @param {number} at
+     * @returns {T[number]} */
     at(at) {
         return this.room[at];
     }
 
-    /**
-     * The values from a place on, as a column of their own.
-     *
-     * @param {number} from
-     */
+    /** The values from a place on, as a column of their own.
+     * @param {number} from */
     from(from) {
         return this.room.slice(from, this.length);
     }
@@ -72,11 +64,8 @@ export class Blocks {
         this.size = 0;
     }
 
-    /**
-     * Keeps bytes, of a block's length at most, and answers their place.
-     *
-     * @param {Uint8Array} bytes
-     */
+    /** Keeps bytes, of a block's length at most, and answers their place.
+     * @param {Uint8Array} bytes */
     add(bytes) {
         if (bytes.length === 0) return 0;
         if (this.next + bytes.length > this.blocks.length * BLOCK) {
@@ -90,10 +79,7 @@ export class Blocks {
         return place;
     }
 
-    /**
-     * @param {number} place
-     * @param {number} size
-     */
+    /** @param {number} place @param {number} size */
     at(place, size) {
         if (size === 0) return new Uint8Array(0);
         return this.blocks[Math.floor(place / BLOCK)].subarray(place % BLOCK, (place % BLOCK) + size);

@@ -2,16 +2,12 @@
 import { Room } from './rooms.js';
 import { MOST_PAIRS } from './vocabulary.js';
 
-/**
- * A row. Where nobody is refused several claim it, who are the holders, with neither `refused` nor `by`; where it isn't known who holds the name,
+/** A row. Where nobody is refused several claim it, who are the holders, with neither `refused` nor `by`; where it isn't known who holds the name,
  * there is no holder.
- *
  * @typedef {{name: string, holders: string[], refused: string, by: string, frame: number}} Conflict
  *
  * Two addresses of which both claim a name: in which frame the later one began, and whether one of them held it then or later.
- *
- * @typedef {{addresses: [string, string], frame: number, isHeld: boolean}} Pair
- */
+ * @typedef {{addresses: [string, string], frame: number, isHeld: boolean}} Pair */
 
 export class Conflicts {
     /** @param {import('./owners.js').Owners} owners */
@@ -23,49 +19,29 @@ export class Conflicts {
         this.decided = new Room();
     }
 
-    /**
-     * Two stations claim a name. It is a conflict once one of them holds it.
-     *
-     * @param {string} name
-     * @param {[string, string]} addresses
-     * @param {boolean} isHeld
-     * @param {number} frame
-     */
+    /** Two stations claim a name. It is a conflict once one of them holds it.
+     * @param {string} name @param {[string, string]} addresses @param {boolean} isHeld @param {number} frame */
     open(name, addresses, isHeld, frame) {
         const pairs = this.undecided.get(name, () => new Room(MOST_PAIRS));
         const pair = pairs?.get([...addresses].sort().join(' '), () => ({ addresses, frame, isHeld }));
         if (pair && !pair.isHeld) Object.assign(pair, { frame, isHeld });
     }
 
-    /**
-     * Whether one of these claims a name that another station holds.
-     *
-     * @param {string} name
-     * @param {string[]} addresses
-     */
+    /** Whether one of these claims a name that another station holds.
+     * @param {string} name @param {string[]} addresses */
     isOpen(name, addresses) {
         return this.held(name).some((pair) => pair.addresses.some((each) => addresses.includes(each)));
     }
 
-    /**
-     * The pairs of a name that are a conflict: of which one holds it, and that aren't of one station.
-     *
-     * @param {string} name
-     */
+    /** The pairs of a name that are a conflict: of which one holds it, and that aren't of one station.
+     * @param {string} name */
     held(name) {
         const pairs = [...this.undecided.entries.get(name)?.entries.values() ?? []];
         return pairs.filter(({ isHeld, addresses }) => isHeld && !this.owners.areOne(...addresses));
     }
 
-    /**
-     * A station is refused a name, or has to give it up.
-     *
-     * @param {string} name
-     * @param {string} refused
-     * @param {string[]} holders
-     * @param {string} by
-     * @param {number} frame
-     */
+    /** A station is refused a name, or has to give it up.
+     * @param {string} name @param {string} refused @param {string[]} holders @param {string} by @param {number} frame */
     decide(name, refused, holders, by, frame) {
         const conflict = this.decided.get(`${name} ${refused}`, () => ({ name, holders, refused, by, frame }));
         if (conflict) Object.assign(conflict, { holders: holders.length ? holders : conflict.holders, by, frame });

@@ -2,12 +2,10 @@
 import { keyOf } from './keys.js';
 import { Room } from './rooms.js';
 
-/**
- * @typedef {import('./replay.js').Held} Held
+/** @typedef {import('./replay.js').Held} Held
  * @typedef {import('./replay.js').Names} Names
  * @typedef {Names & {whole: number, incomplete: number, spoilt: number, cut: number}} DatagramRow
- * @typedef {{key: string, state: string, source: string, destination: string, frames: number[], bytes_known: number | null, size: string, missing: string}} FailedRow
- */
+ * @typedef {{key: string, state: string, source: string, destination: string, frames: number[], bytes_known: number | null, size: string, missing: string}} FailedRow */
 
 export class Datagrams {
     /** @param {(pieces: Uint8Array[]) => string} list what the library lists of a table with these pieces */
@@ -19,31 +17,20 @@ export class Datagrams {
         this.failed = new Room();
     }
 
-    /**
-     * @param {Held} held
-     * @param {string} key
-     * @param {string} state
-     */
+    /** @param {Held} held @param {string} key @param {string} state */
     ended(held, key, state) {
         if (state === 'whole' || state === 'incomplete' || state === 'spoilt') this.count(held.names, state);
         if (state !== 'whole') this.failed.get(`${key} ${state} ${held.frames.at(-1)}`, () => this.failure(held, key, state));
     }
 
-    /**
-     * @param {Names} names
-     * @param {'whole' | 'incomplete' | 'spoilt' | 'cut'} state
-     */
+    /** @param {Names} names @param {'whole' | 'incomplete' | 'spoilt' | 'cut'} state */
     count({ source, destination, kind }, state) {
         const row = this.room.get(`${source} ${destination} ${kind}`, () => ({ source, destination, kind, whole: 0, incomplete: 0, spoilt: 0, cut: 0 }));
         if (row) row[state] += 1;
     }
 
-    /**
-     * @param {Held} held
-     * @param {string} key
-     * @param {string} state
-     * @returns {FailedRow}
-     */
+    /** @param {Held} held @param {string} key @param {string} state
+     * @returns {FailedRow} */
     failure({ names: { source, destination }, frames, pieces }, key, state) {
         const row = { key, state, source, destination, frames: [...frames], bytes_known: null, size: '?', missing: '-' };
         if (state !== 'incomplete' || !pieces.length) return row;
@@ -61,22 +48,15 @@ export class Datagrams {
     }
 }
 
-/**
- * @param {string[]} one
- * @param {string[]} other
- */
+/** @param {string[]} one @param {string[]} other */
 function order(one, other) {
     const at = one.findIndex((each, place) => each !== other[place]);
     if (at < 0) return 0;
     return one[at] < other[at] ? -1 : 1;
 }
 
-/**
- * From which byte on how many are missing; where the end isn't known, all that follows.
- *
- * @param {[number, number][]} places
- * @param {number | null} end
- */
+/** From which byte on how many are missing; where the end isn't known, all that follows.
+ * @param {[number, number][]} places @param {number | null} end */
 function missingOf(places, end) {
     const runs = [];
     let due = 0;
@@ -89,10 +69,7 @@ function missingOf(places, end) {
     return runs.join(', ') || '-';
 }
 
-/**
- * @param {number} from
- * @param {number} count
- */
+/** @param {number} from @param {number} count */
 function run(from, count) {
     return `${count === 1 ? '1 byte' : `${count} bytes`} from byte ${from} on`;
 }

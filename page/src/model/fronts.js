@@ -12,19 +12,12 @@ const LEAST = 5;
 const ONE_QUESTION = [0, 1, 0, 0, 0, 0, 0, 0];
 const REFUSED = 'refused: ';
 
-/**
- * What it is read by.
- *
- * @typedef {Pick<import('../../../bindings/javascript/nbt.mjs').Nbt, 'json' | 'brief' | 'readDatagramFront'>} Reader
- */
+/** What it is read by.
+ * @typedef {Pick<import('../../../bindings/javascript/nbt.mjs').Nbt, 'json' | 'brief' | 'readDatagramFront'>} Reader */
 
-/**
- * The members that stand of a payload of port 137; none where its header doesn't stand.
- *
- * @param {Reader} library
- * @param {Uint8Array} bytes
- * @returns {import('./parts.js').Told}
- */
+/** The members that stand of a payload of port 137; none where its header doesn't stand.
+ * @param {Reader} library @param {Uint8Array} bytes
+ * @returns {import('./parts.js').Told} */
 export function serviceFront(library, bytes) {
     if (bytes.length < HEADER) return {};
     const counts = [4, 6, 8, 10].map((at) => bytes[at] * 256 + bytes[at + 1]);
@@ -33,13 +26,8 @@ export function serviceFront(library, bytes) {
     return told;
 }
 
-/**
- * How many of the items stand whole, one after another.
- *
- * @param {Reader} library
- * @param {Uint8Array} bytes
- * @param {number[]} counts
- */
+/** How many of the items stand whole, one after another.
+ * @param {Reader} library @param {Uint8Array} bytes @param {number[]} counts */
 function wholeItems(library, bytes, counts) {
     const all = counts.reduce((sum, each) => sum + each, 0);
     let [whole, most] = [0, Math.min(all, Math.floor((bytes.length - HEADER) / LEAST))];
@@ -51,13 +39,8 @@ function wholeItems(library, bytes, counts) {
     return whole;
 }
 
-/**
- * A packet whose header says that it has so many items.
- *
- * @param {Uint8Array} bytes
- * @param {number[]} counts
- * @param {number} items
- */
+/** A packet whose header says that it has so many items.
+ * @param {Uint8Array} bytes @param {number[]} counts @param {number} items */
 function withItems(bytes, counts, items) {
     const made = bytes.slice();
     let left = items;
@@ -69,25 +52,16 @@ function withItems(bytes, counts, items) {
     return made;
 }
 
-/**
- * @param {Reader} library
- * @param {Uint8Array} bytes
- * @param {number[]} counts
- * @param {number} items
- * @returns {import('./parts.js').Told}
- */
+/** @param {Reader} library @param {Uint8Array} bytes @param {number[]} counts @param {number} items
+ * @returns {import('./parts.js').Told} */
 function read(library, bytes, counts, items) {
     return JSON.parse(library.json(PORT.NAMES, withItems(bytes, counts, items)));
 }
 
-/**
- * The name of the first question or record, and its type, as far as they stand: both stand alike in a question, as which it is read. What is
+/** The name of the first question or record, and its type, as far as they stand: both stand alike in a question, as which it is read. What is
  * missing of the type and class is filled up.
- *
- * @param {Reader} library
- * @param {Uint8Array} bytes
- * @returns {import('./parts.js').Told}
- */
+ * @param {Reader} library @param {Uint8Array} bytes
+ * @returns {import('./parts.js').Told} */
 function aboutOf(library, bytes) {
     let end = HEADER;
     while (end < bytes.length && bytes[end]) end += 1 + bytes[end];
@@ -99,13 +73,9 @@ function aboutOf(library, bytes) {
     return { about: missing > CLASS ? { name } : { name, type } };
 }
 
-/**
- * The names that stand of a payload of port 138, and the key and the kind of a datagram.
- *
- * @param {Reader} library
- * @param {Uint8Array} bytes
- * @returns {import('./parts.js').Told}
- */
+/** The names that stand of a payload of port 138, and the key and the kind of a datagram.
+ * @param {Reader} library @param {Uint8Array} bytes
+ * @returns {import('./parts.js').Told} */
 export function datagramFront(library, bytes) {
     const front = frontIn(library, bytes);
     const kind = front && PIECES[front.type - DATAGRAM_TYPE.UNIQUE];
@@ -114,10 +84,7 @@ export function datagramFront(library, bytes) {
     return { kind, key, ...(front.source !== null && { source: front.source }), ...(front.destination !== null && { destination: front.destination }) };
 }
 
-/**
- * @param {Reader} library
- * @param {Uint8Array} bytes
- */
+/** @param {Reader} library @param {Uint8Array} bytes */
 function frontIn(library, bytes) {
     try {
         return library.readDatagramFront(bytes);

@@ -1,24 +1,16 @@
 /** The keys of a table, as the library lists them: `KEY whole ..`, `KEY partial ..`, `KEY spoilt`. docs/FORMATS.md, "`nbt list`". */
 
-/**
- * @typedef {object} Key
- * @property {string} line
- * @property {string} key
+/** @typedef {object} Key
+ * @property {string} line @property {string} key
  * @property {string} state whole, partial or spoilt
- * @property {string} kind
- * @property {string} source
- * @property {string} destination
- * @property {[number, number][]} places
+ * @property {string} kind @property {string} source @property {string} destination @property {[number, number][]} places
  * @property {number} held how many bytes are there
  * @property {number | null} end how many bytes the datagram has, if that is known
  * @property {number} wide up to where anything is known or promised
- * @property {string} data digits of a whole one
- */
+ * @property {string} data digits of a whole one */
 
-/**
- * @param {string} line
- * @returns {Key}
- */
+/** @param {string} line
+ * @returns {Key} */
 export function keyOf(line) {
     const [key, state, kind = '', source = '', destination = '', ...rest] = line.split(' ');
     /** @type {Key} */

@@ -2,13 +2,9 @@
 import { isResponse, serviceOf } from './parts.js';
 import { DATAGRAM_FLAG, MULTIHOMED, PIECES, STATUS_TYPE } from './vocabulary.js';
 
-/**
- * The words by which a packet is filtered and counted.
- *
- * @param {import('./parts.js').Told} told
- * @param {number} port
- * @returns {string[]}
- */
+/** The words by which a packet is filtered and counted.
+ * @param {import('./parts.js').Told} told @param {number} port
+ * @returns {string[]} */
 export function kindsOf(told, port) {
     if (told.refused !== undefined) return ['malformed'];
     const service = serviceOf(told);
@@ -22,10 +18,8 @@ export function kindsOf(told, port) {
     return isPiece ? [kind, 'datagram', 'fragment'] : [kind, 'datagram'];
 }
 
-/**
- * @param {import('./parts.js').Service} service
- * @returns {string[]}
- */
+/** @param {import('./parts.js').Service} service
+ * @returns {string[]} */
 function serviceKinds(service) {
     const isStatus = [...service.questions, ...service.answers].some((each) => each.type === STATUS_TYPE);
     const operation = service.op === MULTIHOMED ? 'registration' : String(service.op);
@@ -34,11 +28,8 @@ function serviceKinds(service) {
     return kinds;
 }
 
-/**
- * What a response says by its code. A conflict demand answers nothing.
- *
- * @param {import('./parts.js').Service} service
- */
+/** What a response says by its code. A conflict demand answers nothing.
+ * @param {import('./parts.js').Service} service */
 function responseKinds({ op, rcode }) {
     if (rcode === 'ok') return op === 'wack' ? [] : ['positive'];
     if (rcode !== 'CFT_ERR') return ['negative'];

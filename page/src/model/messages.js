@@ -2,36 +2,24 @@
 import { entriesOf, firstOf, frontOf, isGroup, isResponse, subject } from './parts.js';
 import { MULTIHOMED, NOBODYS, STATUS_TYPE, WORD } from './vocabulary.js';
 
-/**
- * @typedef {import('./vocabulary.js').Act} Act
- *
+/** @typedef {import('./vocabulary.js').Act} Act
  * @typedef {{name: string, address: string, group: boolean | null, lifetime: number | null}} Place where a front doesn't say it, there is no group and no lifetime
- *
  * @typedef {object} Message
- * @property {Act} act
- * @property {import('./parts.js').Front} front
+ * @property {Act} act @property {import('./parts.js').Front} front
  * @property {string | null} name that the packet is about; null where none stands in a front
  * @property {string} number the identifier that a response has of its request
  * @property {string} code
  * @property {bigint} at nanoseconds since 1970
- * @property {number} frame
- * @property {string} source
- * @property {string} target
- * @property {string | null} mac
- * @property {boolean} isBroadcast
- * @property {boolean} isMultihomed
+ * @property {number} frame @property {string} source @property {string} target @property {string | null} mac
+ * @property {boolean} isBroadcast @property {boolean} isMultihomed
  * @property {number | null} lifetime of its first record, in seconds
  * @property {Place[]} places name and address of each entry in its answers and additional records; of a claim or release of which no record
  *     stands its sender's
  * @property {string[]} named the addresses of stations that its records have
- * @property {import('./parts.js').ResourceRecord[]} answers
- */
+ * @property {import('./parts.js').ResourceRecord[]} answers */
 
-/**
- * @param {import('./parts.js').Service} service
- * @param {import('./seen.js').Ends} ends
- * @returns {Message}
- */
+/** @param {import('./parts.js').Service} service @param {import('./seen.js').Ends} ends
+ * @returns {Message} */
 export function messageOf(service, { time, frame, source, destination, mac }) {
     const records = [...service.answers, ...service.additional];
     const [name, front] = [subject(service), frontOf(service)];
@@ -47,18 +35,13 @@ export function messageOf(service, { time, frame, source, destination, mac }) {
     };
 }
 
-/**
- * @param {import('./parts.js').Service} service
- * @param {number} bit
- */
+/** @param {import('./parts.js').Service} service @param {number} bit */
 function has(service, bit) {
     return (parseInt(service.word, 16) & bit) !== 0;
 }
 
-/**
- * @param {import('./parts.js').Service} service
- * @returns {Act}
- */
+/** @param {import('./parts.js').Service} service
+ * @returns {Act} */
 function actOf(service) {
     if (!isResponse(service)) return requestOf(service);
     const isPositive = service.rcode === 'ok';
@@ -78,10 +61,8 @@ function actOf(service) {
     }
 }
 
-/**
- * @param {import('./parts.js').Service} service
- * @returns {Act}
- */
+/** @param {import('./parts.js').Service} service
+ * @returns {Act} */
 function requestOf(service) {
     switch (service.op) {
         case 'query':
@@ -96,11 +77,8 @@ function requestOf(service) {
     }
 }
 
-/**
- * @param {string | undefined} type
- * @param {import('./parts.js').Front} front
- * @returns {Act}
- */
+/** @param {string | undefined} type @param {import('./parts.js').Front} front
+ * @returns {Act} */
 function asked(type, front) {
     if (type === STATUS_TYPE) return 'asks status';
     return type === undefined && front !== 'whole' ? 'asks something' : 'asks';

@@ -1,22 +1,16 @@
 /** Names in rows. */
 import { SUFFIXES } from './vocabulary.js';
 
-/**
- * The kind of a name in words, by its last byte.
- *
+/** The kind of a name in words, by its last byte.
  * @param {string} name
- * @param {boolean | null} group null where it isn't known
- */
+ * @param {boolean | null} group null where it isn't known */
 export function kindOf(name, group) {
     const [unique, shared] = SUFFIXES[name.slice(name.indexOf('<') + 1).slice(0, 2)] ?? ['', ''];
     return group ? shared || unique : unique || shared;
 }
 
-/**
- * A row for each tenure, by name and address.
- *
- * @param {import('./claims.js').Claims} claims
- */
+/** A row for each tenure, by name and address.
+ * @param {import('./claims.js').Claims} claims */
 export function nameRows(claims) {
     claims.finish();
     /** @type {Map<string, number>} */
@@ -29,10 +23,7 @@ export function nameRows(claims) {
         .sort((one, other) => compare(one.name, other.name) || compare(one.address, other.address));
 }
 
-/**
- * @param {string} one
- * @param {string} other
- */
+/** @param {string} one @param {string} other */
 export function compare(one, other) {
     return Number(one > other) - Number(one < other);
 }

@@ -8,11 +8,8 @@ export class Owners {
         this.room = new Room();
     }
 
-    /**
-     * What stands for the station of an address.
-     *
-     * @param {string} key
-     */
+    /** What stands for the station of an address.
+     * @param {string} key */
     find(key) {
         const { entries } = this.room;
         let end = key;
@@ -24,21 +21,14 @@ export class Owners {
         return end;
     }
 
-    /**
-     * Two addresses, or an address and a mark, are one station's.
-     *
-     * @param {string} one
-     * @param {string} other
-     */
+    /** Two addresses, or an address and a mark, are one station's.
+     * @param {string} one @param {string} other */
     join(one, other) {
         const [first, second] = [this.find(one), this.find(other)];
         if (first !== second) this.room.get(second, () => first);
     }
 
-    /**
-     * @param {string} one
-     * @param {string} other
-     */
+    /** @param {string} one @param {string} other */
     areOne(one, other) {
         return one === other || this.find(one) === this.find(other);
     }

@@ -11,35 +11,23 @@ const NO_VLAN = 0xffff;
 /** The port of what is left out. */
 export const LEFT_OUT = 0;
 
-/**
- * A packet as it is kept, or a frame that is left out: then it has no bytes, and `port` is LEFT_OUT.
- *
+/** A packet as it is kept, or a frame that is left out: then it has no bytes, and `port` is LEFT_OUT.
  * @typedef {object} Kept
- * @property {number} frame
- * @property {bigint | null} time
- * @property {number} port
+ * @property {number} frame @property {bigint | null} time @property {number} port
  * @property {string} source an address and a port, where they are known
- * @property {string} destination
- * @property {string} mac
- * @property {number | null} vlan
- * @property {number} captured
- * @property {number} size
- * @property {Uint8Array} bytes
+ * @property {string} destination @property {string} mac @property {number | null} vlan @property {number} captured
+ * @property {number} size @property {Uint8Array} bytes
  *
  * Rows, as the page gets them: columns, of which some have numbers of texts.
- *
  * @typedef {object} Rows
- * @property {Uint32Array} frame
- * @property {BigInt64Array} time
- * @property {Uint8Array} port
+ * @property {Uint32Array} frame @property {BigInt64Array} time @property {Uint8Array} port
  * @property {Uint32Array} source where a packet comes from, in words
  * @property {Uint32Array} destination
  * @property {Uint32Array} sender its address
  * @property {Uint32Array} kinds words with a space between them
  * @property {Uint32Array} reason why it is refused or left out, without a place; an empty text where it isn't
  * @property {string} said phrases with a line feed between them
- * @property {string[]} texts those that have numbers since the rows before
- */
+ * @property {string[]} texts those that have numbers since the rows before */
 
 export class Packets {
     constructor() {
@@ -50,10 +38,8 @@ export class Packets {
             size: new Column(Uint32Array), place: new Column(Float64Array), length: new Column(Uint32Array),
         };
         this.bytes = new Blocks();
-        /**
-         * Comments on what is left out, each with the number of rows before it.
-         * @type {{before: number, text: string}[]}
-         */
+        /** Comments on what is left out, each with the number of rows before it.
+         * @type {{before: number, text: string}[]} */
         this.comments = [];
     }
 
@@ -65,10 +51,8 @@ export class Packets {
         return this.count >= MOST_ROWS || this.bytes.size >= MOST_BYTES || this.texts.texts.length >= MOST_TEXTS;
     }
 
-    /**
-     * @param {import('../containers/report.js').Mark} mark
-     * @param {{port: number, mac: string | null, vlan: number | null, bytes: Uint8Array}} packet
-     */
+    /** @param {import('../containers/report.js').Mark} mark
+     * @param {{port: number, mac: string | null, vlan: number | null, bytes: Uint8Array}} packet */
     add(mark, { port, mac, vlan, bytes }) {
         const { columns, texts } = this;
         columns.frame.push(mark.frame);
@@ -89,10 +73,8 @@ export class Packets {
         this.comments.push({ before: this.count, text });
     }
 
-    /**
-     * @param {number} row
-     * @returns {Kept}
-     */
+    /** @param {number} row
+     * @returns {Kept} */
     at(row) {
         const { columns, texts } = this;
         const time = columns.time.at(row);

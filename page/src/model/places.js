@@ -13,18 +13,13 @@ const OF_QUERY = 10;
 const { FIND, FOUND, MISSING } = DATAGRAM_TYPE;
 const QUERIES = [FIND, FOUND, MISSING];
 
-/**
- * @typedef {object} NamePlace a place that counts in a name
+/** @typedef {object} NamePlace a place that counts in a name
  * @property {number} inName
- * @property {number | null} inPayload null where that isn't said: a name with a pointer is in two places
- */
+ * @property {number | null} inPayload null where that isn't said: a name with a pointer is in two places */
 
-/**
- * @param {number} port
- * @param {Uint8Array} bytes
+/** @param {number} port @param {Uint8Array} bytes
  * @param {string} refused the fault
- * @returns {NamePlace | null} null for a fault whose place counts in the payload
- */
+ * @returns {NamePlace | null} null for a fault whose place counts in the payload */
 export function placeInName(port, bytes, refused) {
     const named = IN_NAME.exec(refused);
     if (!named) return null;
@@ -33,13 +28,9 @@ export function placeInName(port, bytes, refused) {
     return { inName, inPayload: start === null ? null : start + inName };
 }
 
-/**
- * Where the name begins that is no NetBIOS name.
- *
- * @param {number} port
- * @param {Uint8Array} bytes
- * @param {string} words which name it is
- */
+/** Where the name begins that is no NetBIOS name.
+ * @param {number} port @param {Uint8Array} bytes
+ * @param {string} words which name it is */
 function begin(port, bytes, words) {
     if (port === 138 && QUERIES.includes(bytes[0])) return OF_QUERY;
     const first = port === 138 ? OF_DATAGRAM : OF_SESSION;
@@ -47,22 +38,14 @@ function begin(port, bytes, words) {
     return isFirst ? first : after(bytes, first);
 }
 
-/**
- * Whether the name's first label is a NetBIOS name's.
- *
- * @param {Uint8Array} bytes
- * @param {number} at
- */
+/** Whether the name's first label is a NetBIOS name's.
+ * @param {Uint8Array} bytes @param {number} at */
 function isNetbios(bytes, at) {
     return bytes[at] === FRONT && LETTERS.test(String.fromCharCode(...bytes.subarray(at + 1, at + 1 + FRONT)));
 }
 
-/**
- * The byte after a name that is spelled out.
- *
- * @param {Uint8Array} bytes
- * @param {number} start
- */
+/** The byte after a name that is spelled out.
+ * @param {Uint8Array} bytes @param {number} start */
 function after(bytes, start) {
     let at = start;
     while (at < bytes.length && bytes[at] > 0 && bytes[at] <= LONGEST_LABEL) at += 1 + bytes[at];

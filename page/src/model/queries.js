@@ -4,24 +4,14 @@ import { Room } from './rooms.js';
 import { ANSWERS, MOST_FRAMES, MOST_UNREAD } from './vocabulary.js';
 import { Waiting } from './waiting.js';
 
-/**
- * What answered a request, and in which frame, if its name stands.
- *
+/** What answered a request, and in which frame, if its name stands.
  * @typedef {{rank: import('./vocabulary.js').Answer, frame: number | null}} Answer
- * @typedef {import('./waiting.js').Request<Answer>} Request
- */
+ * @typedef {import('./waiting.js').Request<Answer>} Request */
 
-/**
- * @typedef {object} Query
- * @property {string} name
- * @property {string} kind
- * @property {string} by
- * @property {string} asked
- * @property {number} times
+/** @typedef {object} Query
+ * @property {string} name @property {string} kind @property {string} by @property {string} asked @property {number} times
  * @property {number[]} frames those of the first of them
- * @property {bigint} since
- * @property {Answer} answer
- */
+ * @property {bigint} since @property {Answer} answer */
 
 /** The requests that wait, and those without an answer, by name, asker and station asked. */
 export class Queries {
@@ -54,12 +44,8 @@ export class Queries {
         }
     }
 
-    /**
-     * Keeps the first answer that says the most.
-     *
-     * @param {Request} request
-     * @param {import('./messages.js').Message} message
-     */
+    /** Keeps the first answer that says the most.
+     * @param {Request} request @param {import('./messages.js').Message} message */
     answer(request, { name, front, frame }) {
         /** @type {Answer} */
         const answer = name === null ? { rank: 'not known', frame: null } : { rank: front, frame };
@@ -69,13 +55,8 @@ export class Queries {
         if (found) found.frame = Math.max(found.frame, frame);
     }
 
-    /**
-     * Takes a frame of port 137 of which not even the header stands.
-     *
-     * @param {string} source
-     * @param {string} target
-     * @param {bigint} at
-     */
+    /** Takes a frame of port 137 of which not even the header stands.
+     * @param {string} source @param {string} target @param {bigint} at */
     cannotRead(source, target, at) {
         for (const from of [source, '']) {
             const times = this.unread.get(`${from} ${target}`, () => []);
@@ -84,23 +65,16 @@ export class Queries {
         }
     }
 
-    /**
-     * What answered a request of which no name stands.
-     *
+    /** What answered a request of which no name stands.
      * @param {Request} request
-     * @returns {Answer}
-     */
+     * @returns {Answer} */
     unreadAnswer({ isBroadcast, asked, asker, since, until }) {
         const times = this.unread.entries.get(`${isBroadcast ? '' : asked} ${asker}`) ?? [];
         return { rank: times.some((at) => since <= at && at <= until) ? 'not known' : 'never', frame: null };
     }
 
-    /**
-     * Counts a request that waits no longer, unless its answer stands whole.
-     *
-     * @param {Room<Query>} room
-     * @param {Request} request
-     */
+    /** Counts a request that waits no longer, unless its answer stands whole.
+     * @param {Room<Query>} room @param {Request} request */
     count(room, request) {
         const { name, kind, asker, asked, since, times, frames } = request;
         const answer = request.subject ?? this.unreadAnswer(request);

@@ -6,31 +6,23 @@ const WHOLE = ['DELIVERED', 'UNHEARD'];
 /** Why a station has no place for a piece. */
 const REFUSED = ['MISPLACED_FIRST', 'LONG', 'FULL_SOURCE', 'FULL'];
 
-/**
- * A packet with a piece of a datagram, or with a whole one.
- *
+/** A packet with a piece of a datagram, or with a whole one.
  * @typedef {{moment: bigint, key: string, names: Names, frame: number, bytes: Uint8Array}} Piece
  * @typedef {{source: string, destination: string, kind: string}} Names
  *
  * A key that the station holds: since which moment, the names of its latest piece, the frames and bytes of its pieces, and what came of it.
- *
- * @typedef {{start: bigint, names: Names, frames: number[], pieces: Uint8Array[], state: string}} Held
- */
+ * @typedef {{start: bigint, names: Names, frames: number[], pieces: Uint8Array[], state: string}} Held */
 
 export class Replay {
-    /**
-     * @param {import('../../../bindings/javascript/nbt.mjs').Station} station
-     * @param {(held: Held, key: string, state: string) => void} ended is called with what came of each datagram
-     */
+    /** @param {import('../../../bindings/javascript/nbt.mjs').Station} station
+     * @param {(held: Held, key: string, state: string) => void} ended is called with what came of each datagram */
     constructor(station, ended) {
         this.station = station;
         this.ended = ended;
         /** @type {Map<string, Held>} */
         this.keys = new Map();
-        /**
-         * Those that are held, by when they began.
-         * @type {{start: bigint, key: string}[]}
-         */
+        /** Those that are held, by when they began.
+         * @type {{start: bigint, key: string}[]} */
         this.starts = [];
         this.held = 0;
         this.moment = -1n;
@@ -48,10 +40,7 @@ export class Replay {
         }
     }
 
-    /**
-     * @param {Piece} piece
-     * @param {string} outcome
-     */
+    /** @param {Piece} piece @param {string} outcome */
     piece(piece, outcome) {
         if (outcome === 'OTHER' || outcome === 'REFUSED') return;
         const held = this.keys.get(piece.key) ?? this.begin(piece);
@@ -78,11 +67,8 @@ export class Replay {
         return held;
     }
 
-    /**
-     * The clock drops the keys that began first.
-     *
-     * @param {number} count
-     */
+    /** The clock drops the keys that began first.
+     * @param {number} count */
     drop(count) {
         for (const { key } of this.starts.splice(0, count)) this.end(key);
     }

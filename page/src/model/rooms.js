@@ -1,11 +1,8 @@
 /** Entries of which only so many are kept. */
 import { MOST_ENTRIES } from './vocabulary.js';
 
-/**
- * Entries by key. Past the bound they aren't kept, and what would go into them is counted.
- *
- * @template T
- */
+/** Entries by key. Past the bound they aren't kept, and what would go into them is counted.
+ * @template T */
 export class Room {
     /** @param {number} most */
     constructor(most = MOST_ENTRIES) {
@@ -15,13 +12,9 @@ export class Room {
         this.others = 0;
     }
 
-    /**
-     * The entry of a key, made where there is none yet; null where there is no room for it.
-     *
-     * @param {string} key
-     * @param {() => T} make
-     * @returns {T | null}
-     */
+    /** The entry of a key, made where there is none yet; null where there is no room for it.
+     * @param {string} key @param {() => T} make
+     * @returns {T | null} */
     get(key, make) {
         const found = this.entries.get(key);
         if (found !== undefined) return found;

@@ -10,23 +10,17 @@ import { Stations } from './stations.js';
 import { UnreadFrames } from './unread.js';
 import { MOST_KEYS, PIECES, PORT } from './vocabulary.js';
 
-/**
- * Where a packet stands in the file, and who sent it to whom.
- *
+/** Where a packet stands in the file, and who sent it to whom.
  * @typedef {object} Ends
  * @property {number} frame
  * @property {number} port the service's
  * @property {bigint | null} time nanoseconds since 1970
  * @property {string} source an address
- * @property {string} sourcePort
- * @property {string} destination
- * @property {string} destinationPort
+ * @property {string} sourcePort @property {string} destination @property {string} destinationPort
  * @property {string | null} mac
- *
  * @typedef {import('./parts.js').Told} Told
  * @typedef {{reason: string, packets: number, frame: number, payload_byte: number | null}} Refusal
- * @typedef {{reason: string, frames: number}} Loss
- */
+ * @typedef {{reason: string, frames: number}} Loss */
 
 /** All that is summed up. Its memory is by the number of names and stations, with a bound. */
 export class Seen {
@@ -42,19 +36,14 @@ export class Seen {
         /** @type {Room<Loss>} */
         this.leftOut = new Room();
         this.unread = new UnreadFrames();
-        /**
-         * The frame in which the first piece of a datagram came, by its key.
-         * @type {Room<number>}
-         */
+        /** The frame in which the first piece of a datagram came, by its key.
+         * @type {Room<number>} */
         this.firsts = new Room(MOST_KEYS);
     }
 
-    /**
-     * @param {Told} told with what stands of it, where it is refused
-     * @param {string} brief
-     * @param {Ends} ends
-     * @returns {boolean} whether it is of a conflict about a name
-     */
+    /** @param {Told} told with what stands of it, where it is refused
+     * @param {string} brief @param {Ends} ends
+     * @returns {boolean} whether it is of a conflict about a name */
     take(told, brief, ends) {
         this.packets += 1;
         if (told.refused !== undefined) this.refuse(told.refused, told.at ?? null, ends.frame);
@@ -69,12 +58,8 @@ export class Seen {
         return false;
     }
 
-    /**
-     * Takes what stands of a packet that the snap length cut.
-     *
-     * @param {Told} told
-     * @param {Ends} ends
-     */
+    /** Takes what stands of a packet that the snap length cut.
+     * @param {Told} told @param {Ends} ends */
     cut(told, ends) {
         const service = serviceOf(told);
         const message = service && messageOf(service, ends);
@@ -90,21 +75,14 @@ export class Seen {
         return this.claims.take(message);
     }
 
-    /**
-     * Takes a frame of the name service of which not even the header stands.
-     *
-     * @param {{source: string, destination: string, time: bigint | null}} ends
-     */
+    /** Takes a frame of the name service of which not even the header stands.
+     * @param {{source: string, destination: string, time: bigint | null}} ends */
     cannotRead({ source, destination, time }) {
         this.queries.cannotRead(source, destination, time ?? 0n);
         this.claims.cannotRead(destination, time ?? 0n);
     }
 
-    /**
-     * @param {string} refused
-     * @param {number | null} byte
-     * @param {number} frame
-     */
+    /** @param {string} refused @param {number | null} byte @param {number} frame */
     refuse(refused, byte, frame) {
         this.refusedPackets += 1;
         const reason = withoutPlace(refused);
@@ -139,11 +117,8 @@ export class Seen {
     }
 }
 
-/**
- * The text of a fault without the number with which it ends.
- *
- * @param {string} refused
- */
+/** The text of a fault without the number with which it ends.
+ * @param {string} refused */
 export function withoutPlace(refused) {
     return refused.replace(/ \d+$/, '');
 }

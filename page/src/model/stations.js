@@ -4,15 +4,11 @@ import { isClaim } from './messages.js';
 import { Room } from './rooms.js';
 import { MOST_OF_STATION } from './vocabulary.js';
 
-/**
- * @typedef {object} Station
- * @property {string} address
- * @property {string | null} mac
- * @property {number} packets
+/** @typedef {object} Station
+ * @property {string} address @property {string | null} mac @property {number} packets
  * @property {Set<string>} names those that it uses
  * @property {string[]} status those that a node status said
- * @property {string | null} unit
- */
+ * @property {string | null} unit */
 
 /** The stations, by address. */
 export class Stations {
@@ -21,13 +17,9 @@ export class Stations {
         this.room = new Room();
     }
 
-    /**
-     * Takes a packet: who sends it, and the names that it uses. Names of sessions come by `named`, once they are accepted.
-     *
-     * @param {import('./parts.js').Told} told
-     * @param {import('./messages.js').Message | null} message
-     * @param {import('./seen.js').Ends} ends
-     */
+    /** Takes a packet: who sends it, and the names that it uses. Names of sessions come by `named`, once they are accepted.
+     * @param {import('./parts.js').Told} told @param {import('./messages.js').Message | null} message
+     * @param {import('./seen.js').Ends} ends */
     take(told, message, ends) {
         const sender = this.station(ends.source);
         if (sender) {
@@ -48,20 +40,14 @@ export class Stations {
         return this.room.get(address, () => ({ address, mac: null, packets: 0, names: new Set(), status: [], unit: null }));
     }
 
-    /**
-     * @param {string} address
-     * @param {string} name
-     */
+    /** @param {string} address @param {string} name */
     named(address, name) {
         const station = this.station(address);
         if (station && station.names.size < MOST_OF_STATION) station.names.add(name);
     }
 
-    /**
-     * A row for each station, with the names that it was refused apart.
-     *
-     * @param {(name: string, address: string) => boolean} isRefused
-     */
+    /** A row for each station, with the names that it was refused apart.
+     * @param {(name: string, address: string) => boolean} isRefused */
     rows(isRefused) {
         return Array.from(this.room.entries.values(), (station) => {
             const names = [...station.names];
@@ -71,12 +57,8 @@ export class Stations {
     }
 }
 
-/**
- * Takes the names of a node status.
- *
- * @param {import('./messages.js').Message} message
- * @param {Station} sender
- */
+/** Takes the names of a node status.
+ * @param {import('./messages.js').Message} message @param {Station} sender */
 function status({ answers }, sender) {
     for (const record of answers) {
         if (!record.names?.length) continue;

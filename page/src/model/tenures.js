@@ -5,11 +5,8 @@ import { SECOND } from './waiting.js';
 
 /** A name at an address, by a station's claim or by another packet's word. Times are in nanoseconds. */
 export class Tenure {
-    /**
-     * @param {string} name
-     * @param {string} address
-     * @param {string} station who says it: the claim's sender, else the address
-     */
+    /** @param {string} name @param {string} address
+     * @param {string} station who says it: the claim's sender, else the address */
     constructor(name, address, station) {
         this.name = name;
         this.address = address;
@@ -52,13 +49,8 @@ export class Tenure {
         return this.lifetime ? this.counted + BigInt(this.lifetime) * SECOND : null;
     }
 
-    /**
-     * Takes a standing; one that ended before begins anew, and has no lifetime yet.
-     *
-     * @param {Standing} standing
-     * @param {bigint} at
-     * @param {number} [frame]
-     */
+    /** Takes a standing; one that ended before begins anew, and has no lifetime yet.
+     * @param {Standing} standing @param {bigint} at @param {number} [frame] */
     begin(standing, at, frame) {
         if (!this.isKept) Object.assign(this, { since: at, until: null, lifetime: null });
         if (!this.isClaiming && frame !== undefined) this.began = frame;
@@ -66,38 +58,25 @@ export class Tenure {
         this.isSilent = false;
     }
 
-    /**
-     * Counts the lifetime from now on.
-     *
-     * @param {number | null} lifetime
-     * @param {bigint} at
-     */
+    /** Counts the lifetime from now on.
+     * @param {number | null} lifetime @param {bigint} at */
     renew(lifetime, at) {
         if (lifetime !== null) Object.assign(this, { lifetime, counted: at });
     }
 
-    /**
-     * @param {Standing} standing
-     * @param {bigint | null} at
-     */
+    /** @param {Standing} standing @param {bigint | null} at */
     end(standing, at) {
         Object.assign(this, { standing, until: at, due: null });
     }
 
-    /**
-     * Whether a station claims or holds the name then.
-     *
-     * @param {bigint} at
-     */
+    /** Whether a station claims or holds the name then.
+     * @param {bigint} at */
     stands(at) {
         return this.isClaiming && (this.over === null || at < this.over);
     }
 
-    /**
-     * Looks at the clock: answers when silence made it held, if it did, and ends it where its lifetime is over.
-     *
-     * @param {bigint} at
-     */
+    /** Looks at the clock: answers when silence made it held, if it did, and ends it where its lifetime is over.
+     * @param {bigint} at */
     settle(at) {
         let held = null;
         if (this.due !== null && this.due < at) {

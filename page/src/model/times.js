@@ -3,11 +3,8 @@
 const SECOND = 1_000_000_000n;
 const MILLISECOND = 1_000_000n;
 
-/**
- * A time in UTC with six places, or `-` where there is none.
- *
- * @param {bigint | null} time nanoseconds since 1970
- */
+/** A time in UTC with six places, or `-` where there is none.
+ * @param {bigint | null} time nanoseconds since 1970 */
 export function utc(time) {
     if (time === null) return '-';
     const rest = ((time % SECOND) + SECOND) % SECOND;
@@ -15,22 +12,14 @@ export function utc(time) {
     return `${second}.${String(rest / 1000n).padStart(6, '0')}Z`;
 }
 
-/**
- * The moment of a time: milliseconds since the first one, and 0 before it.
- *
- * @param {bigint} time
- * @param {bigint} first
- */
+/** The moment of a time: milliseconds since the first one, and 0 before it.
+ * @param {bigint} time @param {bigint} first */
 export function momentOf(time, first) {
     return time > first ? Number((time - first) / MILLISECOND) : 0;
 }
 
-/**
- * A span in seconds, as nbt-look writes it; before the first frame it is negative.
- *
- * @param {bigint | null} time
- * @param {bigint | null} first
- */
+/** A span in seconds, as nbt-look writes it; before the first frame it is negative.
+ * @param {bigint | null} time @param {bigint | null} first */
 export function since(time, first) {
     if (time === null) return '-';
     const span = time - (first ?? 0n);

@@ -4,10 +4,8 @@ import { Room } from './rooms.js';
 /** How many pairs of a link type and a reason are told apart. */
 const MOST = 64;
 
-/**
- * @typedef {{link: string, why: string, frames: number, frame: number}} UnreadRow `frame` is the first of them
- * @typedef {{frames: number, whys: string[]}} UnreadCounts
- */
+/** @typedef {{link: string, why: string, frames: number, frame: number}} UnreadRow `frame` is the first of them
+ * @typedef {{frames: number, whys: string[]}} UnreadCounts */
 
 export class UnreadFrames {
     constructor() {
@@ -27,11 +25,8 @@ export class UnreadFrames {
         return Array.from(this.room.entries.values());
     }
 
-    /**
-     * How many there are, and of what: a link type, or what packets are wrapped in.
-     *
-     * @returns {UnreadCounts}
-     */
+    /** How many there are, and of what: a link type, or what packets are wrapped in.
+     * @returns {UnreadCounts} */
     counts() {
         return { frames: this.frames, whys: Array.from(new Set(this.rows().map(({ link, why }) => (why === 'link type' ? `link type ${link}` : why)))) };
     }

@@ -4,33 +4,18 @@ import { ANSWERING, MOST_FRAMES, MOST_OF_ONE, MOST_WAITING } from './vocabulary.
 export const SECOND = 1_000_000_000n;
 const WITHOUT_END = 1n << 64n;
 
-/**
- * A request with its repeats: who asks whom what, when, in which frames, and until when an answer counts.
- *
+/** A request with its repeats: who asks whom what, when, in which frames, and until when an answer counts.
  * @template T
  * @typedef {object} Request
  * @property {string | null} kind null where it isn't known
- * @property {string | null} name
- * @property {string} asker
- * @property {string} asked
- * @property {boolean} isBroadcast
- * @property {bigint} since
- * @property {bigint} until
- * @property {number} times
- * @property {number[]} frames
- * @property {T | null} subject what its taker keeps with it
- */
+ * @property {string | null} name @property {string} asker @property {string} asked @property {boolean} isBroadcast
+ * @property {bigint} since @property {bigint} until @property {number} times @property {number[]} frames
+ * @property {T | null} subject what its taker keeps with it */
 
-/**
- * The requests, by who sent them and their identifier. `over` is handed each that is over.
- *
- * @template T
- */
+/** The requests, by who sent them and their identifier. `over` is handed each that is over.
+ * @template T */
 export class Waiting {
-    /**
-     * @param {import('./owners.js').Owners} owners
-     * @param {(request: Request<T>) => void} over
-     */
+    /** @param {import('./owners.js').Owners} owners @param {(request: Request<T>) => void} over */
     constructor(owners, over = () => {}) {
         this.owners = owners;
         this.over = over;
@@ -38,13 +23,10 @@ export class Waiting {
         this.requests = new Map();
     }
 
-    /**
-     * Takes a request, or one more time of it. An identifier that is used for another question lets the one before go.
-     *
+    /** Takes a request, or one more time of it. An identifier that is used for another question lets the one before go.
      * @param {import('./messages.js').Message} message
      * @param {string | null} kind null of a request whose type is cut
-     * @returns {Request<T>}
-     */
+     * @returns {Request<T>} */
     put(message, kind) {
         const { name, source, target, at, frame, isBroadcast } = message;
         const waiting = this.requests.get(`${source} ${message.number}`) ?? new Map();
@@ -66,33 +48,24 @@ export class Waiting {
         return request;
     }
 
-    /**
-     * Keeps the bounds.
-     *
-     * @param {Map<string, Request<T>>} waiting
-     */
+    /** Keeps the bounds.
+     * @param {Map<string, Request<T>>} waiting */
     letGo(waiting) {
         if (waiting.size > MOST_OF_ONE) drop(waiting, this.over);
         if (this.requests.size > MOST_WAITING) drop(this.requests, (each) => each.forEach(this.over));
     }
 
-    /**
-     * The requests that a response answers: its identifier and name, sent to its sender, or broadcast. Where no name stands in it these are all
+    /** The requests that a response answers: its identifier and name, sent to its sender, or broadcast. Where no name stands in it these are all
      * that it may answer.
-     *
      * @param {import('./messages.js').Message} message
-     * @returns {Request<T>[]}
-     */
+     * @returns {Request<T>[]} */
     of({ target, number, name, at, source }) {
         return [...this.requests.get(`${target} ${number}`)?.values() ?? []].filter((each) => (name === null || each.name === name) && at <= each.until
             && (each.isBroadcast || !each.asked || this.owners.areOne(each.asked, source)));
     }
 
-    /**
-     * A WACK: the answer may take as long as its TTL says, and without end where no TTL stands any more.
-     *
-     * @param {import('./messages.js').Message} message
-     */
+    /** A WACK: the answer may take as long as its TTL says, and without end where no TTL stands any more.
+     * @param {import('./messages.js').Message} message */
     wait(message) {
         const isOpen = message.lifetime === null && message.front !== 'whole';
         const until = isOpen ? WITHOUT_END : message.at + BigInt(message.lifetime ?? 0) * SECOND;
@@ -102,13 +75,9 @@ export class Waiting {
     }
 }
 
-/**
- * Takes the first value out of a map.
- *
+/** Takes the first value out of a map.
  * @template V
- * @param {Map<string, V>} map
- * @param {(value: V) => void} take
- */
+ * @param {Map<string, V>} map @param {(value: V) => void} take */
 function drop(map, take) {
     for (const [key, value] of map) {
         map.delete(key);

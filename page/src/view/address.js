@@ -2,14 +2,12 @@
 
 export const VIEWS = ['packets', 'names', 'reassembly', 'taps', 'export'];
 
-/**
- * @typedef {object} Place
+/** @typedef {object} Place
  * @property {string} view
  * @property {number} tap 0 or 1
  * @property {number} frame 0 where none is selected
  * @property {number} packet which of the frame's
- * @property {string} filter
- */
+ * @property {string} filter */
 
 /** @returns {Place} */
 export function placeOf(hash = location.hash) {
@@ -32,10 +30,7 @@ export function hashOf({ view, tap, frame, packet, filter }) {
     return `#${view}${words ? `?${words}` : ''}`;
 }
 
-/**
- * @param {string | null} text
- * @param {number} without
- */
+/** @param {string | null} text @param {number} without */
 function whole(text, without) {
     return text !== null && /^\d{1,10}$/.test(text) ? Number(text) : without;
 }

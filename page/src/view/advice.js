@@ -9,11 +9,8 @@ export class Advice {
         this.lines = lines;
     }
 
-    /**
-     * What to do about a refusal; an empty text where nothing is said of it.
-     *
-     * @param {string} refused as `source name: not netbios 3`
-     */
+    /** What to do about a refusal; an empty text where nothing is said of it.
+     * @param {string} refused as `source name: not netbios 3` */
     of(refused) {
         const [, words, place] = /** @type {RegExpExecArray} */ (/^(?:.*: )?(.*?)(?: (\d+))?$/s.exec(refused));
         const starts = [`${words}: `, `${words} AT: `];
@@ -25,11 +22,8 @@ export class Advice {
     }
 }
 
-/**
- * A refusal with its place in words: a byte of the payload, or of a name that is no NetBIOS name.
- *
- * @param {string} refused
- */
+/** A refusal with its place in words: a byte of the payload, or of a name that is no NetBIOS name.
+ * @param {string} refused */
 export function placed(refused) {
     return refused.replace(/(not netbios) (\d+)$/, '$1, at byte $2 of the name').replace(/ (\d+)$/, ', at byte $1');
 }

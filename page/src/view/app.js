@@ -16,29 +16,18 @@ import { TapsView } from './taps.js';
 /** How long a worker may take to stop before it is ended, in milliseconds. */
 const PATIENCE = 2_000;
 
-/**
- * A file that is open.
- *
+/** A file that is open.
  * @typedef {object} Tap
- * @property {string} name
- * @property {number} size
- * @property {'frames' | 'lines' | 'table'} kind
+ * @property {string} name @property {number} size @property {'frames' | 'lines' | 'table'} kind
  * @property {boolean} isPacked whether gzip packed it
- * @property {Rows} rows
- * @property {bigint | null} first
- * @property {import('./desk.js').Counts} counts
- * @property {boolean} isRead
- * @property {string | null} fault
+ * @property {Rows} rows @property {bigint | null} first @property {import('./desk.js').Counts} counts
+ * @property {boolean} isRead @property {string | null} fault
  * @property {number} incomplete how many keys lack a piece
- * @property {number | null} closes the tap that is closed once this one can be read
- */
+ * @property {number | null} closes the tap that is closed once this one can be read */
 
 export class App {
-    /**
-     * @param {string} code the worker's
-     * @param {Uint8Array} module
-     * @param {string[]} advice
-     */
+    /** @param {string} code the worker's
+     * @param {Uint8Array} module @param {string[]} advice */
     constructor(code, module, advice) {
         this.desk = new Desk(code, module, (news) => this.hear(news), (words) => this.complain(words));
         /** @type {(Tap | null)[]} */
@@ -69,12 +58,8 @@ export class App {
         return this.tap?.kind === 'lines' && this.tap.rows.isOfLines ? 'line' : 'frame';
     }
 
-    /**
-     * Asks the worker about the file that is looked at; null where it has no answer, which is then said.
-     *
-     * @param {string} what
-     * @param {object} asked
-     */
+    /** Asks the worker about the file that is looked at; null where it has no answer, which is then said.
+     * @param {string} what @param {object} asked */
     async ask(what, asked = {}) {
         const { tap } = this.place;
         try {
@@ -86,14 +71,10 @@ export class App {
         }
     }
 
-    /**
-     * Opens a file.
-     *
-     * @param {Blob} file
-     * @param {string} name
+    /** Opens a file.
+     * @param {Blob} file @param {string} name
      * @param {number} number of the tap
-     * @param {number | null} closes
-     */
+     * @param {number | null} closes */
     async open(file, name, number, closes) {
         const counts = { frames: 0, packets: 0, refused: 0, leftOut: 0, names: 0, conflicts: 0, unread: { frames: 0, whys: [] } };
         /** @type {Tap} */
@@ -128,21 +109,15 @@ export class App {
         await this.read(tap);
     }
 
-    /**
-     * Closes what a file stands in the place of, once it is known that it can be read.
-     *
-     * @param {Tap} tap
-     */
+    /** Closes what a file stands in the place of, once it is known that it can be read.
+     * @param {Tap} tap */
     settle(tap) {
         if (tap.closes !== null && this.taps[tap.closes]) this.close(tap.closes);
         tap.closes = null;
     }
 
-    /**
-     * Closes a file: the other one is looked at then, if there is one.
-     *
-     * @param {number} number of the tap
-     */
+    /** Closes a file: the other one is looked at then, if there is one.
+     * @param {number} number of the tap */
     close(number) {
         const tap = this.taps[number];
         if (!tap) return;
@@ -157,23 +132,15 @@ export class App {
         if (isShown) this.focus();
     }
 
-    /**
-     * Counts the keys that lack a piece; where that can't be done the view of reassembly says why.
-     *
-     * @param {Tap} tap
-     * @param {number} number
-     */
+    /** Counts the keys that lack a piece; where that can't be done the view of reassembly says why.
+     * @param {Tap} tap @param {number} number */
     async countKeys(tap, number) {
         tap.incomplete = await this.desk.ask('incomplete', { tap: number }).catch(() => 0);
         this.header.show();
     }
 
-    /**
-     * A file can't be read at all: what was open before it stays.
-     *
-     * @param {{tap: Tap | null, place: import('./address.js').Place}} earlier
-     * @param {number} number
-     */
+    /** A file can't be read at all: what was open before it stays.
+     * @param {{tap: Tap | null, place: import('./address.js').Place}} earlier @param {number} number */
     async putBack({ tap, place }, number) {
         this.taps[number] = tap;
         if (this.place.tap === number && this.taps[place.tap]) this.keep({ tap: place.tap, frame: place.frame, packet: place.packet });
@@ -184,11 +151,8 @@ export class App {
         if (this.place.frame) await this.packets.select(this.place.frame, this.place.packet);
     }
 
-    /**
-     * A file is read to its end, or to where it can't be read.
-     *
-     * @param {Tap} tap
-     */
+    /** A file is read to its end, or to where it can't be read.
+     * @param {Tap} tap */
     async read(tap) {
         this.progress(null);
         if (tap === this.tap) {
@@ -238,20 +202,14 @@ export class App {
         }
     }
 
-    /**
-     * Goes to another place.
-     *
-     * @param {Partial<import('./address.js').Place>} change
-     */
+    /** Goes to another place.
+     * @param {Partial<import('./address.js').Place>} change */
     move(change) {
         location.hash = hashOf({ ...this.place, ...change });
     }
 
-    /**
-     * Keeps in the address what was chosen.
-     *
-     * @param {Partial<import('./address.js').Place>} change
-     */
+    /** Keeps in the address what was chosen.
+     * @param {Partial<import('./address.js').Place>} change */
     keep(change) {
         this.place = { ...this.place, ...change };
         const hash = hashOf(this.place);

@@ -4,12 +4,9 @@ import { known } from './keys.js';
 
 const MOST_SHOWN = 48;
 
-/**
- * The places of a datagram as a bar: what is known, gaps, and an open end.
- *
+/** The places of a datagram as a bar: what is known, gaps, and an open end.
  * @param {import('../model/keys.js').Key} key
- * @param {number} wide how many bytes all of the bar stands for
- */
+ * @param {number} wide how many bytes all of the bar stands for */
 export function bar(key, wide = key.wide) {
     const words = known(key);
     const made = element('span', { class: `bar ${key.state}${key.end === null ? ' open' : ''}`, role: 'img', 'aria-label': words, title: words });
@@ -22,11 +19,8 @@ export function bar(key, wide = key.wide) {
     return made;
 }
 
-/**
- * Data as text, with its bytes to be unfolded.
- *
- * @param {string} digits
- */
+/** Data as text, with its bytes to be unfolded.
+ * @param {string} digits */
 export function folded(digits) {
     if (!digits) return 'no bytes';
     const bytes = element('code');
@@ -37,11 +31,8 @@ export function folded(digits) {
     return made;
 }
 
-/**
- * The first bytes of data as text.
- *
- * @param {string} digits
- */
+/** The first bytes of data as text.
+ * @param {string} digits */
 export function preview(digits) {
     const bytes = (digits.slice(0, 2 * MOST_SHOWN).match(/../g) ?? []).map((each) => parseInt(each, 16));
     const text = bytes.map((each) => (each >= 0x20 && each < 0x7f ? String.fromCharCode(each) : '.')).join('');

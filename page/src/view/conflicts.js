@@ -2,11 +2,8 @@
 
 /** @typedef {import('../model/conflicts.js').Conflict} Conflict */
 
-/**
- * How a conflict ended, as a sentence.
- *
- * @param {Conflict} conflict
- */
+/** How a conflict ended, as a sentence.
+ * @param {Conflict} conflict */
 export function outcome({ name, holders, refused, by }) {
     const holder = holders.join(' and ');
     if (!refused && by) return `${name}: ${by} says that it is in conflict; who holds it isn't in the capture.`;
@@ -15,11 +12,8 @@ export function outcome({ name, holders, refused, by }) {
     return `${name}: ${holder} ${holders.length > 1 ? 'hold' : 'holds'} it; ${refused} was refused it${holders.includes(by) && holders.length === 1 ? '' : ` by ${by}`}.`;
 }
 
-/**
- * Of how many names there are conflicts.
- *
- * @param {Conflict[]} conflicts
- */
+/** Of how many names there are conflicts.
+ * @param {Conflict[]} conflicts */
 export function summary(conflicts) {
     const count = new Set(conflicts.map((each) => each.name)).size;
     if (!count) return 'No name is in conflict.';

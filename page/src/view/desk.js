@@ -1,33 +1,20 @@
 /** The page's side of the worker: questions, each with its answer, and rows as they come. */
 
-/**
- * What comes while a file is read.
- *
+/** What comes while a file is read.
  * @typedef {object} News
  * @property {number} opened which of the files that were opened
  * @property {number} done how many bytes are read
- * @property {number} size
- * @property {'frames' | 'lines' | 'table'} kind
- * @property {import('../model/packets.js').Rows} rows
+ * @property {number} size @property {'frames' | 'lines' | 'table'} kind @property {import('../model/packets.js').Rows} rows
  * @property {Counts} counts
- *
  * @typedef {object} Counts
- * @property {number} frames
- * @property {number} packets
- * @property {number} refused
- * @property {number} leftOut
- * @property {number} names
- * @property {number} conflicts
- * @property {import('../model/unread.js').UnreadCounts} unread
- */
+ * @property {number} frames @property {number} packets @property {number} refused @property {number} leftOut
+ * @property {number} names @property {number} conflicts @property {import('../model/unread.js').UnreadCounts} unread */
 
 export class Desk {
-    /**
-     * @param {string} code the worker's
+    /** @param {string} code the worker's
      * @param {Uint8Array} module the library's
      * @param {(news: News) => void} tell
-     * @param {(words: string) => void} complain is called where the library can't be loaded
-     */
+     * @param {(words: string) => void} complain is called where the library can't be loaded */
     constructor(code, module, tell, complain) {
         this.place = URL.createObjectURL(new Blob([code], { type: 'text/javascript' }));
         this.module = module;
@@ -62,11 +49,8 @@ export class Desk {
         else waiting?.failed(new Error(data.fault));
     }
 
-    /**
-     * @param {string} what
-     * @param {object} asked
-     * @returns {Promise<any>}
-     */
+    /** @param {string} what @param {object} asked
+     * @returns {Promise<any>} */
     ask(what, asked = {}) {
         this.asked += 1;
         const id = this.asked;
@@ -76,11 +60,8 @@ export class Desk {
         });
     }
 
-    /**
-     * Ends what the worker does, and begins with a new one: nothing is open then.
-     *
-     * @param {string} why
-     */
+    /** Ends what the worker does, and begins with a new one: nothing is open then.
+     * @param {string} why */
     restart(why) {
         this.worker?.terminate();
         this.fail(why);

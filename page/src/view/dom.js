@@ -1,14 +1,11 @@
 /** Elements. Texts are set as text: nothing that stands in a file is ever read as HTML. */
 
-/**
- * An element with attributes and children.
- *
+/** An element with attributes and children.
  * @template {keyof HTMLElementTagNameMap} T
  * @param {T} tag
  * @param {Record<string, string | number | boolean | null>} [attributes] null and false leave one out, true gives it no value
  * @param {(Node | string)[]} children
- * @returns {HTMLElementTagNameMap[T]}
- */
+ * @returns {HTMLElementTagNameMap[T]} */
 export function element(tag, attributes = {}, ...children) {
     const made = document.createElement(tag);
     for (const [name, value] of Object.entries(attributes)) {
@@ -18,47 +15,31 @@ export function element(tag, attributes = {}, ...children) {
     return made;
 }
 
-/**
- * The element of the page with this name, and of this kind.
- *
+/** The element of the page with this name, and of this kind.
  * @template {HTMLElement} T
- * @param {string} id
- * @param {new () => T} kind
- * @returns {T}
- */
+ * @param {string} id @param {new () => T} kind
+ * @returns {T} */
 export function byId(id, kind) {
     const found = document.getElementById(id);
     if (found instanceof kind) return found;
     throw new Error(`the page lacks ${id}`);
 }
 
-/**
- * Sets a text where it differs, so that what is selected stays selected.
- *
- * @param {Node} node
- * @param {string} text
- */
+/** Sets a text where it differs, so that what is selected stays selected.
+ * @param {Node} node @param {string} text */
 export function say(node, text) {
     if (node.textContent !== text) node.textContent = text;
 }
 
-/**
- * A text whose words between backquotes are code.
- *
- * @param {string} text
- */
+/** A text whose words between backquotes are code.
+ * @param {string} text */
 export function withCode(text) {
     return text.split('`').map((part, at) => (at % 2 ? element('code', {}, part) : part));
 }
 
-/**
- * A table, of which only the first rows are shown until more are wanted.
- *
- * @param {string} title
- * @param {string[]} head
- * @param {(Node | string)[][]} rows
- * @param {(row: number) => string} kind a class of each row
- */
+/** A table, of which only the first rows are shown until more are wanted.
+ * @param {string} title @param {string[]} head @param {(Node | string)[][]} rows
+ * @param {(row: number) => string} kind a class of each row */
 export function table(title, head, rows, kind = () => '') {
     const body = element('tbody');
     const made = element('table', {}, element('caption', {}, title),
@@ -80,13 +61,8 @@ export function table(title, head, rows, kind = () => '') {
 
 const MOST_ROWS = 400;
 
-/**
- * A number with a space between thousands, and the word after it.
- *
- * @param {number} count
- * @param {string} one
- * @param {string} many
- */
+/** A number with a space between thousands, and the word after it.
+ * @param {number} count @param {string} one @param {string} many */
 export function counted(count, one, many = `${one}s`) {
     return `${number(count)} ${count === 1 ? one : many}`;
 }

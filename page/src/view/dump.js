@@ -5,18 +5,12 @@ const ROW = 16;
 /** How many bytes are shown until all are wanted. */
 const MOST = 4_096;
 
-/**
- * @param {Uint8Array} bytes
- * @param {number | null} mark
- */
+/** @param {Uint8Array} bytes @param {number | null} mark */
 export function dumpOf(bytes, mark) {
     const pre = element('pre', { class: 'dump', tabindex: 0, role: 'region', 'aria-label': 'Bytes in hexadecimal' });
     const isLong = bytes.length > MOST;
     const start = isLong && mark !== null ? Math.max(0, mark - (mark % ROW) - MOST / 2) : 0;
-    /**
-     * @param {number} from
-     * @param {number} to
-     */
+    /** @param {number} from @param {number} to */
     const show = (from, to) => pre.replaceChildren(...rowsOf(bytes, from, to, mark));
     show(start, isLong ? start + MOST : bytes.length);
     if (!isLong) return [pre];
@@ -28,12 +22,7 @@ export function dumpOf(bytes, mark) {
     return [pre, all];
 }
 
-/**
- * @param {Uint8Array} bytes
- * @param {number} from
- * @param {number} to
- * @param {number | null} mark
- */
+/** @param {Uint8Array} bytes @param {number} from @param {number} to @param {number | null} mark */
 function rowsOf(bytes, from, to, mark) {
     /** @type {(Node | string)[]} */
     const parts = [];
@@ -52,13 +41,8 @@ function rowsOf(bytes, from, to, mark) {
     return [...parts, text];
 }
 
-/**
- * The row with the marked byte; where that is the place after the last byte, a space is marked.
- *
- * @param {number} at
- * @param {Uint8Array} row
- * @param {number} place
- */
+/** The row with the marked byte; where that is the place after the last byte, a space is marked.
+ * @param {number} at @param {Uint8Array} row @param {number} place */
 function marked(at, row, place) {
     const byte = place < row.length ? digits(row.subarray(place, place + 1), 0).trim() : '  ';
     const words = place < row.length ? `the byte of the fault, ${at + place}` : `the place of the fault, ${at + place}, after the last byte`;
@@ -78,12 +62,9 @@ function front(at) {
     return `${at.toString(16).padStart(5, '0')} `;
 }
 
-/**
- * Two digits a byte, each after a space, and one space more in the middle of a row.
- *
+/** Two digits a byte, each after a space, and one space more in the middle of a row.
  * @param {Uint8Array} bytes
- * @param {number} place where they begin in the row
- */
+ * @param {number} place where they begin in the row */
 function digits(bytes, place) {
     return Array.from(bytes, (each, at) => `${place + at === ROW / 2 ? '  ' : ' '}${each.toString(16).padStart(2, '0')}`).join('');
 }

@@ -34,12 +34,7 @@ export class ExportView {
             }));
     }
 
-    /**
-     * @param {string} form
-     * @param {string} end
-     * @param {HTMLElement} size
-     * @param {HTMLButtonElement} button
-     */
+    /** @param {string} form @param {string} end @param {HTMLElement} size @param {HTMLButtonElement} button */
     async save(form, end, size, button) {
         const { tap } = this.app;
         button.disabled = true;
@@ -53,12 +48,9 @@ export class ExportView {
     }
 }
 
-/**
- * The command that prints the same of a file that is text.
- *
+/** The command that prints the same of a file that is text.
  * @param {string} command an empty text where that is the file itself
- * @param {import('./app.js').Tap} tap
- */
+ * @param {import('./app.js').Tap} tap */
 function textCommand(command, { name, isPacked }) {
     const file = quoted(name);
     if (isPacked) return `gzip -dc ${file}${command ? ` | ${command}` : ''}`;

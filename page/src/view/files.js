@@ -2,9 +2,7 @@
 import { FORM } from '../containers/line_faults.js';
 import { byId, counted } from './dom.js';
 
-/**
- * @param {import('./app.js').App} app
- */
+/** @param {import('./app.js').App} app */
 export function takeFiles(app) {
     const input = byId('file', HTMLInputElement);
     for (const id of ['opener', 'choose']) byId(id, HTMLButtonElement).addEventListener('click', () => input.click());
@@ -43,12 +41,8 @@ export function takeFiles(app) {
     });
 }
 
-/**
- * Opens one file, or two as two taps. Where some are open already it is asked what becomes of them.
- *
- * @param {import('./app.js').App} app
- * @param {File[]} files
- */
+/** Opens one file, or two as two taps. Where some are open already it is asked what becomes of them.
+ * @param {import('./app.js').App} app @param {File[]} files */
 export async function openAll(app, files) {
     const [one, two, ...others] = files;
     if (!one || app.placing.isAsking) return;
@@ -60,10 +54,7 @@ export async function openAll(app, files) {
     if (others.length) app.complain(`${counted(others.length, 'file')} more than two: ${others[0].name} and what follows isn't opened`);
 }
 
-/**
- * @param {import('./app.js').App} app
- * @param {string} text
- */
+/** @param {import('./app.js').App} app @param {string} text */
 function openText(app, text) {
     return openAll(app, [new File([text.replaceAll('\r\n', '\n')], 'pasted text')]);
 }

@@ -4,11 +4,8 @@ import { KINDS, SERVICES } from '../model/vocabulary.js';
 /** A whole address of IPv4, which is no part of another one. */
 const ADDRESS = /^\d{1,3}(?:\.\d{1,3}){3}$/;
 
-/**
- * What is chosen; an empty text is all.
- *
- * @typedef {{words: string, kind: string, sender: string, reason: string}} Chosen
- */
+/** What is chosen; an empty text is all.
+ * @typedef {{words: string, kind: string, sender: string, reason: string}} Chosen */
 
 export class Filter {
     /** @param {Chosen} chosen */
@@ -30,10 +27,7 @@ export class Filter {
         return !this.kinds.length && !this.ports.length && !this.patterns.length && !this.sender && !this.reason;
     }
 
-    /**
-     * @param {import('./rows.js').Rows} rows
-     * @param {number} row
-     */
+    /** @param {import('./rows.js').Rows} rows @param {number} row */
     wants(rows, row) {
         if (this.ports.length && !this.ports.includes(rows.port.at(row))) return false;
         if (this.kinds.length && !this.fits(rows, rows.worded.kinds.at(row))) return false;
@@ -43,10 +37,7 @@ export class Filter {
             || this.has(rows, at, rows.worded.source.at(row)) || this.has(rows, at, rows.worded.destination.at(row)));
     }
 
-    /**
-     * @param {import('./rows.js').Rows} rows
-     * @param {number} text
-     */
+    /** @param {import('./rows.js').Rows} rows @param {number} text */
     fits(rows, text) {
         let fits = this.fitting.get(text);
         if (fits === undefined) {
@@ -57,11 +48,7 @@ export class Filter {
         return fits;
     }
 
-    /**
-     * @param {import('./rows.js').Rows} rows
-     * @param {number} pattern
-     * @param {number} text
-     */
+    /** @param {import('./rows.js').Rows} rows @param {number} pattern @param {number} text */
     has(rows, pattern, text) {
         const found = this.found[pattern];
         let has = found.get(text);
@@ -73,11 +60,8 @@ export class Filter {
     }
 }
 
-/**
- * What a word has to be a part of; an address has to stand there by itself.
- *
- * @param {string} word
- */
+/** What a word has to be a part of; an address has to stand there by itself.
+ * @param {string} word */
 function patternOf(word) {
     const plain = word.replace(/[.*+?^${}()|[\]\\]/g, '\\$&');
     return new RegExp(ADDRESS.test(word) ? `(?<![\\d.])${plain}(?![\\d.]*\\d)` : plain, 'i');

@@ -6,23 +6,14 @@ const HEIGHT = 1.5;
 /** No engine lets an element be as high as millions of rows: past this the place of the bar stands for a part of them. */
 const MOST_HIGH = 8_000_000;
 
-/**
- * A column: its name, and what stands in it.
- *
+/** A column: its name, and what stands in it.
  * @typedef {{name: string, title: string}} Heading
- *
  * @typedef {object} Source
- * @property {() => number} count
- * @property {(at: number) => {cells: string[], kind: string}} row
- * @property {(at: number) => void} select
- */
+ * @property {() => number} count @property {(at: number) => {cells: string[], kind: string}} row
+ * @property {(at: number) => void} select */
 
 export class Grid {
-    /**
-     * @param {HTMLElement} root
-     * @param {Heading[]} headings
-     * @param {Source} source
-     */
+    /** @param {HTMLElement} root @param {Heading[]} headings @param {Source} source */
     constructor(root, headings, source) {
         this.root = root;
         this.source = source;
@@ -44,12 +35,8 @@ export class Grid {
         root.addEventListener('keydown', (event) => this.key(event));
     }
 
-    /**
-     * Heads a column with another word.
-     *
-     * @param {number} place
-     * @param {string} word
-     */
+    /** Heads a column with another word.
+     * @param {number} place @param {string} word */
     rename(place, word) {
         const heading = this.head.children[place];
         if (heading.textContent === word) return;
@@ -107,10 +94,7 @@ export class Grid {
         return row;
     }
 
-    /**
-     * @param {HTMLElement} element
-     * @param {number} at
-     */
+    /** @param {HTMLElement} element @param {number} at */
     fill(element, at) {
         element.hidden = at < 0;
         if (at < 0) {
@@ -155,11 +139,8 @@ export class Grid {
         this.source.select(at);
     }
 
-    /**
-     * Marks a row, and brings it in sight.
-     *
-     * @param {number} at -1 for none
-     */
+    /** Marks a row, and brings it in sight.
+     * @param {number} at -1 for none */
     mark(at) {
         this.selected = at;
         const first = this.first;
@@ -182,12 +163,8 @@ function heightOfRow() {
 /** A name as the library writes it: FRED<20>, FRED<20>.NETBIOS.COM. */
 const NAME = /([^\s,:<>]+<[0-9a-f]{2}>(?:\.[^\s,:]+)?)/;
 
-/**
- * Sets the text of a cell where it differs, with the names in it in bold.
- *
- * @param {Element} cell
- * @param {string} text
- */
+/** Sets the text of a cell where it differs, with the names in it in bold.
+ * @param {Element} cell @param {string} text */
 function name(cell, text) {
     if (cell.textContent === text) return;
     if (!text.includes('<')) cell.textContent = text;

@@ -58,23 +58,14 @@ export class Header {
     }
 }
 
-/**
- * @param {string} name
- * @param {number} at
- */
+/** @param {string} name @param {number} at */
 function fileOf(name, at) {
     const words = `Close ${name}`;
     return element('span', { class: 'file' }, name, element('button', { type: 'button', class: 'close', 'data-tap': at, 'aria-label': words, title: words }));
 }
 
-/**
- * What is counted, beside the name of a view.
- *
- * @param {string} view
- * @param {string} name
- * @param {number} count
- * @param {string} title
- */
+/** What is counted, beside the name of a view.
+ * @param {string} view @param {string} name @param {number} count @param {string} title */
 function badge(view, name, count, title) {
     const link = byId(`to-${view}`, HTMLAnchorElement);
     if (link.textContent === (count ? `${name} ${number(count)}` : name)) return;

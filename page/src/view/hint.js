@@ -12,21 +12,16 @@ const PORTED = /^(?:udp|tcp)\.(?:port|srcport|dstport)$/i;
 
 export const TAKES = `The box takes words, of which each has to fit: a part of a name, of an address or of what is said; ${SERVICES.join(', ')}; or a kind: ${KINDS.join(', ')}.`;
 
-/**
- * @param {string} words
- * @returns {{text: string, instead: string}} what is said, and words to be tried instead, if there are any
- */
+/** @param {string} words
+ * @returns {{text: string, instead: string}} what is said, and words to be tried instead, if there are any */
 export function hintOf(words) {
     if (!words.trim()) return { text: 'No packet is of all that is chosen.', instead: '' };
     if (!SYNTAX.test(words) && !PROTOCOLS.has(words.trim().toLowerCase())) return { text: `No row fits “${words.trim()}”. ${TAKES}`, instead: '' };
     return { text: `“${words.trim()}” is a filter of Wireshark. ${TAKES}`, instead: wordsOf(words) };
 }
 
-/**
- * The words that come nearest to a filter of Wireshark; an empty text where there are none.
- *
- * @param {string} filter
- */
+/** The words that come nearest to a filter of Wireshark; an empty text where there are none.
+ * @param {string} filter */
 function wordsOf(filter) {
     const found = [...filter.matchAll(COMPARISON)].flatMap(([, field, , value]) => {
         const plain = value.replace(/"/g, '');

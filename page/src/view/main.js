@@ -5,11 +5,8 @@ import { byId } from './dom.js';
 import { openAll, takeFiles } from './files.js';
 import { SingleKeys } from './singles.js';
 
-/**
- * The bytes of a block of the page in base64.
- *
- * @param {string} id
- */
+/** The bytes of a block of the page in base64.
+ * @param {string} id */
 function bytesIn(id) {
     const text = atob((document.getElementById(id)?.textContent ?? '').trim());
     const bytes = new Uint8Array(text.length);

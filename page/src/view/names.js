@@ -37,11 +37,8 @@ export class NamesView {
         if (more) this.draw({ tables: { ...answer.tables, ...more.tables }, notKept: { ...answer.notKept, ...more.notKept } });
     }
 
-    /**
-     * Draws the tables that there are.
-     *
-     * @param {{tables: Record<string, any[]>, notKept: Record<string, number>}} answer
-     */
+    /** Draws the tables that there are.
+     * @param {{tables: Record<string, any[]>, notKept: Record<string, number>}} answer */
     draw({ tables, notKept }) {
         const { app } = this;
         const lost = new Set(tables.conflicts.map((/** @type {Conflict} */ { name, refused }) => `${name} ${refused}`));
@@ -56,11 +53,8 @@ export class NamesView {
             }));
     }
 
-    /**
-     * How the first conflicts ended, a sentence each.
-     *
-     * @param {Conflict[]} conflicts
-     */
+    /** How the first conflicts ended, a sentence each.
+     * @param {Conflict[]} conflicts */
     outcomes(conflicts) {
         if (!conflicts.length) return [];
         const shown = conflicts.slice(0, MOST_SENTENCES).map((each) => element('li', {}, `${outcome(each)} `, this.frame(each.frame)));
@@ -78,11 +72,8 @@ export class NamesView {
         return element('span', {}, ...frames.flatMap((each, at) => [...(at ? [', '] : []), this.link(String(each), { frame: each, filter: '' })]));
     }
 
-    /**
-     * @param {any} row
-     * @param {string} column
-     * @returns {Node | string}
-     */
+    /** @param {any} row @param {string} column
+     * @returns {Node | string} */
     cell(row, column) {
         const value = row[column];
         const text = shownAs(row, column, (time) => this.time(time));
@@ -93,32 +84,23 @@ export class NamesView {
         return FILTERS.includes(column) && text !== '-' ? this.link(text, { filter: text }) : text;
     }
 
-    /**
-     * @param {bigint | null} time
-     */
+    /** @param {bigint | null} time */
     time(time) {
         if (time === null || time === undefined) return '-';
         return since(time, this.app.tap?.first ?? null);
     }
 
-    /**
-     * A link to the packets.
-     *
-     * @param {string} text
-     * @param {Partial<import('./address.js').Place>} change
-     */
+    /** A link to the packets.
+     * @param {string} text @param {Partial<import('./address.js').Place>} change */
     link(text, change) {
         return element('a', { href: hashOf({ ...this.app.place, view: 'packets', frame: 0, packet: 1, ...change }) }, text);
     }
 }
 
-/**
- * What a row's color says beside its words: of a conflict whether it is decided, of a claim whether it was refused or is contested.
- *
+/** What a row's color says beside its words: of a conflict whether it is decided, of a claim whether it was refused or is contested.
  * @param {string} key of the table
  * @param {any} row
- * @param {Set<string>} lost the names with the addresses that were refused them
- */
+ * @param {Set<string>} lost the names with the addresses that were refused them */
 function standing(key, row, lost) {
     if (key === 'conflicts') return row.refused ? 'decided' : 'undecided';
     if (key === 'malformed') return 'bad';

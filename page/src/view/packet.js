@@ -8,11 +8,8 @@ import { dumpOf } from './dump.js';
 
 const MOST_DIGITS = 128;
 
-/**
- * A packet as the worker answers it.
- *
- * @typedef {import('../model/packets.js').Kept & {isFrame: boolean, utc: string, said: string, told: Record<string, unknown> | null}} Shown
- */
+/** A packet as the worker answers it.
+ * @typedef {import('../model/packets.js').Kept & {isFrame: boolean, utc: string, said: string, told: Record<string, unknown> | null}} Shown */
 
 export class PacketPanel {
     /** @param {import('./advice.js').Advice} advice */
@@ -27,11 +24,8 @@ export class PacketPanel {
         this.root.replaceChildren(element('p', { class: 'quiet' }, 'Choose a packet to see its fields and bytes.'));
     }
 
-    /**
-     * @param {Shown} packet
-     * @param {bigint | null} first
-     * @param {string} phrase what its row says
-     */
+    /** @param {Shown} packet @param {bigint | null} first
+     * @param {string} phrase what its row says */
     show(packet, first, phrase) {
         const refused = typeof packet.told?.refused === 'string' ? packet.told.refused : '';
         const named = placeInName(packet.port, packet.bytes, refused);
@@ -48,10 +42,7 @@ export class PacketPanel {
         this.hidden.hidden = !isHidden;
     }
 
-    /**
-     * @param {string} refused
-     * @param {import('../model/places.js').NamePlace | null} named
-     */
+    /** @param {string} refused @param {import('../model/places.js').NamePlace | null} named */
     fault(refused, named) {
         const place = named && named.inPayload !== null ? [element('p', {}, `Byte ${named.inName} of the name is byte ${named.inPayload} of the payload.`)] : [];
         return element('div', { class: 'fault', role: 'note', 'aria-label': 'Why it is refused' },
@@ -59,17 +50,12 @@ export class PacketPanel {
     }
 }
 
-/**
- * @param {[string, string | Node][]} pairs
- */
+/** @param {[string, string | Node][]} pairs */
 function list(pairs) {
     return element('dl', {}, ...pairs.flatMap(([term, value]) => [element('dt', {}, term), element('dd', {}, value)]));
 }
 
-/**
- * @param {Shown} packet
- * @param {bigint | null} first
- */
+/** @param {Shown} packet @param {bigint | null} first */
 function facts(packet, first) {
     /** @type {[string, string][]} */
     const pairs = [packet.isFrame ? ['time', `${since(packet.time, first)} s${packet.utc === '-' ? '' : `, ${packet.utc}`}`]
@@ -88,13 +74,9 @@ function fields(told) {
     return list(pairs);
 }
 
-/**
- * A field, or the fields of each of its parts.
- *
- * @param {string} key
- * @param {unknown} value
- * @returns {[string, string | Node][]}
- */
+/** A field, or the fields of each of its parts.
+ * @param {string} key @param {unknown} value
+ * @returns {[string, string | Node][]} */
 function pairsOf(key, value) {
     if (!Array.isArray(value)) return [[key, textOf(value)]];
     if (!value.length) return [[key, 'none']];

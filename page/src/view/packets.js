@@ -48,11 +48,8 @@ export class PacketsView {
         byId('grid', HTMLElement).focus();
     }
 
-    /**
-     * A row of those that are shown.
-     *
-     * @param {number} at
-     */
+    /** A row of those that are shown.
+     * @param {number} at */
     row(at) {
         const rows = /** @type {import('./rows.js').Rows} */ (this.rows);
         const row = rows.shown.at(at);
@@ -121,11 +118,8 @@ export class PacketsView {
         if (unread?.frames) say(line, `${counted(unread.frames, 'frame')} of what this page doesn't read: ${unread.whys.join(', ')}. nbt-look reads them.`);
     }
 
-    /**
-     * Says what the box takes, where no row fits.
-     *
-     * @param {string | null} words null where some fit
-     */
+    /** Says what the box takes, where no row fits.
+     * @param {string | null} words null where some fit */
     advise(words) {
         this.hint.hidden = words === null;
         if (words === null || this.hint.dataset.words === words) return;
@@ -169,12 +163,8 @@ export class PacketsView {
         this.open(rows.shown.at(at));
     }
 
-    /**
-     * Selects a frame's packet, which the filter may leave out.
-     *
-     * @param {number} frame
-     * @param {number} packet
-     */
+    /** Selects a frame's packet, which the filter may leave out.
+     * @param {number} frame @param {number} packet */
     async select(frame, packet) {
         const row = this.rows?.find(frame, packet) ?? -1;
         if (!this.rows || row < 0 || row === this.selected) return;
@@ -182,12 +172,9 @@ export class PacketsView {
         await this.open(row);
     }
 
-    /**
-     * Marks the selected row in the list, or says that the list hasn't got it.
-     *
+    /** Marks the selected row in the list, or says that the list hasn't got it.
      * @param {import('./rows.js').Rows} rows
-     * @param {number} row -1 for none
-     */
+     * @param {number} row -1 for none */
     mark(rows, row) {
         const at = row < 0 ? -1 : rows.shown.room.subarray(0, rows.shown.length).indexOf(row);
         this.grid.mark(at);

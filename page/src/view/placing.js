@@ -1,19 +1,13 @@
 /** Where files go that are opened while others are open: a question, with a button for each answer. */
 import { byId, element, say } from './dom.js';
 
-/**
- * An answer: what its button says, the taps that the files become, and the tap that is closed then.
- *
- * @typedef {{words: string, taps: number[], closes: number | null}} Answer
- */
+/** An answer: what its button says, the taps that the files become, and the tap that is closed then.
+ * @typedef {{words: string, taps: number[], closes: number | null}} Answer */
 
-/**
- * What may become of as many files.
- *
+/** What may become of as many files.
  * @param {(string | null)[]} open the names of the files that are open, by tap
  * @param {number} count
- * @returns {Answer[]} one where nothing is asked
- */
+ * @returns {Answer[]} one where nothing is asked */
 export function answersTo(open, count) {
     const [one, other] = open;
     if (one === null && other === null) return [{ words: '', taps: [0, 1], closes: null }];
@@ -39,13 +33,9 @@ export class Placing {
         return this.dialog.open;
     }
 
-    /**
-     * Asks what becomes of files, unless nothing is open.
-     *
-     * @param {string[]} names
-     * @param {(string | null)[]} open
-     * @returns {Promise<Answer | null>} null where they aren't to be opened
-     */
+    /** Asks what becomes of files, unless nothing is open.
+     * @param {string[]} names @param {(string | null)[]} open
+     * @returns {Promise<Answer | null>} null where they aren't to be opened */
     ask(names, open) {
         const answers = answersTo(open, names.length);
         if (open.every((each) => each === null)) return Promise.resolve(answers[0]);

@@ -34,12 +34,8 @@ export class ReassemblyView {
         if (tap?.kind !== 'table' && names.length) await this.hand();
     }
 
-    /**
-     * A key that leads to its first frame, where there is one.
-     *
-     * @param {string} key
-     * @param {number | undefined} frame
-     */
+    /** A key that leads to its first frame, where there is one.
+     * @param {string} key @param {number | undefined} frame */
     link(key, frame) {
         return frame === undefined ? key : element('a', { href: hashOf({ ...this.app.place, view: 'packets', frame, packet: 1, filter: '' }) }, key);
     }
@@ -62,10 +58,8 @@ export class ReassemblyView {
     }
 }
 
-/**
- * @param {import('../model/keys.js').Key[]} keys
- * @param {(key: import('../model/keys.js').Key) => Node | string} named what stands for a key
- */
+/** @param {import('../model/keys.js').Key[]} keys
+ * @param {(key: import('../model/keys.js').Key) => Node | string} named what stands for a key */
 function tableOf(keys, named) {
     if (!keys.length) return [element('p', { class: 'quiet' }, 'There are no datagrams of which a station holds anything.')];
     const counts = ['whole', 'partial', 'spoilt'].map((state) => `${number(keys.filter((key) => key.state === state).length)} ${state}`);

@@ -61,20 +61,14 @@ export class Rows {
         }
     }
 
-    /**
-     * @param {Worded} key
-     * @param {number} row
-     */
+    /** @param {Worded} key @param {number} row */
     text(key, row) {
         return this.texts[this.worded[key].at(row)];
     }
 
-    /**
-     * How many rows have each text of a column; of kinds each word is counted.
-     *
+    /** How many rows have each text of a column; of kinds each word is counted.
      * @param {'sender' | 'kinds' | 'reason'} key
-     * @returns {[string, number][]} the most first
-     */
+     * @returns {[string, number][]} the most first */
     countsOf(key) {
         /** @type {Map<string, number>} */
         const counts = new Map();
@@ -92,13 +86,10 @@ export class Rows {
         return this.isSorted ? keys : keys.sort().map((key) => key % ROWS);
     }
 
-    /**
-     * Chooses the rows that are shown.
-     *
+    /** Chooses the rows that are shown.
      * @param {import('./filter.js').Filter | null} filter
      * @param {() => void} tell is called when some are chosen
-     * @returns {Promise<boolean>} whether it came to the end; no, where other rows are wanted meanwhile
-     */
+     * @returns {Promise<boolean>} whether it came to the end; no, where other rows are wanted meanwhile */
     async choose(filter, tell) {
         this.turn += 1;
         const { turn } = this;
@@ -118,12 +109,8 @@ export class Rows {
         return true;
     }
 
-    /**
-     * The row of a frame's packet with this number, counted from 1; -1 where there is none.
-     *
-     * @param {number} frame
-     * @param {number} packet
-     */
+    /** The row of a frame's packet with this number, counted from 1; -1 where there is none.
+     * @param {number} frame @param {number} packet */
     find(frame, packet) {
         let left = packet;
         for (let row = 0; row < this.count; row++) {
@@ -133,11 +120,8 @@ export class Rows {
         return -1;
     }
 
-    /**
-     * Which packet of its frame a row is, counted from 1.
-     *
-     * @param {number} row
-     */
+    /** Which packet of its frame a row is, counted from 1.
+     * @param {number} row */
     packetNumber(row) {
         const frame = this.frame.at(row);
         let count = 1;

@@ -2,11 +2,8 @@
 
 const PLAIN = /^[\w@%+=:,./-]+$/;
 
-/**
- * A file's name as a shell takes it for one word, and a command for a file.
- *
- * @param {string} name
- */
+/** A file's name as a shell takes it for one word, and a command for a file.
+ * @param {string} name */
 export function quoted(name) {
     const path = name.startsWith('-') ? `./${name}` : name;
     return PLAIN.test(path) ? path : `'${path.replaceAll("'", "'\\''")}'`;

@@ -4,24 +4,17 @@ import { counted, number } from './dom.js';
 
 /** @typedef {import('../model/keys.js').Key} Key */
 
-/**
- * A key as each tap knows it, and as the join does.
- *
+/** A key as each tap knows it, and as the join does.
  * @typedef {{key: string, one: Key | null, other: Key | null, both: Key}} Row
- *
  * @typedef {object} Sides
  * @property {Row[]} all
  * @property {Row[]} joined whole in the join alone
  * @property {Row[]} one those of which the other tap has nothing
- * @property {Row[]} other
- * @property {Row[]} differing
- * @property {number} equal how many both know the same of
- */
+ * @property {Row[]} other @property {Row[]} differing
+ * @property {number} equal how many both know the same of */
 
-/**
- * @param {{first: string[], second: string[], both: string[]}} lines
- * @returns {Sides}
- */
+/** @param {{first: string[], second: string[], both: string[]}} lines
+ * @returns {Sides} */
 export function sidesOf({ first, second, both }) {
     const [one, other] = [first, second].map((lines) => new Map(lines.map((line) => [line.split(' ', 1)[0], line])));
     const all = both.map((line) => {
@@ -40,20 +33,14 @@ export function sidesOf({ first, second, both }) {
     return sides;
 }
 
-/**
- * @param {Map<string, string>} lines
- * @param {string} key
- */
+/** @param {Map<string, string>} lines @param {string} key */
 function keyIn(lines, key) {
     const line = lines.get(key);
     return line === undefined ? null : keyOf(line);
 }
 
-/**
- * What comes of it, in a sentence or two.
- *
- * @param {Sides} sides
- */
+/** What comes of it, in a sentence or two.
+ * @param {Sides} sides */
 export function conclusion({ all, joined, equal }) {
     if (!all.length) return 'Neither tap has anything of a datagram.';
     const [whole, partial, spoilt] = ['whole', 'partial', 'spoilt'].map((state) => all.filter(({ both }) => both.state === state).length);

@@ -36,10 +36,8 @@ function kept() {
     }
 }
 
-/**
- * @param {string} value
- * @returns {boolean} whether the browser keeps it
- */
+/** @param {string} value
+ * @returns {boolean} whether the browser keeps it */
 function keep(value) {
     try {
         localStorage.setItem(KEPT_AS, value);

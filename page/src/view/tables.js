@@ -6,14 +6,10 @@ const { conflicts, ...others } = ALIKE;
 export const TABLES = Object.entries({ conflicts, ...others, unread: ['not read here', ['link type', 'why', 'frames', 'frame']] })
     .map(([key, [title, columns]]) => ({ key, title: String(title), columns: [...columns] }));
 
-/**
- * A value as nbt-look's tables have it.
- *
- * @param {any} row
- * @param {string} column
+/** A value as nbt-look's tables have it.
+ * @param {any} row @param {string} column
  * @param {(time: bigint | null) => string} since a time in words
- * @returns {string}
- */
+ * @returns {string} */
 export function shownAs(row, column, since) {
     const value = row[column === 'link type' ? 'link' : column];
     if (column === 'since' || column === 'until') return value === null ? '-' : since(value);
@@ -25,18 +21,14 @@ export function shownAs(row, column, since) {
     return textOf(value);
 }
 
-/**
- * @param {{answer: string, answered: number | null}} row
- */
+/** @param {{answer: string, answered: number | null}} row */
 function answered({ answer, answered }) {
     if (answer === 'later') return `a later one, in frame ${answered}`;
     return answered === null ? answer : `frame ${answered}, ${answer}`;
 }
 
-/**
- * @param {unknown} value
- * @returns {string}
- */
+/** @param {unknown} value
+ * @returns {string} */
 function textOf(value) {
     if (typeof value === 'boolean') return value ? 'yes' : 'no';
     if (value instanceof Set) return textOf([...value]);

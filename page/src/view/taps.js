@@ -10,10 +10,8 @@ export class TapsView {
     constructor(app) {
         this.app = app;
         this.root = byId('view-taps', HTMLElement);
-        /**
-         * Of each tap the frames in which keys came first.
-         * @type {Map<string, number>[]}
-         */
+        /** Of each tap the frames in which keys came first.
+         * @type {Map<string, number>[]} */
         this.firsts = [];
     }
 
@@ -35,16 +33,9 @@ export class TapsView {
             element('p', { class: 'quiet' }, `${counted(sides.equal, 'key is', 'keys are')} the same at both taps.`));
     }
 
-    /**
-     * @param {import('./sides.js').Sides} sides
-     * @param {string} one
-     * @param {string} other
-     */
+    /** @param {import('./sides.js').Sides} sides @param {string} one @param {string} other */
     counts({ all }, one, other) {
-        /**
-         * @param {string} title
-         * @param {'one' | 'other' | 'both'} side
-         */
+        /** @param {string} title @param {'one' | 'other' | 'both'} side */
         const row = (title, side) => {
             const states = all.flatMap((each) => each[side]?.state ?? []);
             return [title, number(states.length), ...['whole', 'partial', 'spoilt'].map((state) => number(states.filter((each) => each === state).length))];
@@ -53,12 +44,8 @@ export class TapsView {
             [row(`tap 1: ${one}`, 'one'), row(`tap 2: ${other}`, 'other'), row('the join', 'both')]);
     }
 
-    /**
-     * A table of keys, with what each side knows.
-     *
-     * @param {string} title
-     * @param {import('./sides.js').Row[]} rows
-     */
+    /** A table of keys, with what each side knows.
+     * @param {string} title @param {import('./sides.js').Row[]} rows */
     group(title, rows) {
         if (!rows.length) return [];
         const cells = rows.map(({ key, one, other, both }) => {
@@ -70,11 +57,8 @@ export class TapsView {
         return [table(title, ['key', 'from', 'to', 'tap 1', 'tap 2', 'the join', 'data'], cells)];
     }
 
-    /**
-     * A key that leads to its first frame, at the first tap that has it.
-     *
-     * @param {string} key
-     */
+    /** A key that leads to its first frame, at the first tap that has it.
+     * @param {string} key */
     link(key) {
         for (const [tap, firsts] of this.firsts.entries()) {
             const frame = firsts.get(key);
@@ -84,12 +68,8 @@ export class TapsView {
     }
 }
 
-/**
- * What a side knows of a key: a bar, and the words that it stands for.
- *
- * @param {import('../model/keys.js').Key | null} key
- * @param {number} wide
- */
+/** What a side knows of a key: a bar, and the words that it stands for.
+ * @param {import('../model/keys.js').Key | null} key @param {number} wide */
 function side(key, wide) {
     if (!key) return element('span', { class: 'quiet' }, 'nothing of it');
     const drawn = bar(key, wide);

@@ -2,20 +2,11 @@
 import { Texts } from '../model/columns.js';
 import { NO_TIME } from '../model/packets.js';
 
-/**
- * A row: where a packet comes from and goes to, what it says, and the words by which it is filtered.
- *
+/** A row: where a packet comes from and goes to, what it says, and the words by which it is filtered.
  * @typedef {object} Row
- * @property {number} frame
- * @property {bigint | null} time
- * @property {number} port
- * @property {string} source
- * @property {string} destination
- * @property {string} sender
- * @property {string} kinds
- * @property {string} reason
- * @property {string} said
- */
+ * @property {number} frame @property {bigint | null} time @property {number} port @property {string} source
+ * @property {string} destination @property {string} sender @property {string} kinds @property {string} reason
+ * @property {string} said */
 
 export class Batch {
     constructor() {
@@ -30,11 +21,8 @@ export class Batch {
         this.rows.push(row);
     }
 
-    /**
-     * The rows since the last time.
-     *
-     * @returns {import('../model/packets.js').Rows}
-     */
+    /** The rows since the last time.
+     * @returns {import('../model/packets.js').Rows} */
     take() {
         const { rows, texts } = this;
         this.rows = [];

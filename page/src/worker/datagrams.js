@@ -9,10 +9,8 @@ const NAME = '*<00>';
 /** How many payloads go into a station before the worker looks whether something is wanted of it. */
 const PART = 256;
 
-/**
- * @param {import('./tap.js').Tap} tap
- * @returns {Promise<Datagrams>}
- */
+/** @param {import('./tap.js').Tap} tap
+ * @returns {Promise<Datagrams>} */
 export async function datagramsOf(tap) {
     const station = new tap.library.Station([NAME], '0.0.0.0', { keys: MOST_KEYS });
     const datagrams = new Datagrams((pieces) => listOf(tap, pieces));
@@ -34,22 +32,15 @@ export async function datagramsOf(tap) {
     }
 }
 
-/**
- * @param {import('./tap.js').Tap} tap
- * @param {{moment: number | bigint, bytes: Uint8Array}} line
- * @param {number} row
- * @returns {import('../model/replay.js').Piece | null} null of a packet that has no piece
- */
+/** @param {import('./tap.js').Tap} tap @param {{moment: number | bigint, bytes: Uint8Array}} line @param {number} row
+ * @returns {import('../model/replay.js').Piece | null} null of a packet that has no piece */
 function pieceOf(tap, { moment, bytes }, row) {
     const { key, kind, source, destination, refused } = JSON.parse(tap.library.json(PORT.DATAGRAMS, bytes));
     if (refused !== undefined || !PIECES.includes(kind)) return null;
     return { moment: BigInt(moment), key, names: { source, destination, kind }, frame: tap.packets.at(row).frame, bytes };
 }
 
-/**
- * @param {import('./tap.js').Tap} tap
- * @param {Uint8Array[]} pieces
- */
+/** @param {import('./tap.js').Tap} tap @param {Uint8Array[]} pieces */
 function listOf(tap, pieces) {
     const station = new tap.library.Station([], '0.0.0.0', { keys: 1 });
     try {

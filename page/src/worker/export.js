@@ -8,11 +8,8 @@ import { tableOf } from './tables.js';
 /** How many characters are put together before the worker looks whether something is wanted of it. */
 const PART = 1 << 20;
 
-/**
- * @param {import('./tap.js').Tap} tap
- * @param {'json' | 'capture' | 'table'} form
- * @returns {Promise<Blob>}
- */
+/** @param {import('./tap.js').Tap} tap @param {'json' | 'capture' | 'table'} form
+ * @returns {Promise<Blob>} */
 export async function exportOf(tap, form) {
     if (form === 'table') return new Blob([`${digitsOf(await tableOf(tap))}\n`], { type: 'text/plain' });
     if (tap.kind === 'table') throw new Error('a saved table has no packets: only itself can be saved');
@@ -20,11 +17,8 @@ export async function exportOf(tap, form) {
     return joined(form === 'json' ? objects(tap) : lines(tap));
 }
 
-/**
- * The file of a tap, if it can still be read.
- *
- * @param {import('./tap.js').Tap} tap
- */
+/** The file of a tap, if it can still be read.
+ * @param {import('./tap.js').Tap} tap */
 function unchanged({ file, name }) {
     slicesOf(file, name).bytes(0, 1);
     return file;
@@ -35,11 +29,8 @@ function* lines(tap) {
     for (const line of tap.capture()) yield textOf(line);
 }
 
-/**
- * What `nbt show --json` prints of the capture.
- *
- * @param {import('./tap.js').Tap} tap
- */
+/** What `nbt show --json` prints of the capture.
+ * @param {import('./tap.js').Tap} tap */
 function* objects(tap) {
     let number = 0;
     let comment = '';
@@ -54,11 +45,8 @@ function* objects(tap) {
     }
 }
 
-/**
- * Lines, each with its line feed.
- *
- * @param {Iterable<string>} texts
- */
+/** Lines, each with its line feed.
+ * @param {Iterable<string>} texts */
 async function joined(texts) {
     const parts = [];
     let part = '';

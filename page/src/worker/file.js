@@ -10,11 +10,9 @@ export class FileGone extends Error {
     }
 }
 
-/**
- * @param {Blob} file
+/** @param {Blob} file
  * @param {string} [name] is said with a fault
- * @returns {Slices} whose bytes throw FileGone where the file can't be read any more
- */
+ * @returns {Slices} whose bytes throw FileGone where the file can't be read any more */
 export function slicesOf(file, name = '') {
     const reader = new FileReaderSync();
     return new Slices(file.size, (from, to) => {
@@ -24,11 +22,7 @@ export function slicesOf(file, name = '') {
     });
 }
 
-/**
- * @param {FileReaderSync} reader
- * @param {Blob} part
- * @param {string} name
- */
+/** @param {FileReaderSync} reader @param {Blob} part @param {string} name */
 function bytesOf(reader, part, name) {
     try {
         return new Uint8Array(reader.readAsArrayBuffer(part));

@@ -13,11 +13,9 @@ const CAPTURE = /^(?:#|13[789] |tick )/;
 /** What the decoder puts for bytes that are no text. */
 const REPLACED = '\ufffd';
 
-/**
- * @param {import('../containers/slices.js').Slices} file
+/** @param {import('../containers/slices.js').Slices} file
  * @returns {'frames' | 'lines' | 'table' | 'tables in digits'}
- * @throws {FileFault} where it is none of these
- */
+ * @throws {FileFault} where it is none of these */
 export function kindOf(file) {
     if (file.size === 0) throw new FileFault('the file is empty', 0);
     if (isPcap(file) || isPcapng(file)) return 'frames';
@@ -31,13 +29,10 @@ export function kindOf(file) {
     return /^[0-9a-f]+\r?$/i.test(line) && TABLE.test(line) ? 'tables in digits' : 'lines';
 }
 
-/**
- * The saved tables of a file, a line each in digits.
- *
+/** The saved tables of a file, a line each in digits.
  * @param {import('../containers/slices.js').Slices} file
  * @returns {Uint8Array[]}
- * @throws {FileFault} at a line that has others than digits
- */
+ * @throws {FileFault} at a line that has others than digits */
 export function tablesOf(file) {
     const lines = new TextDecoder().decode(file.bytes(0, file.size)).replace(/\n$/, '').split('\n');
     return lines.map((line, at) => {

@@ -25,10 +25,7 @@ function tapOf(number) {
     return tap;
 }
 
-/**
- * @param {Tap} tap
- * @param {number} row
- */
+/** @param {Tap} tap @param {number} row */
 function packetOf(tap, row) {
     const packet = tap.packets.at(row);
     const isLeftOut = packet.port === LEFT_OUT;

@@ -15,18 +15,14 @@ const FULL = 'more than the page keeps: what follows is left out; nbt-look reads
 
 /** One reading of a file into a tap. */
 export class Reading {
-    /**
-     * @param {import('./tap.js').Tap} tap
-     * @param {(done: number) => void} tell is called after each while, with how many bytes are read
-     */
+    /** @param {import('./tap.js').Tap} tap
+     * @param {(done: number) => void} tell is called after each while, with how many bytes are read */
     constructor(tap, tell) {
         this.tap = tap;
         this.tell = tell;
         this.isStopped = false;
-        /**
-         * Why not all of a file is unpacked.
-         * @type {string | null}
-         */
+        /** Why not all of a file is unpacked.
+         * @type {string | null} */
         this.fault = null;
     }
 
@@ -94,10 +90,7 @@ export class Reading {
         if (!tap.frames) throw new FileFault('the capture has no packet', file.size);
     }
 
-    /**
-     * @param {import('../containers/slices.js').Slices} file
-     * @param {boolean} isBinary
-     */
+    /** @param {import('../containers/slices.js').Slices} file @param {boolean} isBinary */
     tables(file, isBinary) {
         const { tap } = this;
         tap.kind = 'table';
@@ -108,11 +101,8 @@ export class Reading {
         tap.table = rest.reduce((joined, each) => tap.library.merge(joined, each), first);
     }
 
-    /**
-     * @template {{end: number}} T
-     * @param {Iterable<T>} items
-     * @param {(item: T) => void} take
-     */
+    /** @template {{end: number}} T
+     * @param {Iterable<T>} items @param {(item: T) => void} take */
     async each(items, take) {
         let began = performance.now();
         let count = 0;
@@ -129,11 +119,8 @@ export class Reading {
     }
 }
 
-/**
- * @param {Uint8Array} table
- * @param {import('../../../bindings/javascript/nbt.mjs').Nbt} library
- * @throws {FileFault} where it is no saved table
- */
+/** @param {Uint8Array} table @param {import('../../../bindings/javascript/nbt.mjs').Nbt} library
+ * @throws {FileFault} where it is no saved table */
 function judge(table, library) {
     try {
         library.list(table);

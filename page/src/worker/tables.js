@@ -10,24 +10,16 @@ const MOST_DELIVERIES = 10_000;
 const MALFORMED = ['MISPLACED_FIRST', 'LONG'];
 const NO_ROOM = ['FULL', 'FULL_SOURCE'];
 
-/**
- * A datagram that a station is handed: by which frame or line, and when.
- *
+/** A datagram that a station is handed: by which frame or line, and when.
  * @typedef {object} Handed
  * @property {number | null} row
  * @property {string} moment milliseconds
- * @property {string} key
- * @property {string} source
- * @property {string} destination
- * @property {string} data digits
- */
+ * @property {string} key @property {string} source @property {string} destination
+ * @property {string} data digits */
 
-/**
- * The table of all of a file, whatever time its fragments took.
- *
+/** The table of all of a file, whatever time its fragments took.
  * @param {import('./tap.js').Tap} tap
- * @returns {Promise<Uint8Array>}
- */
+ * @returns {Promise<Uint8Array>} */
 export async function tableOf(tap) {
     if (tap.table) return tap.table;
     const station = new tap.library.Station([], '0.0.0.0', { keys: MOST_KEYS });
@@ -46,14 +38,10 @@ export async function tableOf(tap) {
     }
 }
 
-/**
- * Takes a payload; one that is refused with a status of these is passed over.
- *
+/** Takes a payload; one that is refused with a status of these is passed over.
  * @template T
- * @param {() => T} take
- * @param {string[]} statuses
- * @returns {T | null}
- */
+ * @param {() => T} take @param {string[]} statuses
+ * @returns {T | null} */
 function pass(take, statuses) {
     try {
         return take();
@@ -63,13 +51,9 @@ function pass(take, statuses) {
     }
 }
 
-/**
- * What a station with these names is handed of a file.
- *
- * @param {import('./tap.js').Tap} tap
- * @param {string[]} names
- * @returns {Promise<{handed: Handed[], more: number}>}
- */
+/** What a station with these names is handed of a file.
+ * @param {import('./tap.js').Tap} tap @param {string[]} names
+ * @returns {Promise<{handed: Handed[], more: number}>} */
 export async function handedTo(tap, names) {
     const station = new tap.library.Station(names, '0.0.0.0', { keys: MOST_KEYS });
     /** @type {Handed[]} */
@@ -91,43 +75,29 @@ export async function handedTo(tap, names) {
     }
 }
 
-/**
- * @param {import('../../../bindings/javascript/nbt.mjs').Delivery} delivery
- * @param {number | null} row
+/** @param {import('../../../bindings/javascript/nbt.mjs').Delivery} delivery @param {number | null} row
  * @param {number | bigint} moment
- * @returns {Handed}
- */
+ * @returns {Handed} */
 function described({ address, port, identifier, source, destination, data }, row, moment) {
     const key = `${address}:${port}/${identifier.toString(16).padStart(4, '0')}`;
     return { row, moment: String(moment), key, source, destination, data: digitsOf(data) };
 }
 
-/**
- * What the library lists of a table: a line a key.
- *
- * @param {import('../../../bindings/javascript/nbt.mjs').Nbt} library
- * @param {Uint8Array} table
- */
+/** What the library lists of a table: a line a key.
+ * @param {import('../../../bindings/javascript/nbt.mjs').Nbt} library @param {Uint8Array} table */
 export function listed(library, table) {
     return library.list(table).split('\n').slice(0, -1);
 }
 
-/**
- * How many keys of a file lack a piece.
- *
- * @param {import('./tap.js').Tap} tap
- */
+/** How many keys of a file lack a piece.
+ * @param {import('./tap.js').Tap} tap */
 export async function incompleteOf(tap) {
     if (!tap.table && !tap.seen.firsts.entries.size) return 0;
     return listed(tap.library, await tableOf(tap)).filter((line) => line.split(' ', 2)[1] === 'partial').length;
 }
 
-/**
- * What two tables list, and their join; and the frames in which keys came first.
- *
- * @param {import('./tap.js').Tap} one
- * @param {import('./tap.js').Tap} other
- */
+/** What two tables list, and their join; and the frames in which keys came first.
+ * @param {import('./tap.js').Tap} one @param {import('./tap.js').Tap} other */
 export async function compared(one, other) {
     const tables = [await tableOf(one), await tableOf(other)];
     const joined = one.library.merge(tables[0], tables[1], { keys: MOST_KEYS });

@@ -12,16 +12,10 @@ import { MOST_KEYS, SERVICES } from '../model/vocabulary.js';
 /** Of how many datagrams that are cut the names are kept. */
 const MOST_CUT = MOST_KEYS;
 
-/**
- * @typedef {import('../../../bindings/javascript/nbt.mjs').Nbt} Nbt
- */
+/** @typedef {import('../../../bindings/javascript/nbt.mjs').Nbt} Nbt */
 
 export class Tap {
-    /**
-     * @param {Blob} file
-     * @param {string} name
-     * @param {Nbt} library
-     */
+    /** @param {Blob} file @param {string} name @param {Nbt} library */
     constructor(file, name, library) {
         this.file = file;
         this.name = name;
@@ -32,21 +26,15 @@ export class Tap {
         this.batch = new Batch();
         this.seen = new Seen();
         this.frames = 0;
-        /**
-         * The time of the first frame.
-         * @type {bigint | null}
-         */
+        /** The time of the first frame.
+         * @type {bigint | null} */
         this.first = null;
-        /**
-         * The saved table, once it is made.
-         * @type {Uint8Array | null}
-         */
+        /** The saved table, once it is made.
+         * @type {Uint8Array | null} */
         this.table = null;
         this.isRead = false;
-        /**
-         * The names of datagrams that the snap length cut behind them.
-         * @type {import('../model/replay.js').Names[]}
-         */
+        /** The names of datagrams that the snap length cut behind them.
+         * @type {import('../model/replay.js').Names[]} */
         this.cut = [];
         /** The latest frame of which a front was taken. */
         this.frontOf = 0;
@@ -73,13 +61,9 @@ export class Tap {
         if (kind && source !== undefined && destination !== undefined && this.cut.length < MOST_CUT) this.cut.push({ source, destination, kind });
     }
 
-    /**
-     * What stands of a payload that isn't a whole packet.
-     *
-     * @param {number} port
-     * @param {Uint8Array} bytes
-     * @returns {import('../model/parts.js').Told}
-     */
+    /** What stands of a payload that isn't a whole packet.
+     * @param {number} port @param {Uint8Array} bytes
+     * @returns {import('../model/parts.js').Told} */
     standing(port, bytes) {
         if (port === 139) return {};
         return port === 137 ? serviceFront(this.library, bytes) : datagramFront(this.library, bytes);
@@ -117,13 +101,8 @@ export class Tap {
         this.row(mark, LEFT_OUT, 'left-out', why, `left out: ${why}${sizes}`);
     }
 
-    /**
-     * @param {import('../containers/report.js').Mark} mark
-     * @param {number} port
-     * @param {string} kinds
-     * @param {string} reason
-     * @param {string} said
-     */
+    /** @param {import('../containers/report.js').Mark} mark @param {number} port @param {string} kinds @param {string} reason
+     * @param {string} said */
     row(mark, port, kinds, reason, said) {
         const own = port === LEFT_OUT ? SERVICES : [String(port)];
         const { frame, time } = mark;
@@ -148,12 +127,8 @@ export class Tap {
     }
 }
 
-/**
- * @param {import('../containers/report.js').Mark} mark
- * @param {number} port
- * @param {string | null} mac
- * @returns {import('../model/seen.js').Ends}
- */
+/** @param {import('../containers/report.js').Mark} mark @param {number} port @param {string | null} mac
+ * @returns {import('../model/seen.js').Ends} */
 function endsOf({ frame, time, source, destination }, port, mac) {
     return { frame, port, time, mac, source: hostOf(source), sourcePort: portOf(source), destination: hostOf(destination), destinationPort: portOf(destination) };
 }

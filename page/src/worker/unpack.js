@@ -6,11 +6,8 @@ const MOST = 2 ** 31;
 /** How many bytes are put together before they are given to the browser, which needn't keep them in memory. */
 const PART = 16 << 20;
 
-/**
- * What a file has once it is unpacked, and why that isn't all of it.
- *
- * @typedef {{blob: Blob, fault: string | null}} Unpacked
- */
+/** What a file has once it is unpacked, and why that isn't all of it.
+ * @typedef {{blob: Blob, fault: string | null}} Unpacked */
 
 /** @param {import('../containers/slices.js').Slices} file */
 export function isPacked(file) {
@@ -18,13 +15,11 @@ export function isPacked(file) {
     return bytes[0] === 0x1f && bytes[1] === 0x8b;
 }
 
-/**
- * @param {Blob} file
+/** @param {Blob} file
  * @param {(done: number) => Promise<boolean>} goesOn is called after each piece with how many bytes of the file are read, and says whether to go on
  * @param {number} most
  * @returns {Promise<Unpacked>}
- * @throws {FileGone} where the file can't be read any more
- */
+ * @throws {FileGone} where the file can't be read any more */
 export async function unpacked(file, goesOn, most = MOST) {
     const parts = new Parts();
     let done = 0;

@@ -11,15 +11,9 @@ fn said(line: &[u8]) -> String {
     match capture_line(line) {
         Ok(None) => "blank".to_string(),
         Ok(Some(Line::Tick { now })) => format!("tick {now}"),
-        Ok(Some(Line::Packet {
-            port,
-            moment,
-            payload,
-        })) => {
+        Ok(Some(Line::Packet { port, moment, payload })) => {
             let digits: String = payload.iter().map(|byte| format!("{byte:02x}")).collect();
-            format!("packet {port} {moment} {digits}")
-                .trim_end()
-                .to_string()
+            format!("packet {port} {moment} {digits}").trim_end().to_string()
         }
         Err(error) => {
             assert_eq!((error.status(), error.at()), (Status::BadLine, None));
@@ -41,11 +35,7 @@ fn lines_are_read() {
 #[test]
 fn a_line_has_262_200_bytes_at_most() {
     let line = |count| format!("137 0 {}", "5a".repeat(count));
-    let longest = Line::Packet {
-        port: 137,
-        moment: 0,
-        payload: vec![0x5a; 131_097],
-    };
+    let longest = Line::Packet { port: 137, moment: 0, payload: vec![0x5a; 131_097] };
     assert_eq!(capture_line(line(131_097).as_bytes()), Ok(Some(longest)));
     let refusal = refused(capture_line(line(131_098).as_bytes()));
     assert_eq!(refusal, (Status::BadLine, None));

@@ -12,11 +12,7 @@ const SCOPED: &[u8] = b"\x20EGFCEFEECACACACACACACACACACACACA\x07NETBIOS\x03COM\0
 fn texts_and_spellings() {
     assert_eq!(spell("FRED<20>.NETBIOS.COM").unwrap(), SCOPED);
     assert_eq!(text(SCOPED).unwrap(), "FRED<20>.NETBIOS.COM");
-    for each in [
-        r"A\20\2eB\00\ff<00>.x\2e",
-        "<00>",
-        r"*\00\00\00\00\00\00\00\00\00\00\00\00\00\00<00>",
-    ] {
+    for each in [r"A\20\2eB\00\ff<00>.x\2e", "<00>", r"*\00\00\00\00\00\00\00\00\00\00\00\00\00\00<00>"] {
         assert_eq!(text(&spell(each).unwrap()).unwrap(), each);
     }
     let longest = format!(r"{}<ff>.{}", r"\01".repeat(15), ["x"; 110].join("."));
@@ -27,15 +23,9 @@ fn texts_and_spellings() {
 fn texts_of_no_name() {
     assert_eq!(refused(spell("FRED")), (Status::BadText, Some(4)));
     assert_eq!(refused(spell("")), (Status::BadText, Some(0)));
-    assert_eq!(
-        refused(spell("SIXTEEN-LETTERS-<20>")),
-        (Status::LongText, None)
-    );
+    assert_eq!(refused(spell("SIXTEEN-LETTERS-<20>")), (Status::LongText, None));
     assert_eq!(spell("FRED").unwrap_err().to_string(), "bad text 4");
-    assert_eq!(
-        spell("SIXTEEN-LETTERS-<20>").unwrap_err().to_string(),
-        "text too long"
-    );
+    assert_eq!(spell("SIXTEEN-LETTERS-<20>").unwrap_err().to_string(), "text too long");
 }
 
 #[test]
@@ -65,10 +55,7 @@ fn names_lie_in_place() {
         "FRED<20>.NETBIOS.COM, FRED<20>.NETBIOS.COM,   FRED<20>.NETBIOS.COM"
     );
     assert!(name.is_netbios());
-    assert_eq!(
-        name.labels().collect::<Vec<_>>(),
-        [&SCOPED[1..33], b"NETBIOS", b"COM"]
-    );
+    assert_eq!(name.labels().collect::<Vec<_>>(), [&SCOPED[1..33], b"NETBIOS", b"COM"]);
     assert_eq!(Name::from(*b"FRED            ").as_bytes(), FRED);
     assert_eq!(Name::from(*b"JOE            \0").as_bytes(), JOE);
     assert_eq!(Name::try_from(SCOPED).unwrap(), name);
@@ -90,14 +77,7 @@ fn names_are_sixteen_bytes() {
 #[test]
 fn names_are_compared_by_bytes() {
     let of = |text: &str| text.parse::<Name>().unwrap();
-    let names = [
-        "JOE<00>",
-        "FRED<20>",
-        "FRED<20>.a",
-        "FRED<20>.A",
-        "FRED<00>",
-    ]
-    .map(of);
+    let names = ["JOE<00>", "FRED<20>", "FRED<20>.a", "FRED<20>.A", "FRED<00>"].map(of);
     let sorted: BTreeSet<_> = names.into_iter().collect();
     let bytes: Vec<_> = sorted.iter().map(Name::as_bytes).collect();
     assert!(bytes.windows(2).all(|pair| pair[0] < pair[1]));
@@ -110,30 +90,15 @@ fn names_are_compared_by_bytes() {
 #[test]
 fn spellings_show_themselves() {
     let spelling = Spelling::try_from(JOE).unwrap();
-    assert_eq!(
-        format!("{spelling}, {spelling:?}, {spelling:<9}!"),
-        "JOE<00>, JOE<00>, JOE<00>  !"
-    );
-    assert_eq!(
-        (spelling.as_ref(), Name::from(spelling).as_bytes()),
-        (JOE, JOE)
-    );
+    assert_eq!(format!("{spelling}, {spelling:?}, {spelling:<9}!"), "JOE<00>, JOE<00>, JOE<00>  !");
+    assert_eq!((spelling.as_ref(), Name::from(spelling).as_bytes()), (JOE, JOE));
     assert!(Spelling::try_from(FRED).unwrap() < spelling);
 }
 
 #[test]
 fn bytes_of_no_name() {
-    assert_eq!(
-        refused(Spelling::try_from(&JOE[..33])),
-        (Status::NameTruncated, Some(33))
-    );
-    assert_eq!(
-        refused(Name::try_from(&b"\x03COM\0"[..])),
-        (Status::NameNotNetbios, Some(0))
-    );
+    assert_eq!(refused(Spelling::try_from(&JOE[..33])), (Status::NameTruncated, Some(33)));
+    assert_eq!(refused(Name::try_from(&b"\x03COM\0"[..])), (Status::NameNotNetbios, Some(0)));
     assert_eq!(refused("FRED".parse::<Name>()), (Status::BadText, Some(4)));
-    assert_eq!(
-        refused("SIXTEEN-LETTERS-<20>".parse::<Name>()),
-        (Status::LongText, None)
-    );
+    assert_eq!(refused("SIXTEEN-LETTERS-<20>".parse::<Name>()), (Status::LongText, None));
 }

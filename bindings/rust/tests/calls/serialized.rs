@@ -4,8 +4,7 @@ use std::fmt::{Debug, Display};
 
 use nbt::datagram::{self, write_error, write_query, Datagram, Query};
 use nbt::service::{
-    self, Answer, Entry, NodeName, NodeType, Operation, Question, Request, Response, ResultCode,
-    Section,
+    self, Answer, Entry, NodeName, NodeType, Operation, Question, Request, Response, ResultCode, Section,
 };
 use nbt::session::{self, write};
 use nbt::station::{Key, Outcome, OwnedDelivery};
@@ -44,42 +43,24 @@ fn name(text: &str) -> Name {
 }
 
 fn entry() -> Entry {
-    Entry {
-        nb_flags: 0x6000,
-        address: "10.0.0.6".parse().unwrap(),
-    }
+    Entry { nb_flags: 0x6000, address: "10.0.0.6".parse().unwrap() }
 }
 
 fn key() -> Key {
-    Key {
-        sender: "10.0.0.5:138".parse().unwrap(),
-        identifier: 7,
-    }
+    Key { sender: "10.0.0.5:138".parse().unwrap(), identifier: 7 }
 }
 
 /// What is said of the answer of a response about `FRED<20>`.
 #[track_caller]
 fn rdata(answer: Answer<'_>) -> Value {
-    let response = Response {
-        identifier: 1,
-        word: 0x8500,
-        name: "FRED<20>",
-        time_to_live: 9,
-        answer,
-    };
+    let response = Response { identifier: 1, word: 0x8500, name: "FRED<20>", time_to_live: 9, answer };
     let payload = response.write().unwrap();
     let packet = service::read(&payload).unwrap();
     let said = to_value(packet).unwrap();
     assert_eq!(said["questions"], json!([]));
     let record = &said["records"][0];
-    assert_eq!(
-        (&record["name"], &record["section"]),
-        (&json!("FRED<20>"), &json!("answer"))
-    );
-    assert_eq!(
-        (&record["class"], &record["time_to_live"]),
-        (&json!(1), &json!(9))
-    );
+    assert_eq!((&record["name"], &record["section"]), (&json!("FRED<20>"), &json!("answer")));
+    assert_eq!((&record["class"], &record["time_to_live"]), (&json!(1), &json!(9)));
     record["rdata"].clone()
 }
 
@@ -92,10 +73,7 @@ fn names() {
     let spelling = Spelling::try_from(JOE).unwrap();
     assert_eq!(to_value(spelling).unwrap(), "JOE<00>");
     assert_eq!(refused::<Name>(json!("FRED")), "bad text 4");
-    assert_eq!(
-        refused::<Name>(json!("SIXTEENLETTERS..<00>")),
-        "bad text 14"
-    );
+    assert_eq!(refused::<Name>(json!("SIXTEENLETTERS..<00>")), "bad text 14");
     assert!(refused::<Name>(json!(7)).starts_with("invalid type: integer `7`"));
 }
 
@@ -134,27 +112,11 @@ fn statuses_are_names() {
 fn values_that_lend_nothing() {
     both_ways(entry(), json!({"nb_flags": 0x6000, "address": "10.0.0.6"}));
     both_ways(key(), json!({"sender": "10.0.0.5:138", "identifier": 7}));
-    let node = NodeName {
-        name: name("FRED<20>"),
-        flags: 0x0400,
-    };
+    let node = NodeName { name: name("FRED<20>"), flags: 0x0400 };
     both_ways(node, json!({"name": "FRED<20>", "flags": 0x0400}));
-    let question = Question {
-        name: name("FRED<20>"),
-        kind: 32,
-        class: 1,
-    };
-    both_ways(
-        question,
-        json!({"name": "FRED<20>", "kind": 32, "class": 1}),
-    );
-    both_ways(
-        Limits {
-            keys: 9,
-            per_source: u32::MAX,
-        },
-        json!({"keys": 9, "per_source": u32::MAX}),
-    );
+    let question = Question { name: name("FRED<20>"), kind: 32, class: 1 };
+    both_ways(question, json!({"name": "FRED<20>", "kind": 32, "class": 1}));
+    both_ways(Limits { keys: 9, per_source: u32::MAX }, json!({"keys": 9, "per_source": u32::MAX}));
     both_ways(Request::NodeStatus, json!("node_status"));
     let wanted = json!({"registration": [{"nb_flags": 0x6000, "address": "10.0.0.6"}, 9]});
     both_ways(Request::Registration(entry(), 9), wanted);
@@ -162,17 +124,12 @@ fn values_that_lend_nothing() {
     let wanted = json!({"packet_type": 0x85, "flags": 1, "body_length": 0x10002});
     both_ways(front.header.unwrap(), wanted.clone());
     let fault = json!({"status": "BAD_LENGTH", "number": 54, "at": null});
-    assert_eq!(
-        to_value(front).unwrap(),
-        json!({"header": wanted, "fault": fault})
-    );
+    assert_eq!(to_value(front).unwrap(), json!({"header": wanted, "fault": fault}));
 }
 
 #[test]
 fn service_packets() {
-    let payload = Request::Registration(entry(), 9)
-        .write(2, "FRED<20>", true)
-        .unwrap();
+    let payload = Request::Registration(entry(), 9).write(2, "FRED<20>", true).unwrap();
     let packet = service::read(&payload).unwrap();
     let header = json!({"identifier": 2, "word": 0x2910, "counts": [1, 0, 0, 1]});
     both_ways(packet.header, header.clone());
@@ -181,8 +138,7 @@ fn service_packets() {
         "rdata": {"addresses": [{"nb_flags": 0x6000, "address": "10.0.0.6"}]},
     });
     let question = json!({"name": "FRED<20>", "kind": 32, "class": 1});
-    let wanted =
-        json!({"header": header, "questions": [question], "records": [record], "used": 68});
+    let wanted = json!({"header": header, "questions": [question], "records": [record], "used": 68});
     assert_eq!(to_value(packet).unwrap(), wanted);
     let front = to_value(service::read_front(&payload[..60])).unwrap();
     assert_eq!(front["packet"]["questions"], wanted["questions"]);
@@ -193,35 +149,21 @@ fn service_packets() {
 
 #[test]
 fn what_records_say() {
-    let names = ["FRED<20>", "JOE<00>"].map(|it| NodeName {
-        name: name(it),
-        flags: 0x0400,
-    });
+    let names = ["FRED<20>", "JOE<00>"].map(|it| NodeName { name: name(it), flags: 0x0400 });
     let said = rdata(Answer::NodeStatus(&names, Some([0, 0, 0x5e, 1, 2, 0xff])));
-    let wanted =
-        json!([{"name": "FRED<20>", "flags": 0x0400}, {"name": "JOE<00>", "flags": 0x0400}]);
-    assert_eq!(
-        said,
-        json!({"node_status": {"names": wanted, "unit": "00005e0102ff"}})
-    );
+    let wanted = json!([{"name": "FRED<20>", "flags": 0x0400}, {"name": "JOE<00>", "flags": 0x0400}]);
+    assert_eq!(said, json!({"node_status": {"names": wanted, "unit": "00005e0102ff"}}));
     let said = rdata(Answer::NodeStatus(&[], None));
     assert_eq!(said, json!({"node_status": {"names": [], "unit": null}}));
     let said = rdata(Answer::NameServer(&name("JOE<00>")));
     assert_eq!(said, json!({"name_server": "JOE<00>"}));
-    assert_eq!(
-        rdata(Answer::Other(10, &[0, 0xab])),
-        json!({"other": "00ab"})
-    );
+    assert_eq!(rdata(Answer::Other(10, &[0, 0xab])), json!({"other": "00ab"}));
     assert_eq!(rdata(Answer::Other(32, &[])), json!({"addresses": []}));
 }
 
 #[test]
 fn a_domain_name_is_not_read_back() {
-    let payload = joined(&[
-        &[0, 1, 0, 0, 0, 1, 0, 0, 0, 0, 0, 0],
-        b"\x02ns\x03com\0",
-        &[0, 2, 0, 1],
-    ]);
+    let payload = joined(&[&[0, 1, 0, 0, 0, 1, 0, 0, 0, 0, 0, 0], b"\x02ns\x03com\0", &[0, 2, 0, 1]]);
     let packet = service::read(&payload).unwrap();
     let question = packet.questions().next().unwrap();
     let said = to_value(question).unwrap();
@@ -266,13 +208,9 @@ fn session_packets() {
     let said = |bytes: &[u8]| to_value(session::read(bytes).unwrap()).unwrap();
     let request = write(session::Kind::Request, &joined(&[FRED, JOE])).unwrap();
     let packet = said(&request)["packet"].clone();
-    assert_eq!(
-        (&packet["kind"], &packet["used"]),
-        (&json!("request"), &json!(72))
-    );
+    assert_eq!((&packet["kind"], &packet["used"]), (&json!("request"), &json!(72)));
     assert_eq!(packet["names"], json!(["FRED<20>", "JOE<00>"]));
-    let wanted =
-        json!({"kind": "message", "body": "6869", "names": null, "retarget": null, "used": 6});
+    let wanted = json!({"kind": "message", "body": "6869", "names": null, "retarget": null, "used": 6});
     assert_eq!(said(b"\0\0\0\x02hi"), json!({ "packet": wanted }));
     let retarget = said(b"\x84\0\0\x06\x0a\0\0\x09\0\x8b");
     assert_eq!(retarget["packet"]["retarget"], "10.0.0.9:139");
@@ -300,17 +238,12 @@ fn what_a_station_says() {
     for odd in ["6", "6g", "+6", "\u{e9}"] {
         let mut changed = delivery.clone();
         changed["data"] = odd.into();
-        let wanted = format!(
-            "invalid value: string \"{odd}\", expected two hexadecimal digits for each byte"
-        );
+        let wanted = format!("invalid value: string \"{odd}\", expected two hexadecimal digits for each byte");
         assert_eq!(refused::<OwnedDelivery>(changed), wanted);
     }
     let refusal = to_value(station.take(0, &first[..5]).unwrap()).unwrap();
     let error = json!({"status": "TRUNCATED", "number": 50, "at": 5});
-    assert_eq!(
-        refusal,
-        json!({"refused": {"error": error, "answer": null}})
-    );
+    assert_eq!(refusal, json!({"refused": {"error": error, "answer": null}}));
     let [first, second] = pieces(8, "ANN<20>");
     station.take(0, &first).unwrap();
     let unheard = to_value(station.take(0, &second).unwrap()).unwrap();
@@ -319,11 +252,7 @@ fn what_a_station_says() {
 
 #[test]
 fn lines_of_captures() {
-    let packet = Line::Packet {
-        port: 138,
-        moment: u64::MAX,
-        payload: vec![0, 0xff],
-    };
+    let packet = Line::Packet { port: 138, moment: u64::MAX, payload: vec![0, 0xff] };
     let wanted = json!({"port": 138, "moment": u64::MAX, "payload": "00ff"});
     both_ways(packet, json!({ "packet": wanted }));
     both_ways(Line::Tick { now: 9 }, json!({"tick": {"now": 9}}));

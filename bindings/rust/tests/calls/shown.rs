@@ -7,9 +7,7 @@ use nbt::{brief, brief_into, json, json_into, show, show_into, version, Status};
 
 #[test]
 fn payloads_are_shown() {
-    let query = nbt::service::Request::Query
-        .write(3, "FRED<20>", true)
-        .unwrap();
+    let query = nbt::service::Request::Query.write(3, "FRED<20>", true).unwrap();
     for (port, payload, text) in [
         (
             137,
@@ -43,11 +41,7 @@ fn objects_are_shown() {
 #[test]
 fn phrases_are_shown() {
     for (port, payload, text) in [
-        (
-            139,
-            &b"\0\0\0\x02hi\x85"[..],
-            "sends 2 bytes, 1 byte follows",
-        ),
+        (139, &b"\0\0\0\x02hi\x85"[..], "sends 2 bytes, 1 byte follows"),
         (7, b"\0\0\0\x02hi", "sends 2 bytes"),
         (138, b"", "refused: truncated, at byte 0"),
     ] {
@@ -76,10 +70,7 @@ fn a_buffer_is_kept() {
     assert!(text.len() > 2 * 131_071 && text.ends_with(b" used=131075\n"));
     let room = text.capacity();
     show_into(139, b"\x82\0\0\0", &mut text).unwrap();
-    assert_eq!(
-        (&text[..], text.capacity()),
-        (&b"positive used=4\n"[..], room)
-    );
+    assert_eq!((&text[..], text.capacity()), (&b"positive used=4\n"[..], room));
 }
 
 #[test]

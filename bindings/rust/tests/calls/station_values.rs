@@ -32,17 +32,13 @@ fn deliveries_are_kept() {
                 kept.push(it.to_owned());
                 let copy = kept.last().unwrap();
                 assert_eq!((copy.kind, copy.key), (it.kind, it.key));
-                assert_eq!(
-                    (copy.source, copy.destination),
-                    (it.source.into(), it.destination.into())
-                );
+                assert_eq!((copy.source, copy.destination), (it.source.into(), it.destination.into()));
                 assert_eq!(copy.data, it.data);
             }
         }
     }
     drop(station);
-    let shown =
-        |it: &OwnedDelivery| format!("{} {} {} {}", it.key, it.kind, it.source, it.destination);
+    let shown = |it: &OwnedDelivery| format!("{} {} {} {}", it.key, it.kind, it.source, it.destination);
     let shown: Vec<_> = kept.iter().map(shown).collect();
     let wanted = [1, 2, 3].map(|it| format!("10.0.0.5:138/{it:04x} unique JOE<00> FRED<20>"));
     assert_eq!(shown, wanted);

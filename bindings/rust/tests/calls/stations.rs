@@ -43,10 +43,7 @@ fn payloads(packets: &Packets) -> Vec<Vec<u8>> {
 }
 
 fn key(identifier: u16) -> Key {
-    Key {
-        sender: "10.0.0.5:138".parse().unwrap(),
-        identifier,
-    }
+    Key { sender: "10.0.0.5:138".parse().unwrap(), identifier }
 }
 
 /// The bytes with another at a place.
@@ -94,10 +91,7 @@ fn orders_and_repeats_change_nothing() {
     let [e, _] = pieces(3, "FRED<20>");
     let bad = changed(&e, e.len() - 1, b'?');
     let [f, _] = pieces(4, "FRED<20>");
-    let (mut one, mut other) = (
-        station(&["FRED<20>", "JOE<00>"]),
-        station(&["FRED<20>", "JOE<00>"]),
-    );
+    let (mut one, mut other) = (station(&["FRED<20>", "JOE<00>"]), station(&["FRED<20>", "JOE<00>"]));
     let found = delivered(&mut one, &[&a, &b, &c, &d, &e, &bad, &f]);
     let wanted: Vec<_> = [1, 2].map(|it| (key(it), b"hello, FRED".to_vec())).into();
     assert_eq!(found, wanted);
@@ -120,29 +114,13 @@ fn orders_and_repeats_change_nothing() {
 fn the_longest_datagram_is_handed_over() {
     let data = vec![7; 65_535];
     let name = format!("FRED<20>.{}", ["x"; 110].join("."));
-    let long = Datagram {
-        source: &name,
-        data: &data,
-        ..datagram(7, &name)
-    };
+    let long = Datagram { source: &name, data: &data, ..datagram(7, &name) };
     let packets = payloads(&long.cut(40_000).unwrap());
     let mut station = station(&[&name]);
-    assert_eq!(
-        delivered(&mut station, &packets.iter().collect::<Vec<_>>()),
-        [(key(7), data.clone())]
-    );
-    let whole = payloads(
-        &Datagram {
-            data: &data[1_000..],
-            ..long
-        }
-        .cut(65_535)
-        .unwrap(),
-    );
+    assert_eq!(delivered(&mut station, &packets.iter().collect::<Vec<_>>()), [(key(7), data.clone())]);
+    let whole = payloads(&Datagram { data: &data[1_000..], ..long }.cut(65_535).unwrap());
     let mut fresh = self::station(&[&name]);
-    assert!(
-        matches!(fresh.take(0, &whole[0]).unwrap(), Outcome::Delivered(it) if it.data == &data[1_000..])
-    );
+    assert!(matches!(fresh.take(0, &whole[0]).unwrap(), Outcome::Delivered(it) if it.data == &data[1_000..]));
 }
 
 #[test]
@@ -152,25 +130,10 @@ fn nobody_hears() {
     let [first, second] = pieces(7, "ANN<20>");
     assert_eq!(station.take(0, &first).unwrap(), Outcome::Kept(key(7)));
     let answer = Some(&b"\x13\x02\0\x07\x0a\0\0\x09\x04\x72\x82"[..]);
-    assert_eq!(
-        station.take(0, &second).unwrap(),
-        Outcome::Unheard {
-            key: key(7),
-            answer
-        }
-    );
-    let group = Datagram {
-        kind: Kind::Group,
-        ..datagram(8, "ANN<20>")
-    };
+    assert_eq!(station.take(0, &second).unwrap(), Outcome::Unheard { key: key(7), answer });
+    let group = Datagram { kind: Kind::Group, ..datagram(8, "ANN<20>") };
     let whole = payloads(&group.cut(100).unwrap());
-    assert_eq!(
-        station.take(0, &whole[0]).unwrap(),
-        Outcome::Unheard {
-            key: key(8),
-            answer: None
-        }
-    );
+    assert_eq!(station.take(0, &whole[0]).unwrap(), Outcome::Unheard { key: key(8), answer: None });
 }
 
 #[test]
@@ -180,18 +143,8 @@ fn payloads_that_are_refused() {
     for (payload, status, at, code) in [
         (first[..40].to_vec(), Status::Truncated, Some(40), None),
         (Vec::new(), Status::Truncated, Some(0), None),
-        (
-            changed(&first, 14, 0x40),
-            Status::SourceReservedLabel,
-            Some(14),
-            Some(0x83),
-        ),
-        (
-            changed(&first, 48, 0x40),
-            Status::DestinationReservedLabel,
-            Some(48),
-            Some(0x84),
-        ),
+        (changed(&first, 14, 0x40), Status::SourceReservedLabel, Some(14), Some(0x83)),
+        (changed(&first, 48, 0x40), Status::DestinationReservedLabel, Some(48), Some(0x84)),
     ] {
         let packet = code.map(|code| joined(&[b"\x13\x02\0\x07\x0a\0\0\x09\0\x8a", &[code]]));
         match station.take(0, &payload).unwrap() {
@@ -215,10 +168,7 @@ fn keys_are_spoilt_and_dropped() {
     assert_eq!(station.take(5_500, &bad).unwrap(), Outcome::Spoilt(key(7)));
     let error = b"\x13\x02\0\x07\x0a\0\0\x09\0\x8a\x82";
     assert_eq!(station.take(6_000, error).unwrap(), Outcome::Other);
-    assert_eq!(
-        station.save().unwrap(),
-        b"NBT2\0\0\0\x01\x0a\0\0\x05\0\x8a\0\x07\0"
-    );
+    assert_eq!(station.save().unwrap(), b"NBT2\0\0\0\x01\x0a\0\0\x05\0\x8a\0\x07\0");
     let dropped = [6_000, 6_999, 7_000, 9_999].map(|now| station.tick(now).unwrap());
     assert_eq!(dropped, [0, 0, 1, 0]);
     assert_eq!(station.save().unwrap(), EMPTY);
@@ -232,21 +182,14 @@ fn what_is_too_much() {
         (limits(1, 9), &other, Status::Full),
         (limits(9, 1), &other, Status::FullSource),
         (limits(9, 9), &changed(&first, 1, 1), Status::MisplacedFirst),
-        (
-            limits(9, 9),
-            &changed(&changed(&second, 12, 0xff), 13, 0xff),
-            Status::Long,
-        ),
+        (limits(9, 9), &changed(&changed(&second, 12, 0xff), 13, 0xff), Status::Long),
     ] {
         let mut station = limited(&["FRED<20>"], limits);
         station.take(0, &first).unwrap();
         let table = station.save().unwrap();
         assert_eq!(refused(station.take(0, payload)), (status, None));
         assert_eq!(station.save().unwrap(), table);
-        assert!(matches!(
-            station.take(0, &second).unwrap(),
-            Outcome::Delivered(_)
-        ));
+        assert!(matches!(station.take(0, &second).unwrap(), Outcome::Delivered(_)));
     }
 }
 
@@ -264,10 +207,7 @@ fn names_that_are_refused() {
         (&["", ""], Status::BadText, Some(0)),
     ] {
         let address = "10.0.0.9:138".parse().unwrap();
-        assert_eq!(
-            refused(Station::new(names, address, Limits::default())),
-            (status, at)
-        );
+        assert_eq!(refused(Station::new(names, address, Limits::default())), (status, at));
     }
     station(&many[..254]);
 }
@@ -277,19 +217,14 @@ fn a_station_goes_to_another_thread() {
     let [first, second] = pieces(7, "FRED<20>");
     let mut station = station(&["FRED<20>"]);
     station.take(0, &first).unwrap();
-    let heard =
-        thread::spawn(move || matches!(station.take(0, &second), Ok(Outcome::Delivered(_))));
+    let heard = thread::spawn(move || matches!(station.take(0, &second), Ok(Outcome::Delivered(_))));
     assert!(heard.join().unwrap());
 }
 
 /// What one station missed another knows: each datagram is handed over once, by ascending key.
 #[test]
 fn a_table_is_taken_in() {
-    let ([a, b], [c, d], [e, f]) = (
-        pieces(7, "FRED<20>"),
-        pieces(2, "FRED<20>"),
-        pieces(9, "ANN<20>"),
-    );
+    let ([a, b], [c, d], [e, f]) = (pieces(7, "FRED<20>"), pieces(2, "FRED<20>"), pieces(9, "ANN<20>"));
     let (mut one, mut other) = (station(&["FRED<20>"]), station(&[]));
     one.take(1_000, &a).unwrap();
     delivered(&mut other, &[&b, &c, &d, &e, &f]);
@@ -313,10 +248,7 @@ fn long_datagrams_of_a_table() {
     let data = vec![7; 60_000];
     let mut other = station(&[]);
     for identifier in 1..4 {
-        let long = Datagram {
-            data: &data,
-            ..datagram(identifier, "FRED<20>")
-        };
+        let long = Datagram { data: &data, ..datagram(identifier, "FRED<20>") };
         for payload in &long.cut(50_000).unwrap() {
             other.take(0, payload).unwrap();
         }
@@ -335,29 +267,16 @@ fn tables_that_are_not_taken_in() {
     let table = |identifiers: &[u8]| crate::tables::spoilt(identifiers);
     for (limits, table, status, at) in [
         (limits(9, 9), b"NBT3".to_vec(), Status::TableBadMagic, None),
-        (
-            limits(9, 9),
-            table(&[2, 1]),
-            Status::TableNotCanonical,
-            Some(17),
-        ),
+        (limits(9, 9), table(&[2, 1]), Status::TableNotCanonical, Some(17)),
         (limits(2, 9), table(&[1, 2, 3]), Status::TableFull, None),
-        (
-            limits(9, 2),
-            table(&[1, 2, 3]),
-            Status::TableFullSource,
-            None,
-        ),
+        (limits(9, 2), table(&[1, 2, 3]), Status::TableFullSource, None),
         (limits(2, 9), table(&[1, 2]), Status::Full, None),
         (limits(9, 2), table(&[1, 2]), Status::FullSource, None),
     ] {
         let mut station = limited(&["FRED<20>"], limits);
         station.take(0, &first).unwrap();
         let before = station.save().unwrap();
-        assert_eq!(
-            refused(station.absorb(0, &table).map(Iterator::count)),
-            (status, at)
-        );
+        assert_eq!(refused(station.absorb(0, &table).map(Iterator::count)), (status, at));
         assert_eq!(station.save().unwrap(), before);
     }
 }
@@ -368,10 +287,7 @@ fn what_is_known_is_listed() {
     let mut station = station(&["FRED<20>"]);
     assert_eq!(station.list().unwrap(), "");
     station.take(0, &second).unwrap();
-    assert_eq!(
-        station.list().unwrap(),
-        "10.0.0.5:138/0007 partial unique JOE<00> FRED<20> 5/11 1 6-11\n"
-    );
+    assert_eq!(station.list().unwrap(), "10.0.0.5:138/0007 partial unique JOE<00> FRED<20> 5/11 1 6-11\n");
     station.take(0, &first).unwrap();
     let lines = list_table(&station.save().unwrap());
     assert_eq!(station.list(), lines);

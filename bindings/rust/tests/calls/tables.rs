@@ -9,10 +9,7 @@ pub const EMPTY: &[u8] = b"NBT2\0\0\0\0";
 
 /// A table in which these keys of 10.0.0.5:138 are spoilt.
 pub fn spoilt(identifiers: &[u8]) -> Vec<u8> {
-    let keys: Vec<_> = identifiers
-        .iter()
-        .flat_map(|it| [0x0a, 0, 0, 5, 0, 0x8a, 0, *it, 0])
-        .collect();
+    let keys: Vec<_> = identifiers.iter().flat_map(|it| [0x0a, 0, 0, 5, 0, 0x8a, 0, *it, 0]).collect();
     joined(&[b"NBT2\0\0\0", &[identifiers.len() as u8], &keys])
 }
 
@@ -22,10 +19,7 @@ fn tables_are_joined() {
     assert_eq!(joined(EMPTY, b"NBT1\0\0\0\0"), EMPTY);
     assert_eq!(joined(&spoilt(&[2]), &spoilt(&[1, 2])), spoilt(&[1, 2]));
     let many: Vec<u8> = (0..200).collect();
-    assert_eq!(
-        joined(&spoilt(&many[..150]), &spoilt(&many[50..])),
-        spoilt(&many)
-    );
+    assert_eq!(joined(&spoilt(&many[..150]), &spoilt(&many[50..])), spoilt(&many));
 }
 
 #[test]
@@ -33,56 +27,14 @@ fn tables_that_are_refused() {
     let limits = |keys, per_source| Limits { keys, per_source };
     let none = Limits::default();
     for (first, second, limits, status, at) in [
-        (
-            b"NBT3".to_vec(),
-            EMPTY.to_vec(),
-            none,
-            Status::TableBadMagic,
-            None,
-        ),
-        (
-            EMPTY.to_vec(),
-            b"NBT2\0".to_vec(),
-            none,
-            Status::SecondTruncated,
-            None,
-        ),
-        (
-            spoilt(&[2, 1]),
-            EMPTY.to_vec(),
-            none,
-            Status::TableNotCanonical,
-            Some(17),
-        ),
-        (
-            EMPTY.to_vec(),
-            spoilt(&[2, 1]),
-            none,
-            Status::SecondNotCanonical,
-            Some(17),
-        ),
-        (
-            spoilt(&[1, 2]),
-            EMPTY.to_vec(),
-            limits(1, 9),
-            Status::TableFull,
-            None,
-        ),
-        (
-            EMPTY.to_vec(),
-            spoilt(&[1, 2]),
-            limits(9, 1),
-            Status::SecondFullSource,
-            None,
-        ),
+        (b"NBT3".to_vec(), EMPTY.to_vec(), none, Status::TableBadMagic, None),
+        (EMPTY.to_vec(), b"NBT2\0".to_vec(), none, Status::SecondTruncated, None),
+        (spoilt(&[2, 1]), EMPTY.to_vec(), none, Status::TableNotCanonical, Some(17)),
+        (EMPTY.to_vec(), spoilt(&[2, 1]), none, Status::SecondNotCanonical, Some(17)),
+        (spoilt(&[1, 2]), EMPTY.to_vec(), limits(1, 9), Status::TableFull, None),
+        (EMPTY.to_vec(), spoilt(&[1, 2]), limits(9, 1), Status::SecondFullSource, None),
         (spoilt(&[1]), spoilt(&[2]), limits(1, 9), Status::Full, None),
-        (
-            spoilt(&[1]),
-            spoilt(&[2]),
-            limits(9, 1),
-            Status::FullSource,
-            None,
-        ),
+        (spoilt(&[1]), spoilt(&[2]), limits(9, 1), Status::FullSource, None),
     ] {
         assert_eq!(refused(merge(&first, &second, limits)), (status, at));
     }
@@ -92,10 +44,7 @@ fn tables_that_are_refused() {
 fn tables_are_listed() {
     assert_eq!(list_table(EMPTY).unwrap(), "");
     let lines = list_table(&spoilt(&[1, 0xa0])).unwrap();
-    assert_eq!(
-        lines,
-        "10.0.0.5:138/0001 spoilt\n10.0.0.5:138/00a0 spoilt\n"
-    );
+    assert_eq!(lines, "10.0.0.5:138/0001 spoilt\n10.0.0.5:138/00a0 spoilt\n");
     let many: Vec<u8> = (0..=255).collect();
     let text = list_table(&joined(&[b"NBT1\0\0\x01\0", &spoilt(&many)[8..]]));
     assert_eq!(text.unwrap().lines().count(), 256);
@@ -153,42 +102,12 @@ fn tables_differ() {
 #[test]
 fn tables_that_are_not_compared() {
     for (first, second, status, at) in [
-        (
-            b"NBT3".to_vec(),
-            b"NBT3".to_vec(),
-            Status::TableBadMagic,
-            None,
-        ),
-        (
-            EMPTY[..7].to_vec(),
-            EMPTY.to_vec(),
-            Status::TableTruncated,
-            None,
-        ),
-        (
-            spoilt(&[2, 1]),
-            EMPTY.to_vec(),
-            Status::TableNotCanonical,
-            Some(17),
-        ),
-        (
-            EMPTY.to_vec(),
-            b"NBT3".to_vec(),
-            Status::SecondBadMagic,
-            None,
-        ),
-        (
-            EMPTY.to_vec(),
-            EMPTY[..7].to_vec(),
-            Status::SecondTruncated,
-            None,
-        ),
-        (
-            EMPTY.to_vec(),
-            spoilt(&[2, 1]),
-            Status::SecondNotCanonical,
-            Some(17),
-        ),
+        (b"NBT3".to_vec(), b"NBT3".to_vec(), Status::TableBadMagic, None),
+        (EMPTY[..7].to_vec(), EMPTY.to_vec(), Status::TableTruncated, None),
+        (spoilt(&[2, 1]), EMPTY.to_vec(), Status::TableNotCanonical, Some(17)),
+        (EMPTY.to_vec(), b"NBT3".to_vec(), Status::SecondBadMagic, None),
+        (EMPTY.to_vec(), EMPTY[..7].to_vec(), Status::SecondTruncated, None),
+        (EMPTY.to_vec(), spoilt(&[2, 1]), Status::SecondNotCanonical, Some(17)),
     ] {
         assert_eq!(refused(differ(&first, &second)), (status, at));
     }

@@ -18,8 +18,8 @@ use Rattle.nb_datagram.specs.Texts.{kind_text}
 use Rattle.nb_text.specs.Lines.{used_text}
 use Rattle.nb_text.specs.Words.{query_word}
 use Rattle.nb_text.specs.DatagramText.{flags_text, parts_text, datagram_text}
-use Rattle.nb_text.proofs.ByteRows.{bytes-split, spelled_name}
-use Rattle.nb_text.proofs.DatagramLines.{kind_word, query_is_word}
+use Rattle.nb_text.proofs.MidLemmas.{bytes-split, spelled_name}
+use Rattle.nb_text.proofs.ShownLines.{kind_word, query_is_word}
 use Rattle.nb_text.proofs.FieldTells.{IsByteKey, number_tells, code_tells, data_tells, key_tells, name_tells}
 use Rattle.nb_text.proofs.TellLemmas.{Tells, space, seen_tells, both_tell, field_then, after_tells, differ, differ_tells, turned, tells_then}
 

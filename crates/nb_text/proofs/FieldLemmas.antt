@@ -28,14 +28,21 @@ IsSeen = AllByRecursion IsVisible
 
 -- ---- rows
 
-pub seen-append : (xs ys : List ℕ) → IsSeen xs → IsSeen ys → IsSeen (xs ++ ys)
-seen-append [] ys a b = b
-seen-append (x ∷ xs) ys a b = (a.0, seen-append xs ys a.1 b)
+pub all-append : {A : Type 0} (P : A → Type 0) (xs ys : List A) → AllByRecursion P xs → AllByRecursion P ys → AllByRecursion P (xs ++ ys)
+all-append P [] ys a b = b
+all-append P (x ∷ xs) ys a b = (a.0, all-append P xs ys a.1 b)
 
-seen-each : {A : Type 0} (P : A → Type 0) (f : A → List ℕ) (xs : List A) → AllByRecursion P xs → ((x : A) → P x → IsSeen (f x))
-    → IsSeen (flat_map f xs)
-seen-each {A} P f [] h each = tt
-seen-each {A} P f (x ∷ xs) h each = seen-append (f x) (flat_map f xs) (each x h.0) (seen-each P f xs h.1 each)
+pub all-split : {A : Type 0} (P : A → Type 0) (xs ys : List A) → AllByRecursion P (xs ++ ys) → AllByRecursion P xs × AllByRecursion P ys
+all-split P [] ys a = (tt, a)
+all-split P (x ∷ xs) ys a = let rest = all-split P xs ys a.1 in ((a.0, rest.0), rest.1)
+
+pub all_flat : {A : Type 0} (P : A → Type 0) (Q : ℕ → Type 0) (f : A → List ℕ) (xs : List A) → AllByRecursion P xs
+    → ((x : A) → P x → AllByRecursion Q (f x)) → AllByRecursion Q (flat_map f xs)
+all_flat {A} P Q f [] h each = tt
+all_flat {A} P Q f (x ∷ xs) h each = all-append Q (f x) (flat_map f xs) (each x h.0) (all_flat P Q f xs h.1 each)
+
+pub seen-append : (xs ys : List ℕ) → IsSeen xs → IsSeen ys → IsSeen (xs ++ ys)
+seen-append xs ys a b = all-append IsVisible xs ys a b
 
 some-append : (xs ys : List ℕ) → 0 < length ys → 0 < length (xs ++ ys)
 some-append xs ys some = omega (arith, some, length-append xs ys)
@@ -57,8 +64,12 @@ graphic_row (c ∷ cs) h =
     let parts = and_parts (is_ascii_graphic c) (list_all is_ascii_graphic cs) h in
     (graphic c parts.0, graphic_row cs parts.1)
 
--- a word that is written out
-pub literal : (cs : List ℕ) → (nat_lt 0 (length cs) && list_all is_ascii_graphic cs) ≡ true → IsWord cs
+-- whether a word is written out
+abbrev pub is_literal : List ℕ → Bool
+is_literal cs = nat_lt 0 (length cs) && list_all is_ascii_graphic cs
+
+-- a word that is
+pub literal : (cs : List ℕ) → is_literal cs ≡ true → IsWord cs
 literal cs h =
     let parts = and_parts (nat_lt 0 (length cs)) (list_all is_ascii_graphic cs) h in
     let test = parts.0 in
@@ -92,7 +103,7 @@ digits_seen b h =
 -- ---- data and numbers
 
 pub data_seen : (bytes : List ℕ) → AreBytes bytes → IsSeen (digits_text bytes)
-data_seen bytes h = seen-each (λ (b : ℕ). b < 256) digits_of bytes h digits_seen
+data_seen bytes h = all_flat (λ (b : ℕ). b < 256) IsVisible digits_of bytes h digits_seen
 
 pub data_word : (bytes : List ℕ) → AreBytes bytes → IsWord (data_text bytes)
 data_word [] h = literal (codes "empty") refl
@@ -100,8 +111,8 @@ data_word (b ∷ bytes) h =
     let some : 0 < length (digits_text (b ∷ bytes)) = omega arith in
     (some, data_seen (b ∷ bytes) h)
 
-word_seen : (n : ℕ) → n < 2 ^ 16 → IsSeen (word_text n)
-word_seen n h =
+pub word_seen : (n : ℕ) → IsSeen (word_text n)
+word_seen n =
     let high : n / 256 % 256 < 256 = omega arith in
     let low : n % 256 < 256 = omega arith in
     data_seen (to_be_bytes w16 n) (high, (low, tt))
@@ -171,7 +182,7 @@ some_item b = either (is_plain b) where
   either false = omega arith
 
 bytes_seen : (label : List ℕ) → AreBytes label → IsSeen (items_of label)
-bytes_seen label h = seen-each (λ (b : ℕ). b < 256) item_of label h byte_seen
+bytes_seen label h = all_flat (λ (b : ℕ). b < 256) IsVisible item_of label h byte_seen
 
 pub some_items : (label : List ℕ) → 0 < length label → 0 < length (items_of label)
 some_items [] none = absurd (omega (arith, none))
@@ -179,7 +190,7 @@ some_items (b ∷ label) some = some-front (item_of b) (items_of label) (some_it
 
 labels_seen : (labels : List (List ℕ)) → AreByteLabels labels → IsSeen (scope_text_of labels)
 labels_seen labels h =
-    seen-each AreBytes (λ (label : List ℕ). 46 ∷ items_of label) labels h (λ label bytes. (graphic 46 refl, bytes_seen label bytes))
+    all_flat AreBytes IsVisible (λ (label : List ℕ). 46 ∷ items_of label) labels h (λ label bytes. (graphic 46 refl, bytes_seen label bytes))
 
 pub domain_word : (labels : List (List ℕ)) → AllByRecursion IsLabel labels → AreByteLabels labels → IsWord (domain_written labels)
 domain_word [] each bytes = literal (46 ∷ []) refl
@@ -272,7 +283,7 @@ key_word key is h =
     let port = is.port in
     let fits : key.port < 2 ^ 64 = omega (arith, port) in
     let number = decimal_word key.port fits in
-    let id = seen-append (decimal key.port) (47 ∷ word_text key.id) number.1 (graphic 47 refl, word_seen key.id is.id) in (
+    let id = seen-append (decimal key.port) (47 ∷ word_text key.id) number.1 (graphic 47 refl, word_seen key.id) in (
       some-front (address_text key.ip) (58 ∷ (decimal key.port ++ 47 ∷ word_text key.id)) address.0,
       seen-append (address_text key.ip) (58 ∷ (decimal key.port ++ 47 ∷ word_text key.id)) address.1 (graphic 58 refl, id),
     )
@@ -280,7 +291,7 @@ key_word key is h =
 -- ---- sets of flags
 
 added_seen : (names : List (List ℕ)) → AllByRecursion IsWord names → IsSeen (added_names names)
-added_seen names h = seen-each IsWord (λ (name : List ℕ). 43 ∷ name) names h (λ name word. (graphic 43 refl, word.1))
+added_seen names h = all_flat IsWord IsVisible (λ (name : List ℕ). 43 ∷ name) names h (λ name word. (graphic 43 refl, word.1))
 
 joined_word : (names : List (List ℕ)) → AllByRecursion IsWord names → IsWord (joined names)
 joined_word [] h = literal (codes "none") refl
@@ -288,26 +299,20 @@ joined_word (name ∷ names) h =
     let first = h.0 in
     (some-front name (added_names names) first.0, seen-append name (added_names names) first.1 (added_seen names h.1))
 
-set_words : (flags : List Flag) (word : ℕ) → AllByRecursion (λ (f : Flag). IsWord f.name) flags → AllByRecursion IsWord (names_set flags word)
+set_words : (flags : List Flag) (word : ℕ) → list_all (λ (f : Flag). is_literal f.name) flags ≡ true
+    → AllByRecursion IsWord (names_set flags word)
 set_words [] word h = tt
-set_words (f ∷ flags) word h = either (is_set word f.bit) (set_words flags word h.1) where
+set_words (f ∷ flags) word h = either (is_set word f.bit) (set_words flags word parts.1) where
+  parts : (is_literal f.name ≡ true) × (list_all (λ (g : Flag). is_literal g.name) flags ≡ true)
+  parts = and_parts (is_literal f.name) (list_all (λ (g : Flag). is_literal g.name) flags) h
+
   either : (test : Bool) → AllByRecursion IsWord (names_set flags word)
       → AllByRecursion IsWord (if test then f.name ∷ names_set flags word else names_set flags word)
-  either true rest = (h.0, rest)
+  either true rest = (literal f.name parts.0, rest)
   either false rest = rest
 
 pub packet_set_word : (word : ℕ) → IsWord (set_text packet_flags word)
-packet_set_word word = joined_word (names_set packet_flags word) (set_words packet_flags word words) where
-  words : AllByRecursion (λ (f : Flag). IsWord f.name) packet_flags
-  words = (
-    literal (codes "AA") refl,
-    (literal (codes "TC") refl, (literal (codes "RD") refl, (literal (codes "RA") refl, (literal (codes "B") refl, tt)))),
-  )
+packet_set_word word = joined_word (names_set packet_flags word) (set_words packet_flags word refl)
 
 pub name_set_word : (word : ℕ) → IsWord (set_text name_flags word)
-name_set_word word = joined_word (names_set name_flags word) (set_words name_flags word words) where
-  words : AllByRecursion (λ (f : Flag). IsWord f.name) name_flags
-  words = (
-    literal (codes "G") refl,
-    (literal (codes "DRG") refl, (literal (codes "CNF") refl, (literal (codes "ACT") refl, (literal (codes "PRM") refl, tt)))),
-  )
+name_set_word word = joined_word (names_set name_flags word) (set_words name_flags word refl)

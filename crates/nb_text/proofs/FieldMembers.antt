@@ -1,5 +1,5 @@
--- The fields of a payload are members of an object: each list and each part ends.
-use Rattle.std.proofs.Common.{ℕ, nat_lt, ◌==◌, Bool, true, false, List, [], ◌∷◌, ◌++◌, length, take, codes, flat_map, Option, Some, None, if◌then◌else◌}
+-- The fields of a payload, and of its front, are members of an object.
+use Rattle.std.proofs.Common.{ℕ, nat_lt, ◌==◌, Bool, true, false, List, [], ◌∷◌, ◌++◌, length, take, codes, flat_map, Option, Some, None, if◌then◌else◌, sym, subst}
 use Rattle.std.specs.List.{AllByRecursion}
 use Rattle.nb_names.specs.Addresses.{address_text}
 use Rattle.nb_names.specs.NameText.{written}
@@ -21,12 +21,20 @@ use Rattle.nb_session.specs.declared.parsing.Parsed.TheVariants.{Whole, More, Re
 use Rattle.nb_telling.specs.Fields.{Field, FieldKey, Text, Number, Digits, Set, LineEnds}
 use Rattle.nb_telling.specs.Members.{AreMembers, AreParts, IsMember, nothing, member, list, both, no_part, part, parts}
 use Rattle.nb_text.specs.DatagramFields as datagrams
-use Rattle.nb_text.specs.Keys.{op_key, flags_key, rcode_key, name_key, ttl_key, ont_key, address_key, set_key, unit_key}
+use Rattle.nb_text.specs.Keys.{op_key, flags_key, rcode_key, name_key, ttl_key, ont_key, address_key, set_key, unit_key, key_key, offset_key, source_key, destination_key}
 use Rattle.nb_text.specs.LineFields.{used_fields, refused_fields, list_fields}
 use Rattle.nb_text.specs.ServiceFields.{word_field, named_field, named_fields, header_fields, question_fields, rdata_field, entry_fields, node_name_fields, unit_fields, status_fields, view_fields, record_fields, lists_fields, service_fields}
 use Rattle.nb_text.specs.SessionFields as sessions
 use Rattle.nb_text.specs.Tells.{Tells, names, no_names, datagram, no_datagram, session}
-use Rattle.nb_text.specs.Words.{operation_word, rcode_word, names_set, name_flags}
+use Rattle.nb_text.specs.Words.{operation_word, rcode_word, names_set, name_flags, datagram_word, session_word}
+use Rattle.nb_names.specs.Name.{NetbiosName}
+use Rattle.nb_datagram.specs.declared.front.FragmentFront.{FragmentFront}
+use Rattle.nb_datagram.specs.declared.front.Front.{Front}
+use Rattle.nb_datagram.specs.Texts.{key_text}
+use Rattle.nb_session.specs.declared.header.Header.{Header}
+use Rattle.nb_text.specs.FrontFields.{indent, names_header_fields, type_field, standing_name, fragment_front_fields, datagram_front_fields, session_front_fields}
+use Rattle.nb_text.specs.TellsFront as fronts
+use Rattle.nb_text.specs.TellsFront.{FrontOf, TellsFront}
 
 -- fields each of which is a member
 pub all_members : {depth : ℕ} (fields : List Field) → AllByRecursion IsMember fields → AreMembers depth fields
@@ -150,3 +158,54 @@ fields_members payload _ _ (no_names fault h) = refused_members _ _
 fields_members payload _ _ (datagram packet used h) = datagram_members packet used
 fields_members payload _ _ (no_datagram fault h) = refused_members _ _
 fields_members payload _ _ (session port parsed a b h) = session_members parsed
+
+front_header_members : {depth : ℕ} (header : PacketHeader) → AreMembers depth (names_header_fields header)
+front_header_members header =
+    let operation = named_member op_key (operation_word (opcode_of header.word)) (opcode_of header.word) in
+    let outcome = named_member rcode_key (rcode_word (rcode_of header.word)) (rcode_of header.word) in
+    all_members (names_header_fields header)
+    (tt, (tt, (tt, (operation, (tt, (outcome, (tt, (tt, (tt, (tt, (tt, tt)))))))))))
+
+type_member : (word : Option (List ℕ)) (type : ℕ) → IsMember (type_field word type)
+type_member None type = tt
+type_member (Some word) type = tt
+
+name_members : {depth : ℕ} (key : FieldKey) (name : Option NetbiosName) → AreMembers depth (standing_name key name)
+name_members key None = nothing
+name_members key (Some name) = member (Text key (written name)) tt
+
+fragment_members : {depth : ℕ} (fragment : Option FragmentFront) → AreMembers depth (fragment_front_fields fragment)
+fragment_members None = nothing
+fragment_members (Some front) =
+    both (Number offset_key front.offset ∷ []) (standing_name source_key front.source ++ standing_name destination_key front.destination)
+    (member (Number offset_key front.offset) tt)
+    (both (standing_name source_key front.source) (standing_name destination_key front.destination)
+    (name_members source_key front.source) (name_members destination_key front.destination))
+
+datagram_front_members : {depth : ℕ} (front : Front) → AreMembers depth (datagram_front_fields front)
+datagram_front_members front =
+    let first : List Field = indent ∷ type_field (datagram_word front.message_type) front.message_type ∷ Digits flags_key (front.flags ∷ [])
+    ∷ Text key_key (key_text front.key) ∷ [] in
+    both first (fragment_front_fields front.fragment ++ LineEnds ∷ [])
+    (all_members first (tt, (type_member (datagram_word front.message_type) front.message_type, (tt, (tt, tt)))))
+    (both (fragment_front_fields front.fragment) (LineEnds ∷ []) (fragment_members front.fragment) (member LineEnds tt))
+
+session_front_members : {depth : ℕ} (header : Header) → AreMembers depth (session_front_fields header)
+session_front_members header =
+    all_members (session_front_fields header) (tt, (type_member (session_word header.packet_type) header.packet_type, (tt, (tt, tt))))
+
+front_members : (payload : List ℕ) (port : ℕ) (fields : List Field) → FrontOf payload port fields → AreMembers 2 fields
+front_members payload _ _ (fronts.names packet used h) = nothing
+front_members payload _ _ (fronts.no_names_header fault fails low) = nothing
+front_members payload _ _ (fronts.names_front fault header items next fails h) = both _ _ (front_header_members header) (lists_members items)
+front_members payload _ _ (fronts.datagram packet used h) = nothing
+front_members payload _ _ (fronts.no_datagram_header fault fails lacks) = nothing
+front_members payload _ _ (fronts.datagram_front fault front fails h) = datagram_front_members front
+front_members payload _ _ (fronts.session port packet used a b h) = nothing
+front_members payload _ _ (fronts.no_session_header port a b low) = nothing
+front_members payload _ _ (fronts.session_front port parsed header a b h none there) = session_front_members header
+
+pub told_members : (payload : List ℕ) (port : ℕ) (fields : List Field) → TellsFront payload port fields → AreMembers 2 fields
+told_members payload port fields h =
+    subst (AreMembers 2) (sym h.are)
+    (both h.told h.more (fields_members payload port h.told h.tells) (front_members payload port h.more h.stands))

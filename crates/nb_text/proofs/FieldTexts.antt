@@ -30,7 +30,7 @@ use Rattle.nb_text.specs.DatagramFields as datagrams
 use Rattle.nb_text.specs.DatagramText as datagram_texts
 use Rattle.nb_text.specs.LineFields.{used_fields, refused_fields, list_fields}
 use Rattle.nb_text.specs.Keys.{unit_key}
-use Rattle.nb_text.specs.Lines.{line_end, used_text, refused_text}
+use Rattle.nb_text.specs.Lines.{line_end, refused_text}
 use Rattle.nb_text.specs.ServiceFields as services
 use Rattle.nb_text.specs.ServiceText as service_texts
 use Rattle.nb_text.specs.SessionFields as sessions
@@ -41,12 +41,15 @@ use Rattle.nb_text.specs.Words.{named_text, operation_word, rcode_word, name_fla
 both : (xs ys : List Field) → text_of (xs ++ ys) ≡ text_of xs ++ text_of ys
 both xs ys = flat_map-append field_text xs ys
 
+joined : (xs ys : List Field) {s t : List ℕ} → text_of xs ≡ s → text_of ys ≡ t → text_of (xs ++ ys) ≡ s ++ t
+joined xs ys first last = both xs ys ∙ ap₂ (λ (s t : List ℕ). s ++ t) first last
+
 -- the text of a list's parts
 parts_text : {A : Type 0} (fields : A → List Field) (line : A → List ℕ) (xs : List A) → ((x : A) → text_of (fields x) ≡ line x)
     → text_of (flat_map fields xs) ≡ flat_map line xs
 parts_text fields line [] same = refl
 parts_text fields line (x ∷ xs) same =
-    both (fields x) (flat_map fields xs) ∙ ap₂ (λ (s t : List ℕ). s ++ t) (same x) (parts_text fields line xs same)
+    joined (fields x) (flat_map fields xs) (same x) (parts_text fields line xs same)
 
 -- the text of a list
 list_text : {A : Type 0} (name : List ℕ) (fields : A → List Field) (line : A → List ℕ) (xs : List A)
@@ -72,7 +75,7 @@ session_parts Keepalive = refl
 
 pub session_same : (parsed : Parsed) → text_of (sessions.session_fields parsed) ≡ session_texts.session_text parsed
 session_same (Whole packet used) =
-    both (sessions.parts_fields packet) (used_fields used) ∙ ap (λ (t : List ℕ). t ++ used_text used) (session_parts packet)
+    joined (sessions.parts_fields packet) (used_fields used) (session_parts packet) refl
 session_same (More needed) = refl
 session_same (Refused fault) = refused_same (session_fault_text fault) (session_fault_place fault)
 
@@ -95,7 +98,7 @@ datagram_parts (Query q) = simp (append_assoc, append-nil)
 
 pub datagram_same : (packet : Packet) (used : ℕ) → text_of (datagrams.datagram_fields packet used) ≡ datagram_texts.datagram_text packet used
 datagram_same packet used =
-    both (datagrams.parts_fields packet) (used_fields used) ∙ ap (λ (t : List ℕ). t ++ used_text used) (datagram_parts packet)
+    joined (datagrams.parts_fields packet) (used_fields used) (datagram_parts packet) refl
 
 -- ---- the header of a packet of port 137
 
@@ -114,9 +117,8 @@ count_same header = simp (append_assoc, append-nil)
 
 header_same : (header : PacketHeader) (used : ℕ) → text_of (services.header_fields header used) ≡ service_texts.header_line header used
 header_same header used =
-    let after = both (services.count_fields header) (used_fields used) ∙ ap (λ (t : List ℕ). t ++ used_text used) (count_same header) in
-    let state = both (services.state_fields header.word) (services.count_fields header ++ used_fields used)
-    ∙ ap₂ (λ (s t : List ℕ). s ++ t) (state_same header.word) after in
+    let state = joined (services.state_fields header.word) (services.count_fields header ++ used_fields used) (state_same header.word)
+    (joined (services.count_fields header) (used_fields used) (count_same header) refl) in
     ap (λ (t : List ℕ). (codes "id=" ++ word_text header.id) ++ ((codes " word=" ++ word_text header.word) ++ t)) state
     ∙ simp append_assoc
 
@@ -153,9 +155,8 @@ unit_same statistics = either (nat_lt (length statistics) 6) where
 
 status_same : (status : StatusParts) → text_of (services.status_fields status) ≡ service_texts.status_lines status
 status_same status =
-    both (list_fields (codes "names") (flat_map services.node_name_fields status.names)) (services.unit_fields status.statistics)
-    ∙ ap₂ (λ (s t : List ℕ). s ++ t) (list_text (codes "names") services.node_name_fields service_texts.node_name_line status.names node_name_same)
-    (unit_same status.statistics)
+    joined (list_fields (codes "names") (flat_map services.node_name_fields status.names)) (services.unit_fields status.statistics)
+    (list_text (codes "names") services.node_name_fields service_texts.node_name_line status.names node_name_same) (unit_same status.statistics)
 
 -- what RDATA says, by whether its record is of kind NB or NBSTAT
 view_at : (nb nbstat : Bool) (entries : List AddressEntry) (status : StatusParts) → (nb ≡ true → nbstat ≡ true → ⊥)
@@ -202,13 +203,9 @@ service_same packet used =
     let answers = list_fields (codes "answers") (flat_map (services.record_fields (codes "  answer")) packet.answers) in
     let authorities = list_fields (codes "authorities") (flat_map (services.record_fields (codes "  authority")) packet.authorities) in
     let additional = list_fields (codes "additional") (flat_map (services.record_fields (codes "  additional")) packet.additional) in
-    let last = both authorities additional
-    ∙ ap₂ (λ (s t : List ℕ). s ++ t) (section_same (codes "authority") packet.authorities (codes "authorities"))
-    (section_same (codes "additional") packet.additional (codes "additional")) in
-    let third = both answers (authorities ++ additional)
-    ∙ ap₂ (λ (s t : List ℕ). s ++ t) (section_same (codes "answer") packet.answers (codes "answers")) last in
-    let second = both questions (answers ++ (authorities ++ additional))
-    ∙ ap₂ (λ (s t : List ℕ). s ++ t)
-    (list_text (codes "questions") services.question_fields service_texts.question_line packet.questions question_same) third in
-    both (services.header_fields (header_of packet) used) (questions ++ (answers ++ (authorities ++ additional)))
-    ∙ ap₂ (λ (s t : List ℕ). s ++ t) (header_same (header_of packet) used) second
+    joined (services.header_fields (header_of packet) used) (questions ++ (answers ++ (authorities ++ additional))) (header_same (header_of packet) used)
+    (joined questions (answers ++ (authorities ++ additional))
+    (list_text (codes "questions") services.question_fields service_texts.question_line packet.questions question_same)
+    (joined answers (authorities ++ additional) (section_same (codes "answer") packet.answers (codes "answers"))
+    (joined authorities additional (section_same (codes "authority") packet.authorities (codes "authorities"))
+    (section_same (codes "additional") packet.additional (codes "additional")))))

@@ -1,17 +1,99 @@
--- What one record more tells, and one more of what is listed.
-use Rattle.std.proofs.Common.{◌≡◌, ℕ, ◌+◌, min, Bool, true, false, List, [], ◌∷◌, ◌++◌, length, take, map, Option, None, Some, refl, sym, ap, ap₂, ◌∙◌, arith}
-use Rattle.std.specs.List.{flat_map, slice_get}
+-- What a packet of port 137 is about, and what its records tell.
+use Rattle.std.proofs.Common.{◌≡◌, ◌⊎◌, inl, inr, ℕ, ◌+◌, ◌<◌, Bool, true, false, List, [], ◌∷◌, ◌++◌, length, refl, sym, ap, ap₂, subst, ◌∙◌, arith, Option, None, Some, min, take, map}
 use Rattle.std.specs.Option.{is_some, option_or}
+use Rattle.nb_service.specs.declared.question.Question.{Question}
+use Rattle.nb_service.specs.declared.fields.Fields.{Fields}
+use Rattle.nb_service.specs.declared.limits.TheConstants.{HEADER_LENGTH}
+use Rattle.nb_service.specs.declared.seen.Seen.{Seen}
+use Rattle.nb_service.specs.Code.Steps.{RowOf}
+use Rattle.nb_service.specs.Items.{SeesQuestion, SeesRecord}
+use Rattle.nb_service.specs.Header.{PacketHeader}
+use Rattle.nb_service.specs.Packet.{Row, more, QuestionAt, RecordAt, ServicePacket, IsPacket, header_of, records_of, RdataAt, bytes_there, domain_there}
+use Rattle.std.proofs.lemmas.List.{length-append, append_assoc, append-nil, map-append}
+use Rattle.nb_service.specs.Record.{ResourceRecord, ResourceData, of_bytes, of_domain}
+use Rattle.nb_service.specs.declared.kinds.TheConstants.{NBSTAT, NS}
+use Rattle.nb_text.specs.declared.brief.form.Ending.{Ending}
+use Rattle.nb_text.specs.declared.brief.told.Told.{Told}
+use Rattle.nb_text.specs.Forms.{PhraseForm, form_of, is_type, says}
+use Rattle.nb_text.specs.Said.{said_after}
+use Rattle.nb_text.specs.ServiceSaid.{About, IsAbout, about_first, ending_said, name_said, said_of, told_of, type_of, few, first, flags_by, listed_by, server_in, units_by}
+use Rattle.std.specs.List.{flat_map, slice_get}
 use Rattle.std.proofs.lemmas.Grind.{flat_map-append}
-use Rattle.std.proofs.lemmas.List.{append_assoc, append-nil, length-append, map-append}
-use Rattle.nb_service.specs.declared.kinds.TheConstants.{NS}
-use Rattle.nb_service.specs.Packet.{RdataAt, bytes_there, domain_there}
-use Rattle.nb_service.specs.Record.{ResourceData, ResourceRecord, of_bytes, of_domain}
 use Rattle.nb_text.specs.declared.brief.told.Few.{Few}
 use Rattle.nb_text.specs.declared.brief.told.Listed.{Listed}
-use Rattle.nb_text.specs.declared.brief.told.Told.{Told}
-use Rattle.nb_text.specs.ServiceSaid.{few, first, flags_by, listed_by, server_in, told_of, units_by}
-use Rattle.nb_text.proofs.RowLemmas.{take_one_more}
+use Rattle.nb_text.proofs.WalkLemmas.{take_one_more}
+
+-- one question more
+pub about_more : (bytes : List ℕ) (before : List Question) (question : Question) (head : Option Seen) (seen : Seen)
+    → IsAbout bytes (about_first before []) head → SeesQuestion bytes question seen
+    → IsAbout bytes (about_first (before ++ question ∷ []) []) (option_or head (Some seen))
+about_more bytes [] question None seen held sees = (sees.name, subst (λ (f : Fields). f.kind ≡ question.kind) (sym sees.fields) refl)
+about_more bytes [] question (Some other) seen held sees = absurd held
+about_more bytes (q ∷ before) question None seen held sees = absurd held
+about_more bytes (q ∷ before) question (Some other) seen held sees = held
+
+-- the questions said it, or there is no record
+pub about_stays : (bytes : List ℕ) (asked : List Question) (told : List ResourceRecord) (head : Option Seen) (some : Bool) (records : ℕ)
+    → IsAbout bytes (about_first asked []) head → some ≡ is_some head → (some ≡ true) ⊎ ((some ≡ false) × (records ≡ 0)) → length told ≡ records
+    → IsAbout bytes (about_first asked told) head
+about_stays bytes (q ∷ asked) told head some records held is either counted = held
+about_stays bytes [] told (Some seen) some records held is either counted = absurd held
+about_stays bytes [] [] None some records held is either counted = held
+about_stays bytes [] (entry ∷ told) None some records held is (inl asks) counted = absurd (cc)
+about_stays bytes [] (entry ∷ told) None some records held is (inr none) counted = absurd (omega (arith, counted, none.1))
+
+-- a record that was seen first
+pub about_record : (bytes : List ℕ) (at : ℕ) (asked : List Question) (told : List ResourceRecord) (next : ℕ) (head : Option Seen) {seen : Seen}
+    → IsAbout bytes (about_first asked []) head → is_some head ≡ false → 0 < length told → Row (RecordAt bytes) at told next
+    → ((entry : ResourceRecord) (after : ℕ) → RecordAt bytes at entry after → SeesRecord bytes entry seen)
+    → IsAbout bytes (about_first asked told) (Some seen)
+about_record bytes at asked told next (Some other) held none low row sees = absurd (cc)
+about_record bytes at (q ∷ asked) told next None held none low row sees = absurd held
+about_record bytes at [] [] next None held none low row sees = absurd (omega (arith, low))
+about_record bytes at [] (entry ∷ told) next None held none low (more between y ys h r) sees =
+    let there = sees entry between h in (there.name, subst (λ (f : Fields). f.kind ≡ entry.kind) (sym there.fields) refl)
+
+-- the first of some records
+pub record_there : (bytes : List ℕ) (at : ℕ) (told : List ResourceRecord) (next : ℕ) → 0 < length told → Row (RecordAt bytes) at told next
+    → (entry : ResourceRecord) × (after : ℕ) × RecordAt bytes at entry after
+record_there bytes at [] next low row = absurd (omega (arith, low))
+record_there bytes at (entry ∷ told) next low (more between y ys h r) = (entry, between, h)
+
+-- ---- the rows of a packet
+
+module _ (bytes : List ℕ) (packet : ServicePacket) (used : ℕ) (header : PacketHeader) (is : IsPacket bytes packet used) (of : header_of packet ≡ header) where
+  pub question_row : (count : ℕ) → count ≡ header.questions → RowOf (QuestionAt bytes) HEADER_LENGTH count packet.questions is.after
+  question_row count same = record { row = is.questions; counted = ap (λ (h : PacketHeader). h.questions) of ∙ sym same }
+
+  pub record_row : (count : ℕ) → count ≡ header.answers + header.authorities + header.additional → RowOf (RecordAt bytes) is.after count (records_of packet) used
+  record_row count same =
+      let answers = ap (λ (h : PacketHeader). h.answers) of in
+      let authorities = ap (λ (h : PacketHeader). h.authorities) of in
+      let additional = ap (λ (h : PacketHeader). h.additional) of in
+      record {
+        row = is.records;
+        counted = omega (
+          arith,
+          same,
+          answers,
+          authorities,
+          additional,
+          length-append packet.answers (packet.authorities ++ packet.additional),
+          length-append packet.authorities packet.additional,
+        );
+      }
+
+-- ---- the phrase of a packet, added in parts
+
+pub parts_added : (word : ℕ) (about : Option About) (kind : Option ℕ) (status : Bool) (records : List ResourceRecord) (opening : List ℕ) (ending : Ending) (told : Told)
+    (old begun named new : List ℕ)
+    → kind ≡ type_of about → status ≡ is_type kind NBSTAT → told ≡ told_of status records → says opening ending ≡ form_of word kind
+    → begun ≡ old ++ opening → named ≡ begun ++ name_said about → new ≡ said_after named (ending_said ending word told)
+    → new ≡ said_after old (said_of word about (told_of (is_type (type_of about) NBSTAT) records))
+parts_added word about kind status records opening ending told old begun named new of asks is form_is head second last =
+    last ∙ ap (λ (t : List ℕ). said_after t (ending_said ending word told)) (second ∙ ap (λ (t : List ℕ). t ++ name_said about) head)
+    ∙ ap₂ (λ (f : PhraseForm) (t : Told). said_after old (f.opening ∷ name_said about ∷ ending_said f.ending word t)) (form_is ∙ ap (form_of word) of)
+    (is ∙ ap (λ (s : Bool). told_of s records) (asks ∙ ap (λ (k : Option ℕ). is_type k NBSTAT) of))
 
 -- ---- lists
 

@@ -8,10 +8,9 @@ use Rattle.nb_names.specs.DomainName.{IsLabel, AreBytes, AreByteLabels}
 use Rattle.nb_names.specs.FirstLevel.{letter, letters}
 use Rattle.nb_names.specs.Name.{NetbiosName, IsByteName, labels_of_name}
 use Rattle.nb_names.specs.NameText.{is_plain, digits_of, item_of, items_of, scope_text_of, domain_written, is_letter, are_letters, bytes_of_letters, either_written, labels_written, trimmed, written}
-use Rattle.nb_text.proofs.FieldLemmas.{some_items, labels_word, letters_name}
-use Rattle.nb_text.proofs.MidLemmas.{all-append}
+use Rattle.nb_text.proofs.FieldLemmas.{all-append, all-split, all_flat, some_items, labels_word, letters_name}
 use Rattle.nb_text.proofs.ServiceLines.{AreLabels}
-use Rattle.nb_text.proofs.TellLemmas.{all_front, amid, all_weaker, all_flat, cut, EndsRow, Tells, seen_tells}
+use Rattle.nb_text.proofs.TellLemmas.{amid, all_weaker, cut, EndsRow, Tells, seen_tells}
 use Rattle.nb_text.proofs.FieldTells.{byte_same, name_same}
 
 -- ---- items
@@ -183,8 +182,8 @@ names_apart name labels a e =
     let front = items_of (trimmed (take 15 name.bytes)) in
     let digits = digits_of (slice_index name.bytes 15) in
     amid IsOther front digits 60
-    (all_front IsOther (front ++ 60 ∷ digits) (62 ∷ [])
-    (all_front IsOther ((front ++ 60 ∷ digits) ++ 62 ∷ []) (scope_text_of name.scope) all))
+    (all-split IsOther (front ++ 60 ∷ digits) (62 ∷ [])
+    (all-split IsOther ((front ++ 60 ∷ digits) ++ 62 ∷ []) (scope_text_of name.scope) all).0).0
     refl
 
 pub labels_same : (xs ys : List (List ℕ)) → AreLabels xs → AreLabels ys → labels_written xs ≡ labels_written ys → xs ≡ ys

@@ -1,5 +1,4 @@
 pub mod ShownLemmas
-pub mod RowLemmas
 pub mod WalkLemmas
 pub mod FieldTexts
 pub mod FieldMembers
@@ -7,10 +6,6 @@ pub mod TellsLemmas
 pub mod PlaceLemmas
 pub mod FieldLemmas
 pub mod MidLemmas
-pub mod FaultLines
-pub mod ByteRows
-pub mod DatagramLines
-pub mod SessionLines
 pub mod ServiceLines
 pub mod ShownLines
 pub mod TellLemmas
@@ -20,12 +15,6 @@ pub mod LabelLemmas
 pub mod SessionTells
 pub mod DatagramTells
 pub mod ServiceTells
-pub mod WordLemmas
 pub mod SaidLemmas
-pub mod PhraseLemmas
 pub mod HeardLemmas
-pub mod FirstLemmas
-pub mod FrontMembers
-pub mod ItemParts
 pub mod OneFront
-pub mod ToldLemmas

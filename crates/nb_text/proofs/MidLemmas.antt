@@ -1,13 +1,68 @@
--- Pieces of lines: what may stand amid a line, and where lines end.
-use Rattle.std.proofs.Common.{◌≡◌, ◌==◌, ◌&&◌, ℕ, zero, suc, ◌/◌, ◌%◌, ◌<◌, ◌≤◌, nat_lt, Bool, true, false, if◌then◌else◌, List, [], ◌∷◌, ◌++◌, length, Option, Some, None, refl, sym, subst, ap, ◌∙◌, append_assoc, arith, codes}
+-- What stands in bytes is bytes. Pieces of lines: what may stand amid a line, and where lines end.
+use Rattle.std.proofs.Common.{ℕ, zero, suc, ◌≤◌, List, [], ◌∷◌, ◌++◌, length, take, drop, subst, arith, ◌≡◌, ◌==◌, ◌/◌, ◌%◌, ◌<◌, Bool, true, false, if◌then◌else◌, Option, Some, None, refl, sym, ap, ◌∙◌, append_assoc, codes}
 use Rattle.std.specs.List.{AllByRecursion, flat_map, list_all}
-use Rattle.std.specs.Char.{is_ascii_graphic}
+use Rattle.nb_names.specs.declared.pointers.Pointers.{Pointers}
+use Rattle.nb_names.specs.DomainName.{spelling, AreBytes, AreByteLabels, IsLabel, IsDomain}
+use Rattle.nb_names.specs.Labels.{StandsAt, LabelsAt, ends, goes_on, leads_to, NameAt}
+use Rattle.nb_names.specs.Name.{NetbiosName, IsName, IsByteName, labels_of_name}
+use Rattle.nb_names.proofs.SpellingLemmas.{AreByteLabels-spelled}
 use Rattle.std.specs.Fmt.{decimal, digits, digit_glyph, digits_onto}
+use Rattle.std.proofs.lemmas.Bool.{and_parts}
 use Rattle.std.proofs.lemmas.Bool.Decides.{nat_tests}
 use Rattle.std.proofs.lemmas.List.{length-append}
 use Rattle.nb_text.specs.Fields.{IsVisible, IsWord, last, more, IsPart, two, four, AreLines}
 use Rattle.nb_text.specs.Lines.{line_end, used_text, refused_text}
-use Rattle.nb_text.proofs.FieldLemmas.{IsSeen, seen-append, literal}
+use Rattle.nb_text.proofs.FieldLemmas.{IsSeen, all-append, all-split, seen-append, is_literal, literal}
+
+pub bytes-split : (xs ys : List ℕ) → AreBytes (xs ++ ys) → AreBytes xs × AreBytes ys
+bytes-split xs ys a = all-split (λ (b : ℕ). b < 256) xs ys a
+
+pub bytes-take : (n : ℕ) (xs : List ℕ) → AreBytes xs → AreBytes (take n xs)
+bytes-take zero xs a = tt
+bytes-take (suc n) [] a = tt
+bytes-take (suc n) (x ∷ xs) a = (a.0, bytes-take n xs a.1)
+
+pub bytes-drop : (n : ℕ) (xs : List ℕ) → AreBytes xs → AreBytes (drop n xs)
+bytes-drop zero xs a = a
+bytes-drop (suc n) [] a = tt
+bytes-drop (suc n) (x ∷ xs) a = bytes-drop n xs a.1
+
+pub bytes-stand : (packet bytes : List ℕ) (at : ℕ) → AreBytes packet → StandsAt packet at bytes → AreBytes bytes
+bytes-stand packet bytes at a stands =
+    subst AreBytes stands (bytes-take (length bytes) (drop at packet) (bytes-drop at packet a))
+
+-- the labels that stand in bytes are of bytes, and a domain name's
+pub labels_bytes : (packet : List ℕ) (pointers : Pointers) (start at : ℕ) (labels : List (List ℕ)) (next : ℕ) → AreBytes packet
+    → LabelsAt packet pointers start at labels next → AreByteLabels labels
+labels_bytes packet pointers start at _ next a (ends stands) = tt
+labels_bytes packet pointers start at _ next a (goes_on label labels is stands short rest) =
+    ((bytes-stand packet (length label ∷ label) at a stands).1, labels_bytes packet pointers start _ labels next a rest)
+labels_bytes packet pointers start at labels next a (leads_to target behind followed there below rest) =
+    labels_bytes packet pointers target target labels behind a rest
+
+labels_each : (packet : List ℕ) (pointers : Pointers) (start at : ℕ) (labels : List (List ℕ)) (next : ℕ)
+    → LabelsAt packet pointers start at labels next → AllByRecursion IsLabel labels
+labels_each packet pointers start at _ next (ends stands) = tt
+labels_each packet pointers start at _ next (goes_on label labels is stands short rest) =
+    (is, labels_each packet pointers start _ labels next rest)
+labels_each packet pointers start at labels next (leads_to target behind followed there below rest) =
+    labels_each packet pointers target target labels behind rest
+
+labels_short : (packet : List ℕ) (pointers : Pointers) (start at : ℕ) (labels : List (List ℕ)) (next : ℕ)
+    → LabelsAt packet pointers start at labels next → length (spelling labels) ≤ 255
+labels_short packet pointers start at _ next (ends stands) = omega arith
+labels_short packet pointers start at _ next (goes_on label labels is stands short rest) = short
+labels_short packet pointers start at labels next (leads_to target behind followed there below rest) =
+    labels_short packet pointers target target labels behind rest
+
+pub name_domain : (packet : List ℕ) (pointers : Pointers) (at : ℕ) (labels : List (List ℕ)) (next : ℕ)
+    → NameAt packet pointers at labels next → IsDomain labels
+name_domain packet pointers at labels next n =
+    record { each = labels_each packet pointers at at labels next n; short = labels_short packet pointers at at labels next n }
+
+-- a name whose spelling is of bytes
+pub spelled_name : (name : NetbiosName) → IsName name → AreBytes (spelling (labels_of_name name)) → IsByteName name
+spelled_name name is a = (is, (AreByteLabels-spelled (labels_of_name name) a).1)
 
 -- ---- numbers, however long
 
@@ -50,41 +105,56 @@ number_word n = (first_some 63 n, onto_seen 64 n [] tt)
 -- ---- amid a line
 
 -- what may follow a word, so that these are lines
-abbrev pub Ends : List ℕ → Type 0
-Ends rest = (word : List ℕ) → IsWord word → AreLines (word ++ rest)
+pub record Ends (rest : List ℕ) : Type 0 where
+  pub lines : (word : List ℕ) → IsWord word → AreLines (word ++ rest)
 
 -- what may stand before such
-abbrev pub IsMid : List ℕ → Type 0
-IsMid text = (rest : List ℕ) → Ends rest → Ends (text ++ rest)
+pub record IsMid (text : List ℕ) : Type 0 where
+  pub before : (rest : List ℕ) → Ends rest → Ends (text ++ rest)
 
-pub mid_both : (xs ys : List ℕ) → IsMid xs → IsMid ys → IsMid (xs ++ ys)
-mid_both xs ys a b rest e = subst Ends (sym (append_assoc xs ys rest)) (a (ys ++ rest) (b rest e))
+pub mid_then : {text rest : List ℕ} → IsMid text → Ends rest → Ends (text ++ rest)
+mid_then {text} {rest} mid e = mid.before rest e
+
+pub mid_both : {xs ys : List ℕ} → IsMid xs → IsMid ys → IsMid (xs ++ ys)
+mid_both {xs} {ys} a b = record { before = λ rest e. subst Ends (sym (append_assoc xs ys rest)) (a.before (ys ++ rest) (b.before rest e)) }
 
 joined_word : (xs ys : List ℕ) → IsWord xs → IsSeen ys → IsWord (xs ++ ys)
 joined_word xs ys is seen = (omega (arith, is.0, length-append xs ys), seen-append xs ys is.1 seen)
 
 pub mid_seen : (xs : List ℕ) → IsSeen xs → IsMid xs
-mid_seen xs seen rest e word is = subst AreLines (append_assoc word xs rest) (e (word ++ xs) (joined_word word xs is seen))
+mid_seen xs seen = record {
+  before = λ rest e. record { lines = λ word is. subst AreLines (append_assoc word xs rest) (e.lines (word ++ xs) (joined_word word xs is seen)) };
+}
+
+more_words : (word next rest : List ℕ) → IsWord word → AreLines (next ++ rest) → AreLines (word ++ ((32 ∷ next) ++ rest))
+more_words word next rest is l = record {
+  first = word ++ 32 ∷ l.first;
+  parts = l.parts;
+  words = more word l.first is l.words;
+  each = l.each;
+  whole = ap (λ (t : List ℕ). word ++ 32 ∷ t) l.whole
+      ∙ sym (append_assoc word (32 ∷ l.first) (line_end ++ flat_map (λ part. part ++ line_end) l.parts));
+}
 
 pub mid_word : (next : List ℕ) → IsWord next → IsMid (32 ∷ next)
-mid_word next is_next rest e word is =
-    let l = e next is_next in record {
-      first = word ++ 32 ∷ l.first;
-      parts = l.parts;
-      words = more word l.first is l.words;
-      each = l.each;
-      whole = ap (λ (t : List ℕ). word ++ 32 ∷ t) l.whole
-          ∙ sym (append_assoc word (32 ∷ l.first) (line_end ++ flat_map (λ part. part ++ line_end) l.parts));
-    }
+mid_word next is_next = record {
+  before = λ rest e. record { lines = λ word is. more_words word next rest is (e.lines next is_next) };
+}
 
--- a space and a word that is written out
-pub mid_literal : (cs : List ℕ) → (nat_lt 0 (length cs) && list_all is_ascii_graphic cs) ≡ true → IsMid (32 ∷ cs)
-mid_literal cs h = mid_word cs (literal cs h)
+-- words that are written out, each after a space
+pub mid_words : (words : List (List ℕ)) → list_all is_literal words ≡ true → IsMid (flat_map (λ word. 32 ∷ word) words)
+mid_words [] h = mid_seen [] tt
+mid_words (word ∷ words) h =
+    let parts = and_parts (is_literal word) (list_all is_literal words) h in
+    mid_both (mid_word word (literal word parts.0)) (mid_words words parts.1)
 
 -- a space, and a field: its name, which is written out, and then its value
-pub mid_field : (cs value : List ℕ) → (nat_lt 0 (length cs) && list_all is_ascii_graphic cs) ≡ true → IsSeen value
-    → IsMid (32 ∷ (cs ++ value))
+pub mid_field : (cs value : List ℕ) → is_literal cs ≡ true → IsSeen value → IsMid (32 ∷ (cs ++ value))
 mid_field cs value h seen = mid_word (cs ++ value) (joined_word cs value (literal cs h) seen)
+
+-- the same, of a number
+pub number_field : (cs : List ℕ) (n : ℕ) → is_literal cs ≡ true → IsMid (32 ∷ (cs ++ decimal n))
+number_field cs n h = mid_field cs (decimal n) h (number_word n).1
 
 -- ---- where a line ends
 
@@ -97,39 +167,28 @@ pub record AreParts (text : List ℕ) : Type 0 where
 pub no_parts : AreParts []
 no_parts = record { parts = []; each = tt; whole = refl }
 
-pub ends_before : (after : List ℕ) → AreParts after → Ends (line_end ++ after)
-ends_before after p word is = record {
-  first = word;
-  parts = p.parts;
-  words = last word is;
-  each = p.each;
-  whole = ap (λ (t : List ℕ). word ++ (line_end ++ t)) p.whole;
+pub ends_here : Ends line_end
+ends_here = record {
+  lines = λ word is. record { first = word; parts = []; words = last word is; each = tt; whole = refl };
 }
 
-pub ends_here : Ends line_end
-ends_here = ends_before [] no_parts
-
 pub used_ends : (used : ℕ) → Ends (used_text used)
-used_ends used = mid_field (codes "used=") (decimal used) refl (number_word used).1 line_end ends_here
+used_ends used = mid_then (number_field (codes "used=") used refl) ends_here
 
 -- a line that begins with this word
-pub line_of : (word text : List ℕ) → IsWord word → IsMid text → AreLines (word ++ (text ++ line_end))
-line_of word text is mid = mid line_end ends_here word is
+pub line_of : (word : List ℕ) {text : List ℕ} → IsWord word → IsMid text → AreLines (word ++ (text ++ line_end))
+line_of word is mid = (mid_then mid ends_here).lines word is
 
 -- a whole packet's only line
-pub used_line : (word text : List ℕ) (used : ℕ) → IsWord word → IsMid text → AreLines ((word ++ text) ++ used_text used)
-used_line word text used is mid =
-    subst AreLines (sym (append_assoc word text (used_text used))) (mid (used_text used) (used_ends used) word is)
+pub used_line : (word : List ℕ) {text : List ℕ} (used : ℕ) → IsWord word → IsMid text → AreLines ((word ++ text) ++ used_text used)
+used_line word {text} used is mid =
+    subst AreLines (sym (append_assoc word text (used_text used))) ((mid_then mid (used_ends used)).lines word is)
 
 -- a refusal's only line
 pub refused_line : (fault : List ℕ) → IsMid (32 ∷ fault) → AreLines (refused_text fault)
-refused_line fault mid = line_of (codes "refused") (32 ∷ fault) (literal (codes "refused") refl) mid
+refused_line fault mid = line_of (codes "refused") (literal (codes "refused") refl) mid
 
 -- ---- lines of parts
-
-pub all-append : {A : Type 0} (P : A → Type 0) (xs ys : List A) → AllByRecursion P xs → AllByRecursion P ys → AllByRecursion P (xs ++ ys)
-all-append P [] ys a b = b
-all-append P (x ∷ xs) ys a b = (a.0, all-append P xs ys a.1 b)
 
 flat-append : (xs ys : List (List ℕ)) → flat_map (λ part. part ++ line_end) (xs ++ ys)
     ≡ flat_map (λ part. part ++ line_end) xs ++ flat_map (λ part. part ++ line_end) ys
@@ -138,8 +197,8 @@ flat-append (x ∷ xs) ys =
     ap (λ (t : List ℕ). (x ++ line_end) ++ t) (flat-append xs ys)
     ∙ sym (append_assoc (x ++ line_end) (flat_map (λ part. part ++ line_end) xs) (flat_map (λ part. part ++ line_end) ys))
 
-pub parts_both : (xs ys : List ℕ) → AreParts xs → AreParts ys → AreParts (xs ++ ys)
-parts_both xs ys a b = record {
+pub parts_both : {xs ys : List ℕ} → AreParts xs → AreParts ys → AreParts (xs ++ ys)
+parts_both {xs} {ys} a b = record {
   parts = a.parts ++ b.parts;
   each = all-append IsPart a.parts b.parts a.each b.each;
   whole = ap (λ (t : List ℕ). t ++ ys) a.whole ∙ ap (λ (t : List ℕ). flat_map (λ part. part ++ line_end) a.parts ++ t) b.whole
@@ -149,11 +208,11 @@ parts_both xs ys a b = record {
 pub parts_each : {A : Type 0} (P : A → Type 0) (f : A → List ℕ) (xs : List A) → AllByRecursion P xs → ((x : A) → P x → AreParts (f x))
     → AreParts (flat_map f xs)
 parts_each {A} P f [] h each = no_parts
-parts_each {A} P f (x ∷ xs) h each = parts_both (f x) (flat_map f xs) (each x h.0) (parts_each P f xs h.1 each)
+parts_each {A} P f (x ∷ xs) h each = parts_both (each x h.0) (parts_each P f xs h.1 each)
 
 -- a line, then lines of parts
-pub lines_then : (text after : List ℕ) → AreLines text → AreParts after → AreLines (text ++ after)
-lines_then text after l p = record {
+pub lines_then : {text after : List ℕ} → AreLines text → AreParts after → AreLines (text ++ after)
+lines_then {text} {after} l p = record {
   first = l.first;
   parts = l.parts ++ p.parts;
   words = l.words;
@@ -164,16 +223,16 @@ lines_then text after l p = record {
 }
 
 -- a line that two spaces begin, and one that four begin
-pub part_two : (text : List ℕ) → AreLines text → AreParts (32 ∷ 32 ∷ text)
-part_two text l = record {
+pub part_two : {text : List ℕ} → AreLines text → AreParts (32 ∷ 32 ∷ text)
+part_two l = record {
   parts = (32 ∷ 32 ∷ l.first) ∷ l.parts;
   each = (two l.first l.words, l.each);
   whole = ap (λ (t : List ℕ). 32 ∷ 32 ∷ t) l.whole
       ∙ ap (λ (t : List ℕ). 32 ∷ 32 ∷ t) (sym (append_assoc l.first line_end (flat_map (λ part. part ++ line_end) l.parts)));
 }
 
-pub part_four : (text : List ℕ) → AreLines text → AreParts (32 ∷ 32 ∷ 32 ∷ 32 ∷ text)
-part_four text l = record {
+pub part_four : {text : List ℕ} → AreLines text → AreParts (32 ∷ 32 ∷ 32 ∷ 32 ∷ text)
+part_four l = record {
   parts = (32 ∷ 32 ∷ 32 ∷ 32 ∷ l.first) ∷ l.parts;
   each = (four l.first l.words, l.each);
   whole = ap (λ (t : List ℕ). 32 ∷ 32 ∷ 32 ∷ 32 ∷ t) l.whole

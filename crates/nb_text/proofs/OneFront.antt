@@ -1,9 +1,13 @@
 -- What still stands at the front of a payload is one list of fields.
-use Rattle.std.proofs.Common.{◌≡◌, ◌≢◌, ◌⊎◌, inl, inr, ℕ, ◌<◌, ◌≤◌, List, [], ◌++◌, length, None, refl, sym, ap, ap₂, ◌∙◌, arith}
+use Rattle.std.proofs.Common.{◌≡◌, ◌≢◌, ◌⊎◌, inl, inr, ℕ, ◌<◌, ◌≤◌, List, [], ◌∷◌, ◌++◌, length, map, None, refl, sym, ap, ap₂, ◌∙◌, arith}
 use Rattle.nb_service.specs.declared.fault.ServiceFault.{ServiceFault}
 use Rattle.nb_service.specs.Header.{PacketHeader, HasHeader}
-use Rattle.nb_service.specs.Items.{PacketItem, HasItems, items_of}
+use Rattle.nb_service.specs.declared.question.Question.{Question}
+use Rattle.nb_service.specs.declared.section.Section.TheVariants.{Answer, Authority, Additional}
+use Rattle.nb_service.specs.Items.{PacketItem, HasItems, asked, told, items_of}
 use Rattle.nb_service.specs.Packet as service
+use Rattle.nb_service.specs.Packet.{ServicePacket}
+use Rattle.nb_service.specs.Record.{ResourceRecord}
 use Rattle.nb_service.specs.ServiceFaults as service_faults
 use Rattle.nb_datagram.specs.declared.fault.DatagramFault.{DatagramFault}
 use Rattle.nb_datagram.specs.declared.front.Front.{Front}
@@ -17,10 +21,41 @@ use Rattle.nb_session.specs.Header as sessions
 use Rattle.nb_session.specs.Parsing.{Parsed, Parses, taken_by}
 use Rattle.nb_telling.specs.Fields.{Field}
 use Rattle.nb_text.specs.FrontFields.{names_header_fields, names_front_fields, datagram_front_fields, session_front_fields}
+use Rattle.nb_text.specs.ServiceFields.{lists_fields}
 use Rattle.nb_text.specs.TellsFront as fronts
 use Rattle.nb_text.specs.TellsFront.{FrontOf, TellsFront}
-use Rattle.nb_text.proofs.ItemParts.{same_lists}
 use Rattle.nb_text.proofs.ShownLemmas.{OneFor, one_told}
+
+-- ---- items
+
+-- the questions and the records of each section
+abbrev Lists : Type 0
+Lists = List Question × List ResourceRecord × List ResourceRecord × List ResourceRecord
+
+abbrev put : PacketItem → Lists → Lists
+put (asked q) lists = (q ∷ lists.0, lists.1, lists.2, lists.3)
+put (told Answer e) lists = (lists.0, e ∷ lists.1, lists.2, lists.3)
+put (told Authority e) lists = (lists.0, lists.1, e ∷ lists.2, lists.3)
+put (told Additional e) lists = (lists.0, lists.1, lists.2, e ∷ lists.3)
+
+abbrev gather : List PacketItem → Lists
+gather [] = ([], [], [], [])
+gather (item ∷ items) = put item (gather items)
+
+gathered : (qs : List Question) (a b c : List ResourceRecord)
+    → gather (map asked qs ++ (map (told Answer) a ++ (map (told Authority) b ++ map (told Additional) c))) ≡ (qs, a, b, c)
+gathered (q ∷ qs) a b c = ap (put (asked q)) (gathered qs a b c)
+gathered [] (e ∷ a) b c = ap (put (told Answer e)) (gathered [] a b c)
+gathered [] [] (e ∷ b) c = ap (put (told Authority e)) (gathered [] [] b c)
+gathered [] [] [] (e ∷ c) = ap (put (told Additional e)) (gathered [] [] [] c)
+gathered [] [] [] [] = refl
+
+-- packets of the same items have the same lists
+same_lists : (p q : ServicePacket) → items_of p ≡ items_of q → lists_fields p ≡ lists_fields q
+same_lists p q e =
+    ap (λ (l : Lists). lists_fields (record { id = 0; word = 0; questions = l.0; answers = l.1; authorities = l.2; additional = l.3 }))
+    (sym (gathered p.questions p.answers p.authorities p.additional) ∙ ap gather e
+    ∙ gathered q.questions q.answers q.authorities q.additional)
 
 -- ---- by ports
 
@@ -145,6 +180,6 @@ module _ (payload : List ℕ) (laws : FrontLaws payload) where
   pub one_told_front : (port : ℕ) (fields others : List Field) → OneFor payload → TellsFront payload port fields → TellsFront payload port others
       → fields ≡ others
   one_told_front port fields others for a b =
-      let told = one_told payload port a.told b.told for a.tells b.tells in
+      let first = one_told payload port a.told b.told for a.tells b.tells in
       let more = one_by_port port a.more b.more (by_port payload port a.more a.stands) (by_port payload port b.more b.stands) in
-      a.are ∙ ap₂ (λ (x y : List Field). x ++ y) told more ∙ sym b.are
+      a.are ∙ ap₂ (λ (x y : List Field). x ++ y) first more ∙ sym b.are

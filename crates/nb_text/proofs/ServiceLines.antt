@@ -1,14 +1,12 @@
--- The text of a packet of port 137 is a line of words, and then lines of parts.
-use Rattle.std.proofs.Common.{◌≡◌, ◌==◌, ℕ, zero, suc, ◌+◌, ◌*◌, ◌/◌, ◌%◌, ◌<◌, ◌≤◌, nat_lt, nat_le, Bool, true, false, if◌then◌else◌, List, [], ◌∷◌, ◌++◌, length, take, drop, Option, Some, None, refl, arith, codes}
+-- The text of a packet of port 137 is a line of words, and then lines of parts; numbers without a word.
+use Rattle.std.proofs.Common.{◌≡◌, ◌==◌, ℕ, zero, suc, ◌+◌, ◌*◌, ◌/◌, ◌%◌, ◌≤◌, nat_lt, nat_le, Bool, true, false, if◌then◌else◌, List, [], ◌∷◌, ◌++◌, length, take, drop, Option, Some, None, refl, arith, codes}
 use Rattle.std.specs.List.{AllByRecursion, flat_map}
-use Rattle.std.specs.Fmt.{decimal}
-use Rattle.std.specs.Int.{w16, to_be_bytes}
 use Rattle.std.proofs.lemmas.List.{length-drop, length-take-le}
 use Rattle.nb_names.specs.Addresses.{address_text}
 use Rattle.nb_names.specs.DomainName.{AreBytes, AreByteLabels, IsDomain}
 use Rattle.nb_names.specs.Hexadecimal.{data_text, digits_text, word_text}
 use Rattle.nb_names.specs.Labels.{NameAt}
-use Rattle.nb_names.specs.Name.{IsByteName}
+use Rattle.nb_names.specs.Name.{NetbiosName, IsByteName}
 use Rattle.nb_names.specs.NameText.{labels_written, written}
 use Rattle.nb_names.specs.declared.pointers.Pointers.TheVariants.{Followed}
 use Rattle.nb_service.specs.declared.address_entry.AddressEntry.{AddressEntry}
@@ -21,20 +19,14 @@ use Rattle.nb_service.specs.Packet.{ServicePacket, header_of, IsPacket, Question
 use Rattle.nb_service.specs.Record.{ResourceData, of_bytes, of_domain, ResourceRecord}
 use Rattle.nb_service.specs.Views.{StatusParts, pieces, entry_of, entries_of_data, entries_in, node_name_of, status_of_size, status_of_data, status_in, no_status}
 use Rattle.nb_text.specs.Fields.{IsWord, AreLines}
-use Rattle.nb_text.specs.Lines.{line_end, used_text}
+use Rattle.nb_text.specs.Lines.{line_end}
 use Rattle.nb_text.specs.Words.{operation_word, rcode_word, named_text, packet_flags, name_flags, set_text}
 use Rattle.nb_text.specs.ServiceText.{state_text, counts_text, header_line, type_text, question_line, rdata_text, record_line, entry_line, node_name_line, unit_line, status_lines, record_lines, service_text}
-use Rattle.nb_text.proofs.FieldLemmas.{IsSeen, literal, data_seen, data_word, name_word, labels_word, address_word, packet_set_word, name_set_word}
-use Rattle.nb_text.proofs.MidLemmas.{IsMid, mid_both, mid_seen, mid_word, mid_field, number_word, used_ends, ends_here, AreParts, no_parts, parts_both, parts_each, part_two, part_four, lines_then, IsNamed, chosen}
-use Rattle.nb_text.proofs.ByteRows.{bytes-take, bytes-drop, bytes-stand, labels_bytes, name_domain}
+use Rattle.nb_text.proofs.FieldLemmas.{IsSeen, all-split, word_seen, is_literal, literal, data_seen, data_word, name_word, labels_word, address_word, packet_set_word, name_set_word}
+use Rattle.nb_text.proofs.MidLemmas.{IsMid, mid_then, mid_both, mid_seen, mid_word, mid_field, number_field, number_word, used_ends, ends_here, AreParts, no_parts, parts_both, parts_each, part_two, part_four, lines_then, IsNamed, chosen, bytes-take, bytes-drop, bytes-stand, labels_bytes, name_domain}
+use Rattle.std.proofs.lemmas.Bool.Decides.{nat_tests}
 
 -- ---- the header
-
-word_seen : (n : ℕ) → IsSeen (word_text n)
-word_seen n =
-    let high : n / 256 % 256 < 256 = omega arith in
-    let low : n % 256 < 256 = omega arith in
-    data_seen (to_be_bytes w16 n) (high, (low, tt))
 
 operation_named : (n : ℕ) → IsNamed (operation_word n)
 operation_named n =
@@ -58,37 +50,28 @@ named_seen : (name : Option (List ℕ)) (n : ℕ) → IsNamed name → IsSeen (n
 named_seen (Some word) n h = h.1
 named_seen None n h = (number_word n).1
 
+named_field : (cs : List ℕ) (name : Option (List ℕ)) (n : ℕ) → is_literal cs ≡ true → IsNamed name → IsMid (32 ∷ (cs ++ named_text name n))
+named_field cs name n h named = mid_field cs (named_text name n) h (named_seen name n named)
+
 state_mid : (word : ℕ) → IsMid (state_text word)
 state_mid word =
-    let operation = named_text (operation_word (opcode_of word)) (opcode_of word) in
-    let result = named_text (rcode_word (rcode_of word)) (rcode_of word) in
-    mid_both (codes " op=" ++ operation) _
-    (mid_field (codes "op=") operation refl (named_seen (operation_word (opcode_of word)) (opcode_of word) (operation_named (opcode_of word))))
-    (mid_both (codes " flags=" ++ set_text packet_flags word) (codes " rcode=" ++ result)
-    (mid_field (codes "flags=") (set_text packet_flags word) refl (packet_set_word word).1)
-    (mid_field (codes "rcode=") result refl (named_seen (rcode_word (rcode_of word)) (rcode_of word) (rcode_named (rcode_of word)))))
+    mid_both (named_field (codes "op=") (operation_word (opcode_of word)) (opcode_of word) refl (operation_named (opcode_of word)))
+    (mid_both (mid_field (codes "flags=") (set_text packet_flags word) refl (packet_set_word word).1)
+    (named_field (codes "rcode=") (rcode_word (rcode_of word)) (rcode_of word) refl (rcode_named (rcode_of word))))
 
 counts_mid : (header : PacketHeader) → IsMid (counts_text header)
 counts_mid header =
-    let questions = decimal header.questions in
-    let answers = decimal header.answers in
-    let authorities = decimal header.authorities in
-    let additional = decimal header.additional in
-    mid_both (codes " qd=" ++ questions) _ (mid_field (codes "qd=") questions refl (number_word header.questions).1)
-    (mid_both (codes " an=" ++ answers) _ (mid_field (codes "an=") answers refl (number_word header.answers).1)
-    (mid_both (codes " ns=" ++ authorities) (codes " ar=" ++ additional)
-    (mid_field (codes "ns=") authorities refl (number_word header.authorities).1)
-    (mid_field (codes "ar=") additional refl (number_word header.additional).1)))
+    mid_both (number_field (codes "qd=") header.questions refl) (mid_both (number_field (codes "an=") header.answers refl)
+    (mid_both (number_field (codes "ns=") header.authorities refl) (number_field (codes "ar=") header.additional refl)))
+
+-- four digits
+digits_field : (cs : List ℕ) (n : ℕ) → is_literal cs ≡ true → IsMid (32 ∷ (cs ++ word_text n))
+digits_field cs n h = mid_field cs (word_text n) h (word_seen n)
 
 header_lines : (header : PacketHeader) (used : ℕ) → AreLines (header_line header used)
 header_lines header used =
-    let id = word_text header.id in
-    let word = codes " word=" ++ word_text header.word in
-    let front : IsMid (id ++ word) =
-    mid_both id word (mid_seen id (word_seen header.id)) (mid_field (codes "word=") (word_text header.word) refl (word_seen header.word)) in
-    front (state_text header.word ++ (counts_text header ++ used_text used))
-    (state_mid header.word (counts_text header ++ used_text used) (counts_mid header (used_text used) (used_ends used)))
-    (codes "id=") (literal (codes "id=") refl)
+    (mid_then (mid_both (mid_seen (word_text header.id) (word_seen header.id)) (digits_field (codes "word=") header.word refl))
+    (mid_then (state_mid header.word) (mid_then (counts_mid header) (used_ends used)))).lines (codes "id=") (literal (codes "id=") refl)
 
 -- ---- questions and records
 
@@ -100,17 +83,12 @@ label_word : (labels : List (List ℕ)) → AreLabels labels → IsWord (labels_
 label_word labels h = labels_word labels h.0 h.1
 
 type_mid : (kind class : ℕ) → IsMid (type_text kind class)
-type_mid kind class =
-    mid_both (codes " type=" ++ word_text kind) (codes " class=" ++ word_text class)
-    (mid_field (codes "type=") (word_text kind) refl (word_seen kind)) (mid_field (codes "class=") (word_text class) refl (word_seen class))
+type_mid kind class = mid_both (digits_field (codes "type=") kind refl) (digits_field (codes "class=") class refl)
 
 question_parts : (question : Question) → AreLabels question.name → AreParts (question_line question)
 question_parts question h =
-    let name = labels_written question.name in
-    let rest = type_text question.kind question.class ++ line_end in
-    part_two (codes "question" ++ ((32 ∷ name) ++ rest))
-    (mid_word name (label_word question.name h) rest (type_mid question.kind question.class line_end ends_here)
-    (codes "question") (literal (codes "question") refl))
+    part_two ((mid_then (mid_word (labels_written question.name) (label_word question.name h))
+    (mid_then (type_mid question.kind question.class) ends_here)).lines (codes "question") (literal (codes "question") refl))
 
 -- RDATA that stands in bytes
 abbrev pub IsByteData : ResourceData → Type 0
@@ -128,15 +106,9 @@ pub record IsByteRecord (entry : ResourceRecord) : Type 0 where
 
 record_parts : (section : List ℕ) (entry : ResourceRecord) → IsWord section → IsByteRecord entry → AreParts (record_line section entry)
 record_parts section entry is h =
-    let name = labels_written entry.name in
-    let ttl = codes " ttl=" ++ decimal entry.ttl in
-    let last = rdata_text entry.rdata ++ line_end in
-    let middle = type_text entry.kind entry.class ++ (ttl ++ last) in
-    part_two (section ++ ((32 ∷ name) ++ middle))
-    (mid_word name (label_word entry.name h.name) middle
-    (type_mid entry.kind entry.class (ttl ++ last)
-    (mid_field (codes "ttl=") (decimal entry.ttl) refl (number_word entry.ttl).1 last (rdata_mid entry.rdata h.rdata line_end ends_here)))
-    section is)
+    part_two ((mid_then (mid_word (labels_written entry.name) (label_word entry.name h.name))
+    (mid_then (type_mid entry.kind entry.class)
+    (mid_then (number_field (codes "ttl=") entry.ttl refl) (mid_then (rdata_mid entry.rdata h.rdata) ends_here)))).lines section is)
 
 -- ---- parts of RDATA
 
@@ -145,13 +117,8 @@ IsByteEntry entry = (length entry.address ≡ 4) × AreBytes entry.address
 
 entry_parts : (entry : AddressEntry) → IsByteEntry entry → AreParts (entry_line entry)
 entry_parts entry h =
-    let flags = codes " flags=" ++ word_text entry.flags in
-    let ont = codes " ont=" ++ decimal (ont_of entry.flags) in
-    let last = codes " address=" ++ (address_text entry.address ++ line_end) in
-    part_four (codes "entry" ++ (flags ++ (ont ++ last)))
-    (mid_field (codes "flags=") (word_text entry.flags) refl (word_seen entry.flags) (ont ++ last)
-    (mid_field (codes "ont=") (decimal (ont_of entry.flags)) refl (number_word (ont_of entry.flags)).1 last
-    (mid_field (codes "address=") (address_text entry.address) refl (address_word entry.address h.0 h.1).1 line_end ends_here))
+    part_four ((mid_then (digits_field (codes "flags=") entry.flags refl) (mid_then (number_field (codes "ont=") (ont_of entry.flags) refl)
+    (mid_then (mid_field (codes "address=") (address_text entry.address) refl (address_word entry.address h.0 h.1).1) ends_here))).lines
     (codes "entry") (literal (codes "entry") refl))
 
 abbrev pub IsByteNode : NodeName → Type 0
@@ -169,28 +136,19 @@ plain_name bytes long a = (
 
 node_parts : (name : NodeName) → IsByteNode name → AreParts (node_name_line name)
 node_parts name h =
-    let text = written (record { bytes = name.bytes; scope = [] }) in
-    let flags = codes " flags=" ++ word_text name.flags in
-    let ont = codes " ont=" ++ decimal (ont_of name.flags) in
-    let last = codes " set=" ++ (set_text name_flags name.flags ++ line_end) in
-    part_four (codes "name" ++ ((32 ∷ text) ++ (flags ++ (ont ++ last))))
-    (mid_word text (name_word (record { bytes = name.bytes; scope = [] }) (plain_name name.bytes h.0 h.1)) (flags ++ (ont ++ last))
-    (mid_field (codes "flags=") (word_text name.flags) refl (word_seen name.flags) (ont ++ last)
-    (mid_field (codes "ont=") (decimal (ont_of name.flags)) refl (number_word (ont_of name.flags)).1 last
-    (mid_field (codes "set=") (set_text name_flags name.flags) refl (name_set_word name.flags).1 line_end ends_here)))
+    let plain : NetbiosName = record { bytes = name.bytes; scope = [] } in
+    part_four ((mid_then (mid_word (written plain) (name_word plain (plain_name name.bytes h.0 h.1)))
+    (mid_then (digits_field (codes "flags=") name.flags refl) (mid_then (number_field (codes "ont=") (ont_of name.flags) refl)
+    (mid_then (mid_field (codes "set=") (set_text name_flags name.flags) refl (name_set_word name.flags).1) ends_here)))).lines
     (codes "name") (literal (codes "name") refl))
 
 unit_parts : (statistics : List ℕ) → AreBytes statistics → AreParts (unit_line statistics)
 unit_parts statistics a = either (nat_lt (length statistics) 6) where
-  unit : AreParts (codes "    unit=" ++ (digits_text (take 6 statistics) ++ line_end))
-  unit =
-      part_four (codes "unit=" ++ (digits_text (take 6 statistics) ++ line_end))
-      (mid_seen (digits_text (take 6 statistics)) (data_seen (take 6 statistics) (bytes-take 6 statistics a)) line_end ends_here
-      (codes "unit=") (literal (codes "unit=") refl))
-
   either : (test : Bool) → AreParts (if test then [] else codes "    unit=" ++ (digits_text (take 6 statistics) ++ line_end))
   either true = no_parts
-  either false = unit
+  either false =
+      part_four ((mid_then (mid_seen (digits_text (take 6 statistics)) (data_seen (take 6 statistics) (bytes-take 6 statistics a))) ends_here).lines
+      (codes "unit=") (literal (codes "unit=") refl))
 
 -- a status that stands in bytes
 pub record IsByteStatus (status : StatusParts) : Type 0 where
@@ -199,8 +157,7 @@ pub record IsByteStatus (status : StatusParts) : Type 0 where
 
 status_parts : (status : StatusParts) → IsByteStatus status → AreParts (status_lines status)
 status_parts status h =
-    parts_both (flat_map node_name_line status.names) (unit_line status.statistics)
-    (parts_each IsByteNode node_name_line status.names h.names node_parts) (unit_parts status.statistics h.statistics)
+    parts_both (parts_each IsByteNode node_name_line status.names h.names node_parts) (unit_parts status.statistics h.statistics)
 
 -- ---- the views of RDATA are of bytes
 
@@ -255,9 +212,7 @@ data_status (of_domain labels) h = record { names = tt; statistics = tt }
 
 each_parts : (section : List ℕ) → IsWord section → (entry : ResourceRecord) → IsByteRecord entry → AreParts (record_lines section entry)
 each_parts section is entry h =
-    parts_both (record_line section entry) (flat_map entry_line (entries_in entry) ++ status_lines (status_in entry))
-    (record_parts section entry is h)
-    (parts_both (flat_map entry_line (entries_in entry)) (status_lines (status_in entry))
+    parts_both (record_parts section entry is h) (parts_both
     (parts_each IsByteEntry entry_line (entries_in entry)
     (chosen_entries (entry.kind == NB) (entries_of_data entry.rdata) (data_entries entry.rdata h.rdata)) entry_parts)
     (status_parts (status_in entry) (chosen_status (entry.kind == NBSTAT) (status_of_data entry.rdata) (data_status entry.rdata h.rdata))))
@@ -301,25 +256,25 @@ records_stand payload at _ next a none = tt
 records_stand payload at _ next a (more between entry entries one rest) =
     (record_stands payload at entry between a one, records_stand payload between entries next a rest)
 
-all-split : (xs ys : List ResourceRecord) → AllByRecursion IsByteRecord (xs ++ ys)
-    → AllByRecursion IsByteRecord xs × AllByRecursion IsByteRecord ys
-all-split [] ys a = (tt, a)
-all-split (x ∷ xs) ys a = let rest = all-split xs ys a.1 in ((a.0, rest.0), rest.1)
-
 -- ---- the packet
 
 pub service_lines : (payload : List ℕ) (packet : ServicePacket) (used : ℕ) → AreBytes payload → IsPacket payload packet used
     → AreLines (service_text packet used)
 service_lines payload packet used a is =
     let all = records_stand payload is.after (packet.answers ++ (packet.authorities ++ packet.additional)) used a is.records in
-    let one = all-split packet.answers (packet.authorities ++ packet.additional) all in
-    let two = all-split packet.authorities packet.additional one.1 in
-    lines_then (header_line (header_of packet) used) _ (header_lines (header_of packet) used)
-    (parts_both (flat_map question_line packet.questions) _
-    (parts_each IsByteQuestion question_line packet.questions (questions_stand payload _ packet.questions is.after a is.questions) question_parts)
-    (parts_both (flat_map (record_lines (codes "answer")) packet.answers) _
-    (section_parts (codes "answer") packet.answers (literal (codes "answer") refl) one.0)
-    (parts_both (flat_map (record_lines (codes "authority")) packet.authorities)
-    (flat_map (record_lines (codes "additional")) packet.additional)
-    (section_parts (codes "authority") packet.authorities (literal (codes "authority") refl) two.0)
+    let one = all-split IsByteRecord packet.answers (packet.authorities ++ packet.additional) all in
+    let two = all-split IsByteRecord packet.authorities packet.additional one.1 in
+    lines_then (header_lines (header_of packet) used)
+    (parts_both (parts_each IsByteQuestion question_line packet.questions (questions_stand payload _ packet.questions is.after a is.questions) question_parts)
+    (parts_both (section_parts (codes "answer") packet.answers (literal (codes "answer") refl) one.0)
+    (parts_both (section_parts (codes "authority") packet.authorities (literal (codes "authority") refl) two.0)
     (section_parts (codes "additional") packet.additional (literal (codes "additional") refl) two.1))))
+
+pub no_operation : (n : ℕ) → 1 ≤ n → n ≤ 4 → operation_word n ≡ None
+no_operation n low high = grind (arith, nat_tests)
+
+pub past_operation : (n : ℕ) → 10 ≤ n → operation_word n ≡ None
+past_operation n low = grind (arith, nat_tests)
+
+pub past_result : (n : ℕ) → 8 ≤ n → rcode_word n ≡ None
+past_result n low = grind (arith, nat_tests)

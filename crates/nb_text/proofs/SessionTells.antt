@@ -10,7 +10,7 @@ use Rattle.nb_session.specs.Packet.{Packet, IsFormed, IsPacket, body_of, kind_of
 use Rattle.nb_session.specs.Parsing.{Parses, whole}
 use Rattle.nb_text.specs.Lines.{used_text}
 use Rattle.nb_text.specs.SessionText.{parts_text, session_text}
-use Rattle.nb_text.proofs.ByteRows.{bytes-split, bytes-take, spelled_name}
+use Rattle.nb_text.proofs.MidLemmas.{bytes-split, bytes-take, spelled_name}
 use Rattle.nb_text.proofs.FieldTells.{number_tells, code_tells, data_tells, address_tells, name_tells}
 use Rattle.nb_text.proofs.TellLemmas.{Tells, space, field_then, after_tells, same_tells, differ_tells, tells_then}
 

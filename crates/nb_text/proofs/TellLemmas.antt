@@ -4,16 +4,10 @@ use Rattle.std.specs.List.{AllByRecursion, flat_map}
 use Rattle.std.proofs.lemmas.List.{append_cancel_left}
 use Rattle.nb_text.specs.Fields.{IsVisible}
 use Rattle.nb_text.proofs.FieldLemmas.{IsSeen}
-use Rattle.nb_text.proofs.MidLemmas.{all-append}
 
 -- ---- rows
 
--- all of the first part of a row
-pub all_front : (P : ℕ → Type 0) (xs ys : List ℕ) → AllByRecursion P (xs ++ ys) → AllByRecursion P xs
-all_front P [] ys a = tt
-all_front P (x ∷ xs) ys a = (a.0, all_front P xs ys a.1)
-
--- and the character after it
+-- a character amid a row
 pub amid : (P : ℕ → Type 0) (xs ys : List ℕ) (c : ℕ) → AllByRecursion P (xs ++ c ∷ ys) → P c
 amid P [] ys c a = a.0
 amid P (x ∷ xs) ys c a = amid P xs ys c a.1
@@ -21,11 +15,6 @@ amid P (x ∷ xs) ys c a = amid P xs ys c a.1
 pub all_weaker : (P Q : ℕ → Type 0) (xs : List ℕ) → AllByRecursion P xs → ((c : ℕ) → P c → Q c) → AllByRecursion Q xs
 all_weaker P Q [] h each = tt
 all_weaker P Q (x ∷ xs) h each = (each x h.0, all_weaker P Q xs h.1 each)
-
-pub all_flat : {A : Type 0} (P : A → Type 0) (Q : ℕ → Type 0) (f : A → List ℕ) (xs : List A) → AllByRecursion P xs
-    → ((x : A) → P x → AllByRecursion Q (f x)) → AllByRecursion Q (flat_map f xs)
-all_flat {A} P Q f [] h each = tt
-all_flat {A} P Q f (x ∷ xs) h each = all-append Q (f x) (flat_map f xs) (each x h.0) (all_flat P Q f xs h.1 each)
 
 -- ---- cuts
 

@@ -1,5 +1,5 @@
 -- The fields of payloads that were told, and their text.
-use Rattle.std.proofs.Common.{◌≡◌, ◌≢◌, ℕ, List, [], ◌∷◌, ◌++◌, Option, Some, None, Result, Ok, Err, ◌≤◌, fold, subst, sym, ◌∙◌, ap, arith}
+use Rattle.std.proofs.Common.{◌≡◌, ◌≢◌, ℕ, List, [], ◌∷◌, ◌++◌, Option, Some, None, Result, Ok, Err, ◌≤◌, fold, subst, sym, ◌∙◌, ap, arith, ◌<◌, Bool, true, false, length, refl, append-nil}
 use Rattle.std.specs.Prelude.{OnOk, IfOk, IfSome}
 use Rattle.std.proofs.lemmas.Result.{on_ok_weaker}
 use Rattle.nb_service.specs.FaultTexts.{service_fault_place, service_fault_text}
@@ -15,7 +15,7 @@ use Rattle.json.specs.Print.{print}
 use Rattle.nb_telling.specs.Members.{AreMembers, IsJson}
 use Rattle.nb_telling.specs.Texts.{field_text, text_of}
 use Rattle.nb_telling.specs.Tokens.{field_tokens, tokens_of}
-use Rattle.nb_telling.proofs.FoldLemmas.{appended, told_both}
+use Rattle.nb_telling.proofs.FoldLemmas.{appended, told_both, and_then}
 use Rattle.nb_text.specs.DatagramFields.{datagram_fields}
 use Rattle.nb_text.specs.Keys.{refused_key}
 use Rattle.nb_text.specs.LineFields.{refused_fields}
@@ -25,6 +25,16 @@ use Rattle.nb_text.specs.Shown.{Shown, AddsShown}
 use Rattle.nb_text.specs.Tells.{Tells, IsTold, IsObject, names, no_names, datagram, no_datagram, session}
 use Rattle.nb_text.proofs.FieldMembers.{fields_members}
 use Rattle.nb_text.proofs.FieldTexts.{service_same, datagram_same, session_same, refused_same}
+use Rattle.nb_service.specs.declared.fault.ServiceFault.{ServiceFault}
+use Rattle.nb_service.specs.Header.{PacketHeader}
+use Rattle.nb_service.specs.Items.{HasItems, items_of}
+use Rattle.nb_service.specs.Packet.{ServicePacket, IsPacket}
+use Rattle.nb_service.specs.ServiceFaults.{PacketFails}
+use Rattle.nb_text.specs.FrontFields.{names_front_fields}
+use Rattle.nb_text.specs.ServiceFields.{service_fields}
+use Rattle.nb_text.specs.Tells as tells
+use Rattle.nb_text.specs.TellsFront as fronts
+use Rattle.nb_text.specs.TellsFront.{ServiceTold}
 
 -- ---- what was told
 
@@ -109,3 +119,53 @@ pub told_json : {E : Type 0} (payload : List ℕ) (port : ℕ) (old new : List T
 told_json payload port old new (Ok made) told begun is =
     is 2 told.fields (fields_members payload port told.fields told.tells) (omega arith) (told_tokens payload port old new told begun)
 told_json payload port old new (Err e) told begun is = tt
+
+module _ {S : Type 0} (after : S → Field → S) (payload : List ℕ) (old new : S) where
+  pub whole_told : (more : Bool) (packet : ServicePacket) (used : ℕ) → IsPacket payload packet used → new ≡ fold after old (service_fields packet used) →
+      ServiceTold after payload more old new
+  whole_told false packet used is told = record { fields = service_fields packet used; tells = tells.names packet used is; seen = told }
+  whole_told true packet used is told = record {
+    fields = service_fields packet used;
+    tells = record {
+      told = service_fields packet used;
+      more = [];
+      tells = tells.names packet used is;
+      stands = fronts.names packet used is;
+      are = sym (append-nil (service_fields packet used));
+    };
+    seen = told;
+  }
+
+  pub refused_told : (fault : ServiceFault) → PacketFails payload fault →
+      new ≡ fold after old (refused_fields (service_fault_text fault) (service_fault_place fault)) → ServiceTold after payload false old new
+  refused_told fault fails told = record { fields = refused_fields (service_fault_text fault) (service_fault_place fault); tells = tells.no_names fault fails; seen = told }
+
+  pub headless_told : (more : Bool) (fault : ServiceFault) → PacketFails payload fault → length payload < 12 →
+      new ≡ fold after old (refused_fields (service_fault_text fault) (service_fault_place fault)) → ServiceTold after payload more old new
+  headless_told false fault fails low told = refused_told fault fails told
+  headless_told true fault fails low told = record {
+    fields = refused_fields (service_fault_text fault) (service_fault_place fault);
+    tells = record {
+      told = refused_fields (service_fault_text fault) (service_fault_place fault);
+      more = [];
+      tells = tells.no_names fault fails;
+      stands = fronts.no_names_header fault fails low;
+      are = sym (append-nil (refused_fields (service_fault_text fault) (service_fault_place fault)));
+    };
+    seen = told;
+  }
+
+  pub front_told : (fault : ServiceFault) (header : PacketHeader) (part : ServicePacket) (next : ℕ) (mid : S) → PacketFails payload fault → HasItems payload header (items_of part) next →
+      mid ≡ fold after old (refused_fields (service_fault_text fault) (service_fault_place fault)) → new ≡ fold after mid (names_front_fields header part) →
+      ServiceTold after payload true old new
+  front_told fault header part next mid fails items first rest = record {
+    fields = refused_fields (service_fault_text fault) (service_fault_place fault) ++ names_front_fields header part;
+    tells = record {
+      told = refused_fields (service_fault_text fault) (service_fault_place fault);
+      more = names_front_fields header part;
+      tells = tells.no_names fault fails;
+      stands = fronts.names_front fault header part next fails items;
+      are = refl;
+    };
+    seen = and_then after old (refused_fields (service_fault_text fault) (service_fault_place fault)) (names_front_fields header part) first rest;
+  }

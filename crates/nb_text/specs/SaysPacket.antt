@@ -1,5 +1,7 @@
 -- The phrase of a payload: of the packet that it begins with, or of its fault (our choice).
-use Rattle.std.specs.Prelude.{◌≡◌, ◌≢◌, ℕ, List, ◌++◌, length}
+use Rattle.std.specs.Prelude.{◌≡◌, ◌≢◌, ℕ, String, string_bytes, List, ◌++◌, length, OnOk, Result}
+use Rattle.nb_names.specs.declared.bytes.NoMemory.{NoMemory}
+use Rattle.nb_names.specs.Growth.{OnlyAdds}
 use Rattle.nb_service.specs.declared.fault.ServiceFault.{ServiceFault}
 use Rattle.nb_service.specs.Packet as service
 use Rattle.nb_service.specs.ServiceFaults as service_faults
@@ -29,3 +31,9 @@ pub record AddsSaid (payload : List ℕ) (port : ℕ) (old new : List ℕ) : Typ
   pub text : List ℕ
   pub said : IsSaid payload port text
   pub added : new ≡ old ++ text
+
+-- AddsPhrase result payload port old new: where memory sufficed, the payload's phrase was added to a text; what stood in it is
+-- its front anyway
+abbrev pub AddsPhrase : {A Z : Type 0} → Result A NoMemory → List ℕ → ℕ → String Z → String Z → Type 0
+AddsPhrase result payload port old new =
+    OnOk result (AddsSaid payload port (string_bytes old) (string_bytes new)) × OnlyAdds (string_bytes old) (string_bytes new)

@@ -5,7 +5,6 @@ ghost use Rattle.nb_names.specs.Growth.{OnlyAdds};
 ghost use Rattle.nb_text.specs.SaysPacket.{AddsSaid};
 
 mod datagrams;
-mod endings;
 mod form;
 mod pieces;
 mod services;
@@ -34,9 +33,11 @@ pub fn push_brief(port: u16, payload: &[u8], text: &mut String) -> Result<(), No
         (AddsSaid payload.now port (string_bytes text.old) (string_bytes text.new)) }
     ensures front { OnlyAdds (string_bytes text.old) (string_bytes text.new) }
 {
-    match port {
-        137 => push_service(payload, text),
-        138 => push_datagram(payload, text),
-        _ => push_session(payload, text),
+    if port == 137 {
+        return push_service(payload, text);
     }
+    if port == 138 {
+        return push_datagram(payload, text);
+    }
+    push_session(payload, text)
 }

@@ -2,200 +2,114 @@
 
 use nb_telling::FieldKey;
 
+/// A key: its name, and what stands before its value in text.
+macro_rules! field_key {
+    ($name:literal, $lead:literal) => {
+        FieldKey {
+            name: $name,
+            lead: $lead,
+        }
+    };
+}
+
+/// Of what stands in a phrase, which has no key.
+pub(crate) const NO_KEY: FieldKey = field_key!("", "");
+
 /// What a packet is, with which its line begins.
-pub const KIND: FieldKey = FieldKey {
-    name: "kind",
-    lead: "",
-};
+pub const KIND: FieldKey = field_key!("kind", "");
 
 /// How many bytes of a packet are missing.
-pub const MORE: FieldKey = FieldKey {
-    name: "more",
-    lead: "more ",
-};
+pub const MORE: FieldKey = field_key!("more", "more ");
 
 /// Why a payload begins with no packet.
-pub const REFUSED: FieldKey = FieldKey {
-    name: "refused",
-    lead: "refused ",
-};
+pub const REFUSED: FieldKey = field_key!("refused", "refused ");
 
 /// How many bytes of the payload a packet takes up.
-pub const USED: FieldKey = FieldKey {
-    name: "used",
-    lead: " used=",
-};
+pub const USED: FieldKey = field_key!("used", " used=");
 
 /// The identifier of a packet of port 137.
-pub const ID: FieldKey = FieldKey {
-    name: "id",
-    lead: "id=",
-};
+pub const ID: FieldKey = field_key!("id", "id=");
 
 /// Its flag word.
-pub const WORD: FieldKey = FieldKey {
-    name: "word",
-    lead: " word=",
-};
+pub const WORD: FieldKey = field_key!("word", " word=");
 
 /// The operation, OPCODE.
-pub const OP: FieldKey = FieldKey {
-    name: "op",
-    lead: " op=",
-};
+pub const OP: FieldKey = field_key!("op", " op=");
 
 /// Flags: a set, or a word of them.
-pub const FLAGS: FieldKey = FieldKey {
-    name: "flags",
-    lead: " flags=",
-};
+pub const FLAGS: FieldKey = field_key!("flags", " flags=");
 
 /// The result, RCODE.
-pub const RCODE: FieldKey = FieldKey {
-    name: "rcode",
-    lead: " rcode=",
-};
+pub const RCODE: FieldKey = field_key!("rcode", " rcode=");
 
 /// How many questions there are.
-pub const QD: FieldKey = FieldKey {
-    name: "qd",
-    lead: " qd=",
-};
+pub const QD: FieldKey = field_key!("qd", " qd=");
 
 /// How many answers there are.
-pub const AN: FieldKey = FieldKey {
-    name: "an",
-    lead: " an=",
-};
+pub const AN: FieldKey = field_key!("an", " an=");
 
 /// How many authorities there are.
-pub const NS: FieldKey = FieldKey {
-    name: "ns",
-    lead: " ns=",
-};
+pub const NS: FieldKey = field_key!("ns", " ns=");
 
 /// How many additional records there are.
-pub const AR: FieldKey = FieldKey {
-    name: "ar",
-    lead: " ar=",
-};
+pub const AR: FieldKey = field_key!("ar", " ar=");
 
 /// The name of a question, a record or a node.
-pub const NAME: FieldKey = FieldKey {
-    name: "name",
-    lead: " ",
-};
+pub const NAME: FieldKey = field_key!("name", " ");
 
 /// A type.
-pub const TYPE: FieldKey = FieldKey {
-    name: "type",
-    lead: " type=",
-};
+pub const TYPE: FieldKey = field_key!("type", " type=");
 
 /// A class.
-pub const CLASS: FieldKey = FieldKey {
-    name: "class",
-    lead: " class=",
-};
+pub const CLASS: FieldKey = field_key!("class", " class=");
 
 /// How long a record holds, in seconds.
-pub const TTL: FieldKey = FieldKey {
-    name: "ttl",
-    lead: " ttl=",
-};
+pub const TTL: FieldKey = field_key!("ttl", " ttl=");
 
 /// Bytes.
-pub const DATA: FieldKey = FieldKey {
-    name: "data",
-    lead: " data=",
-};
+pub const DATA: FieldKey = field_key!("data", " data=");
 
 /// The domain name in the RDATA of kind NS.
-pub const DOMAIN: FieldKey = FieldKey {
-    name: "domain",
-    lead: " domain=",
-};
+pub const DOMAIN: FieldKey = field_key!("domain", " domain=");
 
 /// The type of an owner, ONT.
-pub const ONT: FieldKey = FieldKey {
-    name: "ont",
-    lead: " ont=",
-};
+pub const ONT: FieldKey = field_key!("ont", " ont=");
 
 /// An address.
-pub const ADDRESS: FieldKey = FieldKey {
-    name: "address",
-    lead: " address=",
-};
+pub const ADDRESS: FieldKey = field_key!("address", " address=");
 
 /// The flags that are set of a node's name.
-pub const SET: FieldKey = FieldKey {
-    name: "set",
-    lead: " set=",
-};
+pub const SET: FieldKey = field_key!("set", " set=");
 
 /// A node's unit.
-pub const UNIT: FieldKey = FieldKey {
-    name: "unit",
-    lead: "    unit=",
-};
+pub const UNIT: FieldKey = field_key!("unit", "    unit=");
 
 /// MSG_TYPE or TYPE, where no packet has it: what a packet's front is then called by.
-pub const PACKET_TYPE: FieldKey = FieldKey {
-    name: "type",
-    lead: "type=",
-};
+pub const PACKET_TYPE: FieldKey = field_key!("type", "type=");
 
 /// The key of a datagram.
-pub const KEY: FieldKey = FieldKey {
-    name: "key",
-    lead: " key=",
-};
+pub const KEY: FieldKey = field_key!("key", " key=");
 
 /// The offset of a fragment.
-pub const OFFSET: FieldKey = FieldKey {
-    name: "offset",
-    lead: " offset=",
-};
+pub const OFFSET: FieldKey = field_key!("offset", " offset=");
 
 /// Who sends.
-pub const SOURCE: FieldKey = FieldKey {
-    name: "source",
-    lead: " source=",
-};
+pub const SOURCE: FieldKey = field_key!("source", " source=");
 
 /// Who is sent to.
-pub const DESTINATION: FieldKey = FieldKey {
-    name: "destination",
-    lead: " destination=",
-};
+pub const DESTINATION: FieldKey = field_key!("destination", " destination=");
 
 /// The code of an error or a refusal.
-pub const CODE: FieldKey = FieldKey {
-    name: "code",
-    lead: " code=",
-};
+pub const CODE: FieldKey = field_key!("code", " code=");
 
 /// The length of a message.
-pub const LENGTH: FieldKey = FieldKey {
-    name: "length",
-    lead: " length=",
-};
+pub const LENGTH: FieldKey = field_key!("length", " length=");
 
 /// Who is called.
-pub const CALLED: FieldKey = FieldKey {
-    name: "called",
-    lead: " called=",
-};
+pub const CALLED: FieldKey = field_key!("called", " called=");
 
 /// Who calls.
-pub const CALLING: FieldKey = FieldKey {
-    name: "calling",
-    lead: " calling=",
-};
+pub const CALLING: FieldKey = field_key!("calling", " calling=");
 
 /// The port to which a session is retargeted.
-pub const TO_PORT: FieldKey = FieldKey {
-    name: "to_port",
-    lead: " port=",
-};
+pub const TO_PORT: FieldKey = field_key!("to_port", " port=");

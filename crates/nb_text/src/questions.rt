@@ -10,8 +10,7 @@ ghost use Rattle.nb_service.specs.Code.Steps.{HasRow, RowOf};
 ghost use Rattle.nb_service.specs.Items.{SeesQuestion};
 ghost use Rattle.nb_service.specs.Packet.{QuestionAt};
 ghost use Rattle.nb_telling.specs.Fields.{Text};
-ghost use Rattle.nb_telling.specs.Telling.{Grows};
-ghost use Rattle.nb_text.specs.Keys.{name_key};
+ghost use Rattle.nb_telling.specs.Telling.{Grows, key_of};
 ghost use Rattle.nb_text.specs.LineFields.{list_fields};
 ghost use Rattle.nb_text.specs.ServiceFields.{named_fields, question_fields};
 
@@ -19,7 +18,7 @@ use crate::keys::{CLASS, NAME, TYPE};
 use crate::words::{end_part, tell_word};
 use nb_names::{NameReader, NoMemory, Pointers};
 use nb_service::{Seen, see_question};
-use nb_telling::Sink;
+use nb_telling::{FieldKey, Sink};
 
 /// Tells the list of so many questions, which stand one after the other from an offset on, and
 /// answers where they end.
@@ -78,12 +77,12 @@ fn tell_question<S: Sink>(
     ensures front { Grows S.is_front (S.seen sink.old) (S.seen sink.new) }
 {
     sink.part("  question")?;
-    tell_front(names, seen, sink)?;
+    tell_named_fields(names, seen, sink)?;
     end_part(sink)
 }
 
 /// Tells the name, the type and the class of a question or a record.
-pub fn tell_front<S: Sink>(
+pub fn tell_named_fields<S: Sink>(
     names: &NameReader<'_, '_>,
     seen: &Seen,
     sink: &mut S,
@@ -96,24 +95,29 @@ pub fn tell_front<S: Sink>(
         (named_fields labels seen.now.fields.kind seen.now.fields.class)) }
     ensures front { Grows S.is_front (S.seen sink.old) (S.seen sink.new) }
 {
-    tell_name(names, seen, sink)?;
+    tell_name(NAME, names, seen, sink)?;
     tell_word(TYPE, seen.fields.kind, sink)?;
     tell_word(CLASS, seen.fields.class, sink)
 }
 
 /// Tells the name of a question or a record, from where it stands if it stands there in one run.
-fn tell_name<S: Sink>(names: &NameReader<'_, '_>, seen: &Seen, sink: &mut S) -> Result<(), NoMemory>
+pub fn tell_name<S: Sink>(
+    key: FieldKey,
+    names: &NameReader<'_, '_>,
+    seen: &Seen,
+    sink: &mut S,
+) -> Result<(), NoMemory>
     requires { (labels : List (List ℕ)) × IsSkipped names.now Followed seen.now.at labels
         seen.now.name }
     ensures told { (labels : List (List ℕ)) →
         IsSkipped names.now Followed seen.now.at labels seen.now.name → OnOk result
-        (S.seen sink.new ≡ S.after (S.seen sink.old) (Text name_key (labels_written labels))) }
+        (S.seen sink.new ≡ S.after (S.seen sink.old) (Text (key_of key) (labels_written labels))) }
     ensures front { Grows S.is_front (S.seen sink.old) (S.seen sink.new) }
 {
     match names.lent_at(seen.at, Pointers::Followed, &seen.name) {
-        Some(name) => sink.shown(NAME, &name),
+        Some(name) => sink.shown(key, &name),
         None => sink.shown(
-            NAME,
+            key,
             &names.domain_at(seen.at, Pointers::Followed, &seen.name),
         ),
     }

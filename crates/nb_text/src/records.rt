@@ -15,7 +15,7 @@ ghost use Rattle.nb_text.specs.LineFields.{list_fields};
 ghost use Rattle.nb_text.specs.ServiceFields.{data_fields, entry_fields, rdata_field, record_fields, view_fields};
 
 use crate::keys::{ADDRESS, DATA, DOMAIN, TTL};
-use crate::questions::tell_front;
+use crate::questions::tell_named_fields;
 use crate::statuses::tell_status;
 use crate::words::{end_part, tell_owner};
 use nb_names::{DomainName, NameReader, NoMemory};
@@ -63,7 +63,7 @@ fn tell_records<S: Sink>(
 {
     let mut next = at;
     for _ in 0..count {
-        next = tell_standing(lead, names, next, sink)?;
+        next = tell_record_at(lead, names, next, sink)?;
     }
     Ok(next)
 }
@@ -72,7 +72,7 @@ fn tell_records<S: Sink>(
 ///
 /// It is no part of the loop, so that a section without records makes no room for one.
 #[inline(never)]
-fn tell_standing<S: Sink>(
+fn tell_record_at<S: Sink>(
     lead: &str,
     names: &NameReader<'_, '_>,
     at: usize,
@@ -103,7 +103,7 @@ fn tell_record<S: Sink>(
     ensures front { Grows S.is_front (S.seen sink.old) (S.seen sink.new) }
 {
     sink.part(lead)?;
-    tell_front(names, seen, sink)?;
+    tell_named_fields(names, seen, sink)?;
     sink.number(TTL, u64::from(seen.fields.ttl))?;
     tell_rdata(names, seen, sink)?;
     sink.part_ends()

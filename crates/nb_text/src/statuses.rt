@@ -28,7 +28,7 @@ pub fn tell_status<S: Sink>(bytes: &[u8], sink: &mut S) -> Result<(), NoMemory>
     ensures front { Grows S.is_front (S.seen sink.old) (S.seen sink.new) }
 {
     match NodeStatus::of_rdata(NBSTAT, bytes) {
-        Some(status) => tell_standing(&status, sink),
+        Some(status) => tell_names_and_unit(&status, sink),
         None => tell_none(sink),
     }
 }
@@ -44,7 +44,7 @@ fn tell_none<S: Sink>(sink: &mut S) -> Result<(), NoMemory>
 }
 
 /// Tells a node status.
-fn tell_standing<S: Sink>(status: &NodeStatus<'_>, sink: &mut S) -> Result<(), NoMemory>
+fn tell_names_and_unit<S: Sink>(status: &NodeStatus<'_>, sink: &mut S) -> Result<(), NoMemory>
     ensures told { OnOk result
         (S.seen sink.new ≡ fold S.after (S.seen sink.old) (status_fields status.now)) }
     ensures front { Grows S.is_front (S.seen sink.old) (S.seen sink.new) }

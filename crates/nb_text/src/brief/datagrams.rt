@@ -1,10 +1,9 @@
 //! The phrases of payloads of port 138.
 
-ghost use Rattle.std.specs.Prelude.{◌≡◌, OnOk, string_bytes};
-ghost use Rattle.nb_names.specs.Growth.{OnlyAdds};
+ghost use Rattle.std.specs.Prelude.{◌≡◌};
 ghost use Rattle.nb_datagram.specs.Fragment.{has_more};
 ghost use Rattle.nb_text.specs.Said.{Adds, datagram_refused_said, datagram_said, error_words, fragment_said, kind_words, offset_said, query_words};
-ghost use Rattle.nb_text.specs.SaysPacket.{AddsSaid};
+ghost use Rattle.nb_text.specs.SaysPacket.{AddsPhrase};
 
 use crate::brief::pieces::{
     counts_in, push_bytes, push_coded, push_count, push_follow, push_refused, push_text,
@@ -14,9 +13,7 @@ use nb_names::{NoMemory, push_lent_name};
 
 /// Adds the phrase of a payload of port 138.
 pub fn push_datagram(payload: &[u8], text: &mut String) -> Result<(), NoMemory>
-    ensures said { OnOk result
-        (AddsSaid payload.now 138 (string_bytes text.old) (string_bytes text.new)) }
-    ensures front { OnlyAdds (string_bytes text.old) (string_bytes text.new) }
+    ensures { AddsPhrase result payload.now 138 text.old text.new }
 {
     match decode_lent(payload) {
         Ok((packet, used)) => {
@@ -71,13 +68,11 @@ fn kind_words(kind: Kind) -> &'static str
 fn push_offset(more: bool, offset: u64, text: &mut String) -> Result<(), NoMemory>
     ensures { Adds result text.old text.new (offset_said more offset) }
 {
-    if more {
-        return push_count(" at offset ", offset, " of one that goes on", text);
+    match (more, offset) {
+        (true, _) => push_count(" at offset ", offset, " of one that goes on", text),
+        (false, 0) => Ok(()),
+        (false, _) => push_count(" at offset ", offset, ", the last", text),
     }
-    if offset != 0 {
-        return push_count(" at offset ", offset, ", the last", text);
-    }
-    Ok(())
 }
 
 /// What a query says (RFC 1002 section 4.4.4).

@@ -1,24 +1,21 @@
-//! What is said of packets of port 137 besides the name: a row for each packet.
+//! What is said of packets of port 137 besides the name: a row for each packet, and its end.
 
-ghost use Rattle.std.specs.Prelude.{◌≡◌, ◌==◌};
-ghost use Rattle.nb_text.specs.Forms.{form_of, is_challenge, request_form, response_form, says};
+ghost use Rattle.std.specs.Prelude.{◌≡◌, ◌==◌, ◌∷◌, []};
+ghost use Rattle.nb_text.specs.Forms.{form_of, request_form, response_form, says};
+ghost use Rattle.nb_text.specs.Said.{Adds};
+ghost use Rattle.nb_text.specs.ServiceSaid.{addresses_said, ending_said, few_said, held_said, names_said, reason_said, reason_words, server_said, time_said, unit_said};
 ghost use Rattle.nb_text.specs.Words.{is_set};
 
+use crate::brief::pieces::{push_count, push_each, push_text};
+use crate::brief::told::{Few, MOST_LISTED, Told};
 use bitflags::Flags;
+use nb_names::{DomainName, NoMemory, push_decimal, push_digits, push_domain};
 use nb_service::kinds::{NBSTAT, NS};
-use nb_service::{NmFlags, opcode, rcode};
+use nb_service::limits::UNIT_ID_LENGTH;
+use nb_service::{NmFlags, NodeFlags, opcode, rcode};
 
 /// R of a flag word (RFC 1002 section 4.2.1.1): the packet is a response.
 const RESPONSE: u16 = 0x8000;
-
-/// What is said of a packet of RFC 1002 section 4.2 besides the name.
-#[derive(Clone, Copy)]
-pub struct Form {
-    /// What stands before the name.
-    pub opening: &'static str,
-    /// What stands after it.
-    pub ending: Ending,
-}
 
 /// What a phrase says after the name.
 #[derive(Clone, Copy)]
@@ -47,19 +44,10 @@ pub enum Ending {
     Operation,
 }
 
-impl Form {
-    /// What is said, of its two parts.
-    fn new(opening: &'static str, ending: Ending) -> Form
-        ensures opening { result.opening.now ≡ opening.now }
-        ensures ending { result.ending ≡ ending }
-    {
-        Form { opening, ending }
-    }
-}
-
-/// What is said of a packet, by its flag word and the type of what it is about.
-pub fn form_of(word: u16, kind: Option<u16>) -> Form
-    ensures { says result.opening.now result.ending ≡ form_of word kind }
+/// What stands before the name and after it, of a packet of RFC 1002 section 4.2, by its flag word
+/// and the type of what it is about.
+pub fn form_of(word: u16, kind: Option<u16>) -> (&'static str, Ending)
+    ensures { says result.0.now result.1 ≡ form_of word kind }
 {
     if word & RESPONSE == 0 {
         request_form(word, kind)
@@ -68,48 +56,42 @@ pub fn form_of(word: u16, kind: Option<u16>) -> Form
     }
 }
 
-/// What is said of a request.
-fn request_form(word: u16, kind: Option<u16>) -> Form
-    ensures { says result.opening.now result.ending ≡ request_form word kind }
+/// The same of a request.
+fn request_form(word: u16, kind: Option<u16>) -> (&'static str, Ending)
+    ensures { says result.0.now result.1 ≡ request_form word kind }
 {
     match opcode(word) {
-        0 if kind == Some(NBSTAT) => Form::new("asks for the node status of ", Ending::Nothing),
-        0 => Form::new("asks for ", Ending::Nothing),
-        5 if has(word, NmFlags::RD) => Form::new("claims ", Ending::Claim),
-        5 => Form::new("overwrites ", Ending::Claim),
-        6 => Form::new("releases ", Ending::Holder),
-        8 | 9 => Form::new("refreshes ", Ending::Claim),
-        15 => Form::new("claims as one of several addresses ", Ending::Claim),
-        _ => Form::new("makes another request about ", Ending::Operation),
+        0 if kind == Some(NBSTAT) => ("asks for the node status of ", Ending::Nothing),
+        0 => ("asks for ", Ending::Nothing),
+        5 if has(word, NmFlags::RD) => ("claims ", Ending::Claim),
+        5 => ("overwrites ", Ending::Claim),
+        6 => ("releases ", Ending::Holder),
+        8 | 9 => ("refreshes ", Ending::Claim),
+        15 => ("claims as one of several addresses ", Ending::Claim),
+        _ => ("makes another request about ", Ending::Operation),
     }
 }
 
-/// What is said of a response.
-fn response_form(word: u16, kind: Option<u16>) -> Form
-    ensures { says result.opening.now result.ending ≡ response_form word kind }
+/// The same of a response.
+fn response_form(word: u16, kind: Option<u16>) -> (&'static str, Ending)
+    ensures { says result.0.now result.1 ≡ response_form word kind }
 {
     let good = rcode(word) == 0;
+    let asks = has(word, NmFlags::RD) && !has(word, NmFlags::RA);
     match opcode(word) {
-        0 if !good => Form::new("answers: ", Ending::NotFound),
-        0 if kind == Some(NBSTAT) => Form::new("answers: ", Ending::Status),
-        0 if kind == Some(NS) => Form::new("answers: ", Ending::Server),
-        0 => Form::new("answers: ", Ending::Found),
-        5 if rcode(word) == 7 => Form::new("conflict about ", Ending::Nothing),
-        5 if good && is_challenge(word) => Form::new("asks to challenge ", Ending::Place),
-        6 if good => Form::new("grants the release of ", Ending::Nothing),
-        6 => Form::new("refuses the release of ", Ending::Reason),
-        7 => Form::new("asks to wait for ", Ending::Time),
-        5 | 8 | 9 | 15 if good => Form::new("grants ", Ending::Claim),
-        5 | 8 | 9 | 15 => Form::new("refuses ", Ending::Reason),
-        _ => Form::new("makes another response about ", Ending::Operation),
+        0 if !good => ("answers: ", Ending::NotFound),
+        0 if kind == Some(NBSTAT) => ("answers: ", Ending::Status),
+        0 if kind == Some(NS) => ("answers: ", Ending::Server),
+        0 => ("answers: ", Ending::Found),
+        5 if rcode(word) == 7 => ("conflict about ", Ending::Nothing),
+        5 if good && asks => ("asks to challenge ", Ending::Place),
+        6 if good => ("grants the release of ", Ending::Nothing),
+        6 => ("refuses the release of ", Ending::Reason),
+        7 => ("asks to wait for ", Ending::Time),
+        5 | 8 | 9 | 15 if good => ("grants ", Ending::Claim),
+        5 | 8 | 9 | 15 => ("refuses ", Ending::Reason),
+        _ => ("makes another response about ", Ending::Operation),
     }
-}
-
-/// Whether a positive response to a registration asks for a challenge: RD without RA.
-fn is_challenge(word: u16) -> bool
-    ensures { result ≡ is_challenge word }
-{
-    has(word, NmFlags::RD) && !has(word, NmFlags::RA)
 }
 
 /// Whether a flag is set in a flag word.
@@ -117,4 +99,146 @@ fn has(word: u16, flag: NmFlags) -> bool
     ensures { result ≡ is_set word flag.0 }
 {
     word & flag.bits() != 0
+}
+
+/// Adds what stands after the name, of a packet of this flag word whose records tell so much.
+pub fn push_ending(
+    ending: Ending,
+    word: u16,
+    told: &Told,
+    text: &mut String,
+) -> Result<(), NoMemory>
+    ensures { Adds result text.old text.new (ending_said ending word told.now) }
+{
+    match ending {
+        Ending::Nothing => Ok(()),
+        Ending::Claim => {
+            push_held(" as a group for ", " for ", told, text)?;
+            push_time(told.ttl, text)
+        }
+        Ending::Holder => push_held(" as a group for ", " for ", told, text),
+        Ending::Found => push_held(" is a group at ", " is at ", told, text),
+        Ending::Status => {
+            push_names(&told.listed, text)?;
+            push_unit(told.unit, text)
+        }
+        Ending::Server => {
+            push_text(" is known to ", text)?;
+            push_server(&told.server, text)?;
+            push_addresses(" at ", &told.listed, text)
+        }
+        Ending::Place => push_addresses(" at ", &told.listed, text),
+        Ending::NotFound => {
+            push_text(" is not found", text)?;
+            push_reason(word, text)
+        }
+        Ending::Reason => push_reason(word, text),
+        Ending::Time => push_time(told.ttl, text),
+        Ending::Operation => {
+            push_text(", operation ", text)?;
+            push_decimal(u64::from(opcode(word)), text)
+        }
+    }
+}
+
+/// Adds the addresses, after what is said of a group or of one node (G of RFC 1002 sections 4.2.13
+/// and 4.2.18).
+fn push_held(group: &str, one: &str, told: &Told, text: &mut String) -> Result<(), NoMemory>
+    ensures { Adds result text.old text.new (held_said group.now one.now told.now) }
+{
+    let lead = match told.flags {
+        Some(flags) if flags & NodeFlags::G.bits() != 0 => group,
+        _ => one,
+    };
+    push_addresses(lead, &told.listed, text)
+}
+
+/// Adds for how long, if that is known.
+fn push_time(ttl: Option<u32>, text: &mut String) -> Result<(), NoMemory>
+    ensures { Adds result text.old text.new (time_said ttl) }
+{
+    match ttl {
+        Some(ttl) => push_count(", for ", u64::from(ttl), " s", text),
+        None => Ok(()),
+    }
+}
+
+/// Adds the addresses that are listed.
+fn push_addresses(lead: &str, listed: &Few, text: &mut String) -> Result<(), NoMemory>
+    ensures { Adds result text.old text.new (lead.now ∷ addresses_said listed.now) }
+{
+    push_text(lead, text)?;
+    if listed.count == 0 {
+        return push_text("no address", text);
+    }
+    push_few(listed, text)
+}
+
+/// Adds the first ones of what is listed, and how many more there are.
+fn push_few(listed: &Few, text: &mut String) -> Result<(), NoMemory>
+    ensures { Adds result text.old text.new (few_said listed.now) }
+{
+    push_each(listed.first.as_slice(), text)?;
+    if listed.count > MOST_LISTED as u64 {
+        return push_count(" and ", listed.count - MOST_LISTED as u64, " more", text);
+    }
+    Ok(())
+}
+
+/// Adds the names of a node.
+fn push_names(listed: &Few, text: &mut String) -> Result<(), NoMemory>
+    ensures { Adds result text.old text.new (names_said listed.now) }
+{
+    if listed.count == 0 {
+        return push_text(" has no names", text);
+    }
+    push_count(" has ", listed.count, " names: ", text)?;
+    push_few(listed, text)
+}
+
+/// Adds the unit of a node, if that is known.
+fn push_unit(unit: Option<[u8; UNIT_ID_LENGTH]>, text: &mut String) -> Result<(), NoMemory>
+    ensures { Adds result text.old text.new (unit_said unit) }
+{
+    match unit {
+        Some(unit) => {
+            push_text(", unit ", text)?;
+            push_digits(&unit, text)
+        }
+        None => Ok(()),
+    }
+}
+
+/// Adds the name of a name server.
+fn push_server(server: &Option<DomainName>, text: &mut String) -> Result<(), NoMemory>
+    ensures { Adds result text.old text.new (server_said server.now ∷ []) }
+{
+    match server {
+        Some(server) => push_domain(text, &server.lent()),
+        None => push_text("no name", text),
+    }
+}
+
+/// Adds what RCODE says (RFC 1002 sections 4.2.6, 4.2.11 and 4.2.14).
+fn push_reason(word: u16, text: &mut String) -> Result<(), NoMemory>
+    ensures { Adds result text.old text.new (reason_said word) }
+{
+    push_text(": ", text)?;
+    push_text(reason_words(rcode(word)), text)
+}
+
+/// What RCODE says, in words.
+fn reason_words(rcode: u8) -> &'static str
+    ensures { result.now ≡ reason_words rcode }
+{
+    match rcode {
+        1 => "wrong form (FMT_ERR)",
+        2 => "server failure (SRV_ERR)",
+        3 => "no such name (NAM_ERR)",
+        4 => "not supported (IMP_ERR)",
+        5 => "refused by policy (RFS_ERR)",
+        6 => "owned by another node (ACT_ERR)",
+        7 => "in conflict (CFT_ERR)",
+        _ => "unknown error",
+    }
 }

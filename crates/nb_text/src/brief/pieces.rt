@@ -58,7 +58,8 @@ pub fn push_each<T: Shows>(items: &[T], text: &mut String) -> Result<(), NoMemor
 
 /// Adds the texts of items, each after a comma.
 fn push_others<T: Shows>(items: &[T], text: &mut String) -> Result<(), NoMemory>
-    ensures { Adds result text.old text.new (flat_map (λ next. codes ", " ∷ T.shown next ∷ []) items.now) }
+    ensures { Adds result text.old text.new
+        (flat_map (λ next. codes ", " ∷ T.shown next ∷ []) items.now) }
 {
     for place in 0..items.len() {
         push_text(", ", text)?;

@@ -1,10 +1,8 @@
 //! The phrases of payloads of port 139.
 
-ghost use Rattle.std.specs.Prelude.{◌≡◌, ◌≢◌, ℕ, OnOk, string_bytes};
-ghost use Rattle.nb_names.specs.Growth.{OnlyAdds};
-ghost use Rattle.nb_session.specs.declared.packet.Packet.TheVariants.{Retarget};
+ghost use Rattle.std.specs.Prelude.{◌≡◌, ◌≢◌, ℕ};
 ghost use Rattle.nb_text.specs.Said.{Adds, parsed_said, refusal_words, session_said};
-ghost use Rattle.nb_text.specs.SaysPacket.{AddsSaid};
+ghost use Rattle.nb_text.specs.SaysPacket.{AddsPhrase};
 
 use crate::brief::pieces::{
     counts_in, push_bytes, push_coded, push_follow, push_refused, push_text,
@@ -14,9 +12,8 @@ use nb_session::{LentPacket, LentParsed, Packet, Parsed, SessionFault, parse_len
 
 /// Adds the phrase of a payload of port 139.
 pub fn push_session(payload: &[u8], text: &mut String) -> Result<(), NoMemory>
-    ensures said { OnOk result ((port : ℕ) → port ≢ 137 → port ≢ 138 →
-        AddsSaid payload.now port (string_bytes text.old) (string_bytes text.new)) }
-    ensures front { OnlyAdds (string_bytes text.old) (string_bytes text.new) }
+    ensures { (port : ℕ) → port ≢ 137 → port ≢ 138 →
+        AddsPhrase result payload.now port text.old text.new }
 {
     push_parsed(&parse_lent(payload), payload.len(), text)
 }
@@ -55,20 +52,15 @@ fn push_packet(packet: &LentPacket<'_>, text: &mut String) -> Result<(), NoMemor
         }
         Packet::Positive => push_text("accepts", text),
         Packet::Negative(code) => push_coded("refuses: ", refusal_words(*code), *code, text),
-        Packet::Retarget { address, port } => push_retarget(*address, *port, text),
+        Packet::Retarget { address, port } => {
+            let number = u64::from(*port);
+            push_text("sends the caller to ", text)?;
+            push_address(*address, text)?;
+            push_text(", port ", text)?;
+            push_decimal(number, text)
+        }
         Packet::Keepalive => push_text("keeps the session alive", text),
     }
-}
-
-/// Adds where the caller is sent.
-fn push_retarget(address: [u8; 4], port: u16, text: &mut String) -> Result<(), NoMemory>
-    ensures { Adds result text.old text.new (session_said (Retarget address port)) }
-{
-    let number = u64::from(port);
-    push_text("sends the caller to ", text)?;
-    push_address(address, text)?;
-    push_text(", port ", text)?;
-    push_decimal(number, text)
 }
 
 /// What the refusal of a session says (RFC 1002 section 4.3.4).

@@ -7,7 +7,7 @@ ghost use Rattle.nb_service.specs.Items.{SeesRecord};
 ghost use Rattle.nb_service.specs.Packet.{RecordAt};
 ghost use Rattle.nb_service.specs.Record.{ResourceRecord, of_bytes};
 ghost use Rattle.nb_service.specs.Views.{entries_of_data, status_of_data};
-ghost use Rattle.nb_text.specs.ServiceSaid.{address_listed, few, first, flags_by, host_listed, listed_by, name_listed, told_of, units_by};
+ghost use Rattle.nb_text.specs.ServiceSaid.{address_listed, few, first, flags_by, listed_by, name_listed, told_of, units_by};
 ghost use Rattle.nb_text.specs.declared.brief.told.Listed.{Listed};
 
 use arrayvec::ArrayVec;
@@ -175,17 +175,9 @@ impl Few {
         } else if kind == NB {
             self.list_entries(bytes);
         } else if kind == A {
-            self.list_data(bytes);
-        }
-    }
-
-    /// Lists the address that data is, where it has four bytes.
-    fn list_data(&mut self, bytes: &[u8])
-        ensures { (items : List Listed) → self.old ≡ few items →
-            self.new ≡ few (items ++ host_listed (of_bytes bytes.now)) }
-    {
-        if let [a, b, c, d] = bytes {
-            self.list(Listed::Address([*a, *b, *c, *d]));
+            if let [a, b, c, d] = bytes {
+                self.list(Listed::Address([*a, *b, *c, *d]));
+            }
         }
     }
 

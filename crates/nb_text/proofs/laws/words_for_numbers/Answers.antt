@@ -1,4 +1,4 @@
-use Rattle.nb_text.proofs.WordLemmas.{no_operation, past_operation, past_result}
+use Rattle.nb_text.proofs.ServiceLines.{no_operation, past_operation, past_result}
 use Rattle.nb_text.proofs.laws.words_for_numbers.Goals as goal
 
 pub returns-clause-no_operations : goal.returns-clause-no_operations

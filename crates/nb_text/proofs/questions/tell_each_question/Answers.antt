@@ -2,8 +2,7 @@ use Rattle.std.proofs.Common.{refl, arith}
 use Rattle.nb_service.specs.Packet.{QuestionAt}
 use Rattle.nb_text.specs.ServiceFields.{question_fields}
 use Rattle.nb_service.proofs.ItemLemmas.{read_is_ok, read_is}
-use Rattle.nb_text.proofs.RowLemmas.{turn_more}
-use Rattle.nb_text.proofs.WalkLemmas.{Told, walk_begun, walk_item, walk_step, walk_ended}
+use Rattle.nb_text.proofs.WalkLemmas.{turn_more, Told, walk_begun, walk_item, walk_step, walk_ended}
 use Rattle.nb_text.proofs.questions.tell_each_question.Goals as goal
 
 pub loop-init : goal.loop-init

@@ -1,7 +1,7 @@
 use Rattle.std.proofs.Common.{codes}
 use Rattle.std.specs.List.{flat_map}
 use Rattle.nb_text.specs.ServiceFields.{question_fields}
-use Rattle.nb_text.proofs.RowLemmas.{list_told}
+use Rattle.nb_text.proofs.WalkLemmas.{list_told}
 use Rattle.nb_text.proofs.questions.tell_questions.Goals as goal
 
 pub returns-clause-told : goal.returns-clause-told

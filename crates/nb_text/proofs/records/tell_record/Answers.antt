@@ -19,14 +19,14 @@ steps {S} after old begun mid line parts new lead e first second third fourth la
     (third ∙ ap (λ (s : S). after s (Number ttl_key e.ttl)) (second ∙ ap (λ (s : S). fold after s (named_fields e.name e.kind e.class)) first)))
     ∙ sym (told_both after (fold after old (Part lead ∷ (named_fields e.name e.kind e.class ++ Number ttl_key e.ttl ∷ rdata_field e.rdata ∷ LineEnds ∷ []))) (view_fields e) (PartEnds ∷ []))
 
-pub tell_front-requires : goal.tell_front-requires
-tell_front-requires g c = (c.requires.0.name, c.requires.1.name)
+pub tell_named_fields-requires : goal.tell_named_fields-requires
+tell_named_fields-requires g c = (c.requires.0.name, c.requires.1.name)
 
 pub returns-clause-told : goal.returns-clause-told
 returns-clause-told g c entry sees =
     let after = g.S.Sink.after in
-    let front = rw sees.fields at (c.in_ok-tell_front.ensures.told entry.name sees.name) in
-    let ttl = c.in_ok-number.ensures.told ∙ ap (λ (n : ℕ). after (g.S.Sink.seen c.tell_front.new.sink) (Number ttl_key n)) (c.from.ensures ∙ ap (λ (f : Fields). f.ttl) sees.fields) in
+    let front = rw sees.fields at (c.in_ok-tell_named_fields.ensures.told entry.name sees.name) in
+    let ttl = c.in_ok-number.ensures.told ∙ ap (λ (n : ℕ). after (g.S.Sink.seen c.tell_named_fields.new.sink) (Number ttl_key n)) (c.from.ensures ∙ ap (λ (f : Fields). f.ttl) sees.fields) in
     on_ok_weaker c.part_ends.result
     (steps after _ _ _ _ _ _ c.args.lead.now entry c.in_ok-part.ensures.told front ttl (c.in_ok-tell_rdata.ensures.told entry sees))
     c.part_ends.ensures.told

@@ -1,15 +1,14 @@
 use Rattle.std.proofs.Common.{refl, arith}
 use Rattle.nb_service.specs.Packet.{RecordAt}
 use Rattle.nb_text.specs.ServiceFields.{record_fields}
-use Rattle.nb_text.proofs.RowLemmas.{turn_more}
-use Rattle.nb_text.proofs.WalkLemmas.{Told, walk_begun, walk_item, walk_step, walk_ended}
+use Rattle.nb_text.proofs.WalkLemmas.{turn_more, Told, walk_begun, walk_item, walk_step, walk_ended}
 use Rattle.nb_text.proofs.records.tell_records.Goals as goal
 
 pub loop-init : goal.loop-init
 loop-init g c = (walk_begun (RecordAt c.args.names.now) c.args.at c.args.count (Told g.S.Sink.after (record_fields c.args.lead.now) (g.S.Sink.seen c.args.sink.now) (g.S.Sink.seen c.args.sink.now)) refl, λ front f. f)
 
-pub tell_standing-requires : goal.tell_standing-requires
-tell_standing-requires g c =
+pub tell_record_at-requires : goal.tell_record_at-requires
+tell_record_at-requires g c =
     let row = c.requires in
     let next = walk_item (RecordAt c.args.names.now) _ _ c.loop.counter c.loop.next
     (Told g.S.Sink.after (record_fields c.args.lead.now) (g.S.Sink.seen c.args.sink.now) (g.S.Sink.seen c.loop.sink)) row.1.0 row.0 row.1.1 c.loop-test.true c.loop.invariant.0 in
@@ -18,7 +17,7 @@ tell_standing-requires g c =
 pub loop-preserved : goal.loop-preserved
 loop-preserved g c = (
   walk_step (RecordAt c.args.names.now) _ _ c.loop.counter c.loop.next _ (Told g.S.Sink.after (record_fields c.args.lead.now) (g.S.Sink.seen c.args.sink.now) (g.S.Sink.seen c.loop.sink))
-      (Told g.S.Sink.after (record_fields c.args.lead.now) (g.S.Sink.seen c.args.sink.now) (g.S.Sink.seen c.tell_standing.new.sink)) c.loop-test.true c.loop.invariant.0
+      (Told g.S.Sink.after (record_fields c.args.lead.now) (g.S.Sink.seen c.args.sink.now) (g.S.Sink.seen c.tell_record_at.new.sink)) c.loop-test.true c.loop.invariant.0
       (λ before entry after stands held.
       let told = c.in_ok-next.ensures.told entry after stands in
       (told.0, turn_more g.S.Sink.after (record_fields c.args.lead.now) before entry _ _ _ held told.1)),

@@ -1,6 +1,6 @@
 use Rattle.std.specs.List.{flat_map}
 use Rattle.nb_text.specs.ServiceFields.{record_fields}
-use Rattle.nb_text.proofs.RowLemmas.{list_told}
+use Rattle.nb_text.proofs.WalkLemmas.{list_told}
 use Rattle.nb_text.proofs.records.tell_section.Goals as goal
 
 pub returns-clause-told : goal.returns-clause-told

@@ -2,7 +2,7 @@ use Rattle.std.proofs.Common.{codes}
 use Rattle.std.specs.List.{flat_map}
 use Rattle.std.proofs.lemmas.Result.{on_ok_weaker}
 use Rattle.nb_text.specs.ServiceFields.{node_name_fields}
-use Rattle.nb_text.proofs.RowLemmas.{list_told}
+use Rattle.nb_text.proofs.WalkLemmas.{list_told}
 use Rattle.nb_text.proofs.statuses.tell_list.Goals as goal
 
 pub returns-clause-told : goal.returns-clause-told

@@ -1,6 +1,6 @@
 use Rattle.std.proofs.Common.{sym, ◌∙◌}
 use Rattle.nb_text.specs.ServiceFields.{node_name_fields}
-use Rattle.nb_text.proofs.RowLemmas.{row_more}
+use Rattle.nb_text.proofs.WalkLemmas.{row_more}
 use Rattle.nb_text.proofs.statuses.tell_names.Goals as goal
 
 pub loop-place-preserved : goal.loop-place-preserved

@@ -5,8 +5,10 @@ use Rattle.nb_text.specs.SaysPacket.{session}
 use Rattle.nb_text.proofs.SaidLemmas.{adds}
 use Rattle.nb_text.proofs.brief.sessions.push_session.Goals as goal
 
-pub returns-clause-said : goal.returns-clause-said
-returns-clause-said c =
-    on_ok_weaker c.push_parsed.result
-    (λ added port a b. adds c.args.payload.now port (parsed_said c.parse_lent.result (length c.args.payload.now)) _ _ (session port c.parse_lent.result a b c.parse_lent.ensures.stands) added)
-    c.push_parsed.ensures.0
+pub returns : goal.returns
+returns c port a b = (
+  on_ok_weaker c.push_parsed.result
+      (λ added. adds c.args.payload.now port (parsed_said c.parse_lent.result (length c.args.payload.now)) _ _ (session port c.parse_lent.result a b c.parse_lent.ensures.stands) added)
+      c.push_parsed.ensures.0,
+  c.push_parsed.ensures.1,
+)

@@ -1,8 +1,7 @@
 use Rattle.std.proofs.Common.{List, ℕ, ◌++◌, codes, refl, ap}
 use Rattle.std.specs.Fmt.{decimal}
 use Rattle.std.proofs.lemmas.List.{append-nil}
-use Rattle.nb_text.proofs.PhraseLemmas.{followed}
-use Rattle.nb_text.proofs.SaidLemmas.{none_follow}
+use Rattle.nb_text.proofs.SaidLemmas.{followed, none_follow}
 use Rattle.nb_text.specs.Said.{session_said}
 use Rattle.nb_text.proofs.laws.endings.refusals_in_words.Goals as goal
 

@@ -1,6 +1,6 @@
 use Rattle.std.proofs.Common.{Bool, [], ap}
 use Rattle.nb_datagram.specs.declared.kind.Kind.TheVariants.{Unique, Group, Broadcast}
-use Rattle.nb_text.proofs.PhraseLemmas.{last_place, part_said}
+use Rattle.nb_text.proofs.SaidLemmas.{last_place, part_said}
 use Rattle.nb_text.specs.Said.{offset_said}
 use Rattle.nb_text.proofs.laws.phrases.datagrams_in_words.Goals as goal
 

@@ -1,5 +1,5 @@
 use Rattle.std.proofs.Common.{◌∷◌, [], codes}
-use Rattle.nb_text.proofs.PhraseLemmas.{held, lasting, query_said, refresh_said, registration_said, release_said, status_said}
+use Rattle.nb_text.proofs.SaidLemmas.{held, lasting, query_said, refresh_said, registration_said, release_said, status_said}
 use Rattle.nb_text.proofs.laws.phrases.requests_in_words.Goals as goal
 
 pub returns : goal.returns

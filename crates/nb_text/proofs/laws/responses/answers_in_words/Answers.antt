@@ -1,6 +1,6 @@
 use Rattle.std.proofs.Common.{◌∷◌, [], ◌++◌, codes}
 use Rattle.nb_names.specs.Addresses.{address_text}
-use Rattle.nb_text.proofs.PhraseLemmas.{held, named}
+use Rattle.nb_text.proofs.SaidLemmas.{held, named}
 use Rattle.nb_text.proofs.laws.responses.answers_in_words.Goals as goal
 
 pub returns : goal.returns

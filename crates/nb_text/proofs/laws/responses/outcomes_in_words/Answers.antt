@@ -1,7 +1,7 @@
 use Rattle.std.proofs.Common.{◌∷◌, [], ◌++◌, codes}
 use Rattle.std.specs.Fmt.{decimal}
 use Rattle.nb_names.specs.Addresses.{address_text}
-use Rattle.nb_text.proofs.PhraseLemmas.{held, lasting, named, named_last}
+use Rattle.nb_text.proofs.SaidLemmas.{held, lasting, named, named_last}
 use Rattle.nb_text.proofs.laws.responses.outcomes_in_words.Goals as goal
 
 pub returns : goal.returns

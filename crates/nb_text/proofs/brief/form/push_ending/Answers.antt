@@ -4,7 +4,7 @@ use Rattle.nb_text.specs.declared.brief.form.Ending.{Ending}
 use Rattle.nb_text.specs.Said.{said_after}
 use Rattle.nb_text.specs.ServiceSaid.{ending_said, held_said, time_said}
 use Rattle.nb_text.proofs.SaidLemmas.{says_both}
-use Rattle.nb_text.proofs.brief.endings.push_ending.Goals as goal
+use Rattle.nb_text.proofs.brief.form.push_ending.Goals as goal
 
 pub returns-in_ok-push_held-in-Claim : goal.returns-in_ok-push_held-in-Claim
 returns-in_ok-push_held-in-Claim c =

@@ -1,5 +1,5 @@
 use Rattle.nb_service.proofs.ItemLemmas.{read_is_ok, read_is}
-use Rattle.nb_text.proofs.records.tell_standing.Goals as goal
+use Rattle.nb_text.proofs.records.tell_record_at.Goals as goal
 
 pub unwrap-seen-requires : goal.unwrap-seen-requires
 unwrap-seen-requires g c = read_is_ok c.see_record.result _ (c.see_record.ensures.only c.requires.0 c.requires.1 c.requires.2)

@@ -4,7 +4,7 @@ use Rattle.std.proofs.lemmas.Result.{on_ok_weaker}
 use Rattle.nb_telling.proofs.FoldLemmas.{and_then}
 use Rattle.nb_text.specs.LineFields.{list_fields}
 use Rattle.nb_text.specs.ServiceFields.{node_name_fields, unit_fields}
-use Rattle.nb_text.proofs.statuses.tell_standing.Goals as goal
+use Rattle.nb_text.proofs.statuses.tell_names_and_unit.Goals as goal
 
 pub returns-clause-told : goal.returns-clause-told
 returns-clause-told g c =

@@ -18,9 +18,10 @@ nbt() { ended "$program" "$@"; }
 # Whether the file holds exactly the text.
 holds() { printf '%s' "$2" | cmp -s - "$1"; }
 
-# ---- The cases of tests/cases: after `$ COMMAND` stand the lines of its standard output, those of its standard error
-# behind `! `, and `? STATUS` where that isn't 0. `...` stands for text that isn't empty, {FRED} and the like for spellings, {KEYS} and
-# {MOST_KEYS} for limits of include/nbt.h, {OVER_KEYS} and {OVER_MOST_KEYS} for one more.
+# ---- The cases of tests/cases: after `$ COMMAND`, and further ones behind `& ` that say the same, stand the lines of its standard
+# output, those of its standard error behind `! `, and a status that isn't 0 before the last of these, as in `1! nbt: read`, or by itself,
+# as in `? 1`. `...` stands for text that isn't empty, {FRED} and the like for spellings, {KEYS} and {MOST_KEYS} for limits of
+# include/nbt.h, {OVER_KEYS} and {OVER_MOST_KEYS} for one more.
 # `hostile NAME=VALUE .. COMMAND` runs a command over the devices of tests/lib/devices.c.
 
 spelled() {
@@ -28,37 +29,41 @@ spelled() {
         s/{KEYS}/$keys/g; s/{OVER_KEYS}/$((keys + 1))/g; s/{MOST_KEYS}/$many/g; s/{OVER_MOST_KEYS}/$((many + 1))/g" "$1"
 }
 
-# sample COMMAND TOLD: what a command writes and ends with, told as in tests/cases; none, where there is no command.
-sample() {
-    local command=$1 told=$2 status
-    [ -n "$command" ] || return
-    (cd "$room/files" && PATH=$room/bin:$PATH ended bash -c "$command" </dev/null) >"$room/output" 2>"$room/errors"
-    status=$?
-    {
-        if [[ $told == ...* ]] && [ -s "$room/output" ]; then echo ...; else cat "$room/output"; fi
-        if [[ $told == *'! ...'* ]] && [ -s "$room/errors" ]; then echo '! ...'; else sed 's/^/! /' "$room/errors"; fi
-        [ $status -eq 0 ] || echo "? $status"
-    } >"$room/told"
-    holds "$room/told" "$told"
-    count $? "$command"
+# samples TOLD COMMAND..: what each command writes and ends with, told as in tests/cases.
+samples() {
+    local told=$1 command status
+    for command in "${@:2}"; do
+        (cd "$room/files" && PATH=$room/bin:$PATH ended bash -c "$command" </dev/null) >"$room/output" 2>"$room/errors"
+        status=$?
+        [[ $told != ...* ]] || [ ! -s "$room/output" ] || echo ... >"$room/output"
+        [[ $told != *'! ...'* ]] || [ ! -s "$room/errors" ] || echo ... >"$room/errors"
+        {
+            cat "$room/output"
+            sed "s/^/! /; \$s/^/${status#0}/" "$room/errors"
+            [ $status -eq 0 ] || [ -s "$room/errors" ] || echo "? $status"
+        } >"$room/told"
+        holds "$room/told" "$told"
+        count $? "$command"
+    done
 }
 
 cases() {
-    local file line command told
+    local file line told commands
     mkdir "$room/files"
     for file in "$here"/cases/*.txt; do
-        command='' told=''
+        commands=() told=''
         while IFS= read -r line; do
             case $line in
             '$ '*)
-                sample "$command" "$told"
-                command=${line#'$ '} told=''
+                samples "$told" "${commands[@]}"
+                commands=("${line#'$ '}") told=''
                 ;;
+            '& '*) commands+=("${line#'& '}") ;;
             '' | '#'*) ;;
             *) told+=$line$'\n' ;;
             esac
         done < <(spelled "$file")
-        sample "$command" "$told"
+        samples "$told" "${commands[@]}"
     done
 }
 

@@ -158,7 +158,7 @@ def spelled_cases():
     for name in sorted(os.listdir(os.path.join(TESTS, 'cases'))):
         with open(os.path.join(TESTS, 'cases', name), encoding='utf-8') as cases:
             for line in cases:
-                if line.startswith('$ ') and re.search(r'\bnbt\b', line) and re.search(r'\b(show|replay|list)\b', line):
+                if line.startswith(('$ ', '& ')) and re.search(r'\bnbt\b', line) and re.search(r'\b(show|replay|list)\b', line):
                     yield re.sub(r'\{([A-Z_]+)\}', lambda it: spellings[it[1].lower()], line[2:].rstrip('\n'))
 
 

@@ -168,17 +168,18 @@ examples() {
 
 # What was found to reach the most of the library (tests/fuzz_coverage.py), once more: on x86-64 under sanitizers, and on aarch64.
 corpus() {
-    local wanted
-    wanted="$(wc -l <"$here/corpus.txt") inputs"
+    local wanted inputs=$room/corpus.inputs
+    tr ' ' '\n' <"$here/corpus.txt" >"$inputs"
+    wanted="$(wc -l <"$inputs") inputs"
     ${CC:-cc} "${strict[@]}" -fsanitize=address,undefined -fno-sanitize-recover=all -o "$room/corpus" "$here/library/payloads.c" \
         "${rows[@]}" "$out/lib/libnbt.a" >"$room/log" 2>&1
     count $? "tests/library/payloads.c for x86-64, sanitized: $(head -n 1 "$room/log")"
-    ended "$room/corpus" corpus <"$here/corpus.txt" 2>&1 | tail -n 1 | same "$wanted" 'the corpus on x86-64'
-    ended "${qemu[@]}" "$room/worst.arm" corpus <"$here/corpus.txt" 2>&1 | tail -n 1 | same "$wanted" 'the corpus on aarch64'
+    ended "$room/corpus" corpus <"$inputs" 2>&1 | tail -n 1 | same "$wanted" 'the corpus on x86-64'
+    ended "${qemu[@]}" "$room/worst.arm" corpus <"$inputs" 2>&1 | tail -n 1 | same "$wanted" 'the corpus on aarch64'
     ${CC:-cc} "${strict[@]}" -o "$room/off" "$here"/library/{payloads,place_off}.c "${rows[@]}" -Wl,--wrap=nbt_datagram_read \
         "$out/lib/libnbt.a" >"$room/log" 2>&1
     count $? "tests/library/place_off.c: $(head -n 1 "$room/log")"
-    ! ended "$room/off" corpus <"$here/corpus.txt" >"$room/output" 2>&1 && grep -q 'not so: ' "$room/output"
+    ! ended "$room/off" corpus <"$inputs" >"$room/output" 2>&1 && grep -q 'not so: ' "$room/output"
     count $? "the corpus finds a place that is one off: $(tail -n 1 "$room/output")"
     echo 01000411000001020003ff | ended "$room/corpus" print >"$room/output" 2>/dev/null
     same $'138 0 11000001\n139 0 ff' 'an input as lines of a capture' <"$room/output"

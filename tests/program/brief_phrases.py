@@ -18,6 +18,7 @@ from compared import Cases, capture_of
 from fuzz_inputs import ROOT, capture_lines, example_bytes
 from model.phrases import said
 from object_inputs import Inputs, ServicePacket
+from payloads import longest_phrases
 
 LONGEST_PAYLOAD = 2_000
 OPERATIONS = (0, 0, 5, 5, 6, 7, 8, 9, 15)
@@ -28,10 +29,8 @@ PHRASES = re.compile(r'^\| .* \| `([^`]+)` \|$', re.MULTILINE)
 BY = re.compile(r'[A-Z]+|[.*+?^$()\[\]{}|\\]')
 # The status of a node that has a unit and no names, which chance makes too seldom.
 NO_NAMES = 137, bytes.fromhex('000184000000000100000000' '00' '00210001' '00000000' '0007' '00' '001122334455')
-# How many bytes of a payload a line of a capture has, and how long phrases of them are: where no name has more than 19, and of any names.
-IN_LINE = 131_097
-LONGEST_OF_19 = 205
-LONGEST = 1_633
+# How long the longest phrases are: where no name has more than 19 bytes, and of any names.
+LONGEST_OF_19, LONGEST = 205, 1_633
 
 
 def phrases():
@@ -58,18 +57,6 @@ def made_by_chance(rng, count):
     for at in range(count):
         payload = (137, ServicePacket(rng, inputs.traffic.name).made()) if at % 2 else inputs.payload()
         yield likely(rng, *payload)
-
-
-def longest():
-    """The payloads with the longest phrases, and how long these are: where no name has more than 19 bytes, and where names have any
-    length. Zeros follow up to the length of a capture's line."""
-    name = bytes([32]) + b'EB' * 16 + b'\0'
-    status = b'\xc0\x0c\0\x21\0\x01' + b'\xff' * 4 + (1 + 255 * 18).to_bytes(2, 'big') + b'\xff' + b'ABCDEFGHIJKLMNO \x80\0' * 255
-    claim = bytes.fromhex('000178000001000000000004') + name + bytes.fromhex('00210001') + status * 4
-    labels = b''.join(bytes([each]) + b'\x01' * each for each in (63, 63, 63, 61)) + b'\0'
-    addresses = bytes.fromhex('000020000100000000') + (6 * 1_004).to_bytes(2, 'big') + b'\0\0\xff\xff\xff\xff' * 1_004
-    redirect = bytes.fromhex('000180000000000100000001') + labels + bytes.fromhex('000200010000000000ff') + labels + addresses
-    return [(payload.ljust(IN_LINE, b'\0'), length) for payload, length in ((claim, LONGEST_OF_19), (redirect, LONGEST))]
 
 
 class Phrases(Cases):
@@ -101,7 +88,7 @@ def main():
     payloads += made_by_chance(random.Random(given.seed), given.payloads)
     for at in range(0, len(payloads), IN_CAPTURE):
         cases.check(payloads[at:at + IN_CAPTURE])
-    for payload, length in longest():
+    for payload, length in zip(longest_phrases(), (LONGEST_OF_19, LONGEST)):
         cases.check([(137, payload)])
         cases.count('' if len(cases.said[-1]) == length else f'{len(cases.said[-1])} bytes, not {length}: {cases.said[-1]}')
     longer = [it for it in cases.said if len(it) > LONGEST]

@@ -13,7 +13,7 @@ import sys
 
 sys.dont_write_bytecode = True
 sys.path.insert(1, f'{sys.path[0]}/lib')
-from wire import ACK, FIN, FRED, JOE, POSITIVE, REQUEST, SYN, TCP, UDP, datagram, ip, udp
+from wire import ACK, FIN, FRED, POSITIVE, REQUEST, SYN, TCP, UDP, datagram, ip, pcap_header, pcap_record, udp
 
 STREAMS = 64
 LAST_HOST = 250
@@ -26,11 +26,10 @@ def main():
     streams = [stream(rng) for _ in range(STREAMS)]
     moment = 0
     with open(path, 'wb') as file:
-        file.write(struct.pack('<LHHLLLL', 0xa1b2c3d4, 2, 4, 0, 0, 262_144, 1))
+        file.write(pcap_header())
         for _ in range(packets):
             moment += rng.randrange(1_000, 5_000)
-            data = ETHERNET + packet(rng, streams)
-            file.write(struct.pack('<LLLL', 1_700_000_000 + moment // 10**6, moment % 10**6, len(data), len(data)) + data)
+            file.write(pcap_record(moment, ETHERNET + packet(rng, streams)))
 
 
 def packet(rng, streams):

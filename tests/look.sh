@@ -633,22 +633,12 @@ colours() {
     count $? 'docs/summary-light.svg and docs/summary-dark.svg have these words: tests/look/summary_pictures.py draws them'
 }
 
-# peak WORD..: the most memory of nbt-look itself, in kB; that of tshark and nbt comes from other processes.
-peak() {
-    PYTHONPATH=$here/../tools ended python3 -c 'import resource, runpy, sys
-sys.argv = sys.argv[1:]
-try:
-    runpy.run_path(sys.argv[0], run_name="__main__")
-except SystemExit as end:
-    print(end.code, resource.getrusage(resource.RUSAGE_SELF).ru_maxrss, file=sys.stderr)' "$here/../tools/nbt-look" "$@" 2>&1 >"$room/output" | tail -n 1
-}
-
 # A file five times as long takes no more memory; its summary takes some 16 MB for queries between other pairs of stations.
 growing() {
     local each small large
     for each in 10000 50000; do "$here/big_pcap.py" $each "$room/$each.pcap"; done
     for each in '' --summary --json; do
-        small=$(peak $each --quiet "$room/10000.pcap") large=$(peak $each --quiet "$room/50000.pcap")
+        small=$(peak nbt-look $each --quiet "$room/10000.pcap") large=$(peak nbt-look $each --quiet "$room/50000.pcap")
         [ "${small% *}" = 0 ] && [ "${large% *}" = 0 ] && [ "${large#* }" -lt $((${small#* } + 24000)) ] && [ "${large#* }" -lt 150000 ]
         count $? "nbt-look $each, peak of memory: $small and $large"
     done

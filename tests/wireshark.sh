@@ -316,17 +316,6 @@ EOF
     count $? 'pcap2cap on a terminal, into a pipe: no progress among what its reader prints'
 }
 
-# peak FILE: the most memory of pcap2cap itself, in kB; tshark's comes from another process.
-peak() {
-    PYTHONPATH=$here/../tools ended python3 -c 'import resource, runpy, sys
-sys.argv = sys.argv[1:]
-try:
-    runpy.run_path(sys.argv[0], run_name="__main__")
-except SystemExit as end:
-    print(end.code, resource.getrusage(resource.RUSAGE_SELF).ru_maxrss, file=sys.stderr)' \
-        "$here/../tools/pcap2cap" --quiet "$1" 2>&1 >"$room/output" | tail -n 1
-}
-
 # A file five times as long, with five times as many streams, takes no more memory: streams that ended are let go.
 growing() {
     local each small large
@@ -335,7 +324,7 @@ growing() {
     [ $? -eq 0 ] && [ "$(cat "$room/errors")" = '10000 frames, 10000 of these ports, 0 left out' ] &&
         nbt show <"$room/output" >"$room/shown" && [ -s "$room/shown" ] && ! grep -q ' refused ' "$room/shown"
     count $? "pcap2cap: tests/big_pcap.py: $(cat "$room/errors")"
-    small=$(peak "$room/10000.pcap") large=$(peak "$room/50000.pcap")
+    small=$(peak pcap2cap --quiet "$room/10000.pcap") large=$(peak pcap2cap --quiet "$room/50000.pcap")
     [ "${small% *}" = 0 ] && [ "${large% *}" = 0 ] && [ "${large#* }" -lt $((${small#* } + 16000)) ]
     count $? "pcap2cap, peak of memory: $small and $large"
 }

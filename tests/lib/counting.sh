@@ -104,6 +104,16 @@ with_tools() {
     export WIRESHARK_CONFIG_DIR=$room/settings
 }
 
+# peak TOOL WORD..: the status of a tool of tools/ and its most memory, in kB; that of tshark and nbt comes from other processes.
+peak() {
+    PYTHONPATH=$here/../tools ended python3 -c 'import resource, runpy, sys
+sys.argv = sys.argv[1:]
+try:
+    runpy.run_path(sys.argv[0], run_name="__main__")
+except SystemExit as end:
+    print(end.code, resource.getrusage(resource.RUSAGE_SELF).ru_maxrss, file=sys.stderr)' "$here/../tools/$1" "${@:2}" 2>&1 >"$room/output" | tail -n 1
+}
+
 # page FILE: the console samples of a page, where each command prints the lines after it. They run in a folder of their
 # own, which has the folder examples too, or what EXAMPLES names, with the commands of $room/bin.
 page() {

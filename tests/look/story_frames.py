@@ -4,8 +4,8 @@ A packet knows how much of it the file has: all of it, or what the snap length l
 import struct
 from dataclasses import dataclass, field
 
-from look_captures import ethernet, pcap
-from wire import ACK, SYN, TCP, UDP, first_level, ip, udp
+from look_captures import ethernet
+from wire import ACK, SYN, TCP, UDP, first_level, ip, pcap, udp
 
 MILLISECOND, SECOND = 1_000, 1_000_000
 BELOW_UDP, HEADER, NAME = 42, 12, 34

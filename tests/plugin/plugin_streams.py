@@ -18,7 +18,7 @@ import nbt
 sys.path.insert(1, f'{sys.path[0]}/../lib')
 from plugin_files import message, segment
 from plugin_pcap import fields_of, write_pcap
-from wire import ACK, KEEPALIVE, REQUEST, SYN
+from wire import KEEPALIVE, REQUEST, SYN
 
 NO_PACKETS = (b'\x81\x01\xff\xff' + bytes(30), b'\x00\xfe\xff\xff' + bytes(50), b'GET / HTTP/1.0\r\n\r\n', b'\x85\0\0\1x',
               b'\x81\0\0\x44' + b'\x20' + b'Z' * 67)

@@ -7,14 +7,13 @@ many payloads (10,000) were said. The lines of each are a case, and so is each p
 phrases are as long as docs/FORMATS.md has it, and none is longer. Objects with
 phrases are held against the same model by tests/program/json_objects.py.
 """
-import argparse
 import os
 import random
 import re
 import sys
 
 sys.path[1:1] = [f'{sys.path[0]}/../{it}' for it in ('.', 'captures', 'lib')]
-from compared import Cases, capture_of
+from compared import Cases, asked, capture_of
 from fuzz_inputs import ROOT, capture_lines, example_bytes
 from model.phrases import said
 from object_inputs import Inputs, ServicePacket
@@ -77,11 +76,7 @@ class Phrases(Cases):
 
 def main():
     """Runs all cases."""
-    parser = argparse.ArgumentParser()
-    parser.add_argument('--seed', type=int, default=1)
-    parser.add_argument('--payloads', type=int, default=10_000)
-    parser.add_argument('program', nargs='?', default=os.path.join(ROOT, 'crates', 'nbt', 'out', 'nbt'))
-    given = parser.parse_args()
+    given = asked(10_000)
     cases = Phrases(given.program)
     payloads = [(port, payload) for port in (137, 138, 139) for payload in example_bytes()]
     payloads.append(NO_NAMES)

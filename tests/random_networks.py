@@ -29,7 +29,7 @@ LISTS = ('names', 'refused', 'status', 'holder')
 def main():
     words = [each for each in sys.argv[1:] if not each.startswith('--')]
     count, first = int(words[0]), int(words[1]) if words[1:] else 1
-    program = words[2] if words[2:] else shutil.which('nbt')
+    program = summary.program_of(words[2:])
     networks = {seed: Network(seed) for seed in range(first, first + count)}
     with tempfile.TemporaryDirectory() as folder:
         paths = [written(f'{folder}/{seed}.pcap', network, seed) for seed, network in networks.items()]

@@ -24,7 +24,7 @@ PAGE = f'{HERE}/../page/tests/summary.mjs'
 def main():
     words = [each for each in sys.argv[1:] if not each.startswith('--')]
     only = next((each.removeprefix('--only=') for each in sys.argv[1:] if each.startswith('--only=')), '')
-    program = words[0] if words else shutil.which('nbt')
+    program = program_of(words)
     chosen = [each for each in summary_cases.cases() if only in f'{each.file}: {each.what}']
     with tempfile.TemporaryDirectory() as folder:
         paths = [captured(each, program, f'{folder}/{number}.pcap') for number, each in enumerate(chosen)]
@@ -35,6 +35,14 @@ def main():
         print(f'failed: {case.file}: {case.what}: {difference}')
     print(f'{len(chosen) - len(failed)} passed, {len(failed)} failed')
     return bool(failed)
+
+
+def program_of(words):
+    """The program that is given, or nbt on PATH."""
+    program = words[0] if words else shutil.which('nbt')
+    if not program or not os.access(program, os.X_OK):
+        sys.exit(f'{sys.argv[0]}: {program or "nbt on PATH, or PROGRAM in its place,"} is missing: `make build` makes it')
+    return program
 
 
 def captured(case, program, path):

@@ -17,10 +17,11 @@ sys.path[1:1] = [f'{sys.path[0]}/../{it}' for it in ('.', 'lib')]
 from fuzz_inputs import Maker, capture_lines, example_bytes, likely_port
 from object_inputs import LONGEST_PAYLOAD, ServicePacket, session_request
 from fuzz_traffic import Traffic
+from model.limits import LINE_ROOM
 
 LONGEST, MOST_CUTS = 1_500, 150
-# How many bytes of a payload a datagram of UDP has, and a line of a capture.
-IN_DATAGRAM, IN_LINE = 65_503, 131_097
+# How many bytes of a payload a datagram of UDP has.
+IN_DATAGRAM = 65_503
 
 
 def library(rng, longest):
@@ -65,7 +66,7 @@ def longest_phrases():
     claim = bytes.fromhex('000178000001000000000004') + name + bytes.fromhex('00210001') + status * 4
     addresses = bytes.fromhex('000020000100000000') + (6 * 1_004).to_bytes(2, 'big') + b'\0\0\xff\xff\xff\xff' * 1_004
     redirect = bytes.fromhex('000180000000000100000001') + longest_name(False) + bytes.fromhex('000200010000000000ff') + longest_name(False) + addresses
-    return [payload.ljust(IN_LINE, b'\0') for payload in (claim, redirect)]
+    return [payload.ljust(LINE_ROOM, b'\0') for payload in (claim, redirect)]
 
 
 def worst(_, __):

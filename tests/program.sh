@@ -321,6 +321,7 @@ memory() {
 
 with_tools "$program"
 printf '#!/bin/sh\nexec env LD_PRELOAD=%s/devices.so "$@"\n' "$room" >"$room/bin/hostile" && chmod +x "$room/bin/hostile"
+ln -s "$here/program/barred" "$room/bin"
 part shims compile devices refuse_memory
 part cases cases
 part pages pages

@@ -93,8 +93,8 @@ def lines_of(port, payload):
     return {137: service, 138: datagram, 139: session}[port](read(port, payload))
 
 
-def main():
-    """Prints those of the lines of standard input, each with its number and port."""
+def main(lines_of=lines_of):
+    """Prints those of the lines of standard input, as the model or another reader has them, each with its number and port."""
     for place, line in enumerate(sys.stdin, 1):
         port, payload = line.split()
         first, *others = lines_of(int(port), bytes.fromhex(payload.replace('empty', '')))

@@ -18,6 +18,7 @@ from cut_captures import capture, payloads
 from model.names import Refused, domain_text, read_labels
 from model.objects import SECTIONS, front_of, shown
 from model.packets import SERVICE_HEADER
+from tally import tally
 
 TOOL = os.path.join(HERE, '../tools/nbt-look')
 SNAPS = (42, 43, 52, 54, 60, 76, 89, 90, 92, 96, 110, 111, 124, 130, 160, 400)
@@ -28,14 +29,7 @@ OF_FRAME = 8                     # the members of all objects before `size`: the
 
 
 def main():
-    failed = 0
-    for snap in SNAPS:
-        difference = first_difference(snap)
-        failed += bool(difference)
-        if difference:
-            print(f'failed: a snap length of {snap}: {difference}', flush=True)
-    print(f'{len(SNAPS) - failed} passed, {failed} failed')
-    return failed > 0
+    return tally((f'a snap length of {snap}', first_difference(snap)) for snap in SNAPS)
 
 
 def first_difference(snap):

@@ -16,6 +16,7 @@ sys.dont_write_bytecode = True
 HERE = os.path.dirname(os.path.abspath(__file__))
 sys.path[1:1] = [f'{HERE}/{it}' for it in ('captures', 'lib', 'look')]
 import summary_cases
+from tally import tally
 
 TOOL = f'{HERE}/../tools/nbt-look'
 PAGE = f'{HERE}/../page/tests/summary.mjs'
@@ -29,12 +30,7 @@ def main():
     with tempfile.TemporaryDirectory() as folder:
         paths = [captured(each, program, f'{folder}/{number}.pcap') for number, each in enumerate(chosen)]
         shown = shown_by_page(program, paths) if '--page' in sys.argv else list(map(shown_by_tool, paths))
-    differences = [(each, summary_cases.difference(each, tables)) for each, tables in zip(chosen, shown)]
-    failed = [each for each in differences if each[1]]
-    for case, difference in failed:
-        print(f'failed: {case.file}: {case.what}: {difference}')
-    print(f'{len(chosen) - len(failed)} passed, {len(failed)} failed')
-    return bool(failed)
+    return tally((f'{each.file}: {each.what}', summary_cases.difference(each, tables)) for each, tables in zip(chosen, shown))
 
 
 def program_of(words):

@@ -4,26 +4,24 @@ import random
 import sys
 import tempfile
 
+from tally import tally
+
 
 def compared(name, made, first_difference):
-    """Makes a capture of each seed, and prints what differs in it, if anything does; a capture that fails is kept, and named. Prints 'N passed,
-    M failed', and answers whether any failed."""
+    """Makes captures of so many seeds, and says what differs in each, if anything does; one that fails is kept, and named. Answers whether
+    any failed."""
     count, seed = int(sys.argv[1]), sys.argv[2] if len(sys.argv) > 2 else name
-    failed = sum(not agrees(name, f'{seed}-{number}', made, first_difference) for number in range(count))
-    print(f'{count - failed} passed, {failed} failed')
-    return failed > 0
+    return tally((each, difference_of(name, each, made, first_difference)) for each in (f'{seed}-{number}' for number in range(count)))
 
 
-def agrees(name, seed, made, first_difference):
+def difference_of(name, seed, made, first_difference):
     path = os.path.join(tempfile.gettempdir(), f'{name}-{os.getpid()}-{seed}.pcap')
     with open(path, 'wb') as file:
         file.write(made(random.Random(seed)))
     difference = first_difference(path)
-    if difference:
-        print(f'failed: {seed}: {difference} ({path})', flush=True)
-    else:
+    if not difference:
         os.remove(path)
-    return not difference
+    return difference and f'{difference} ({path})'
 
 
 def first_unlike(given, wanted):

@@ -18,8 +18,10 @@ import re
 import subprocess
 import sys
 
+sys.path.insert(1, f'{sys.path[0]}/../lib')
 from made_pages import calls, definitions_of, made, spec_files
 from sources import CRATES, ROOT, aliases, functions, law_files, sources
+from tally import tally
 
 LISTED = re.findall(r'^(\w+)\b[^:#\n]*:', (ROOT / 'crates.txt').read_text(encoding='utf-8'), re.MULTILINE)
 LIBRARIES = [it for it in LISTED if it != 'nbt' and not it.startswith('nb_examples')]
@@ -201,12 +203,8 @@ def main(word=''):
         for path, fields in edits():
             print(f'{path.parts[0]}/{path.stem}: {dict(fields)["what"]}\n    {dict(fields)["why"]}')
         return
-    cases = [it for check in (places, names, promises, commented, wrong_bodies, named_bodies, costs, sizes, made_lines) for it in check()]
-    for is_right, case in cases:
-        if not is_right:
-            print(f'failed: {case}')
-    failed = sum(not is_right for is_right, _ in cases)
-    print(f'{len(cases) - failed} passed, {failed} failed')
+    checks = (places, names, promises, commented, wrong_bodies, named_bodies, costs, sizes, made_lines)
+    tally((case, not is_right) for check in checks for is_right, case in check())
 
 
 if __name__ == '__main__':

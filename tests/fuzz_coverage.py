@@ -2,7 +2,7 @@
 """The library under libFuzzer, with coverage counters and AddressSanitizer in its own code.
 
 Usage: tests/fuzz_coverage.py [--seconds N] [--module FILE] [--keep].  The module is what `make targets` or tools/module keeps, out/nbt.bc
-without it. What has to hold stands in tests/library/payloads.c. It begins with the inputs of tests/corpus.txt, a word of digits each;
+without it. What has to hold stands in tests/library/payloads.c. It begins with the inputs of tests/library/corpus.txt, a word of digits each;
 with --keep those that are needed for what was reached are written there, 2 MB at most. An input for which something doesn't hold
 is printed as lines of a capture, and its digits, and the status is 1; 2 where a tool is missing. The last lines say what was reached.
 """
@@ -18,7 +18,7 @@ import tempfile
 import textwrap
 
 TOP = os.path.join(os.path.dirname(os.path.abspath(__file__)), '..')
-CORPUS = os.path.join(TOP, 'tests', 'corpus.txt')
+CORPUS = os.path.join(TOP, 'tests', 'library', 'corpus.txt')
 MOST_BYTES, LINE = 2_000_000, 8_000
 CLANGS = [os.environ.get('FUZZ_CLANG'), 'clang-22', 'clang-19', 'clang-16', 'clang']
 WRAPPED = '-Wl,--wrap=malloc,--wrap=realloc,--wrap=free'

@@ -357,10 +357,10 @@ END
 }
 
 # What makes a row of each table, by docs/SUMMARY.md.
-summaries() { counted "$here/summary.py" "$program"; }
+summaries() { counted "$here/look/summary.py" "$program"; }
 
 # What is true of random networks, and nothing else.
-networks() { counted "$here/random_networks.py" 30; }
+networks() { counted "$here/look/random_networks.py" 30; }
 
 # What is said of words that are no kinds, and of a kind of which there is no packet.
 guesses() {
@@ -590,10 +590,10 @@ END
 kinds() { python3 -c 'import sys; sys.dont_write_bytecode = True; sys.path.insert(0, sys.argv[1]); from nbt_look.vocabulary import KINDS; print(", ".join(KINDS))' "$here/../tools"; }
 
 # ---- Random captures, terminals, memory, networks.
-random() { counted "$here/random_looks.py" 10; }
+random() { counted "$here/look/random_looks.py" 10; }
 
 # By the system's Python, for which Debian has scapy.
-scapy() { counted /usr/bin/python3 "$here/scapy_looks.py" 20; }
+scapy() { counted /usr/bin/python3 "$here/look/scapy_looks.py" 20; }
 
 # on_terminal COLUMNS COMMAND..: what a command shows on a terminal of so many columns.
 on_terminal() {
@@ -636,7 +636,7 @@ colours() {
 # A file five times as long takes no more memory; its summary takes some 16 MB for queries between other pairs of stations.
 growing() {
     local each small large
-    for each in 10000 50000; do "$here/big_pcap.py" $each "$room/$each.pcap"; done
+    for each in 10000 50000; do "$here/captures/big_pcap.py" $each "$room/$each.pcap"; done
     for each in '' --summary --json; do
         small=$(peak nbt-look $each --quiet "$room/10000.pcap") large=$(peak nbt-look $each --quiet "$room/50000.pcap")
         [ "${small% *}" = 0 ] && [ "${large% *}" = 0 ] && [ "${large#* }" -lt $((${small#* } + 24000)) ] && [ "${large#* }" -lt 150000 ]

@@ -61,10 +61,10 @@ def modules():
     types = subprocess.run(['tsc', '-p', f'{TOP}/page'], capture_output=True, text=True)
     check(types.returncode == 0, f'tsc -p page: {types.stdout[:300]}')
     check(not (empty := empty_catches()), f'faults that nobody hears of: {empty}')
-    counted([f'{TESTS}/page_captures.py', str(CAPTURES)])
-    counted([f'{TESTS}/summary.py', '--page', PROGRAM])
-    counted([f'{TESTS}/random_networks.py', '--page', str(NETWORKS), '1', PROGRAM])
-    counted([f'{TESTS}/random_networks.py', '--changed', str(CHANGED), '1', PROGRAM])
+    counted([f'{TESTS}/page/page_captures.py', str(CAPTURES)])
+    counted([f'{TESTS}/look/summary.py', '--page', PROGRAM])
+    counted([f'{TESTS}/look/random_networks.py', '--page', str(NETWORKS), '1', PROGRAM])
+    counted([f'{TESTS}/look/random_networks.py', '--changed', str(CHANGED), '1', PROGRAM])
 
 
 def empty_catches():

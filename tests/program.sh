@@ -72,19 +72,19 @@ pages() {
     page docs/GUIDE.md
 }
 
-# Tables as another version saved them: each line of tests/saved.txt has one, and behind it, where it has no promise, the same
+# Tables as another version saved them: each line of tests/program/saved.txt has one, and behind it, where it has no promise, the same
 # in the first form. Both are saved again as the first; of all of them, in either order, comes what that version made of them.
 saved() {
     local table first
-    grep '^4e4254' "$here/saved.txt" >"$room/tables"
+    grep '^4e4254' "$here/program/saved.txt" >"$room/tables"
     while read -r table first; do
         for first in $first $table; do
             nbt merge <<<"$first" >"$room/output" && holds "$room/output" "$table"$'\n'
             count $? "nbt merge: ${first:0:80}"
         done
     done <"$room/tables"
-    sed 's/ .*//' "$room/tables" | nbt merge >"$room/output" && sed -n 's/^all //p' "$here/saved.txt" | cmp -s - "$room/output"
-    count $? 'nbt merge: all tables of tests/saved.txt'
+    sed 's/ .*//' "$room/tables" | nbt merge >"$room/output" && sed -n 's/^all //p' "$here/program/saved.txt" | cmp -s - "$room/output"
+    count $? 'nbt merge: all tables of tests/program/saved.txt'
     tac "$room/tables" | sed 's/.* //' | nbt merge | cmp -s - "$room/output"
     count $? 'nbt merge: the same in the other order, in the first form where there is one'
 }

@@ -141,7 +141,7 @@ examples() {
 # What was found to reach the most of the library (tests/fuzz_coverage.py), once more: on x86-64 under sanitizers, and on aarch64.
 corpus() {
     local wanted inputs=$room/corpus.inputs
-    tr ' ' '\n' <"$here/corpus.txt" >"$inputs"
+    tr ' ' '\n' <"$here/library/corpus.txt" >"$inputs"
     wanted="$(wc -l <"$inputs") inputs"
     ${CC:-cc} "${strict[@]}" "${sanitized[@]}" -o "$room/corpus" "$here/library/payloads.c" \
         "${rows[@]}" "$out/lib/libnbt.a" >"$room/log" 2>&1
@@ -155,7 +155,7 @@ corpus() {
     count $? "the corpus finds a place that is one off: $(tail -n 1 "$room/output")"
     echo 01000411000001020003ff | ended "$room/corpus" print >"$room/output" 2>/dev/null
     same $'138 0 11000001\n139 0 ff' 'an input as lines of a capture' <"$room/output"
-    [ "$(stat -c %s "$here/corpus.txt")" -lt 2000000 ]
+    [ "$(stat -c %s "$here/library/corpus.txt")" -lt 2000000 ]
     count $? 'the corpus has less than 2 MB'
 }
 

@@ -319,11 +319,11 @@ EOF
 # A file five times as long, with five times as many streams, takes no more memory: streams that ended are let go.
 growing() {
     local each small large
-    for each in 10000 50000; do "$here/big_pcap.py" $each "$room/$each.pcap"; done
+    for each in 10000 50000; do "$here/captures/big_pcap.py" $each "$room/$each.pcap"; done
     pcap2cap "$room/10000.pcap" 2>"$room/errors" >"$room/output"
     [ $? -eq 0 ] && [ "$(cat "$room/errors")" = '10000 frames, 10000 of these ports, 0 left out' ] &&
         nbt show <"$room/output" >"$room/shown" && [ -s "$room/shown" ] && ! grep -q ' refused ' "$room/shown"
-    count $? "pcap2cap: tests/big_pcap.py: $(cat "$room/errors")"
+    count $? "pcap2cap: tests/captures/big_pcap.py: $(cat "$room/errors")"
     small=$(peak pcap2cap --quiet "$room/10000.pcap") large=$(peak pcap2cap --quiet "$room/50000.pcap")
     [ "${small% *}" = 0 ] && [ "${large% *}" = 0 ] && [ "${large#* }" -lt $((${small#* } + 16000)) ]
     count $? "pcap2cap, peak of memory: $small and $large"

@@ -1,4 +1,4 @@
-"""Packets of a random network, and the capture that they make, for tests/random_networks.py.
+"""Packets of a random network, and the capture that they make, for tests/look/random_networks.py.
 
 A packet knows how much of it the file has: all of it, or what the snap length leaves, or less where its sender sent too little."""
 import struct

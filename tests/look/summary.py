@@ -2,7 +2,7 @@
 """The cases of tests/summary/ through tools/nbt-look --summary, or with --page through the modules of the page, in node: each has the tables that
 stand there, and no others.
 
-Usage: tests/summary.py [--page] [--only=WORD] [PROGRAM], with nbt on PATH for nbt-look, or PROGRAM in its place where packets are made, and where
+Usage: tests/look/summary.py [--page] [--only=WORD] [PROGRAM], with nbt on PATH for nbt-look, or PROGRAM in its place where packets are made, and where
 the page asks the library. The last line is 'N passed, M failed'.
 """
 import json
@@ -14,12 +14,12 @@ import tempfile
 
 sys.dont_write_bytecode = True
 HERE = os.path.dirname(os.path.abspath(__file__))
-sys.path[1:1] = [f'{HERE}/{it}' for it in ('captures', 'lib', 'look')]
+sys.path[1:1] = [f'{HERE}/../{it}' for it in ('captures', 'lib')]
 import summary_cases
 from tally import tally
 
-TOOL = f'{HERE}/../tools/nbt-look'
-PAGE = f'{HERE}/../page/tests/summary.mjs'
+TOOL = f'{HERE}/../../tools/nbt-look'
+PAGE = f'{HERE}/../../page/tests/summary.mjs'
 
 
 def main():

@@ -1,7 +1,7 @@
 #!/usr/bin/env python3
 """Random captures through tools/pcap2cap, beside an independent reading of their bytes.
 
-Usage: tests/random_captures.py COUNT [SEED]
+Usage: tests/wireshark/random_captures.py COUNT [SEED]
 
 Each has datagrams, fragments of IP and TCP streams as networks deliver them, below VLAN tags and tunnels, with snap lengths, as
 pcap or pcapng. Each payload has to come once, in order, with its moment, frame and addresses, and the summary has to be exact.
@@ -11,13 +11,13 @@ import subprocess
 import sys
 
 sys.dont_write_bytecode = True
-sys.path[1:1] = [f'{sys.path[0]}/{it}' for it in ('captures', 'lib')]
+sys.path[1:1] = [f'{sys.path[0]}/../{it}' for it in ('captures', 'lib')]
 from pcap_expected import Expected
 from pcap_reading import frames_of
 from random_pcap import pcap_of
 from seeds import compared, first_unlike
 
-TOOL = f'{sys.path[0]}/../tools/pcap2cap'
+TOOL = f'{sys.path[0]}/../../tools/pcap2cap'
 
 
 def main():

@@ -1,7 +1,7 @@
 #!/usr/bin/env python3
 """Random captures through the page's own reading of files, beside tools/pcap2cap, which has tshark read them.
 
-Usage: tests/page_captures.py COUNT [SEED]
+Usage: tests/page/page_captures.py COUNT [SEED]
 
 Each has datagrams, fragments of IP and TCP streams as networks deliver them, below VLAN tags, with snap lengths, as pcap or pcapng, in
 either byte order; some of them cooked as Linux does, in both versions, or from a loopback. What both print has to be the same, byte for
@@ -15,11 +15,11 @@ import subprocess
 import sys
 
 sys.dont_write_bytecode = True
-sys.path[1:1] = [f'{sys.path[0]}/{it}' for it in ('captures', 'lib')]
+sys.path[1:1] = [f'{sys.path[0]}/../{it}' for it in ('captures', 'lib')]
 import random_pcap
 from seeds import compared, first_unlike
 
-TOP = os.path.realpath(f'{sys.path[0]}/..')
+TOP = os.path.realpath(f'{sys.path[0]}/../..')
 PROGRAM = ['node', f'{TOP}/page/tests/capture.mjs']
 TOOL = [f'{TOP}/tools/pcap2cap']
 

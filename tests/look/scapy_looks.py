@@ -1,7 +1,7 @@
 #!/usr/bin/env python3
 """Random captures that scapy makes, through tools/nbt-look, beside the fields of tshark (tests/look/look_counts.py).
 
-Usage: tests/scapy_looks.py COUNT [SEED]    with python3-scapy
+Usage: tests/look/scapy_looks.py COUNT [SEED]    with python3-scapy
 
 Stations of a network claim names, ask for them, answer, send datagrams and have sessions, over IPv4 and IPv6, with tags of 802.1Q in some
 captures. Large packets are cut into fragments of IP, of which some are lost and some come in another order; sessions are cut into segments at
@@ -16,7 +16,7 @@ import sys
 
 logging.getLogger('scapy').setLevel(logging.ERROR)
 sys.dont_write_bytecode = True
-sys.path[1:1] = [f'{sys.path[0]}/{it}' for it in ('captures', 'lib', 'look')]
+sys.path[1:1] = [f'{sys.path[0]}/../{it}' for it in ('captures', 'lib')]
 from wire import pcap
 from look_counts import first_difference
 from scapy.layers.inet import IP, TCP, UDP, fragment

@@ -1,7 +1,7 @@
 #!/usr/bin/env python3
 """A pcap file of as many packets as are wanted, for the cost of tools/pcap2cap; always the same for a number and a seed.
 
-Usage: tests/big_pcap.py PACKETS PCAP [SEED]
+Usage: tests/captures/big_pcap.py PACKETS PCAP [SEED]
 
 Of ten packets some four are name service (UDP 137), three are datagrams (UDP 138), and three are segments (TCP 139) of
 streams that begin, carry some messages and end, 64 of them at a time. 724,638 packets are 200 MB. The frames are Ethernet,
@@ -12,7 +12,7 @@ import struct
 import sys
 
 sys.dont_write_bytecode = True
-sys.path.insert(1, f'{sys.path[0]}/lib')
+sys.path.insert(1, f'{sys.path[0]}/../lib')
 from wire import ACK, FIN, FRED, POSITIVE, REQUEST, SYN, TCP, UDP, datagram, ip, pcap_header, pcap_record, udp
 
 STREAMS = 64

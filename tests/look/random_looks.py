@@ -1,9 +1,9 @@
 #!/usr/bin/env python3
 """Random captures through tools/nbt-look, beside an independent reading of their bytes and beside tshark.
 
-Usage: tests/random_looks.py COUNT [SEED]
+Usage: tests/look/random_looks.py COUNT [SEED]
 
-The captures are those of tests/random_captures.py. Of each:
+The captures are those of tests/wireshark/random_captures.py. Of each:
 - the packets are those that the reading has, each with its frame, time, addresses, ports and service;
 - each frame that the reading leaves out is there with a reason, and no other one but fragments of IP whose others are missing;
 - each frame in which tshark finds a packet of the name or datagram service is there, as a packet or with a reason;
@@ -18,13 +18,13 @@ import subprocess
 import sys
 
 sys.dont_write_bytecode = True
-sys.path[1:1] = [f'{sys.path[0]}/{it}' for it in ('captures', 'lib')]
+sys.path[1:1] = [f'{sys.path[0]}/../{it}' for it in ('captures', 'lib')]
 from pcap_expected import Expected
 from pcap_reading import frames_of
 from random_pcap import pcap_of
 from seeds import compared
 
-TOOL = f'{sys.path[0]}/../tools/nbt-look'
+TOOL = f'{sys.path[0]}/../../tools/nbt-look'
 CUT, FRAGMENTS = 'cut by the snap length', 'fragments of IP '
 SERVICES = '(nbns || nbdgm) && !icmp && !icmpv6'
 

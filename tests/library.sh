@@ -209,22 +209,6 @@ limits() {
     processors
 }
 
-# replays_alike WHERE: a station in this language reported what `nbt replay` does.
-replays_alike() {
-    grep -q ' delivered ' "$room/output" && cmp -s "$room/replayed" "$room/output"
-    count $? "a station does what nbt replay does, $1: $(tail -n 1 "$room/errors") $(diff "$room/replayed" "$room/output" | head -c 300)"
-}
-
-# A station in C.
-replays() {
-    replayed 9
-    $CC "${strict[@]}" "${sanitized[@]}" -o "$room/replay" \
-        "$here/library/library_replay.c" "$built/libnbt.a" >"$room/log" 2>&1
-    count $? "tests/library/library_replay.c: $(head -n 1 "$room/log")"
-    ended "$room/replay" 'FRED<20>' 'JOE<00>' <"$room/capture" >"$room/output" 2>"$room/errors"
-    replays_alike 'in C'
-}
-
 # said LINES: what a slow model reads in payloads.
 said() {
     PYTHONPATH=$here ended python3 -m model.values <"$1" >"$1.wanted"
@@ -286,13 +270,15 @@ for number, line in enumerate(sys.stdin, 1):
 ' <"$room/lines3" >"$room/output" 2>"$room/errors"
     cmp -s "$room/lines3.wanted" "$room/output"
     count $? "nbt.show prints what nbt show prints: $(tail -n 1 "$room/errors")"
+    replayed 9
     listed && in_python -c '
 import sys, nbt
 sys.stdout.write(nbt.list_table(bytes.fromhex(sys.stdin.read())))
 ' <"$room/table" >"$room/output" 2>"$room/errors" && cmp -s "$room/listed" "$room/output"
     count $? "nbt.list_table prints what nbt list prints: $(tail -n 1 "$room/errors") $(diff "$room/listed" "$room/output" | head -c 300)"
-    in_python "$here/library/library_replay.py" 'FRED<20>' 'JOE<00>' <"$room/capture" >"$room/output" 2>"$room/errors"
-    replays_alike 'in Python'
+    in_python "$here/library/station_in_python.py" 'FRED<20>' 'JOE<00>' <"$room/capture" >"$room/output" 2>"$room/errors"
+    grep -q ' delivered ' "$room/output" && cmp -s "$room/replayed" "$room/output"
+    count $? "a station does what nbt replay does: $(tail -n 1 "$room/errors") $(diff "$room/replayed" "$room/output" | head -c 300)"
 }
 
 # The types of the package, and of calls that use them, by mypy's strict rules for the oldest Python that it is for.
@@ -495,7 +481,6 @@ fi
 part callers callers
 part memory refused
 part limits limits
-part replay replays
 part values values
 if command -v tshark >/dev/null; then part programs programs; else lacks programs tshark; fi
 part python python

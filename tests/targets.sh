@@ -115,13 +115,11 @@ worst() {
     alike 'show in WebAssembly' "$room/lines12.wanted" "${node[@]}" "$here/library/targets.mjs" "$out" show <"$room/lines12"
 }
 
-# A capture by a station on each target, and its table, beside the program.
+# A capture by a station in JavaScript, and its table, beside the program: of other targets the part calls has stations too.
 stations() {
     replayed 13
     grep -q ' delivered ' "$room/replayed"
     count $? 'nbt replay delivers a datagram'
-    compiled replay "$here/library/library_replay.c"
-    alike 'a station on aarch64' "$room/replayed" "${qemu[@]}" "$room/replay.arm" 'FRED<20>' 'JOE<00>' <"$room/capture"
     alike 'a station in JavaScript' "$room/replayed" "${node[@]}" "$here/library/targets.mjs" "$out" replay 'FRED<20>' 'JOE<00>' <"$room/capture"
     listed
     count $? 'nbt list has a whole key, and one that is not'

@@ -469,8 +469,7 @@ user_program() {
 
 part shims compile refuse_memory
 part readers counted_by library/packet_readers.py
-part files files
-part examples examples
+parts files examples
 if command -v valgrind >/dev/null; then
     part valgrind under_valgrind
     part chains chains
@@ -480,8 +479,7 @@ else
 fi
 part callers callers
 part memory refused
-part limits limits
-part values values
+parts limits values
 if command -v tshark >/dev/null; then part programs programs; else lacks programs tshark; fi
 part python python
 if command -v mypy >/dev/null; then part types types; else lacks types mypy; fi

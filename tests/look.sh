@@ -663,25 +663,9 @@ for number in range(18):
     wait
 }
 
-part list list
-part samba samba
-part filters filters
-part objects objects
-part summary summary
-part summaries summaries
-part networks networks
-part tables tables
-part words words
-part programs programs
-part early early
-part guesses guesses
-part frames frames
-part pages pages
-part bad bad
-part random random
+parts list samba filters objects summary summaries networks tables words programs early guesses frames pages bad random
 if /usr/bin/python3 -c 'import scapy' 2>/dev/null; then part scapy scapy; part cut cuts; else lacks scapy python3-scapy; lacks cut python3-scapy; fi
 part terminals terminals
 if /usr/bin/python3 -c 'import rich' 2>/dev/null; then part colours colours; else lacks colours python3-rich; fi
-part growing growing
-part live live
+parts growing live
 finish

@@ -256,14 +256,12 @@ package_lint() {
 }
 
 if command -v mandoc >/dev/null; then part mandoc lint; else lacks mandoc mandoc; fi
-part words words
-part refusals refusals
+parts words refusals
 part pages counted_by docs/pages.py
 part lists counted "$here/../tools/lists.py" --check
 part bash completion bash nbt.bash
 if command -v zsh >/dev/null; then part zsh completion zsh _nbt; else lacks zsh zsh; fi
-part installed installed
-part prefixes prefixes
+parts installed prefixes
 if command -v dpkg-deb >/dev/null; then part deb package; else lacks deb dpkg-deb; fi
 if command -v lintian >/dev/null; then part lintian package_lint; else lacks lintian lintian; fi
 finish

@@ -89,31 +89,6 @@ saved() {
     count $? 'nbt merge: the same in the other order, in the first form where there is one'
 }
 
-# Three tables in every order and every grouping, beside a model that finds their join from the definitions.
-merges() {
-    counted_by program/random_merges.py "$program" "$room/refuse_memory.so"
-}
-
-# What `--json` prints, beside a model that makes the objects from payloads.
-objects() {
-    counted_by program/json_objects.py "$program"
-}
-
-# What `--brief` says of packets, beside a model that makes the phrases from payloads.
-phrases() {
-    counted_by program/brief_phrases.py "$program"
-}
-
-# What `--partial` prints of packets that are refused or cut, beside a model that reads what still stands.
-fronts() {
-    counted_by program/front_lines.py "$program"
-}
-
-# An output that has room for fewer bytes than there are.
-rooms() {
-    counted_by program/output_rooms.py "$program" "$room/devices.so"
-}
-
 # ---- Streams that can't be read or written; a closed standard error changes nothing.
 
 # fails_to WHAT WORDS: the last command ended with status 3 and `nbt: WHAT`.
@@ -323,14 +298,12 @@ with_tools "$program"
 printf '#!/bin/sh\nexec env LD_PRELOAD=%s/devices.so "$@"\n' "$room" >"$room/bin/hostile" && chmod +x "$room/bin/hostile"
 ln -s "$here/program/barred" "$room/bin"
 part shims compile devices refuse_memory
-part cases cases
-part pages pages
-part saved saved
-part merges merges
-part objects objects
-part phrases phrases
-part fronts fronts
-part rooms rooms
-part streams streams
-part memory memory
+parts cases pages saved
+# Beside the model: tables in every order and grouping, objects, phrases, what still stands of packets that are refused or cut.
+part merges counted_by program/random_merges.py "$program" "$room/refuse_memory.so"
+part objects counted_by program/json_objects.py "$program"
+part phrases counted_by program/brief_phrases.py "$program"
+part fronts counted_by program/front_lines.py "$program"
+part rooms counted_by program/output_rooms.py "$program" "$room/devices.so"
+parts streams memory
 finish

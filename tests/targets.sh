@@ -225,11 +225,7 @@ fi
 part files files
 part calls all_calls
 part memory refused
-part worst worst
-part stations stations
-part examples examples
-part corpus corpus
-part javascript javascript
+parts worst stations examples corpus javascript
 if command -v tsc >/dev/null; then part types types; else lacks types tsc; fi
 packages
 part missing missing

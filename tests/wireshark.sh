@@ -338,19 +338,6 @@ office() {
     count $? 'examples/office.pcap has the packets that were built'
 }
 
-part built built
-part snapped snapped
-part network network
-part odd odd
-part random random
-part empties empties
-part plugins plugins
-part early early
-part others others
-part long long
-part growing growing
-part waits waits
-part dumped dumped
-part office office
+parts built snapped network odd random empties plugins early others long growing waits dumped office
 part page page docs/CAPTURES.md
 finish

@@ -52,6 +52,12 @@ part() {
     enough $number "$(least "$script" "$1")" "$1"
 }
 
+# parts NAME..: the parts whose cases are run by functions of their names.
+parts() {
+    local name
+    for name; do part "$name" "$name"; done
+}
+
 # skip PART WHY: leaves out the cases of a part.
 skip() {
     local number

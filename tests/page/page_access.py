@@ -1,5 +1,5 @@
 """The parts of tests/page.py on who sees or types otherwise: forced colours, edges of fields, large letters in narrow windows, and keys of one character."""
-from page_checks import check, equal
+from parts import check, equal
 from page_seen import COLORS
 
 # The fields whose edge stands out from what is around them by less than 3 to 1 (WCAG 2.2, 1.4.11), or whose placeholder by less than 4.5 to 1 (1.4.3).

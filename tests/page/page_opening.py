@@ -3,7 +3,7 @@ import re
 import subprocess
 
 import page_files
-from page_checks import check, equal
+from parts import check, equal
 
 
 class OpeningCases:

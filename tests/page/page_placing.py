@@ -1,7 +1,7 @@
 """The part of tests/page.py on where files go that are opened while others are open, and on closing them."""
 import subprocess
 
-from page_checks import check, equal
+from parts import check, equal
 
 KEEP = b'139 0 85000000\n'
 NAMES = ['As a second tap, beside one.txt', 'Instead of one.txt']

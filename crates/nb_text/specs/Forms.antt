@@ -27,10 +27,10 @@ says opening ending = record { opening = opening; ending = ending }
 abbrev pub request_form : ℕ → Option ℕ → PhraseForm
 request_form word first_type =
     if opcode_of word == 0 then
-      (if is_type first_type NBSTAT then says (codes "asks for the node status of ") endings.Nothing
-      else says (codes "asks for ") endings.Nothing)
+    (if is_type first_type NBSTAT then says (codes "asks for the node status of ") endings.Nothing
+    else says (codes "asks for ") endings.Nothing)
     else if opcode_of word == 5 then
-      (if is_set word (2 ^ 8) then says (codes "claims ") endings.Claim else says (codes "overwrites ") endings.Claim)
+    (if is_set word (2 ^ 8) then says (codes "claims ") endings.Claim else says (codes "overwrites ") endings.Claim)
     else if opcode_of word == 6 then says (codes "releases ") endings.Holder
     else if opcode_of word == 8 then says (codes "refreshes ") endings.Claim
     else if opcode_of word == 9 then says (codes "refreshes ") endings.Claim
@@ -58,12 +58,12 @@ abbrev pub response_form : ℕ → Option ℕ → PhraseForm
 response_form word first_type =
     if opcode_of word == 0 then says (codes "answers: ") (if rcode_of word == 0 then answer_ending first_type else endings.NotFound)
     else if opcode_of word == 5 then
-      (if rcode_of word == 7 then says (codes "conflict about ") endings.Nothing
-      else if rcode_of word == 0 then (if is_challenge word then says (codes "asks to challenge ") endings.Place else granted_form word)
-      else granted_form word)
+    (if rcode_of word == 7 then says (codes "conflict about ") endings.Nothing
+    else if rcode_of word == 0 then (if is_challenge word then says (codes "asks to challenge ") endings.Place else granted_form word)
+    else granted_form word)
     else if opcode_of word == 6 then
-      (if rcode_of word == 0 then says (codes "grants the release of ") endings.Nothing
-      else says (codes "refuses the release of ") endings.Reason)
+    (if rcode_of word == 0 then says (codes "grants the release of ") endings.Nothing
+    else says (codes "refuses the release of ") endings.Reason)
     else if opcode_of word == 7 then says (codes "asks to wait for ") endings.Time
     else if opcode_of word == 8 then granted_form word
     else if opcode_of word == 9 then granted_form word

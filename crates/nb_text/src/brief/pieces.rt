@@ -58,9 +58,7 @@ pub fn push_each<T: Shows>(items: &[T], text: &mut String) -> Result<(), NoMemor
 
 /// Adds the texts of items, each after a comma.
 fn push_others<T: Shows>(items: &[T], text: &mut String) -> Result<(), NoMemory>
-    ensures {
-        Adds result text.old text.new (flat_map (λ next. codes ", " ∷ T.shown next ∷ []) items.now)
-    }
+    ensures { Adds result text.old text.new (flat_map (λ next. codes ", " ∷ T.shown next ∷ []) items.now) }
 {
     for place in 0..items.len() {
         push_text(", ", text)?;
@@ -107,7 +105,11 @@ pub fn push_follow(used: usize, size: usize, text: &mut String) -> Result<(), No
 {
     if used < size {
         let count = (size - used) as u64;
-        let word = if count == 1 { " byte follows" } else { " bytes follow" };
+        let word = if count == 1 {
+            " byte follows"
+        } else {
+            " bytes follow"
+        };
         return push_count(", ", count, word, text);
     }
     Ok(())

@@ -89,11 +89,7 @@ fn push_packet(
 
 /// What is seen of the first of so many questions, or else of the first of so many records that
 /// stand behind them, and where the records begin.
-fn first_of(
-    names: &NameReader<'_, '_>,
-    questions: usize,
-    records: usize,
-) -> (Option<Seen>, usize)
+fn first_of(names: &NameReader<'_, '_>, questions: usize, records: usize) -> (Option<Seen>, usize)
     requires { (at : ℕ) × (next : ℕ)
         × HasRow (QuestionAt names.now) HEADER_LENGTH questions at
         × HasRow (RecordAt names.now) at records next }

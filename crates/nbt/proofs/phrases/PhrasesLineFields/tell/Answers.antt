@@ -10,7 +10,7 @@ pub returns-in_ok-text-in-Packet : goal.returns-in_ok-text-in-Packet
 returns-in_ok-text-in-Packet g c =
     let said = c.in_ok-push_brief-in-Packet.ensures.said in
     let is = c.in-Packet.is ∙ ap (Packet c.in-Packet.port c.in-Packet.moment) (sym c.as_slice-in-Packet.ensures) in
-    let phrase = subst (λ (payload : List ℕ). IsSaid payload c.in-Packet.port said.text) (c.as_slice.ensures ∙ sym c.as_slice-in-Packet.ensures) said.phrase in
+    let phrase = subst (λ (payload : List ℕ). IsSaid payload c.in-Packet.port said.text) (c.as_slice.ensures ∙ sym c.as_slice-in-Packet.ensures) said.said in
     let text = c.as_str.ensures.value ∙ said.added ∙ ap (λ (front : List ℕ). front ++ said.text) c.clear.ensures.bytes in
     let first = c.in_ok-text-in-Packet.ensures.told ∙ ap₂ (λ (key : FieldKey) (value : List ℕ). g.S.Sink.after (g.S.Sink.seen c.args.sink.now) (Text key value)) c.bare.ensures text in
     record {

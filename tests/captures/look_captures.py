@@ -17,19 +17,13 @@ def ethernet(packet, source=b'\x02\0\0\0\0\x05', target=b'\x02\0\0\0\0\x06'):
     return target + source + TYPES[packet[0] >> 4] + packet
 
 
-def block(kind, body):
-    body += bytes(-len(body) % 4)
-    size = struct.pack('<L', 12 + len(body))
-    return struct.pack('<L', kind) + size + body + size
-
-
 def option(number, data):
     return struct.pack('<HH', number, len(data)) + data + bytes(-len(data) % 4)
 
 
 def pcapng(names, frames):
     """A file with an interface of each name; of each frame the interface, the time and the bytes."""
-    whole = block(0x0a0d0d0a, struct.pack('<LHHq', 0x1a2b3c4d, 1, 0, -1))
+    whole = section()
     for name in names:
         whole += block(1, struct.pack('<HHL', ETHERNET, 0, 262_144) + (option(2, name) if name else b'') + option(0, b''))
     for interface, at, data in frames:

@@ -1,4 +1,4 @@
-"""Packets of IP, UDP and NetBIOS, and pcap files of frames, for the scripts that make such files or send packets."""
+"""Packets of IP, UDP and NetBIOS, and pcap and pcapng files of frames, for the scripts that make such files or send packets."""
 import struct
 
 # The moment from which times in files are counted, in microseconds.
@@ -61,3 +61,15 @@ def pcap_record(at, data, snap=None):
 def pcap(frames, link=1):
     """A file of frames, each with its time, its bytes, and how many of these the file has."""
     return pcap_header(link) + b''.join(pcap_record(*each) for each in frames)
+
+
+def block(kind, body, order='<'):
+    """A block of pcapng."""
+    body += bytes(-len(body) % 4)
+    size = struct.pack(order + 'L', 12 + len(body))
+    return struct.pack(order + 'L', kind) + size + body + size
+
+
+def section(order='<'):
+    """The block that begins a file of pcapng."""
+    return block(0x0a0d0d0a, struct.pack(order + 'LHHq', 0x1a2b3c4d, 1, 0, -1), order)

@@ -74,8 +74,9 @@ def signature(function, lines):
     if found:
         lines.remove(found)
     words = found[2] if found else one_line(function.head)
-    plain_head = re.fullmatch(rf'(?:impl {function.owner}: )?(?:pub )?fn ({function.name}\b.*)', words)
-    return (f'{function.owner}::' if function.owner else '') + plain_head[1] if plain_head else words
+    # A block with bounds of its own is shown with them.
+    head = re.fullmatch(rf'(?:impl(?:<[^:>]*>)? ({function.owner}\b[^:]*): )?(?:pub )?fn ({function.name}\b.*)', words)
+    return words if not head else f'{head[1] or function.owner}::{head[2]}' if function.owner else head[2]
 
 
 def row(function, lines):

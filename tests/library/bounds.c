@@ -124,7 +124,7 @@ static void items(const uint8_t *bytes, size_t length) {
         WITH(name_text, .in = {{it.name, it.name_length}});
         if (status == NBT_DONE)
             measured("text: nbt_name_text", used, NBT_NAME_ROOM);
-        if (status == NBT_DONE && used > longest)
+        if (status == NBT_DONE && used > longest && used <= NBT_NAME_ROOM)
             memcpy(longest_text, text, longest = used);
         WITH(service_address, .in = {{bytes + it.data, it.data_length}}, .n = {it.type});
         WITH(service_node, .in = {{bytes + it.data, it.data_length}}, .n = {it.type});

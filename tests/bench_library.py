@@ -18,7 +18,7 @@ import tempfile
 sys.dont_write_bytecode = True
 sys.path[1:1] = [f'{sys.path[0]}/{it}' for it in ('bench', 'lib')]
 from bench import PROGRAM, instructions
-from bench_calls import LIB, TOP, a_payload, absorbing, in_python, items, objects
+from bench_calls import LIB, TOP, absorbing, in_python, items, objects
 from bench_captures import Office, line, office
 from bench_rows import HEADING, Row, call_seconds, least, processor_seconds, ratio
 

@@ -1,7 +1,7 @@
 #!/usr/bin/env python3
 """What tools/nbt-look costs beside the tshark that it reads from.  Usage: tests/bench_look.py [PACKETS]
 
-Makes a pcap file of so many packets (100,000) by tests/big_pcap.py. The first line has the seconds of tshark alone, with the fields
+Makes a pcap file of so many packets (100,000) by tests/captures/big_pcap.py. The first line has the seconds of tshark alone, with the fields
 that nbt-look asks it for; each other line those of nbt-look, how many times as long that is, and the peak of its own resident memory,
 without tshark and nbt. Of three runs the best counts.
 """
@@ -46,7 +46,7 @@ def main():
     packets = int(sys.argv[1]) if len(sys.argv) > 1 else 100_000
     with tempfile.TemporaryDirectory() as folder:
         path = os.path.join(folder, 'big.pcap')
-        subprocess.run([os.path.join(HERE, 'big_pcap.py'), str(packets), path], check=True)
+        subprocess.run([os.path.join(HERE, 'captures', 'big_pcap.py'), str(packets), path], check=True)
         options = types.SimpleNamespace(ports=[(each, each) for each in SERVICES], file=path, live=False, interface=None)
         alone, _ = best(command_of(options, FIELDS, STATISTICS))
         print('%-22s %8s %8s %10s' % (f'{packets:,} packets', 'seconds', 'times', 'peak kB'))

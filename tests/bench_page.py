@@ -1,7 +1,7 @@
 #!/usr/bin/python3
 """What the page costs in Chromium: how long a capture of 100,000 packets takes, its first rows, a click meanwhile, scrolling, and memory.
 
-Usage: tests/bench_page.py [PAGE]. PAGE is out/nbt.html without it. The capture is tests/big_pcap.py's; `tshark -V` reads the same file in the
+Usage: tests/bench_page.py [PAGE]. PAGE is out/nbt.html without it. The capture is tests/captures/big_pcap.py's; `tshark -V` reads the same file in the
 same run. Scrolling is through the rows of 200,000 packets. Status 1 where a bar is missed.
 """
 import os
@@ -62,7 +62,7 @@ requestAnimationFrame(scroll);'''
 
 def capture(folder, packets):
     path = f'{folder}/{packets}.pcap'
-    subprocess.run([f'{TESTS}/big_pcap.py', str(packets), path], check=True)
+    subprocess.run([f'{TESTS}/captures/big_pcap.py', str(packets), path], check=True)
     return path
 
 

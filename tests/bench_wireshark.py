@@ -1,7 +1,7 @@
 #!/usr/bin/env python3
 """What the plugin for Wireshark costs beside tshark without it.  Usage: tests/bench_wireshark.py [PLUGIN [PACKETS [PAIRS]]]
 
-PLUGIN is out/nbt.so without it. Of so many packets (100,000) of tests/big_pcap.py, and of the same at other ports, the list that tshark prints, in
+PLUGIN is out/nbt.so without it. Of so many packets (100,000) of tests/captures/big_pcap.py, and of the same at other ports, the list that tshark prints, in
 one pass and in two, its frame numbers and its trees. A run with the plugin and one without it go on at the same time, so that what else the machine
 does meets both: the ratio is the median of so many pairs' (7), of processor seconds, and the least and the largest stand beside it. How
 many bytes a packet tshark has more in memory is a median too. As root nobody runs it. Status 1 where a bar is passed by more than a twentieth.
@@ -95,7 +95,7 @@ def main():
         os.chmod(folder, 0o755)
         homes = [home_with(folder, os.path.realpath(plugin)), home_with(folder, None)]
         path, other = f'{folder}/big.pcap', f'{folder}/other.pcap'
-        subprocess.run([f'{HERE}/big_pcap.py', str(packets), path], check=True)
+        subprocess.run([f'{HERE}/captures/big_pcap.py', str(packets), path], check=True)
         at_other_ports(path, other)
         print(f'{packets:,} packets, {pairs} pairs, load {os.getloadavg()[0]:.1f} of {os.cpu_count()} processors\n{HEADING}')
         missed = False

@@ -2,22 +2,24 @@
 """The library under libFuzzer, with coverage counters and AddressSanitizer in its own code.
 
 Usage: tests/fuzz_coverage.py [--seconds N] [--module FILE] [--keep].  The module is what `make targets` or tools/module keeps, out/nbt.bc
-without it. What has to hold stands in tests/library/payloads.c. It begins with the inputs of tests/corpus.txt, a line of digits each;
+without it. What has to hold stands in tests/library/payloads.c. It begins with the inputs of tests/library/corpus.txt, a word of digits each;
 with --keep those that are needed for what was reached are written there, 2 MB at most. An input for which something doesn't hold
 is printed as lines of a capture, and its digits, and the status is 1; 2 where a tool is missing. The last lines say what was reached.
 """
 import argparse
 import collections
+import itertools
 import os
 import re
 import shutil
 import subprocess
 import sys
 import tempfile
+import textwrap
 
 TOP = os.path.join(os.path.dirname(os.path.abspath(__file__)), '..')
-CORPUS = os.path.join(TOP, 'tests', 'corpus.txt')
-MOST_BYTES = 2_000_000
+CORPUS = os.path.join(TOP, 'tests', 'library', 'corpus.txt')
+MOST_BYTES, LINE = 2_000_000, 8_000
 CLANGS = [os.environ.get('FUZZ_CLANG'), 'clang-22', 'clang-19', 'clang-16', 'clang']
 WRAPPED = '-Wl,--wrap=malloc,--wrap=realloc,--wrap=free'
 PROGRAM = [f'{TOP}/tests/library/{name}.c' for name in ('payloads', 'harness', 'samples', 'memory')]
@@ -72,9 +74,9 @@ def built(room, module):
 def read_corpus(folder):
     os.mkdir(folder)
     with open(CORPUS, encoding='ascii') as file:
-        for number, line in enumerate(file):
+        for number, digits in enumerate(file.read().split()):
             with open(os.path.join(folder, f'{number:05}'), 'wb') as one:
-                one.write(bytes.fromhex(line))
+                one.write(bytes.fromhex(digits))
 
 
 def write_corpus(folder):
@@ -83,12 +85,11 @@ def write_corpus(folder):
     for name in os.listdir(folder):
         with open(os.path.join(folder, name), 'rb') as file:
             inputs.append(file.read().hex())
-    size = 0
+    short_first = sorted(filter(None, set(inputs)), key=lambda it: (len(it), it))
+    sizes = itertools.accumulate(len(it) + 1 for it in short_first)
+    kept = [digits for digits, size in zip(short_first, sizes) if size <= MOST_BYTES]
     with open(CORPUS, 'w', encoding='ascii') as file:
-        for digits in sorted(set(inputs), key=lambda it: (len(it), it)):
-            size += len(digits) + 1
-            if digits and size <= MOST_BYTES:
-                file.write(f'{digits}\n')
+        file.write(textwrap.fill(' '.join(kept), LINE) + '\n')
 
 
 def show_failures(room, alone, said):

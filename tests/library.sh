@@ -9,23 +9,12 @@ set -uo pipefail
 shopt -s lastpipe
 . "$(dirname "$0")/lib/counting.sh"
 program=$(realpath "${1:-$here/../crates/nbt/out/nbt}")
-top=$(realpath "$here/..")
+. "$here/library/shared.sh"
+page=$top/docs/CALLING.md
 built=$room/built
 CC=${CC:-cc}
-strict=(-std=c11 -O1 -g -Wall -Wextra -Wpedantic -Werror "-I$top/include")
 payloads=10000
-values=25000
-# What the programs over the rows of tests/library/calls.def have alike.
-wrapped=(-Wl,--wrap=malloc,--wrap=realloc,--wrap=free)
-rows=("$here"/library/{harness,samples,memory}.c "${wrapped[@]}")
-
-# same WANTED NAME: whether standard input is what is wanted.
-same() {
-    diff <(printf '%s\n' "$1") - >"$room/difference"
-    count $? "$2: $(head -c 300 "$room/difference")"
-}
-
-calls() { grep -oE '\bnbt_[a-z_]+\(' "$top/include/nbt.h" | tr -d '(' | sort -u; }
+values=27000
 
 # The files, what they define and what they need.
 files() {
@@ -46,9 +35,6 @@ files() {
     readelf -d "$built/libnbt.so.0" | sed -n 's/.*(NEEDED).*\[\(.*\)\]/\1/p' | same libc.so.6 'libnbt.so.0 needs the C library alone'
     readelf -lW "$built/libnbt.so.0" | grep GNU_STACK | grep -c E | same 0 'the stack of its callers is not made executable'
 }
-
-# wanted FILE: what an example prints, which its last comment says.
-wanted() { awk '/^ \*\/$/ { shown = 0 } shown { sub(/^ \* ?/, ""); print } /^\/\* Prints:$/ { shown = 1 }' "$1"; }
 
 # example FILE WAY WORD..: an example, compiled and linked by these words, prints what it says.
 example() {
@@ -72,7 +58,7 @@ examples() {
         $CC "${strict[@]}" -c -o "$object" "$each" >"$room/log" 2>&1 || cat "$room/log"
         example "$each" shared "$object" "-L$built" -lnbt
         example "$each" static "$object" "$built/libnbt.a"
-        example "$each" sanitized -fsanitize=address,undefined -fno-sanitize-recover=all "$each" "$built/libnbt.a"
+        example "$each" sanitized "${sanitized[@]}" "$each" "$built/libnbt.a"
     done
     printf '#include <nbt.h>\nint main() { return nbt_status_text(0, nullptr, 0, nullptr) == NBT_DONE; }\n' >"$room/header.cpp"
     c++ -Wall -Wextra -Werror "-I$top/include" -c -o "$room/header.o" "$room/header.cpp" >"$room/log" 2>&1
@@ -136,14 +122,6 @@ worst() {
     count $? "tests/library/payloads.c, $1, prints what nbt show prints: $(diff "$2.wanted" "$room/output" | head -c 300)"
 }
 
-# lines COUNT SEED [LONGEST]: payloads, of so many bytes at most, and what `nbt show` prints of them.
-lines() {
-    "$here/captures/library_payloads.py" --seed "$2" ${3:+--longest "$3"} "$1" >"$room/lines$2"
-    sed 's/ / 0 /' "$room/lines$2" | ended "$program" show --input-limit 4294967296 >"$room/lines$2.wanted"
-    [ $? -eq 0 ] && [ "$(grep -cE '^[0-9]+ 13[789] ' "$room/lines$2.wanted")" -eq "$1" ]
-    count $? "$1 payloads of tests/captures/library_payloads.py, and nbt show of each"
-}
-
 # objects LINES: the objects of payloads are those that `nbt show --json` prints, but for the members of their lines.
 objects() {
     sed 's/ / 0 /' "$1" | ended "$program" show --json --input-limit 4294967296 \
@@ -161,7 +139,7 @@ phrases() {
 
 callers() {
     compiled plain
-    compiled sanitized -fsanitize=address,undefined -fno-sanitize-recover=all
+    compiled sanitized "${sanitized[@]}"
     lines "$payloads" 1
     worst plain "$room/lines1" 64
     objects "$room/lines1"
@@ -218,36 +196,17 @@ processors() {
 limits() {
     local each
     hostile plain
-    hostile sanitized -fsanitize=address,undefined -fno-sanitize-recover=all
+    hostile sanitized "${sanitized[@]}"
     $CC "${strict[@]}" -o "$room/bounds" "$here/library/bounds.c" "${rows[@]}" "$built/libnbt.a" >"$room/log" 2>&1
     count $? "tests/library/bounds.c: $(head -n 1 "$room/log")"
-    "$here/captures/library_payloads.py" --seed 5 500 | sed 's/ / 0 /' | ended "$room/bounds" >"$room/output" 2>"$room/errors"
-    count $? "the stack and the texts of calls: $(head -n 1 "$room/errors")"
+    { "$here/captures/payloads.py" --seed 5 library 500; "$here/captures/payloads.py" worst 6; } | sed 's/ / 0 /' \
+        | ended "$room/bounds" >"$room/output" 2>"$room/errors" && grep -q '^text: nbt_brief: 1633 of ' "$room/output"
+    count $? "the stack and the texts of calls: $(cat "$room/errors" <(grep nbt_brief "$room/output") | head -n 1)"
     sed -n 's/: [0-9]* of 65536$//p' "$room/output" | sort | same "$(calls | sed 's/^nbt_//' | grep -vx station_free)" 'the stack of each call is measured'
     for each in create free list save take tick absorb; do
         short_of_memory "station_$each"
     done
     processors
-}
-
-# replays_alike WHERE: a station in this language reported what `nbt replay` does.
-replays_alike() {
-    grep -q ' delivered ' "$room/output" && cmp -s "$room/replayed" "$room/output"
-    count $? "a station does what nbt replay does, $1: $(tail -n 1 "$room/errors") $(diff "$room/replayed" "$room/output" | head -c 300)"
-}
-
-# A capture, what `nbt replay` reports of it, but for why a payload is refused, and the same by a station in C.
-replayed() {
-    lines 1000 9
-    { cat "$top/examples/capture.txt"; sed 's/ / 2500 /' "$room/lines9"; echo tick 4000; } >"$room/capture"
-    ended "$program" replay 'FRED<20>' 'JOE<00>' <"$room/capture" | awk '
-        $2 == "refused" { print $1, $2 ($(NF - 1) == "error" ? " error " $NF : ""); next }
-        { print }' >"$room/replayed"
-    $CC "${strict[@]}" -fsanitize=address,undefined -fno-sanitize-recover=all -o "$room/replay" \
-        "$here/library/library_replay.c" "$built/libnbt.a" >"$room/log" 2>&1
-    count $? "tests/library/library_replay.c: $(head -n 1 "$room/log")"
-    ended "$room/replay" 'FRED<20>' 'JOE<00>' <"$room/capture" >"$room/output" 2>"$room/errors"
-    replays_alike 'in C'
 }
 
 # said LINES: what a slow model reads in payloads.
@@ -270,21 +229,12 @@ in_python() {
     NBT_LIBRARY=$built/libnbt.so.0 PYTHONDONTWRITEBYTECODE=1 PYTHONPATH=$top/bindings/python ended python3 "$@"
 }
 
-# What payloads say, as values, and what stands of those that are refused: in C that of port 137.
+# What payloads say, as values, and what stands of those that are refused.
 values() {
-    "$here/captures/values_payloads.py" --seed 11 "$values" >"$room/values"
-    grep '^137 ' "$room/values" >"$room/values137"
+    "$here/captures/payloads.py" --seed 11 values "$values" >"$room/values"
     said "$room/values"
-    # Of those of port 137 the model says the same, but for the numbers of their lines.
-    awk '/^[0-9]/ { shown = $2 == 137; if (shown) sub(/^[0-9]+/, ++count) } shown' "$room/values.wanted" >"$room/values137.wanted"
-    [ "$(grep -cE '^[0-9]+ 137 ' "$room/values137.wanted")" -eq "$(wc -l <"$room/values137")" ]
-    count $? "what it reads in the $(wc -l <"$room/values137") payloads of port 137"
-    [ "$(grep -c ' whole$' "$room/values137.wanted")" -ge 4000 ] && [ "$(grep -c ' refused ' "$room/values137.wanted")" -ge 15000 ]
+    [ "$(grep -c '^[0-9]* 137 whole$' "$room/values.wanted")" -ge 4000 ] && [ "$(grep -c '^[0-9]* 137 refused ' "$room/values.wanted")" -ge 15000 ]
     count $? 'at least 19,000 payloads of port 137, of which some stand and many are refused'
-    $CC "${strict[@]}" -fsanitize=address,undefined -fno-sanitize-recover=all -o "$room/service_values" \
-        "$here/library/service_values.c" "$built/libnbt.a" >"$room/log" 2>&1
-    count $? "tests/library/service_values.c: $(head -n 1 "$room/log")"
-    reads "$room/values137" tests/library/service_values.c ended "$room/service_values"
     reads "$room/values" tests/library/values_in_python.py in_python "$here/library/values_in_python.py"
 }
 
@@ -320,16 +270,15 @@ for number, line in enumerate(sys.stdin, 1):
 ' <"$room/lines3" >"$room/output" 2>"$room/errors"
     cmp -s "$room/lines3.wanted" "$room/output"
     count $? "nbt.show prints what nbt show prints: $(tail -n 1 "$room/errors")"
-    grep -v '^tick' "$room/capture" | ended "$program" save --keys "$many" >"$room/table"
-    ended "$program" list --keys "$many" <"$room/table" >"$room/listed"
-    in_python -c '
+    replayed 9
+    listed && in_python -c '
 import sys, nbt
 sys.stdout.write(nbt.list_table(bytes.fromhex(sys.stdin.read())))
-' <"$room/table" >"$room/output" 2>"$room/errors"
-    grep -q ' whole ' "$room/listed" && grep -q ' partial ' "$room/listed" && cmp -s "$room/listed" "$room/output"
+' <"$room/table" >"$room/output" 2>"$room/errors" && cmp -s "$room/listed" "$room/output"
     count $? "nbt.list_table prints what nbt list prints: $(tail -n 1 "$room/errors") $(diff "$room/listed" "$room/output" | head -c 300)"
-    in_python "$here/library/library_replay.py" 'FRED<20>' 'JOE<00>' <"$room/capture" >"$room/output" 2>"$room/errors"
-    replays_alike 'in Python'
+    in_python "$here/library/station_in_python.py" 'FRED<20>' 'JOE<00>' <"$room/capture" >"$room/output" 2>"$room/errors"
+    grep -q ' delivered ' "$room/output" && cmp -s "$room/replayed" "$room/output"
+    count $? "a station does what nbt replay does: $(tail -n 1 "$room/errors") $(diff "$room/replayed" "$room/output" | head -c 300)"
 }
 
 # The types of the package, and of calls that use them, by mypy's strict rules for the oldest Python that it is for.
@@ -370,19 +319,19 @@ installed() {
         LD_LIBRARY_PATH=$room/root/lib ended "$room/example" | same "$(wanted "$top/bindings/c/show.c")" "a program by pkg-config $each"
     done
     # The programs with which docs/CALLING.md begins, and what it says that they print.
-    block c >"$room/first.c"
+    block c "$page" >"$room/first.c"
     flags=$(PKG_CONFIG_PATH=$room/root/lib/pkgconfig pkg-config --cflags --libs nbt)
     $CC -std=c11 -Wall -Wextra -Werror -o "$room/example" "$room/first.c" $flags >"$room/log" 2>&1
     count $? "the program in C of docs/CALLING.md: $(head -n 1 "$room/log")"
-    LD_LIBRARY_PATH=$room/root/lib ended "$room/example" | same "$(block text)" 'the program in C of docs/CALLING.md'
+    LD_LIBRARY_PATH=$room/root/lib ended "$room/example" | same "$(block text "$page")" 'the program in C of docs/CALLING.md'
     mkdir "$room/page" && cp "$room/first.c" "$room/page"
-    commands 1 "$room/page" | same "$(block text)" 'the commands for C of docs/CALLING.md'
-    block python >"$room/page/first.py"
-    commands 2 "$room/page" | same "$(block text 2)" 'the command for Python of docs/CALLING.md'
+    commands 1 "$room/page" | same "$(block text "$page")" 'the commands for C of docs/CALLING.md'
+    block python "$page" >"$room/page/first.py"
+    commands 2 "$room/page" | same "$(block text "$page" 2)" 'the command for Python of docs/CALLING.md'
     for each in 1 2 3 4; do
-        block python $each >"$room/first.py"
+        block python "$page" $each >"$room/first.py"
         PYTHONPATH=$room/root/share/nbt/python PYTHONDONTWRITEBYTECODE=1 ended python3 "$room/first.py" 2>&1 \
-            | same "$(block text $((each + 1)))" "program $each in Python of docs/CALLING.md"
+            | same "$(block text "$page" $((each + 1)))" "program $each in Python of docs/CALLING.md"
     done
     installed_below "$room/it's a place & more"
 }
@@ -392,7 +341,7 @@ commands() {
     (
         cd "$2" || exit
         unset LD_LIBRARY_PATH PYTHONPATH NBT_LIBRARY NBT_STATIC PKG_CONFIG_PATH
-        block sh "$1" | sed "s,/usr/local,$room/root,g" | PYTHONDONTWRITEBYTECODE=1 CARGO_NET_OFFLINE=true "$timeout" -k 5 600 sh -e
+        block sh "$page" "$1" | sed "s,/usr/local,$room/root,g" | PYTHONDONTWRITEBYTECODE=1 CARGO_NET_OFFLINE=true "$timeout" -k 5 600 sh -e
     ) 2>"$room/errors"
 }
 
@@ -400,15 +349,15 @@ commands() {
 # does the package for Python. uninstall-lib leaves nothing of it.
 installed_below() {
     local flags
-    block python >"$room/first.py"
+    block python "$page" >"$room/first.py"
     make -s -C "$top" install-lib LIBRARY="$built" DESTDIR= PREFIX="$1" >"$room/log" 2>&1
     count $? "make install-lib PREFIX=$1: $(tail -n 1 "$room/log")"
     flags=$(PKG_CONFIG_PATH=$1/lib/pkgconfig pkg-config --cflags --libs nbt)
     eval "$CC -std=c11 -o \"\$room/example\" \"\$room/first.c\" $flags \"-Wl,-rpath,\$1/lib\"" >"$room/log" 2>&1
     count $? "a program by pkg-config below $1: $(head -n 1 "$room/log")"
-    ended env -u LD_LIBRARY_PATH "$room/example" | same "$(block text)" "a program below $1"
+    ended env -u LD_LIBRARY_PATH "$room/example" | same "$(block text "$page")" "a program below $1"
     env -u NBT_LIBRARY PYTHONPATH="$1/share/nbt/python" PYTHONDONTWRITEBYTECODE=1 "$timeout" 120 python3 "$room/first.py" 2>&1 \
-        | same "$(block text 2)" "the package for Python below $1"
+        | same "$(block text "$page" 2)" "the package for Python below $1"
     make -s -C "$top" uninstall-lib LIBRARY="$built" DESTDIR= PREFIX="$1" >"$room/log" 2>&1
     find "$1" ! -type d | wc -l | same 0 "make uninstall-lib PREFIX=$1"
 }
@@ -459,13 +408,13 @@ rust() {
     cmp -s "$room/lines4.wanted" "$room/output"
     count $? "nbt::show_into prints what nbt show prints: $(tail -n 1 "$room/errors")"
     LD_LIBRARY_PATH=$room/root/lib reads "$room/values" show_values.rs ended "$room/target/release/show_values"
-    block rust >"$room/first.rs"
-    user_program first "$room/first.rs" </dev/null | same "$(block text 6)" 'the program in Rust of docs/CALLING.md'
+    block rust "$page" >"$room/first.rs"
+    user_program first "$room/first.rs" </dev/null | same "$(block text "$page" 6)" 'the program in Rust of docs/CALLING.md'
     CARGO_TARGET_DIR=$room/commands commands 3 "$room/first" </dev/null \
-        | same "$(printf '%s\n' "$(block text 6)" "$(block text 6)")" 'the commands for Rust of docs/CALLING.md'
-    block rust 2 >"$room/as_json.rs"
+        | same "$(printf '%s\n' "$(block text "$page" 6)" "$(block text "$page" 6)")" 'the commands for Rust of docs/CALLING.md'
+    block rust "$page" 2 >"$room/as_json.rs"
     user_program as_json "$room/as_json.rs" 'nbt.features = ["serde"]' 'serde_json = "1"' </dev/null \
-        | same "$(block text 7)" 'the program in Rust of docs/CALLING.md with serde'
+        | same "$(block text "$page" 7)" 'the program in Rust of docs/CALLING.md with serde'
     status_answers
     [ ! -f "$room/samba.txt" ] || node_statuses
 }
@@ -518,18 +467,9 @@ user_program() {
         "$timeout" -k 5 600 cargo run --quiet "${words[@]}") 2>&1
 }
 
-# block LANGUAGE [NUMBER]: a block of docs/CALLING.md in this language, the first of them if no number is given.
-block() {
-    awk -v mark="\`\`\`$1" -v wanted="${2:-1}" '
-        /^```$/ { shown = 0 }
-        shown
-        $0 == mark && ++found == wanted { shown = 1 }' "$top/docs/CALLING.md"
-}
-
 part shims compile refuse_memory
 part readers counted_by library/packet_readers.py
-part files files
-part examples examples
+parts files examples
 if command -v valgrind >/dev/null; then
     part valgrind under_valgrind
     part chains chains
@@ -539,9 +479,7 @@ else
 fi
 part callers callers
 part memory refused
-part limits limits
-part replay replayed
-part values values
+parts limits values
 if command -v tshark >/dev/null; then part programs programs; else lacks programs tshark; fi
 part python python
 if command -v mypy >/dev/null; then part types types; else lacks types mypy; fi

@@ -357,10 +357,10 @@ END
 }
 
 # What makes a row of each table, by docs/SUMMARY.md.
-summaries() { counted "$here/summary.py" "$program"; }
+summaries() { counted "$here/look/summary.py" "$program"; }
 
 # What is true of random networks, and nothing else.
-networks() { counted "$here/random_networks.py" 30; }
+networks() { counted "$here/look/random_networks.py" 30; }
 
 # What is said of words that are no kinds, and of a kind of which there is no packet.
 guesses() {
@@ -590,10 +590,10 @@ END
 kinds() { python3 -c 'import sys; sys.dont_write_bytecode = True; sys.path.insert(0, sys.argv[1]); from nbt_look.vocabulary import KINDS; print(", ".join(KINDS))' "$here/../tools"; }
 
 # ---- Random captures, terminals, memory, networks.
-random() { counted "$here/random_looks.py" 10; }
+random() { counted "$here/look/random_looks.py" 10; }
 
 # By the system's Python, for which Debian has scapy.
-scapy() { counted /usr/bin/python3 "$here/scapy_looks.py" 20; }
+scapy() { counted /usr/bin/python3 "$here/look/scapy_looks.py" 20; }
 
 # on_terminal COLUMNS COMMAND..: what a command shows on a terminal of so many columns.
 on_terminal() {
@@ -633,22 +633,12 @@ colours() {
     count $? 'docs/summary-light.svg and docs/summary-dark.svg have these words: tests/look/summary_pictures.py draws them'
 }
 
-# peak WORD..: the most memory of nbt-look itself, in kB; that of tshark and nbt comes from other processes.
-peak() {
-    PYTHONPATH=$here/../tools ended python3 -c 'import resource, runpy, sys
-sys.argv = sys.argv[1:]
-try:
-    runpy.run_path(sys.argv[0], run_name="__main__")
-except SystemExit as end:
-    print(end.code, resource.getrusage(resource.RUSAGE_SELF).ru_maxrss, file=sys.stderr)' "$here/../tools/nbt-look" "$@" 2>&1 >"$room/output" | tail -n 1
-}
-
 # A file five times as long takes no more memory; its summary takes some 16 MB for queries between other pairs of stations.
 growing() {
     local each small large
-    for each in 10000 50000; do "$here/big_pcap.py" $each "$room/$each.pcap"; done
+    for each in 10000 50000; do "$here/captures/big_pcap.py" $each "$room/$each.pcap"; done
     for each in '' --summary --json; do
-        small=$(peak $each --quiet "$room/10000.pcap") large=$(peak $each --quiet "$room/50000.pcap")
+        small=$(peak nbt-look $each --quiet "$room/10000.pcap") large=$(peak nbt-look $each --quiet "$room/50000.pcap")
         [ "${small% *}" = 0 ] && [ "${large% *}" = 0 ] && [ "${large#* }" -lt $((${small#* } + 24000)) ] && [ "${large#* }" -lt 150000 ]
         count $? "nbt-look $each, peak of memory: $small and $large"
     done
@@ -674,25 +664,9 @@ for number in range(18):
     wait
 }
 
-part list list
-part samba samba
-part filters filters
-part objects objects
-part summary summary
-part summaries summaries
-part networks networks
-part tables tables
-part words words
-part programs programs
-part early early
-part guesses guesses
-part frames frames
-part pages pages
-part bad bad
-part random random
+parts list samba filters objects summary summaries networks tables words programs early guesses frames pages bad random
 if /usr/bin/python3 -c 'import scapy' 2>/dev/null; then part scapy scapy; part cut cuts; else lacks scapy python3-scapy; lacks cut python3-scapy; fi
 part terminals terminals
 if /usr/bin/python3 -c 'import rich' 2>/dev/null; then part colours colours; else lacks colours python3-rich; fi
-part growing growing
-part live live
+parts growing live
 finish

@@ -1,8 +1,8 @@
 #!/usr/bin/env bash
 # The manual pages: what mandoc says of them, where mandoc is installed, and whether they have each command, option and
 # refusal of the built program's and the tools' help; what bash and zsh offer; what `make install` puts where, and what `make
-# uninstall` leaves; the Debian package; the pages and the public items beside the sources; what is listed alike in several languages. Usage: tests/manual.sh [PROGRAM]; its last line is 'N
-# passed, M failed, K skipped'.
+# uninstall` leaves; the Debian package; the pages beside the sources, with each public item; what is listed alike in several languages.
+# Usage: tests/manual.sh [PROGRAM]; its last line is 'N passed, M failed, K skipped'.
 set -uo pipefail
 . "$(dirname "$0")/lib/counting.sh"
 program=${1:-$here/../crates/nbt/out/nbt}
@@ -256,15 +256,12 @@ package_lint() {
 }
 
 if command -v mandoc >/dev/null; then part mandoc lint; else lacks mandoc mandoc; fi
-part words words
-part refusals refusals
+parts words refusals
 part pages counted_by docs/pages.py
-part surface counted_by docs/surface.py
 part lists counted "$here/../tools/lists.py" --check
 part bash completion bash nbt.bash
 if command -v zsh >/dev/null; then part zsh completion zsh _nbt; else lacks zsh zsh; fi
-part installed installed
-part prefixes prefixes
+parts installed prefixes
 if command -v dpkg-deb >/dev/null; then part deb package; else lacks deb dpkg-deb; fi
 if command -v lintian >/dev/null; then part lintian package_lint; else lacks lintian lintian; fi
 finish

@@ -19,13 +19,13 @@ sys.path[1:1] = [f'{TESTS}/{it}' for it in ('captures', 'lib', 'look', 'page')]
 import page_files
 import page_program
 from page_access import AccessCases
-from page_checks import check, counts
 from page_looks import LookCases
 from page_opening import OpeningCases
 from page_packets import PacketCases
 from page_placing import PlacingCases
 from page_sources import SourceCases
 from page_views import ViewCases
+from parts import check, counts, finish, part, skip
 
 WORDS = [each for each in sys.argv[1:] if not each.startswith('--')]
 ONLY = [each.removeprefix('--part=') for each in sys.argv[1:] if each.startswith('--part=')]
@@ -34,13 +34,6 @@ PROGRAM = os.path.realpath(WORDS[1]) if WORDS[1:] else f'{TOP}/crates/nbt/out/nb
 LACKS = 'chromium, chromium-driver, python3-selenium, esbuild, nodejs, node-typescript and tshark'
 CAPTURES, NETWORKS, CHANGED = 20, 60, 10
 EMPTY_CATCH = re.compile(r'catch\s*(?:\(\w*\))?\s*\{\s*\}|catch\(\(\w*\) => \{\s*\}\)')
-
-
-def least():
-    """How many cases each part has at least, by tests/counts.txt."""
-    with open(f'{TESTS}/counts.txt') as lines:
-        rows = [line.split() for line in lines if line.startswith('page.py ')]
-    return {part: int(count) for _, part, count in rows}
 
 
 def is_lacking():
@@ -61,10 +54,10 @@ def modules():
     types = subprocess.run(['tsc', '-p', f'{TOP}/page'], capture_output=True, text=True)
     check(types.returncode == 0, f'tsc -p page: {types.stdout[:300]}')
     check(not (empty := empty_catches()), f'faults that nobody hears of: {empty}')
-    counted([f'{TESTS}/page_captures.py', str(CAPTURES)])
-    counted([f'{TESTS}/summary.py', '--page', PROGRAM])
-    counted([f'{TESTS}/random_networks.py', '--page', str(NETWORKS), '1', PROGRAM])
-    counted([f'{TESTS}/random_networks.py', '--changed', str(CHANGED), '1', PROGRAM])
+    counted([f'{TESTS}/page/page_captures.py', str(CAPTURES)])
+    counted([f'{TESTS}/look/summary.py', '--page', PROGRAM])
+    counted([f'{TESTS}/look/random_networks.py', '--page', str(NETWORKS), '1', PROGRAM])
+    counted([f'{TESTS}/look/random_networks.py', '--changed', str(CHANGED), '1', PROGRAM])
 
 
 def empty_catches():
@@ -105,21 +98,18 @@ PARTS = ('modules', 'rows', 'names', 'faults', 'filters', 'datagrams', 'deliveri
 
 
 def main():
-    stated = least()
     if is_lacking():
-        for part in PARTS:
-            counts['skipped'] += stated[part]
-            print(f'skipped: {part}, {stated[part]} cases ({LACKS} are wanted)', flush=True)
+        for name in PARTS:
+            skip(name, f'{LACKS} are wanted')
         if os.environ.get('CI') == 'true':
             check(False, f'CI has to install {LACKS}')
     else:
         with tempfile.TemporaryDirectory() as folder:
-            run(folder, stated)
-    print(', '.join(f'{count} {what}' for what, count in counts.items()))
-    return counts['failed'] > 0
+            run(folder)
+    return finish()
 
 
-def run(folder, stated):
+def run(folder):
     from browser import Browser
     made = subprocess.run([f'{TOP}/tools/page', f'{FOLDER}/nbt.wasm', PROGRAM, f'{folder}/nbt.html'], capture_output=True, text=True)
     check(made.returncode == 0, f'tools/page: {made.stderr.strip()}')
@@ -127,18 +117,14 @@ def run(folder, stated):
     cases = Cases(browser, folder, page_program.Program(PROGRAM, TOP))
     try:
         for name in ONLY or PARTS:
-            before = sum(counts.values())
-            part(cases, name)
-            count = sum(counts.values()) - before
-            print(f'{count} cases: {name}', flush=True)
-            check(count >= stated.get(name, 1), f'{name}: {count} cases, of {stated.get(name)} at least (tests/counts.txt)')
+            part(name, lambda: tried(cases, name))
         if '--pictures' in sys.argv:
             page_files.pictures(browser, cases.page, f'{TOP}/docs')
     finally:
         browser.close()
 
 
-def part(cases, name):
+def tried(cases, name):
     try:
         modules() if name == 'modules' else getattr(cases, name)()
     except Exception as error:  # What a browser throws is a failed case, and the others go on.

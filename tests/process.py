@@ -18,38 +18,11 @@ import time
 
 sys.path[1:1] = [f'{sys.path[0]}/{it}' for it in ('lib', 'program')]
 from limits import MANY
+from parts import check, counts, enough, finish, least, part, skip
 from process_inputs import CAPTURE, COMMANDS, FRED, READING, REPORT, captures, chained, repeated, roomy
-from process_runs import (TESTS, broken_pipe, bytes_of, closed, instructions, limited, lines_of, requests as counted_requests, rest_of,
+from process_runs import (broken_pipe, bytes_of, closed, instructions, limited, lines_of, requests as counted_requests, rest_of,
                           run, small_pipe, start, starts, wait)
 from process_terminals import advised, at_terminals, dropped, given_files, looked, mistaken, plain, short_of_memory
-
-counts = {'passed': 0, 'failed': 0, 'skipped': 0}
-
-
-def check(passed, name):
-    """Counts a case, and prints the name of one that failed."""
-    counts['passed' if passed else 'failed'] += 1
-    if not passed:
-        print(f'failed: {name}', flush=True)
-
-
-def least():
-    """How many cases each part has at least, by tests/counts.txt."""
-    with open(os.path.join(TESTS, 'counts.txt')) as lines:
-        rows = [line.split() for line in lines if line.startswith('process.py ')]
-    return {part: int(count) for _, part, count in rows}
-
-
-def skip(part, why):
-    """Leaves out the cases of a part."""
-    counts['skipped'] += least()[part]
-    print(f'skipped: {part}, {least()[part]} cases ({why})', flush=True)
-
-
-def enough(count, wanted, name):
-    """Fails where there are fewer cases than stated, or nothing is stated."""
-    if not 0 < wanted <= count:
-        check(False, f'{name}: {count} cases, of {wanted} at least (tests/counts.txt)')
 
 
 def ordinary():
@@ -378,13 +351,8 @@ def is_told(ended, whole):
     return ended == whole or (status, errors) == (3, b'nbt: memory\n') and whole[1].startswith(output)
 
 
-for part in (ordinary, failing_outputs, closed_reports, cut_reports, inputs, open_inputs, halting_inputs, terminals,
+for each in (ordinary, failing_outputs, closed_reports, cut_reports, inputs, open_inputs, halting_inputs, terminals,
              full_disks, short_files, short_memory, room, requests, pointers, short_stack):
-    before = sum(counts.values())
-    part()
-    count = sum(counts.values()) - before
-    print(f'{count} cases: {part.__name__}', flush=True)
-    enough(count, least().get(part.__name__, 0), part.__name__)
+    part(each.__name__, each)
 enough(sum(counts.values()), sum(least().values()), 'all')
-print(', '.join(f'{count} {what}' for what, count in counts.items()))
-sys.exit(counts['failed'] > 0)
+sys.exit(finish())

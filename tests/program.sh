@@ -18,9 +18,10 @@ nbt() { ended "$program" "$@"; }
 # Whether the file holds exactly the text.
 holds() { printf '%s' "$2" | cmp -s - "$1"; }
 
-# ---- The cases of tests/cases: after `$ COMMAND` stand the lines of its standard output, those of its standard error
-# behind `! `, and `? STATUS` where that isn't 0. `...` stands for text that isn't empty, {FRED} and the like for spellings, {KEYS} and
-# {MOST_KEYS} for limits of include/nbt.h, {OVER_KEYS} and {OVER_MOST_KEYS} for one more.
+# ---- The cases of tests/cases: after `$ COMMAND`, and further ones behind `& ` that say the same, stand the lines of its standard
+# output, those of its standard error behind `! `, and a status that isn't 0 before the last of these, as in `1! nbt: read`, or by itself,
+# as in `? 1`. `...` stands for text that isn't empty, {FRED} and the like for spellings, {KEYS} and {MOST_KEYS} for limits of
+# include/nbt.h, {OVER_KEYS} and {OVER_MOST_KEYS} for one more.
 # `hostile NAME=VALUE .. COMMAND` runs a command over the devices of tests/lib/devices.c.
 
 spelled() {
@@ -28,37 +29,41 @@ spelled() {
         s/{KEYS}/$keys/g; s/{OVER_KEYS}/$((keys + 1))/g; s/{MOST_KEYS}/$many/g; s/{OVER_MOST_KEYS}/$((many + 1))/g" "$1"
 }
 
-# sample COMMAND TOLD: what a command writes and ends with, told as in tests/cases; none, where there is no command.
-sample() {
-    local command=$1 told=$2 status
-    [ -n "$command" ] || return
-    (cd "$room/files" && PATH=$room/bin:$PATH ended bash -c "$command" </dev/null) >"$room/output" 2>"$room/errors"
-    status=$?
-    {
-        if [[ $told == ...* ]] && [ -s "$room/output" ]; then echo ...; else cat "$room/output"; fi
-        if [[ $told == *'! ...'* ]] && [ -s "$room/errors" ]; then echo '! ...'; else sed 's/^/! /' "$room/errors"; fi
-        [ $status -eq 0 ] || echo "? $status"
-    } >"$room/told"
-    holds "$room/told" "$told"
-    count $? "$command"
+# samples TOLD COMMAND..: what each command writes and ends with, told as in tests/cases.
+samples() {
+    local told=$1 command status
+    for command in "${@:2}"; do
+        (cd "$room/files" && PATH=$room/bin:$PATH ended bash -c "$command" </dev/null) >"$room/output" 2>"$room/errors"
+        status=$?
+        [[ $told != ...* ]] || [ ! -s "$room/output" ] || echo ... >"$room/output"
+        [[ $told != *'! ...'* ]] || [ ! -s "$room/errors" ] || echo ... >"$room/errors"
+        {
+            cat "$room/output"
+            sed "s/^/! /; \$s/^/${status#0}/" "$room/errors"
+            [ $status -eq 0 ] || [ -s "$room/errors" ] || echo "? $status"
+        } >"$room/told"
+        holds "$room/told" "$told"
+        count $? "$command"
+    done
 }
 
 cases() {
-    local file line command told
+    local file line told commands
     mkdir "$room/files"
     for file in "$here"/cases/*.txt; do
-        command='' told=''
+        commands=() told=''
         while IFS= read -r line; do
             case $line in
             '$ '*)
-                sample "$command" "$told"
-                command=${line#'$ '} told=''
+                samples "$told" "${commands[@]}"
+                commands=("${line#'$ '}") told=''
                 ;;
+            '& '*) commands+=("${line#'& '}") ;;
             '' | '#'*) ;;
             *) told+=$line$'\n' ;;
             esac
         done < <(spelled "$file")
-        sample "$command" "$told"
+        samples "$told" "${commands[@]}"
     done
 }
 
@@ -67,46 +72,21 @@ pages() {
     page docs/GUIDE.md
 }
 
-# Tables as another version saved them: each line of tests/saved.txt has one, and behind it, where it has no promise, the same
+# Tables as another version saved them: each line of tests/program/saved.txt has one, and behind it, where it has no promise, the same
 # in the first form. Both are saved again as the first; of all of them, in either order, comes what that version made of them.
 saved() {
     local table first
-    grep '^4e4254' "$here/saved.txt" >"$room/tables"
+    grep '^4e4254' "$here/program/saved.txt" >"$room/tables"
     while read -r table first; do
         for first in $first $table; do
             nbt merge <<<"$first" >"$room/output" && holds "$room/output" "$table"$'\n'
             count $? "nbt merge: ${first:0:80}"
         done
     done <"$room/tables"
-    sed 's/ .*//' "$room/tables" | nbt merge >"$room/output" && sed -n 's/^all //p' "$here/saved.txt" | cmp -s - "$room/output"
-    count $? 'nbt merge: all tables of tests/saved.txt'
+    sed 's/ .*//' "$room/tables" | nbt merge >"$room/output" && sed -n 's/^all //p' "$here/program/saved.txt" | cmp -s - "$room/output"
+    count $? 'nbt merge: all tables of tests/program/saved.txt'
     tac "$room/tables" | sed 's/.* //' | nbt merge | cmp -s - "$room/output"
     count $? 'nbt merge: the same in the other order, in the first form where there is one'
-}
-
-# Three tables in every order and every grouping, beside a model that finds their join from the definitions.
-merges() {
-    counted_by program/random_merges.py "$program" "$room/refuse_memory.so"
-}
-
-# What `--json` prints, beside a model that makes the objects from payloads.
-objects() {
-    counted_by program/json_objects.py "$program"
-}
-
-# What `--brief` says of packets, beside a model that makes the phrases from payloads.
-phrases() {
-    counted_by program/brief_phrases.py "$program"
-}
-
-# What `--partial` prints of packets that are refused or cut, beside a model that reads what still stands.
-fronts() {
-    counted_by program/front_lines.py "$program"
-}
-
-# An output that has room for fewer bytes than there are.
-rooms() {
-    counted_by program/output_rooms.py "$program" "$room/devices.so"
 }
 
 # ---- Streams that can't be read or written; a closed standard error changes nothing.
@@ -316,15 +296,14 @@ memory() {
 
 with_tools "$program"
 printf '#!/bin/sh\nexec env LD_PRELOAD=%s/devices.so "$@"\n' "$room" >"$room/bin/hostile" && chmod +x "$room/bin/hostile"
+ln -s "$here/program/barred" "$room/bin"
 part shims compile devices refuse_memory
-part cases cases
-part pages pages
-part saved saved
-part merges merges
-part objects objects
-part phrases phrases
-part fronts fronts
-part rooms rooms
-part streams streams
-part memory memory
+parts cases pages saved
+# Beside the model: tables in every order and grouping, objects, phrases, what still stands of packets that are refused or cut.
+part merges counted_by program/random_merges.py "$program" "$room/refuse_memory.so"
+part objects counted_by program/json_objects.py "$program"
+part phrases counted_by program/brief_phrases.py "$program"
+part fronts counted_by program/front_lines.py "$program"
+part rooms counted_by program/output_rooms.py "$program" "$room/devices.so"
+parts streams memory
 finish

@@ -75,7 +75,7 @@ loses_worker() {
 
 # kills NAME COUNT: the client is killed at random moments, and run again.
 kills() {
-    "$here/scale_kills.py" "$1" --count "$2" --program "$program" >output 2>&1
+    "$here/scale/scale_kills.py" "$1" --count "$2" --program "$program" >output 2>&1
     count $? "$1, killed at $2 moments: $(tail -n 1 output)"
 }
 

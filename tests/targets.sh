@@ -8,23 +8,12 @@ set -uo pipefail
 shopt -s lastpipe
 . "$(dirname "$0")/lib/counting.sh"
 program=$(realpath "${1:-$here/../crates/nbt/out/nbt}")
-top=$(realpath "$here/..")
+. "$here/library/shared.sh"
 out=${OUT:-$room/out}
 . "$here/library/package_cases.sh"
-strict=(-std=c11 -O1 -g -Wall -Wextra -Wpedantic -Werror "-I$top/include")
 payloads=3000
-# What the programs over the rows of tests/library/calls.def have alike.
-rows=("$here"/library/{harness,samples,memory}.c -Wl,--wrap=malloc,--wrap=realloc,--wrap=free)
 qemu=(qemu-aarch64 -L /usr/aarch64-linux-gnu)
 memory64='process.exit(WebAssembly.validate(Uint8Array.of(0, 97, 115, 109, 1, 0, 0, 0, 5, 3, 1, 4, 1)) ? 0 : 1)'
-
-# same WANTED NAME: whether standard input is what is wanted.
-same() {
-    diff <(printf '%s\n' "$1") - >"$room/difference"
-    count $? "$2: $(head -c 300 "$room/difference")"
-}
-
-calls() { grep -oE '\bnbt_[a-z_]+\(' "$top/include/nbt.h" | tr -d '(' | sort -u; }
 
 # The module, and what is made of it.
 files() {
@@ -57,12 +46,6 @@ files() {
     "$top/tools/targets" make "$module" "$room/again" "$room/root" >"$room/log" 2>&1 && diff -r "$out/lib/aarch64" "$room/again/lib/aarch64" \
         && cmp "$out/nbt.wasm" "$room/again/nbt.wasm"
     count $? "the same files once more: $(tail -n 1 "$room/log")"
-}
-
-# lines COUNT SEED [LONGEST]: payloads, of so many bytes at most.
-lines() {
-    "$here/captures/library_payloads.py" --seed "$2" ${3:+--longest "$3"} "$1" >"$room/lines$2"
-    count $? "$1 payloads of tests/captures/library_payloads.py"
 }
 
 # compiled NAME SOURCE OPTION..: a program in C for aarch64, with the library in it, as $room/NAME.arm; and for x86-64, as $room/NAME.
@@ -128,33 +111,20 @@ every() {
 worst() {
     compiled worst "$here/library/payloads.c" "${rows[@]}"
     lines "$payloads" 12
-    sed 's/ / 0 /' "$room/lines12" | ended "$program" show --input-limit 4294967296 >"$room/lines12.wanted"
-    count $? "nbt show of $payloads payloads"
     alike 'tests/library/payloads.c on aarch64' "$room/lines12.wanted" "${qemu[@]}" "$room/worst.arm" 8 <"$room/lines12"
     alike 'show in WebAssembly' "$room/lines12.wanted" "${node[@]}" "$here/library/targets.mjs" "$out" show <"$room/lines12"
 }
 
-# A capture by a station on each target, and its table, beside the program.
+# A capture by a station in JavaScript, and its table, beside the program: of other targets the part calls has stations too.
 stations() {
-    lines 1000 13
-    { cat "$top/examples/capture.txt"; sed 's/ / 2500 /' "$room/lines13"; echo tick 4000; } >"$room/capture"
-    ended "$program" replay 'FRED<20>' 'JOE<00>' <"$room/capture" | awk '
-        $2 == "refused" { print $1, $2 ($(NF - 1) == "error" ? " error " $NF : ""); next }
-        { print }' >"$room/replayed"
+    replayed 13
     grep -q ' delivered ' "$room/replayed"
     count $? 'nbt replay delivers a datagram'
-    compiled replay "$here/library/library_replay.c"
-    alike 'a station on aarch64' "$room/replayed" "${qemu[@]}" "$room/replay.arm" 'FRED<20>' 'JOE<00>' <"$room/capture"
     alike 'a station in JavaScript' "$room/replayed" "${node[@]}" "$here/library/targets.mjs" "$out" replay 'FRED<20>' 'JOE<00>' <"$room/capture"
-    grep -v '^tick' "$room/capture" | ended "$program" save --keys "$many" >"$room/table"
-    ended "$program" list --keys "$many" <"$room/table" >"$room/listed"
-    grep -q ' whole ' "$room/listed" && grep -q ' partial ' "$room/listed"
+    listed
     count $? 'nbt list has a whole key, and one that is not'
     alike 'list in JavaScript' "$room/listed" "${node[@]}" "$here/library/targets.mjs" "$out" list <"$room/table"
 }
-
-# wanted FILE: what an example prints, which its last comment says.
-wanted() { awk '/^ \*\/$/ { shown = 0 } shown { sub(/^ \* ?/, ""); print } /^\/\* Prints:$/ { shown = 1 }' "$1"; }
 
 # The examples of bindings/c on aarch64, over the shared object.
 examples() {
@@ -168,26 +138,24 @@ examples() {
 
 # What was found to reach the most of the library (tests/fuzz_coverage.py), once more: on x86-64 under sanitizers, and on aarch64.
 corpus() {
-    local wanted
-    wanted="$(wc -l <"$here/corpus.txt") inputs"
-    ${CC:-cc} "${strict[@]}" -fsanitize=address,undefined -fno-sanitize-recover=all -o "$room/corpus" "$here/library/payloads.c" \
+    local wanted inputs=$room/corpus.inputs
+    tr ' ' '\n' <"$here/library/corpus.txt" >"$inputs"
+    wanted="$(wc -l <"$inputs") inputs"
+    ${CC:-cc} "${strict[@]}" "${sanitized[@]}" -o "$room/corpus" "$here/library/payloads.c" \
         "${rows[@]}" "$out/lib/libnbt.a" >"$room/log" 2>&1
     count $? "tests/library/payloads.c for x86-64, sanitized: $(head -n 1 "$room/log")"
-    ended "$room/corpus" corpus <"$here/corpus.txt" 2>&1 | tail -n 1 | same "$wanted" 'the corpus on x86-64'
-    ended "${qemu[@]}" "$room/worst.arm" corpus <"$here/corpus.txt" 2>&1 | tail -n 1 | same "$wanted" 'the corpus on aarch64'
+    ended "$room/corpus" corpus <"$inputs" 2>&1 | tail -n 1 | same "$wanted" 'the corpus on x86-64'
+    ended "${qemu[@]}" "$room/worst.arm" corpus <"$inputs" 2>&1 | tail -n 1 | same "$wanted" 'the corpus on aarch64'
     ${CC:-cc} "${strict[@]}" -o "$room/off" "$here"/library/{payloads,place_off}.c "${rows[@]}" -Wl,--wrap=nbt_datagram_read \
         "$out/lib/libnbt.a" >"$room/log" 2>&1
     count $? "tests/library/place_off.c: $(head -n 1 "$room/log")"
-    ! ended "$room/off" corpus <"$here/corpus.txt" >"$room/output" 2>&1 && grep -q 'not so: ' "$room/output"
+    ! ended "$room/off" corpus <"$inputs" >"$room/output" 2>&1 && grep -q 'not so: ' "$room/output"
     count $? "the corpus finds a place that is one off: $(tail -n 1 "$room/output")"
     echo 01000411000001020003ff | ended "$room/corpus" print >"$room/output" 2>/dev/null
     same $'138 0 11000001\n139 0 ff' 'an input as lines of a capture' <"$room/output"
-    [ "$(stat -c %s "$here/corpus.txt")" -lt 2000000 ]
+    [ "$(stat -c %s "$here/library/corpus.txt")" -lt 2000000 ]
     count $? 'the corpus has less than 2 MB'
 }
-
-# block LANGUAGE FILE: the first block of a page in this language.
-block() { awk -v mark="\`\`\`$1" '/^```$/ { shown = 0 } shown; $0 == mark && !found { shown = found = 1 }' "$2"; }
 
 # The package for JavaScript: its tests, and the program of its page.
 javascript() {
@@ -257,11 +225,7 @@ fi
 part files files
 part calls all_calls
 part memory refused
-part worst worst
-part stations stations
-part examples examples
-part corpus corpus
-part javascript javascript
+parts worst stations examples corpus javascript
 if command -v tsc >/dev/null; then part types types; else lacks types tsc; fi
 packages
 part missing missing

@@ -1,8 +1,9 @@
 """Captures of port 138 in which fragments of a few datagrams meet, and streams of port 139, made by chance, for
 tests/fuzz.py."""
+from model.limits import MOST_KEYS
 from model.names import Name, spelling_of
 from model.packets import FIRST, MORE
-from model.tables import KEYS, LONGEST, PER_SOURCE
+from model.tables import KEYS, LONGEST, PER_SOURCE, TIMER
 
 SCOPES = [(), (), (), (b'NETBIOS', b'COM'), (b'A',), (b'a',), (b'\x00.<', b'x' * 63)]
 FRONTS = [b'JOE', b'FRED', b'ANN', b'*' + bytes(14), b'', b'-', b'fred', b'A B', b'FIFTEEN LETTERS', b'\xff\\<.']
@@ -151,14 +152,14 @@ class Traffic:
     def capture(self):
         """A capture with ticks: a payload comes at a moment, and mostly the clock goes on."""
         rng = self.rng
-        clock = rng.choice((0, 0, 1_000, LATEST - 5_000, LATEST - 1_999, LATEST - 2_000, LATEST))
+        clock = rng.choice((0, 0, 1_000, LATEST - 5_000, LATEST - TIMER + 1, LATEST - TIMER, LATEST))
         lines = []
         for payload in self.payloads() + (self.payloads() if rng.random() < 0.3 else []):
-            clock = min(LATEST, clock + rng.choice((0, 0, 0, 0, 1, 500, 1_999, 2_000, 2_001)))
+            clock = min(LATEST, clock + rng.choice((0, 0, 0, 0, 1, 500, TIMER - 1, TIMER, TIMER + 1)))
             moment = clock if rng.random() < 0.9 else rng.choice((0, clock // 2, LATEST))
             lines.append(b'138 %d %b' % (moment, digits(payload)))
             if rng.random() < 0.2:
-                lines.append(b'tick %d' % rng.choice((clock, clock, min(LATEST, clock + 2_000), 0, LATEST)))
+                lines.append(b'tick %d' % rng.choice((clock, clock, min(LATEST, clock + TIMER), 0, LATEST)))
             if rng.random() < 0.05:
                 lines.append(rng.choice((b'', b'# any', b'137 0 00', b'139 5 empty')))
         return b''.join(it + b'\n' for it in lines)
@@ -168,10 +169,10 @@ def some_limits(rng):
     """The words for a table's limits, or none, and the two numbers."""
     words, keys, per_source = [], KEYS, PER_SOURCE
     if rng.random() < 0.4:
-        keys = rng.choice((1, 2, 3, 65_535))
+        keys = rng.choice((1, 2, 3, MOST_KEYS))
         words += ['--keys', str(keys)]
     if rng.random() < 0.4:
-        per_source = rng.choice((1, 2, 3, 65_535))
+        per_source = rng.choice((1, 2, 3, MOST_KEYS))
         words += ['--per-source', str(per_source)]
     return words, keys, per_source
 

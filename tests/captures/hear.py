@@ -9,7 +9,7 @@ import sys
 
 sys.dont_write_bytecode = True
 sys.path.insert(1, f'{sys.path[0]}/../lib')
-from wire import CLIENT, SERVER, TCP, UDP, ip, ip6, udp
+from wire import UDP, ip, ip6, udp
 
 IPV4, IPV6, TAG, SERVICE_TAG, PPPOE = 0x0800, 0x86dd, 0x8100, 0x88a8, 0x8864
 HOP_BY_HOP, ROUTING, DESTINATION = 0, 43, 60

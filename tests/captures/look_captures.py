@@ -8,8 +8,7 @@ sys.dont_write_bytecode = True
 sys.path.insert(1, f'{sys.path[0]}/../lib')
 from wire import *
 
-ETHERNET, USB, IEEE802_3 = 1, 189, 1
-START = 1_700_000_000
+ETHERNET, USB = 1, 189
 EVIL = b'\x1b]0;x\x07\xff\x9b2J'
 TYPES = {4: b'\x08\0', 6: b'\x86\xdd'}
 
@@ -18,33 +17,17 @@ def ethernet(packet, source=b'\x02\0\0\0\0\x05', target=b'\x02\0\0\0\0\x06'):
     return target + source + TYPES[packet[0] >> 4] + packet
 
 
-def pcap(frames, link=ETHERNET):
-    """A file of frames, each with its time in microseconds after START, and how many bytes the file has of it."""
-    whole = struct.pack('<LHHLLLL', 0xa1b2c3d4, 2, 4, 0, 0, 262_144, link)
-    for at, data, snap in frames:
-        second, part = divmod(START * 10**6 + at, 10**6)
-        captured = data[:snap]
-        whole += struct.pack('<LLLL', second, part, len(captured), len(data)) + captured
-    return whole
-
-
-def block(kind, body):
-    body += bytes(-len(body) % 4)
-    size = struct.pack('<L', 12 + len(body))
-    return struct.pack('<L', kind) + size + body + size
-
-
 def option(number, data):
     return struct.pack('<HH', number, len(data)) + data + bytes(-len(data) % 4)
 
 
 def pcapng(names, frames):
     """A file with an interface of each name; of each frame the interface, the time and the bytes."""
-    whole = block(0x0a0d0d0a, struct.pack('<LHHq', 0x1a2b3c4d, 1, 0, -1))
+    whole = section()
     for name in names:
         whole += block(1, struct.pack('<HHL', ETHERNET, 0, 262_144) + (option(2, name) if name else b'') + option(0, b''))
     for interface, at, data in frames:
-        high, low = divmod(START * 10**6 + at, 2**32)
+        high, low = divmod(START + at, 2**32)
         whole += block(6, struct.pack('<LLLLL', interface, high, low, len(data), len(data)) + data)
     return whole
 

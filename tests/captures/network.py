@@ -29,7 +29,7 @@ class Network:
         self.file = file
         self.number = 0
         self.comment = None
-        self.file.write(struct.pack('<LHHLLLL', 0xa1b2c3d4, 2, 4, 0, 0, 262_144, link))
+        self.file.write(pcap_header(link))
 
     def frame(self, moment, packet, captured=None, tag=b'', inner=None):
         """A frame at so many milliseconds, of which only so many bytes were captured; with a packet in a tunnel, perhaps."""
@@ -38,9 +38,7 @@ class Network:
         self.tells(moment, inner or packet)
 
     def record(self, moment, data, captured=None):
-        when = 1_700_000_000_700 + moment
-        self.file.write(struct.pack('<LLLL', when // 1000, when % 1000 * 1000, len(data[:captured]), len(data)))
-        self.file.write(data[:captured])
+        self.file.write(pcap_record((700 + moment) * 1000, data, captured))
         self.number += 1
 
     def tells(self, moment, packet):

@@ -2,7 +2,7 @@
 import struct
 
 from random_streams import IPV4, IPV6, Ends, datagrams, fragments, mixed, stream
-from wire import UDP
+from wire import UDP, block, section
 
 ETHERNET, RAW = 1, 101
 SNAPS = (None, None, None, 34, 36, 40, 47, 49, 54, 60, 64, 80, 96, 128, 200)
@@ -84,19 +84,12 @@ def file_record(order, interface, now, data):
     return struct.pack(order + 'LLLL', second, part, len(captured), len(data)) + captured
 
 
-def block(order, kind, body):
-    body += bytes(-len(body) % 4)
-    size = struct.pack(order + 'L', 12 + len(body))
-    return struct.pack(order + 'L', kind) + size + body + size
-
-
 def interface_blocks(order, interfaces):
-    section = block(order, 0x0a0d0d0a, struct.pack(order + 'LHHq', 0x1a2b3c4d, 1, 0, -1))
-    return section + b''.join(block(order, 1, struct.pack(order + 'HHL', each.link, 0, 262_144)
-                                    + struct.pack(order + 'HHB3xHH', 9, 1, each.digits, 0, 0)) for each in interfaces)
+    return section(order) + b''.join(block(1, struct.pack(order + 'HHL', each.link, 0, 262_144)
+                                           + struct.pack(order + 'HHB3xHH', 9, 1, each.digits, 0, 0), order) for each in interfaces)
 
 
 def packet_block(order, interface, now, data):
     high, low = divmod(interface.time(now), 2**32)
     captured = data[:interface.snap]
-    return block(order, 6, struct.pack(order + 'LLLLL', interface.number, high, low, len(captured), len(data)) + captured)
+    return block(6, struct.pack(order + 'LLLLL', interface.number, high, low, len(captured), len(data)) + captured, order)

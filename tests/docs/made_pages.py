@@ -1,7 +1,9 @@
 """The pages that are made of the sources: docs/LAWS.md, docs/CALLS.md and docs/DEFINITIONS.md; for tests/docs/pages.py."""
+import collections
 import re
 
 from sources import CRATES, ROOT, functions, heading, law_files, public
+from surface import Crate, one_line
 
 DOCS = ROOT / 'docs'
 LAWS_HEAD = '''# Laws of the definitions
@@ -12,9 +14,10 @@ page of the sources.
 '''
 CALLS_HEAD = '''# Calls
 
-Each public call of the libraries, and each function of the command that has a contract: the comment that stands above it, its errors, and
-the labels of the clauses of its contract, which is proved. A clause without a label is `one`; what `requires` says a caller owes.
-docs/PROMISES.md says what these amount to. tests/docs/pages.py makes this page of the sources.
+Each public call of the libraries, and each function of the command that has a contract: its signature, the comment that stands above it, its
+errors, and the labels of the clauses of its contract, which is proved. A clause without a label is `one`; what `requires` says a caller owes.
+After those of a crate stands what else a caller can name of it, so that each change of what is public is one of this page; laws are in
+docs/LAWS.md. docs/PROMISES.md says what these amount to. tests/docs/pages.py makes this page of the sources.
 '''
 DEFINITIONS_HEAD = '''# Definitions
 
@@ -58,20 +61,52 @@ def calls(crate):
     return [it for path in paths for it in functions(path) if it.is_public and not it.trait and it.clauses]
 
 
-def row(function):
-    """The row of a call: its name, its comment with the errors, and the labels of its clauses."""
+def is_of(words, function):
+    """Whether a line of the surface is that of a function, by its signature."""
+    return words.endswith(one_line(function.head))
+
+
+def signature(function, lines):
+    """How a call is called: its own line of the surface, which is taken out, or its head where none is its."""
     name = f'{function.owner}::{function.name}' if function.owner else function.name
+    of_name = [it for it in lines if it[1] == name and re.search(r'\bfn ', it[2])]
+    found = next((it for it in of_name if is_of(it[2], function)), None)
+    if found:
+        lines.remove(found)
+    words = found[2] if found else one_line(function.head)
+    # A block with bounds of its own is shown with them.
+    head = re.fullmatch(rf'(?:impl(?:<[^:>]*>)? ({function.owner}\b[^:]*): )?(?:pub )?fn ({function.name}\b.*)', words)
+    return words if not head else f'{head[1] or function.owner}::{head[2]}' if function.owner else head[2]
+
+
+def row(function, lines):
+    """The row of a call: its signature, its comment with the errors, and the labels of its clauses."""
     says = [function.doc or f'As `{function.trait}` has it.', *([f'Errors: {function.errors}'] if function.errors else [])]
     owed = [f'requires `{words}`' for kind, words in function.clauses if kind == 'requires']
     labels = [f'`{label}`' if label else 'one' for label, _ in function.clauses if label != 'requires']
-    return f'| `{name}` | {plain(" ".join(says))} | {plain(", ".join(dict.fromkeys(owed + labels)))} |'
+    return f'| `{signature(function, lines)}` | {plain(" ".join(says))} | {plain(", ".join(dict.fromkeys(owed + labels)))} |'
+
+
+def others(crate, lines):
+    """What else is public, a line for each item: its own declaration, what is derived for it, and the traits that are implemented."""
+    laws_here = {it.name for path in law_files(crate) for it in functions(path)}
+    found = collections.defaultdict(list)
+    for module, item, words in lines:
+        if not (item in laws_here and words == f'pub fn {item}()'):
+            found[module, item].append(words)
+    for (module, item), words in found.items():
+        first, *rest = sorted(words, key=lambda it: (not it.startswith('pub '), it))
+        rest = [it.removeprefix('impl ').removesuffix(f' for {item}') for it in rest]
+        yield ''.join(f'{it}::' for it in (*module, *item.split('::')[:-1])) + f'`{first}`' + (f': {"; ".join(f"`{it}`" for it in rest)}' if rest else '')
 
 
 def calls_page(crates):
     """The page of the calls."""
     lines = [CALLS_HEAD]
     for crate in crates:
-        lines += [f'## {crate}\n', '| Call | What it says | Clauses |', '|---|---|---|', *map(row, calls(crate)), '']
+        left = Crate(crate).surface()
+        lines += [f'## {crate}\n', '| Call | What it says | Clauses |', '|---|---|---|', *(row(it, left) for it in calls(crate)), '']
+        lines += [*(f'- {it}' for it in others(crate, left)), '']
     return '\n'.join(lines)
 
 

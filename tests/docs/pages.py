@@ -6,7 +6,7 @@ Usage: tests/docs/pages.py, whose last line is 'N passed, M failed'; --write wri
 
 - a file, a folder, or a name of the sources in backticks, on a page;
 - a call in a row of docs/PROMISES.md, which is there, and each clause of such a row, which is one of its calls';
-- a public call, and a public definition, which has a comment; docs/CALLS.md, DEFINITIONS.md and LAWS.md, which are what the sources say;
+- a public call, and a public definition, which has a comment; a line of docs/CALLS.md, DEFINITIONS.md and LAWS.md, which the sources say;
 - a file of wrong-bodies/, which says what is wrong, why and where it is refused, and whose old lines stand once in the file that it changes;
   a file of must-fail/, which says what is wrong and why, and stands in the table of named wrong bodies in docs/PROOFS.md, and each that
   stands there;
@@ -18,8 +18,10 @@ import re
 import subprocess
 import sys
 
+sys.path.insert(1, f'{sys.path[0]}/../lib')
 from made_pages import calls, definitions_of, made, spec_files
 from sources import CRATES, ROOT, aliases, functions, law_files, sources
+from tally import tally
 
 LISTED = re.findall(r'^(\w+)\b[^:#\n]*:', (ROOT / 'crates.txt').read_text(encoding='utf-8'), re.MULTILINE)
 LIBRARIES = [it for it in LISTED if it != 'nbt' and not it.startswith('nb_examples')]
@@ -182,6 +184,15 @@ def sizes():
     yield sum(words.values()) <= 45_000, f'the pages by hand have {sum(words.values())} words, of 45,000 at most'
 
 
+def made_lines():
+    """Whether each line of a page that is made is what the sources say, and nothing is missing."""
+    for path, text in made(LIBRARIES).items():
+        wanted, there = text.splitlines(), path.read_text(encoding='utf-8').splitlines() if path.exists() else []
+        for line in dict.fromkeys(it for it in (*wanted, *there) if it):
+            yield line in wanted and line in there, f'docs/{path.name}: {"no longer so" if line in there else "new (--write)"}: {line}'
+        yield wanted == there, f'docs/{path.name} is what tests/docs/pages.py --write makes'
+
+
 def main(word=''):
     """Counts the cases that are right."""
     if word == '--write':
@@ -192,14 +203,8 @@ def main(word=''):
         for path, fields in edits():
             print(f'{path.parts[0]}/{path.stem}: {dict(fields)["what"]}\n    {dict(fields)["why"]}')
         return
-    cases = [it for check in (places, names, promises, commented, wrong_bodies, named_bodies, costs, sizes) for it in check()]
-    for path, text in made(LIBRARIES).items():
-        cases.append((path.exists() and path.read_text(encoding='utf-8') == text, f'docs/{path.name} is what tests/docs/pages.py --write makes'))
-    for is_right, case in cases:
-        if not is_right:
-            print(f'failed: {case}')
-    failed = sum(not is_right for is_right, _ in cases)
-    print(f'{len(cases) - failed} passed, {failed} failed')
+    checks = (places, names, promises, commented, wrong_bodies, named_bodies, costs, sizes, made_lines)
+    tally((case, not is_right) for check in checks for is_right, case in check())
 
 
 if __name__ == '__main__':

@@ -98,7 +98,8 @@ def doc_before(text, start):
 def functions(path):
     """The functions of a source file."""
     text = path.read_text(encoding='utf-8')
-    code = blank(blank(text, COMMENT), QUOTED)
+    plain = blank(text, COMMENT)
+    code = blank(plain, QUOTED)
     owners = list(blocks(code))
     found = []
     for it in FUNCTION.finditer(code):
@@ -107,7 +108,7 @@ def functions(path):
         end = end_of_head(code, it.end())
         is_public = it[1] == 'pub' or trait != ''
         doc, errors = doc_before(text, it.start())
-        found.append(Function(owner, trait, it[2], is_public, ' '.join(text[it.start():end].split()), clauses_at(code, text, end),
+        found.append(Function(owner, trait, it[2], is_public, ' '.join(plain[it.start():end].split()), clauses_at(code, text, end),
                               doc, path, errors))
     return found
 

@@ -1,7 +1,5 @@
 #!/usr/bin/env python3
-"""The public surface of each crate, by its sources, beside tests/surface.txt, so that a change of it is seen.
-
-Usage: tests/docs/surface.py, whose last line is 'N passed, M failed', a case for each line; --write writes tests/surface.txt anew.
+"""The public surface of each crate, by its sources, for docs/CALLS.md, in which a change of it is seen. Usage: tests/docs/surface.py prints it.
 
 A line is a crate and its module, an item, and its signature without clauses: types with their public fields and variants, what is
 derived for them, their methods, constants, and the traits that are implemented; traits with their calls; functions; what is handed on
@@ -9,11 +7,9 @@ from a crate below. Only what a caller can name is there: of public modules, and
 main.rt takes from its modules. The examples' crates have no callers.
 """
 import re
-import sys
 
 from sources import BLOCK, COMMENT, CRATES, QUOTED, ROOT, blank, closed, end_of_head, owner_of
 
-SURFACE = ROOT / 'tests' / 'surface.txt'
 LISTED = re.findall(r'^(\w+)\b[^:#\n]*:', (ROOT / 'crates.txt').read_text(encoding='utf-8'), re.MULTILINE)
 ITEM = re.compile(
     r'^pub (?:(?:const |unsafe |extern\s+)*fn|struct|enum|trait|type|const|static) (?P<name>\w+)', re.MULTILINE)
@@ -35,13 +31,17 @@ class Source:
 
     def words(self, start, end):
         """A part of the file in one line, without attributes."""
-        words = re.sub(r'#\[[^\]]*\]', ' ', self.plain[start:end])
-        words = ' '.join(words.split())
-        return re.sub(r',? ?([)\]>])', r'\1', re.sub(r'([(\[<]) ', r'\1', words)).replace(', }', ' }').removesuffix(',')
+        return one_line(re.sub(r'#\[[^\]]*\]', ' ', self.plain[start:end]))
 
     def head(self, start):
         """A head of a function, or what stands before the semicolon of another item."""
         return self.words(start, end_of_head(self.code, start))
+
+
+def one_line(code):
+    """A signature or a type in one line."""
+    words = ' '.join(code.split())
+    return re.sub(r',? ?([)\]>])', r'\1', re.sub(r'([(\[<]) ', r'\1', words)).replace(', }', ' }').removesuffix(',')
 
 
 def parts(text):
@@ -98,7 +98,7 @@ class Crate:
 
     def add(self, module, item, words):
         """A line of the surface."""
-        self.lines.append((module, item, f'{"::".join((self.name, *module))} {item}: {words}'))
+        self.lines.append((module, item, words))
 
     def walk(self, module, top=None):
         """What a public module hands out."""
@@ -173,32 +173,11 @@ class Crate:
         return '\n'.join(it.code for it in self.sources.values())
 
     def surface(self):
-        """The lines of its surface, in the order of modules and names."""
-        return [line for _, _, line in sorted(set(self.lines))]
-
-
-def surface():
-    """The lines of all crates but those of the examples."""
-    return [line for name in LISTED if not name.startswith('nb_examples') for line in Crate(name).surface()]
-
-
-def main(word=''):
-    """Writes the file, or counts its lines that the sources say too, and the others."""
-    found = surface()
-    if word == '--write':
-        SURFACE.write_text('\n'.join(found) + '\n', encoding='utf-8')
-        return
-    stated = SURFACE.read_text(encoding='utf-8').splitlines()
-    for it in stated:
-        if it not in found:
-            print(f'failed: no longer public as tests/surface.txt has it: {it}')
-    for it in found:
-        if it not in stated:
-            print(f'failed: not in tests/surface.txt (tests/docs/surface.py --write): {it}')
-    right = len(set(stated) & set(found))
-    wrong = len(set(stated) ^ set(found)) + (stated != found and set(stated) == set(found))
-    print(f'{right} passed, {wrong} failed')
+        """Its lines as modules, items and words, in the order of modules and names."""
+        return sorted(set(self.lines))
 
 
 if __name__ == '__main__':
-    main(*sys.argv[1:])
+    for crate in LISTED:
+        for module, item, words in () if crate.startswith('nb_examples') else Crate(crate).surface():
+            print(f'{"::".join((crate, *module))} {item}: {words}')

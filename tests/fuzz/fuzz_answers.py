@@ -1,6 +1,7 @@
 """The rules of tests/fuzz.py on answers: what the contracts promise of captures, tables and streams."""
 from fuzz_runs import answers, ends_as, expect
 from fuzz_traffic import Traffic, capture_of, session_packet, some_limits
+from limits import MANY
 from model.captures import read_capture
 from model.names import Refused, text_of
 from model.reports import agrees, joined, listing, report, save
@@ -33,7 +34,7 @@ class Answers:
             answers(made, *saving(lines, table, ending))
         if made.status == 0:
             with self.runner.rule('listed by the model'):
-                answers(self.runner.run(['list', '--keys', '65535'], made.output), listing(table).encode())
+                answers(self.runner.run(['list', *MANY], made.output), listing(table).encode())
 
     def traffic(self):
         """A capture of fragments that meet, with ticks and faults."""

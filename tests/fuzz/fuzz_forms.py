@@ -4,6 +4,7 @@ import re
 from fuzz_inputs import LONGEST_WORD, NAMES
 from fuzz_runs import answers, ends_as, expect
 from fuzz_traffic import some_limits
+from limits import MANY
 from model.captures import comment_text, cut_at_line_feeds, read_capture
 
 KEY = re.compile(rb'(\d+)\.(\d+)\.(\d+)\.(\d+):(\d+)/([0-9a-f]{4}) '
@@ -44,7 +45,7 @@ class Forms:
         """A saved table is loaded again, and saved as the same bytes."""
         with self.runner.rule('loaded'):
             expect(re.fullmatch(rb'4e425432(?:[0-9a-f]{2})*\n', made.output), 'no saved table')
-            again = self.runner.run(['merge', '--keys', '65535'], made.output * self.rng.choice((1, 2)))
+            again = self.runner.run(['merge', *MANY], made.output * self.rng.choice((1, 2)))
             answers(again, made.output)
             answers(self.runner.run(['agree'], made.output * 2), b'equal\n')
 
@@ -70,7 +71,7 @@ class Forms:
         keys = [(*map(int, it.groups()[:5]), it[6]) for it in found]
         expect(keys == sorted(set(keys)), 'keys that do not ascend')
         expect(len(keys) == int(merged.output[8:16], 16), 'not a line for each key')
-        answers(self.runner.run(['list', '--keys', '65535'], merged.output), listed.output)
+        answers(self.runner.run(['list', *MANY], merged.output), listed.output)
 
     def words(self, words, given):
         """Any words."""

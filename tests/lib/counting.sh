@@ -52,6 +52,12 @@ part() {
     enough $number "$(least "$script" "$1")" "$1"
 }
 
+# parts NAME..: the parts whose cases are run by functions of their names.
+parts() {
+    local name
+    for name; do part "$name" "$name"; done
+}
+
 # skip PART WHY: leaves out the cases of a part.
 skip() {
     local number
@@ -102,6 +108,16 @@ with_tools() {
     for tool in pcap2cap cap2pcap; do ln -s "$(realpath "$here/../tools/$tool")" "$room/bin/nbt-$tool"; done
     ln -s "$(realpath "$here/../tools/nbt-look")" "$room/bin"
     export WIRESHARK_CONFIG_DIR=$room/settings
+}
+
+# peak TOOL WORD..: the status of a tool of tools/ and its most memory, in kB; that of tshark and nbt comes from other processes.
+peak() {
+    PYTHONPATH=$here/../tools ended python3 -c 'import resource, runpy, sys
+sys.argv = sys.argv[1:]
+try:
+    runpy.run_path(sys.argv[0], run_name="__main__")
+except SystemExit as end:
+    print(end.code, resource.getrusage(resource.RUSAGE_SELF).ru_maxrss, file=sys.stderr)' "$here/../tools/$1" "${@:2}" 2>&1 >"$room/output" | tail -n 1
 }
 
 # page FILE: the console samples of a page, where each command prints the lines after it. They run in a folder of their

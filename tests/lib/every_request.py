@@ -23,6 +23,7 @@ import sys
 import tempfile
 
 from served import Program, Served
+from tally import tally
 
 # The commands that write as they read.
 WRITING = ('show', 'replay')
@@ -92,13 +93,8 @@ def tried(form, program):
 
 def main():
     form, shim, given, *words = sys.argv[1:]
-    passed, failed = 0, 0
-    for what, is_well, why in tried(form, Program(shim, words, os.open(given, os.O_RDONLY))):
-        passed, failed = passed + is_well, failed + (not is_well)
-        if not is_well:
-            print(f'failed: {what}: {why}')
-    print(f'{passed} passed, {failed} failed')
-    return failed > 0
+    cases = tried(form, Program(shim, words, os.open(given, os.O_RDONLY)))
+    return tally((what, not is_well and why) for what, is_well, why in cases)
 
 
 if __name__ == '__main__':

@@ -1,14 +1,12 @@
-"""The limits of include/nbt.h, for the tests, as the tools have them."""
+"""The limits of include/nbt.h (tests/model/limits.py) as commands and cases have them."""
 import os
 import sys
 
-sys.path.append(os.path.join(os.path.dirname(os.path.abspath(__file__)), '..', '..', 'tools'))
-from nbt_pcap.header import KEYS, MOST_KEYS
+sys.path.append(os.path.join(os.path.dirname(os.path.abspath(__file__)), '..'))
+from model.limits import KEYS, MOST_KEYS
 
 # The words for as many keys as may be.
 MANY = ['--keys', str(MOST_KEYS)]
-
-
 # What stands in tests/cases for a limit, and for one more.
 NAMED = {'KEYS': KEYS, 'OVER_KEYS': KEYS + 1, 'MOST_KEYS': MOST_KEYS, 'OVER_MOST_KEYS': MOST_KEYS + 1}
 

@@ -1,5 +1,8 @@
-"""Packets of IP, UDP and NetBIOS for the scripts that make pcap files or send packets."""
+"""Packets of IP, UDP and NetBIOS, and pcap and pcapng files of frames, for the scripts that make such files or send packets."""
 import struct
+
+# The moment from which times in files are counted, in microseconds.
+START = 1_700_000_000 * 10**6
 
 UDP, TCP, ICMP = 17, 6, 1
 FIN, SYN, RST, ACK = 0x01, 0x02, 0x04, 0x10
@@ -42,3 +45,31 @@ def datagram(identifier, data, source=CLIENT):
 
 
 DATAGRAM = datagram(7, bytes(range(250)) * 4)
+
+
+def pcap_header(link=1):
+    return struct.pack('<LHHLLLL', 0xa1b2c3d4, 2, 4, 0, 0, 262_144, link)
+
+
+def pcap_record(at, data, snap=None):
+    """A frame at so many microseconds after START, of which the file has so many bytes; None is all."""
+    second, part = divmod(START + at, 10**6)
+    captured = data[:snap]
+    return struct.pack('<LLLL', second, part, len(captured), len(data)) + captured
+
+
+def pcap(frames, link=1):
+    """A file of frames, each with its time, its bytes, and how many of these the file has."""
+    return pcap_header(link) + b''.join(pcap_record(*each) for each in frames)
+
+
+def block(kind, body, order='<'):
+    """A block of pcapng."""
+    body += bytes(-len(body) % 4)
+    size = struct.pack(order + 'L', 12 + len(body))
+    return struct.pack(order + 'L', kind) + size + body + size
+
+
+def section(order='<'):
+    """The block that begins a file of pcapng."""
+    return block(0x0a0d0d0a, struct.pack(order + 'LHHq', 0x1a2b3c4d, 1, 0, -1), order)

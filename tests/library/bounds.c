@@ -1,5 +1,5 @@
 /* The bounds that include/nbt.h has: the stack that each call wants, and how long texts are. Usage: bounds <CAPTURE, whose payloads are given
- * to each call of calls.def, beside its samples and the worst payloads, which are made here. Calls run on a stack of their own, whose bytes
+ * to each call of calls.def, beside its samples; `payloads.py worst` makes some of those. Calls run on a stack of their own, whose bytes
  * are known, so that those that a call changes can be found. Prints the most of each; status 1 where one passes its bound. */
 #define _GNU_SOURCE
 #include "../lib/payloads.h"
@@ -8,7 +8,7 @@
 #include <sys/mman.h>
 #include <ucontext.h>
 
-enum { PAINT = 0x5a, STACK = 1 << 20, PAGE = 4096, LONGEST_NAME = 255, LONGEST_PAYLOAD = 65503, LINE_PAYLOAD = 131097, KEYS = 2000 };
+enum { PAINT = 0x5a, STACK = 1 << 20, PAGE = 4096, LINE_PAYLOAD = 131097, KEYS = 2000 };
 
 /* ---- the stack of a call */
 
@@ -108,6 +108,9 @@ static void given(uint16_t port, const uint8_t *bytes, size_t length) {
     }
 }
 
+static uint8_t longest_text[NBT_NAME_ROOM];
+static size_t longest;
+
 /* The first records of a payload of port 137, and the parts of their RDATA. */
 static void items(const uint8_t *bytes, size_t length) {
     const struct nbt_service_item *item = (const void *)filled;
@@ -119,6 +122,10 @@ static void items(const uint8_t *bytes, size_t length) {
             return;
         struct nbt_service_item it = *item;
         WITH(name_text, .in = {{it.name, it.name_length}});
+        if (status == NBT_DONE)
+            measured("text: nbt_name_text", used, NBT_NAME_ROOM);
+        if (status == NBT_DONE && used > longest && used <= NBT_NAME_ROOM)
+            memcpy(longest_text, text, longest = used);
         WITH(service_address, .in = {{bytes + it.data, it.data_length}}, .n = {it.type});
         WITH(service_node, .in = {{bytes + it.data, it.data_length}}, .n = {it.type});
         WITH(service_unit, .in = {{bytes + it.data, it.data_length}}, .n = {it.type});
@@ -127,122 +134,11 @@ static void items(const uint8_t *bytes, size_t length) {
     }
 }
 
-/* The longest name as a text: bytes that are escaped, in as few labels as there can be. Its front is letters where it is a NetBIOS
- * name. Answers its length, 255. */
-static size_t longest_name(uint8_t *into, bool is_netbios) {
-    size_t length = 0, rest = is_netbios ? 221 : 254, label;
-    if (is_netbios) {
-        into[length++] = 32;
-        memset(into + length, 'B', 32);
-        length += 32;
-    }
-    for (; rest > 0; rest -= 1 + label) {
-        label = rest > 64 ? 63 : rest - 1;
-        into[length++] = (uint8_t)label;
-        memset(into + length, 1, label);
-        length += label;
-    }
-    into[length++] = 0;
-    return length;
-}
-
-/* A packet of port 137 of one question with the longest name and as many pointers to it as a payload of this length has room for. */
-static void pointers(size_t length, bool is_netbios) {
-    static uint8_t bytes[LONGEST_PAYLOAD];
-    static const uint8_t fields[] = {0, 0x20, 0, 1}, pointer[] = {0xc0, 0x0c, 0, 0x20, 0, 1};
-    size_t end = 12 + longest_name(bytes + 12, is_netbios) + sizeof fields, count = 1;
-    memset(bytes, 0xff, 12);
-    memset(bytes + 4, 0, 8);
-    memcpy(bytes + end - sizeof fields, fields, sizeof fields);
-    for (; end + sizeof pointer <= length; end += sizeof pointer, count++)
-        memcpy(bytes + end, pointer, sizeof pointer);
-    bytes[4] = (uint8_t)(count >> 8);
-    bytes[5] = (uint8_t)count;
-    given(137, bytes, end);
-    items(bytes, end);
-}
-
-/* A datagram between the longest names. */
-static void longest_datagram(void) {
-    uint8_t bytes[14 + 2 * LONGEST_NAME] = {0x11, 2, 0, 1, 255, 255, 255, 255, 255, 255, 2, 0, 0, 0};
-    size_t length = longest_name(bytes + 14, true);
-    longest_name(bytes + 14 + length, true);
-    bytes[10] = (uint8_t)(2 * length >> 8);
-    bytes[11] = (uint8_t)(2 * length);
-    given(138, bytes, 14 + 2 * length);
-}
-
-/* A redirection of the longest name to a server of the longest name. */
-static void longest_redirect(void) {
-    uint8_t bytes[12 + 2 * (LONGEST_NAME + 10)] = {0, 1, 0x80, 0, 0, 0, 0, 0, 0, 1, 0, 0}, *fields;
-    size_t length = longest_name(bytes + 12, true);
-    fields = bytes + 12 + length;
-    memcpy(fields, "\0\2\0\1\xff\xff\xff\xff\0\xff", 10);
-    longest_name(fields + 10, true);
-    given(137, bytes, 12 + 2 * length + 10);
-}
-
-/* Puts bytes at a place, and answers the place after them. */
-static size_t put(uint8_t *into, size_t at, const void *bytes, size_t length) {
-    memcpy(into + at, bytes, length);
-    return at + length;
-}
-
-/* What is said of the bytes up to here, with zeros up to as many bytes as a line of a capture has, which has to be so long. */
-static void phrase_of(const char *name, uint8_t *bytes, size_t end, size_t length) {
-    memset(bytes + end, 0, LINE_PAYLOAD - end);
-    given(137, bytes, LINE_PAYLOAD);
-    WITH(brief, .in = {{bytes, LINE_PAYLOAD}}, .n = {137});
-    measured(name, used, length);
-    if (used != length)
-        exit(3);
-}
-
-/* The longest phrase where no name has more than 19 bytes: one of several addresses is claimed for more than a thousand names of
- * node statuses, of which the first is a group's. */
-static void longest_claim(void) {
-    static uint8_t bytes[LINE_PAYLOAD];
-    static const uint8_t header[] = {0, 1, 0x78, 0, 0, 1, 0, 0, 0, 0, 0, 4}, fields[] = {0, 0x21, 0, 1};
-    static const uint8_t record[] = {0xc0, 12, 0, 0x21, 0, 1, 255, 255, 255, 255, 4591 >> 8, 4591 & 255, 255};
-    size_t end = put(bytes, 0, header, sizeof header), i;
-    bytes[end++] = 32;
-    for (i = 0; i < 32; i++)
-        bytes[end++] = i % 2 == 0 ? 'E' : 'B';
-    bytes[end++] = 0;
-    end = put(bytes, end, fields, sizeof fields);
-    for (i = 0; i < 4 * 255; i++) {
-        if (i % 255 == 0)
-            end = put(bytes, end, record, sizeof record);
-        end = put(bytes, end, "ABCDEFGHIJKLMNO \x80", 18);
-    }
-    phrase_of("text: nbt_brief, names of 19 bytes", bytes, end, 205);
-}
-
-/* The longest phrase: the longest names that aren't NetBIOS names, and more than a thousand addresses. */
-static void longest_phrase(void) {
-    static uint8_t bytes[LINE_PAYLOAD];
-    static const uint8_t header[] = {0, 1, 0x80, 0, 0, 0, 0, 1, 0, 0, 0, 1}, fields[] = {0, 2, 0, 1, 0, 0, 0, 0, 0, LONGEST_NAME};
-    static const uint8_t record[] = {0, 0, 0x20, 0, 1, 0, 0, 0, 0, 6024 >> 8, 6024 & 255};
-    size_t end = put(bytes, 0, header, sizeof header), i;
-    end += longest_name(bytes + end, false);
-    end = put(bytes, end, fields, sizeof fields);
-    end += longest_name(bytes + end, false);
-    end = put(bytes, end, record, sizeof record);
-    for (i = 0; i < 1004; i++)
-        end = put(bytes, end, "\0\0\xff\xff\xff\xff", 6);
-    phrase_of("text: nbt_brief, of a line", bytes, end, 1633);
-}
-
-/* The longest text of a name, and the calls that are given it. */
+/* The calls that are given the text of a name, with the longest of those that were met, which has to be as long as may be. */
 static void names(void) {
-    static uint8_t name[LONGEST_NAME], longest[NBT_NAME_ROOM];
-    size_t length = longest_name(name, true);
-    struct bytes it = {longest, NBT_NAME_ROOM};
-    WITH(name_text, .in = {{name, length}});
-    measured("text: nbt_name_text", used, NBT_NAME_ROOM);
-    if (length != LONGEST_NAME || used != NBT_NAME_ROOM)
+    struct bytes it = {longest_text, NBT_NAME_ROOM};
+    if (longest != NBT_NAME_ROOM)
         exit(3);
-    memcpy(longest, text, used);
     WITH(name_spell, .in = {it});
     WITH(service_request, .in = {it}, .n = {NBT_REGISTRATION, 1, true, 1, 1, 1});
     WITH(service_response, .in = {it, BYTES("\7NETBIOS\3COM")}, .n = {1, 0x8000, 2, 1});
@@ -320,12 +216,6 @@ int main(void) {
         given(all.all[i].port, all.all[i].bytes, all.all[i].length);
         items(all.all[i].bytes, all.all[i].length);
     }
-    pointers(LONGEST_PAYLOAD, false);
-    pointers(LONGEST_PAYLOAD, true);
-    longest_datagram();
-    longest_redirect();
-    longest_claim();
-    longest_phrase();
     names();
     status_texts();
     longest_line();

@@ -124,6 +124,16 @@ struct bytes keep(const void *from, size_t length) {
     return made;
 }
 
+static uint8_t half(char digit) { return (uint8_t)(digit <= '9' ? digit - '0' : (digit | 32) - 'a' + 10); }
+
+struct bytes bytes_of(const char *digits) {
+    size_t length = strspn(digits, "0123456789abcdefABCDEF") / 2, i;
+    struct bytes made = keep(digits, length);
+    for (i = 0; i < length; i++)
+        ((uint8_t *)made.at)[i] = (uint8_t)(half(digits[2 * i]) << 4 | half(digits[2 * i + 1]));
+    return made;
+}
+
 int is_same(struct bytes first, struct bytes second) {
     return first.length == second.length && (first.length == 0 || memcmp(first.at, second.at, first.length) == 0);
 }

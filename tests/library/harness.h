@@ -100,8 +100,9 @@ struct answer attempt(enum call of, const struct asked *asked, size_t room, int 
 struct answer answered(enum call of, const struct asked *asked);
 #define CALL(name, ...) answered(OF_##name, &(struct asked){__VA_ARGS__})
 
-/* What is kept, and let go of from a mark on. */
+/* What is kept, and let go of from a mark on: bytes, and the bytes that digits stand for. */
 struct bytes keep(const void *from, size_t length);
+struct bytes bytes_of(const char *digits);
 size_t kept_mark(void);
 void release(size_t mark);
 

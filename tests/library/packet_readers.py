@@ -9,6 +9,9 @@ import re
 import sys
 from pathlib import Path
 
+sys.path.insert(1, f'{sys.path[0]}/../lib')
+from tally import tally
+
 BINDINGS = Path(__file__).resolve().parent.parent.parent / 'bindings'
 SOURCES = 'python/nbt/*.py', 'rust/*.rs', 'rust/src/*.rs', 'javascript/*.mjs', 'wireshark/*.c'
 # What a reader has.
@@ -71,16 +74,5 @@ def cases():
     yield not lost, f'no source: {sorted(lost)}'
 
 
-def main():
-    """Prints the cases that failed, and how many there are."""
-    counts = [0, 0]
-    for holds, what in cases():
-        counts[not holds] += 1
-        if not holds:
-            print(f'failed: {what}')
-    print(f'{counts[0]} passed, {counts[1]} failed')
-    return counts[1] > 0
-
-
 if __name__ == '__main__':
-    sys.exit(main())
+    sys.exit(tally((what, not holds) for holds, what in cases()))

@@ -717,17 +717,6 @@ int LLVMFuzzerTestOneInput(const uint8_t *data, size_t size) {
 }
 
 #ifndef FUZZER
-static uint8_t half(char digit) { return (uint8_t)(digit <= '9' ? digit - '0' : (digit | 32) - 'a' + 10); }
-
-/* The bytes of digits, which are kept. */
-static struct bytes bytes_of(const char *digits) {
-    size_t length = strspn(digits, "0123456789abcdefABCDEF") / 2, i;
-    struct bytes made = keep(digits, length);
-    for (i = 0; i < length; i++)
-        ((uint8_t *)made.at)[i] = (uint8_t)(half(digits[2 * i]) << 4 | half(digits[2 * i + 1]));
-    return made;
-}
-
 static void print(void) {
     size_t i, j;
     for (i = 0; i < count; i++) {

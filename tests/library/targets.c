@@ -114,16 +114,6 @@ static void ask_tables(struct bytes payload) {
     earlier.length = table.length;
 }
 
-static uint8_t half(char digit) { return (uint8_t)(digit <= '9' ? digit - '0' : (digit | 32) - 'a' + 10); }
-
-static struct bytes bytes_of(const char *digits) {
-    size_t length = strspn(digits, "0123456789abcdefABCDEF") / 2, i;
-    struct bytes made = keep(digits, length);
-    for (i = 0; i < length; i++)
-        ((uint8_t *)made.at)[i] = (uint8_t)(half(digits[2 * i]) << 4 | half(digits[2 * i + 1]));
-    return made;
-}
-
 static void ask_line(const char *text) {
     char *digits;
     uint32_t port = (uint32_t)strtoul(text, &digits, 10);

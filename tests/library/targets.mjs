@@ -1,4 +1,4 @@
-// What the program prints, by nbt.mjs: `show` of lines as those of tests/captures/library_payloads.py, `list` of a saved table in digits,
+// What the program prints, by nbt.mjs: `show` of lines as those of tests/captures/payloads.py, `list` of a saved table in digits,
 // `replay NAME..` of a capture, but for why a payload is refused. Usage: node targets.mjs FOLDER show|list|replay [NAME..] <INPUT
 import { readFileSync, writeFileSync } from 'node:fs';
 import { pathToFileURL } from 'node:url';

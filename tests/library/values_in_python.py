@@ -5,6 +5,9 @@ import sys
 import nbt
 from nbt import SessionType
 
+sys.path.insert(1, f'{sys.path[0]}/..')
+from model.values import main
+
 
 def digits(data):
     """Bytes as digits."""
@@ -106,14 +109,4 @@ def lines_of(port, payload):
     return {137: service, 138: datagram_lines, 139: session_lines}[port](payload)
 
 
-def main():
-    """Prints those of the lines of standard input, each with its number and port."""
-    for place, line in enumerate(sys.stdin, 1):
-        port, payload = line.split()
-        first, *others = lines_of(int(port), bytes.fromhex(payload.replace('empty', '')))
-        print(place, port, first)
-        for each in others:
-            print(' ', each)
-
-
-main()
+main(lines_of)

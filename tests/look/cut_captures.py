@@ -6,7 +6,7 @@ import sys
 logging.getLogger('scapy').setLevel(logging.ERROR)
 sys.dont_write_bytecode = True
 sys.path[1:1] = [f'{sys.path[0]}/../{it}' for it in ('captures', 'lib')]
-from look_captures import pcap
+from wire import pcap
 from scapy.layers.inet import IP, UDP
 from scapy.layers.l2 import Ether
 from scapy.layers.netbios import (NBNSHeader, NBNSQueryRequest, NBNSQueryResponse, NBNSRegistrationRequest, NBNS_ADD_ENTRY,

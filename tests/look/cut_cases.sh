@@ -44,5 +44,5 @@ END
         look "$room/cut-96.pcap" | sed 's/^.* 10\.0\.0\.6 *//; s/^25 frames, //' | diff - "$room/output"
         count $? "the text of a capture with cut packets${each:+, made with $each}"
     done
-    counted /usr/bin/python3 "$here/cut_looks.py"
+    counted /usr/bin/python3 "$here/look/cut_looks.py"
 }

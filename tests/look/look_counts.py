@@ -14,6 +14,9 @@ import os
 import subprocess
 import sys
 
+sys.path.insert(1, os.path.join(os.path.dirname(os.path.abspath(__file__)), '..', 'lib'))
+from tally import tally
+
 TOOL = os.path.join(os.path.dirname(os.path.abspath(__file__)), '../../tools/nbt-look')
 FIELDS = ('frame.number', 'frame.protocols', 'nbns.id', 'nbns.flags', 'nbdgm.type', 'nbdgm.dgram_id', 'nbss.type', 'nbss.length')
 WANTED = '(nbss.type || frame.protocols matches ":(nbns|nbdgm)(:|$)") && !icmp && !icmpv6'
@@ -23,14 +26,7 @@ REFUSED, EMPTY = None, 'truncated 0'
 
 
 def main():
-    failed = 0
-    for path in sys.argv[1:]:
-        difference = first_difference(path)
-        failed += bool(difference)
-        if difference:
-            print(f'failed: {path}: {difference}')
-    print(f'{len(sys.argv) - 1 - failed} passed, {failed} failed')
-    return failed > 0
+    return tally((path, first_difference(path)) for path in sys.argv[1:])
 
 
 def first_difference(path):

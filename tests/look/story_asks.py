@@ -1,4 +1,4 @@
-"""Queries and node status requests of a random network, and which of them have no answer: docs/SUMMARY.md, tests/random_networks.py."""
+"""Queries and node status requests of a random network, and which of them have no answer: docs/SUMMARY.md, tests/look/random_networks.py."""
 import math
 from dataclasses import dataclass, field
 

@@ -1,5 +1,5 @@
 """Captures of random networks as nobody sends them: bytes changed, frames cut, left out, doubled, in another order or at other times."""
-from look_captures import pcap
+from wire import pcap
 from story_frames import BELOW_TCP, BELOW_UDP
 
 FARTHEST = 5_000_000             # how far a frame is moved in time, in microseconds

@@ -1,5 +1,5 @@
 """What is true of one name of a random network, by docs/SUMMARY.md: who claims and holds it from when to when, and which conflicts there were.
-tests/random_networks.py.
+tests/look/random_networks.py.
 
 A network tells a history what it made happen, in order, and which response is to which claim. Spans of time are made of that, and conflicts are
 pairs of spans that overlap."""

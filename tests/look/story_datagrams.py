@@ -1,4 +1,4 @@
-"""Datagrams of a random network, and what becomes of them: docs/SUMMARY.md, tests/random_networks.py."""
+"""Datagrams of a random network, and what becomes of them: docs/SUMMARY.md, tests/look/random_networks.py."""
 import struct
 from dataclasses import dataclass, field
 

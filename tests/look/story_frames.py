@@ -1,11 +1,11 @@
-"""Packets of a random network, and the capture that they make, for tests/random_networks.py.
+"""Packets of a random network, and the capture that they make, for tests/look/random_networks.py.
 
 A packet knows how much of it the file has: all of it, or what the snap length leaves, or less where its sender sent too little."""
 import struct
 from dataclasses import dataclass, field
 
-from look_captures import ethernet, pcap
-from wire import ACK, SYN, TCP, UDP, first_level, ip, udp
+from look_captures import ethernet
+from wire import ACK, SYN, TCP, UDP, first_level, ip, pcap, udp
 
 MILLISECOND, SECOND = 1_000, 1_000_000
 BELOW_UDP, HEADER, NAME = 42, 12, 34

@@ -1,4 +1,4 @@
-"""What happens to one name of a random network: who claims it, who objects, who lets it go. tests/random_networks.py."""
+"""What happens to one name of a random network: who claims it, who objects, who lets it go. tests/look/random_networks.py."""
 import struct
 
 from story_asks import Ask

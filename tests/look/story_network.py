@@ -1,4 +1,4 @@
-"""A random network, the capture of it, and the tables that are true of it: docs/SUMMARY.md, tests/random_networks.py."""
+"""A random network, the capture of it, and the tables that are true of it: docs/SUMMARY.md, tests/look/random_networks.py."""
 import math
 import random
 from dataclasses import dataclass

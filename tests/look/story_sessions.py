@@ -1,4 +1,4 @@
-"""Sessions of a random network, and what came of them: docs/SUMMARY.md, tests/random_networks.py."""
+"""Sessions of a random network, and what came of them: docs/SUMMARY.md, tests/look/random_networks.py."""
 import struct
 from dataclasses import dataclass, field
 

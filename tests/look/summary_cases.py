@@ -19,8 +19,8 @@ import shlex
 import subprocess
 from dataclasses import dataclass, field
 
-from look_captures import ethernet, pcap
-from wire import ACK, SYN, TCP, UDP, ip, struct, udp
+from look_captures import ethernet
+from wire import ACK, SYN, TCP, UDP, ip, pcap, struct, udp
 
 FOLDER = os.path.join(os.path.dirname(os.path.abspath(__file__)), '..', 'summary')
 PACKET = re.compile(r'(\d+(?:\.\d+)?)\s+(\S+) > (\S+)\s+(.*)')

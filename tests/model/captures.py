@@ -2,7 +2,8 @@
 import collections
 import re
 
-LONGEST_LINE = 262_200
+from .limits import MOST_LINE as LONGEST_LINE
+
 LINE = re.compile(rb'(?:#.*|(13[789]) (\d{1,20}) (empty|(?:[0-9A-Fa-f]{2})+)|tick (\d{1,20})|)', re.DOTALL)
 
 Line = collections.namedtuple('Line', 'number port moment payload')

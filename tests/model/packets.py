@@ -2,6 +2,7 @@
 docs/DECISIONS.md has which one that is. What was read before it still stands."""
 import collections
 
+from .limits import MOST_BODY
 from .names import Refused, read_labels, read_name
 
 NB, NBSTAT, NS = 0x0020, 0x0021, 0x0002
@@ -12,7 +13,7 @@ MORE, FIRST = 0x01, 0x02
 QUERIES = {0x14: 'find', 0x15: 'found', 0x16: 'missing'}
 MESSAGE, REQUEST, POSITIVE, NEGATIVE, RETARGET, KEEPALIVE = 0x00, 0x81, 0x82, 0x83, 0x84, 0x85
 # How many bytes may follow the header of a session packet, at least and at most.
-SESSION_LENGTHS = {MESSAGE: (0, 131_071), REQUEST: (68, 510), POSITIVE: (0, 0), NEGATIVE: (1, 1), RETARGET: (6, 6), KEEPALIVE: (0, 0)}
+SESSION_LENGTHS = {MESSAGE: (0, MOST_BODY), REQUEST: (68, 510), POSITIVE: (0, 0), NEGATIVE: (1, 1), RETARGET: (6, 6), KEEPALIVE: (0, 0)}
 SERVICE_HEADER, DATAGRAM_HEADER, FRAGMENT_HEADER, SESSION_HEADER = 12, 10, 14, 4
 
 Question = collections.namedtuple('Question', 'labels type group')

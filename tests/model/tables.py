@@ -4,12 +4,10 @@ A key has all that its fragments say, in sets: the bytes at each place, the ends
 is spoilt where they contradict each other; sets only grow, so the order of fragments can't matter."""
 import collections
 
+from .limits import KEPT_FOR as TIMER, KEYS, MOST_DATAGRAM as LONGEST
 from .names import Refused, read_name, spelling_of
 from .packets import FIRST, KINDS, MORE, Reader
 
-LONGEST = 65_535
-TIMER = 2_000
-KEYS = 1_024
 PER_SOURCE = (1 << 32) - 1
 MAGIC, FIRST_MAGIC = b'NBT2', b'NBT1'
 

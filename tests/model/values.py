@@ -1,6 +1,5 @@
 """What a caller of the library should read out of payloads, which come as lines of a port and digits. Usage: python3 -m model.values,
-in tests/. tests/library/values_in_python.py and bindings/rust/examples/show_values.rs print the same by the bindings, and
-tests/library/service_values.c that of port 137 by C.
+in tests/. tests/library/values_in_python.py and bindings/rust/examples/show_values.rs print the same by the bindings.
 
 Of port 137 there is a line for the packet, one for its header and one for each question and record that stands; of the other ports one
 for the packet, and one for what stands at its front. A fault is the number of its status, and its place, or - where it has none."""
@@ -94,8 +93,8 @@ def lines_of(port, payload):
     return {137: service, 138: datagram, 139: session}[port](read(port, payload))
 
 
-def main():
-    """Prints those of the lines of standard input, each with its number and port."""
+def main(lines_of=lines_of):
+    """Prints those of the lines of standard input, as the model or another reader has them, each with its number and port."""
     for place, line in enumerate(sys.stdin, 1):
         port, payload = line.split()
         first, *others = lines_of(int(port), bytes.fromhex(payload.replace('empty', '')))

@@ -1,25 +1,9 @@
 """The parts of tests/page.py on who sees or types otherwise: forced colours, edges of fields, large letters in narrow windows, and keys of one character."""
-from page_checks import check, equal
+from parts import check, equal
+from page_seen import COLORS
 
 # The fields whose edge stands out from what is around them by less than 3 to 1 (WCAG 2.2, 1.4.11), or whose placeholder by less than 4.5 to 1 (1.4.3).
-PALE = r'''
-const canvas = document.createElement('canvas').getContext('2d', { willReadFrequently: true });
-const over = (color, below) => {
-    for (const each of [`rgb(${below.join(' ')})`, color]) {
-        canvas.fillStyle = each;
-        canvas.fillRect(0, 0, 1, 1);
-    }
-    return Array.from(canvas.getImageData(0, 0, 1, 1).data.slice(0, 3));
-};
-const light = (color) => {
-    const [red, green, blue] = color.map((each) => (each / 255 <= 0.04045 ? each / 255 / 12.92 : ((each / 255 + 0.055) / 1.055) ** 2.4));
-    return 0.2126 * red + 0.7152 * green + 0.0722 * blue;
-};
-const paper = (element) => over(getComputedStyle(element).backgroundColor, element.parentElement ? paper(element.parentElement) : [255, 255, 255]);
-const ratio = (color, below) => {
-    const [one, other] = [light(below), light(over(color, below))].sort((first, second) => second - first);
-    return (one + 0.05) / (other + 0.05);
-};
+PALE = COLORS + r'''
 const found = [];
 for (const element of document.querySelectorAll('input:not([type=checkbox]), select, textarea')) {
     if (!element.checkVisibility()) continue;

@@ -3,15 +3,9 @@ import random
 import struct
 
 import random_pcap
+from wire import block, pcap_header, section
 
-PCAP = struct.pack('<LHHLLLL', 0xa1b2c3d4, 2, 4, 0, 0, 262_144, 1)
-SECTION = struct.pack('<LLLHHqL', 0x0a0d0d0a, 28, 0x1a2b3c4d, 1, 0, -1, 28)
-INTERFACE = struct.pack('<LLHHLL', 1, 20, 1, 0, 0, 20)
-
-
-def block(kind, body):
-    size = struct.pack('<L', 12 + len(body))
-    return struct.pack('<L', kind) + size + body + size
+PCAP, SECTION, INTERFACE = pcap_header(), section(), block(1, struct.pack('<HHL', 1, 0, 0))
 
 
 def frame(data):

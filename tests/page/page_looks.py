@@ -1,6 +1,6 @@
 """The parts of tests/page.py on what all views have: names of controls, widths, colors, paper, and silence."""
 import page_files
-from page_checks import check, equal
+from parts import check, equal
 
 
 class LookCases:

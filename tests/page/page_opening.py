@@ -3,7 +3,7 @@ import re
 import subprocess
 
 import page_files
-from page_checks import check, equal
+from parts import check, equal
 
 
 class OpeningCases:
@@ -94,7 +94,7 @@ class OpeningCases:
     def stop(self):
         """A long file is stopped: what was read stays, and can be looked at."""
         path = f'{self.folder}/long.pcap'
-        subprocess.run([f'{self.tests}/big_pcap.py', '60000', path], check=True)
+        subprocess.run([f'{self.tests}/captures/big_pcap.py', '60000', path], check=True)
         self.browser.open(self.page)
         self.browser.id('file').send_keys(path)
         self.browser.wait(lambda: self.browser.id('stop').is_enabled() and self.browser.rows())

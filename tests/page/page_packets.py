@@ -2,7 +2,7 @@
 import re
 
 import page_files
-from page_checks import check, equal
+from parts import check, equal
 
 
 class PacketCases:

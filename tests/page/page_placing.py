@@ -1,7 +1,7 @@
 """The part of tests/page.py on where files go that are opened while others are open, and on closing them."""
 import subprocess
 
-from page_checks import check, equal
+from parts import check, equal
 
 KEEP = b'139 0 85000000\n'
 NAMES = ['As a second tap, beside one.txt', 'Instead of one.txt']
@@ -100,7 +100,7 @@ class PlacingCases:
     def closing_while_reading(self):
         """A tap closes while it is read: no row of it comes after that, and another file is read."""
         path = f'{self.folder}/closed.pcap'
-        subprocess.run([f'{self.tests}/big_pcap.py', '60000', path], check=True)
+        subprocess.run([f'{self.tests}/captures/big_pcap.py', '60000', path], check=True)
         self.browser.open(self.page)
         self.browser.id('file').send_keys(path)
         self.browser.wait(lambda: self.browser.id('stop').is_enabled() and self.browser.rows())

@@ -16,14 +16,14 @@ while (texts.nextNode()) {
     }
 }
 return found;'''
-# The texts that stand out from what is below them by less than 4.5 to 1, of WCAG 2.2, 1.4.3.
-FAINT = r'''
+# What stands over what: a colour over another, how light it is, and what is below an element.
+COLORS = '''
 const canvas = document.createElement('canvas').getContext('2d', { willReadFrequently: true });
 const over = (color, below) => {
-    canvas.fillStyle = `rgb(${below.join(' ')})`;
-    canvas.fillRect(0, 0, 1, 1);
-    canvas.fillStyle = color;
-    canvas.fillRect(0, 0, 1, 1);
+    for (const each of [`rgb(${below.join(' ')})`, color]) {
+        canvas.fillStyle = each;
+        canvas.fillRect(0, 0, 1, 1);
+    }
     return Array.from(canvas.getImageData(0, 0, 1, 1).data.slice(0, 3));
 };
 const light = (color) => {
@@ -31,13 +31,17 @@ const light = (color) => {
     return 0.2126 * red + 0.7152 * green + 0.0722 * blue;
 };
 const paper = (element) => over(getComputedStyle(element).backgroundColor, element.parentElement ? paper(element.parentElement) : [255, 255, 255]);
+const ratio = (color, below) => {
+    const [one, other] = [light(below), light(over(color, below))].sort((first, second) => second - first);
+    return (one + 0.05) / (other + 0.05);
+};'''
+# The texts that stand out from what is below them by less than 4.5 to 1, of WCAG 2.2, 1.4.3.
+FAINT = COLORS + r'''
 const found = new Set();
 for (const element of document.querySelectorAll('body, body *')) {
     const own = Array.from(element.childNodes).some((each) => each.nodeType === 3 && each.data.trim());
     if (!own || !element.checkVisibility() || element.matches('script, style, option, :disabled')) continue;
-    const below = paper(element);
-    const [one, other] = [light(below), light(over(getComputedStyle(element).color, below))].sort((first, second) => second - first);
-    if ((one + 0.05) / (other + 0.05) < 4.5) found.add(element.textContent.slice(0, 40));
+    if (ratio(getComputedStyle(element).color, paper(element)) < 4.5) found.add(element.textContent.slice(0, 40));
 }
 return Array.from(found);'''
 

@@ -7,7 +7,7 @@ import subprocess
 
 import page_files
 from limits import MANY
-from page_checks import check, equal
+from parts import check, equal
 
 SAVES = ' '.join(['nbt save', *MANY])
 

@@ -3,7 +3,7 @@ import os
 
 import page_files
 import summary_cases
-from page_checks import check, equal
+from parts import check, equal
 
 # What is known of a datagram whose first bytes came alone.
 LESS = "{} bytes; missing what follows byte {}; its length isn't known"

@@ -17,6 +17,7 @@ import sys
 sys.dont_write_bytecode = True
 sys.path.insert(1, f'{sys.path[0]}/../lib')
 from plugin_pcap import fields_of
+from tally import tally
 
 CHANCES = ('0.002', '0.01', '0.05')
 SNAPS = (20, 43, 50, 60, 90, 150)
@@ -79,18 +80,10 @@ def captures(folder, count, files):
 
 def main():
     tshark, folder, count = sys.argv[1], sys.argv[2], int(sys.argv[3])
-    passed = failed = 0
     with concurrent.futures.ThreadPoolExecutor(os.cpu_count()) as pool:
         cases = [(name, pool.submit(fault_of, tshark, path, number % 4 == 0))
                  for number, (name, path) in enumerate(captures(folder, count, sys.argv[4:]))]
-        for name, case in cases:
-            fault = case.result()
-            passed += not fault
-            failed += bool(fault)
-            if fault:
-                print(f'failed: {name}: {fault}')
-    print(f'{passed} passed, {failed} failed')
-    return failed > 0
+        return tally((name, case.result()) for name, case in cases)
 
 
 if __name__ == '__main__':

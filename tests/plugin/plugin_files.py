@@ -15,7 +15,7 @@ sys.dont_write_bytecode = True
 sys.path.insert(1, f'{sys.path[0]}/../lib')
 from plugin_captures import Made
 from plugin_pcap import datagram_frame, framed, write_pcap
-from wire import ACK, CLIENT, FRED, JOE, KEEPALIVE, OTHER, POSITIVE, QUERY, REQUEST, SERVER, SHORT, SYN, TCP, ip
+from wire import ACK, CLIENT, FRED, JOE, KEEPALIVE, OTHER, POSITIVE, QUERY, REQUEST, SERVER, SHORT, SYN, TCP, block, ip, section
 
 LENGTHS = (1, 2, 3, 7, 40, 500, 1_400)
 
@@ -97,18 +97,12 @@ def overlaps():
     return [(number * 1_000, segment(1_024, 1 + start, data), None) for number, (start, data) in enumerate(parts)]
 
 
-def block(kind, body):
-    """A block of pcapng."""
-    body += bytes(-len(body) % 4)
-    return struct.pack('<LL', kind, len(body) + 12) + body + struct.pack('<L', len(body) + 12)
-
-
 def untimed():
     """A pcapng file of a datagram in three fragments, of which the first and the last have no time."""
     head = (0x11, 3, 5, JOE, FRED)
     frames = [datagram_frame(138, Made.piece(head, bytes(60), start, start + 20), CLIENT) for start in (0, 20, 40)]
     second = 1_700_000_000_000_000
-    return b''.join((block(0x0a0d0d0a, struct.pack('<LHHq', 0x1a2b3c4d, 1, 0, -1)), block(1, struct.pack('<HHL', 1, 0, 0)),
+    return b''.join((section(), block(1, struct.pack('<HHL', 1, 0, 0)),
                      block(3, struct.pack('<L', len(frames[0])) + frames[0]),
                      block(6, struct.pack('<LLLLL', 0, second >> 32, second % 2**32, len(frames[1]), len(frames[1])) + frames[1]),
                      block(3, struct.pack('<L', len(frames[2])) + frames[2])))

@@ -18,6 +18,7 @@ import nbt
 from fuzz_inputs import capture_lines, example_bytes
 from object_inputs import LONGEST_PAYLOAD, Inputs
 from plugin_pcap import datagram_frame, fields_of, segment_frame, write_pcap
+from tally import tally
 
 REFUSED = re.compile(r'refused: (.*?)(?:, at byte (\d+)(?: of the name)?)?')
 
@@ -62,28 +63,21 @@ def frame_of(port, number, payload):
     return segment_frame(number, payload, source) if port == 139 else datagram_frame(port, payload, source)
 
 
-def main():
-    tshark, folder, count = sys.argv[1], sys.argv[2], int(sys.argv[3])
-    rng = random.Random(int(sys.argv[4]) if len(sys.argv) > 4 else 1)
-    passed = failed = 0
+def cases(tshark, folder, count, seed='1'):
+    """Each payload, and what is wrong with what is said of it."""
+    rng = random.Random(int(seed))
     for port in (137, 138, 139):
-        sent = payloads(rng, port, count)
+        sent = payloads(rng, port, int(count))
         path = os.path.join(folder, f'payloads-{port}.pcap')
         write_pcap(path, [(number * 3_000, frame_of(port, number, each), None) for number, each in enumerate(sent)])
         rows = fields_of(tshark, path, ['nbt.says', 'nbt.refused', 'nbt.place'])
-        if len(rows) != count:
-            print(f'failed: {len(rows)} rows of {count} frames of port {port}')
-            failed += 1
+        if len(rows) != len(sent):
+            yield f'port {port}', f'{len(rows)} rows of {len(sent)} frames'
         for payload, row in zip(sent, rows):
             wanted = expected(port, payload)
-            passed += row == wanted
-            failed += row != wanted
-            if row != wanted and failed < 20:
-                print(f'failed: {port} {payload.hex() or "empty"}: {row}, not {wanted}')
+            yield f'{port} {payload.hex() or "empty"}', row != wanted and f'{row}, not {wanted}'
         print(f'port {port}: {sum(len(row[1]) for row in rows)} refused, {sum(len(row[0]) for row in rows)} phrases')
-    print(f'{passed} passed, {failed} failed')
-    return failed > 0
 
 
 if __name__ == '__main__':
-    sys.exit(main())
+    sys.exit(tally(cases(*sys.argv[1:])))

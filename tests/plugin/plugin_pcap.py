@@ -3,10 +3,9 @@ import os
 import struct
 import subprocess
 
-from wire import TCP, UDP, ip, udp
+from wire import TCP, UDP, ip, pcap, udp
 
 ETHERNET = bytes(12) + b'\x08\0'
-START = 1_700_000_000 * 10**6
 # Between fields, and between the values of one.
 FIELDS, VALUES = '\x1f', '\x1e'
 
@@ -28,13 +27,8 @@ def segment_frame(number, payload, source, sequence=1):
 
 
 def write_pcap(path, frames):
-    """Frames with their times in microseconds, and how many bytes the file has of each; None is all."""
     with open(path, 'wb') as file:
-        file.write(struct.pack('<LHHLLLL', 0xa1b2c3d4, 2, 4, 0, 0, 262_144, 1))
-        for moment, data, snap in frames:
-            captured = data[:snap]
-            second, part = divmod(START + moment, 10**6)
-            file.write(struct.pack('<LLLL', second, part, len(captured), len(data)) + captured)
+        file.write(pcap(frames))
     os.chmod(path, 0o644)
 
 

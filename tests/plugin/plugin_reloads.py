@@ -14,6 +14,7 @@ sys.dont_write_bytecode = True
 sys.path.insert(1, f'{sys.path[0]}/../lib')
 from plugin_pcap import fields_of
 from plugin_states import Sharkd
+from tally import tally
 
 FILTERS = ('nbt.state', 'nbt.state != "kept"', 'nbt.state == "kept"', 'nbt.datagram', 'nbt.says', 'frame.number > 20')
 LINKS = ['nbt.fragment', 'nbt.whole_in', 'nbt.spoilt_in']
@@ -53,14 +54,8 @@ def filtered(tshark, path):
 
 def main():
     sharkd, tshark, files = sys.argv[1], sys.argv[2], sys.argv[3:]
-    passed = failed = 0
-    for good, name in itertools.chain(opened(sharkd, files), *(filtered(tshark, path) for path in files)):
-        passed += good
-        failed += not good
-        if not good:
-            print(f'failed: {name}')
-    print(f'{passed} passed, {failed} failed')
-    return failed > 0
+    cases = itertools.chain(opened(sharkd, files), *(filtered(tshark, path) for path in files))
+    return tally((name, not good) for good, name in cases)
 
 
 if __name__ == '__main__':

@@ -18,7 +18,8 @@ import nbt
 sys.path.insert(1, f'{sys.path[0]}/../lib')
 from plugin_files import message, segment
 from plugin_pcap import fields_of, write_pcap
-from wire import ACK, KEEPALIVE, REQUEST, SYN
+from tally import tally
+from wire import KEEPALIVE, REQUEST, SYN
 
 NO_PACKETS = (b'\x81\x01\xff\xff' + bytes(30), b'\x00\xfe\xff\xff' + bytes(50), b'GET / HTTP/1.0\r\n\r\n', b'\x85\0\0\1x',
               b'\x81\0\0\x44' + b'\x20' + b'Z' * 67)
@@ -68,27 +69,23 @@ def frames_of(rng, port, stream):
     return found
 
 
-def main():
-    tshark, folder, count = sys.argv[1], sys.argv[2], int(sys.argv[3])
+def cases(tshark, folder, count):
+    """Each connection in each way, and what is wrong with what is said of it."""
     rng = random.Random('streams')
     path = os.path.join(folder, 'streams.pcap')
-    rows = [frames_of(rng, 1_024 + number, Stream(rng)) for number in range(count)]
+    rows = [frames_of(rng, 1_024 + number, Stream(rng)) for number in range(int(count))]
     frames = [(number, frame) for number, row in enumerate(rows) for frame in row]
     write_pcap(path, [(number * 1_000, frame, None) for number, (_, (frame, _)) in enumerate(frames)])
-    passed = failed = 0
     for words in WAYS:
         says = [row[0] for row in fields_of(tshark, path, ['nbt.says'], *words)]
         wrong = {}
         for number, ((connection, (_, wanted)), said) in enumerate(zip(frames, says), 1):
             if said != wanted:
                 wrong.setdefault(connection, f'frame {number}: {said}, not {wanted}')
-        failed += len(wrong) + (len(says) != len(frames))
-        passed += count - len(wrong)
-        for connection, words_of in wrong.items():
-            print(f'failed: connection {connection} {" ".join(words)}: {words_of}')
-    print(f'{passed} passed, {failed} failed')
-    return failed > 0
+        if len(says) != len(frames):
+            yield ' '.join(words), f'{len(says)} rows of {len(frames)} frames'
+        yield from ((f'connection {connection} {" ".join(words)}', wrong.get(connection)) for connection in range(len(rows)))
 
 
 if __name__ == '__main__':
-    sys.exit(main())
+    sys.exit(tally(cases(*sys.argv[1:])))

@@ -7,17 +7,17 @@ many payloads (10,000) were said. The lines of each are a case, and so is each p
 phrases are as long as docs/FORMATS.md has it, and none is longer. Objects with
 phrases are held against the same model by tests/program/json_objects.py.
 """
-import argparse
 import os
 import random
 import re
 import sys
 
 sys.path[1:1] = [f'{sys.path[0]}/../{it}' for it in ('.', 'captures', 'lib')]
-from compared import Cases, capture_of
+from compared import Cases, asked, capture_of
 from fuzz_inputs import ROOT, capture_lines, example_bytes
 from model.phrases import said
 from object_inputs import Inputs, ServicePacket
+from payloads import longest_phrases
 
 LONGEST_PAYLOAD = 2_000
 OPERATIONS = (0, 0, 5, 5, 6, 7, 8, 9, 15)
@@ -28,10 +28,8 @@ PHRASES = re.compile(r'^\| .* \| `([^`]+)` \|$', re.MULTILINE)
 BY = re.compile(r'[A-Z]+|[.*+?^$()\[\]{}|\\]')
 # The status of a node that has a unit and no names, which chance makes too seldom.
 NO_NAMES = 137, bytes.fromhex('000184000000000100000000' '00' '00210001' '00000000' '0007' '00' '001122334455')
-# How many bytes of a payload a line of a capture has, and how long phrases of them are: where no name has more than 19, and of any names.
-IN_LINE = 131_097
-LONGEST_OF_19 = 205
-LONGEST = 1_633
+# How long the longest phrases are: where no name has more than 19 bytes, and of any names.
+LONGEST_OF_19, LONGEST = 205, 1_633
 
 
 def phrases():
@@ -60,18 +58,6 @@ def made_by_chance(rng, count):
         yield likely(rng, *payload)
 
 
-def longest():
-    """The payloads with the longest phrases, and how long these are: where no name has more than 19 bytes, and where names have any
-    length. Zeros follow up to the length of a capture's line."""
-    name = bytes([32]) + b'EB' * 16 + b'\0'
-    status = b'\xc0\x0c\0\x21\0\x01' + b'\xff' * 4 + (1 + 255 * 18).to_bytes(2, 'big') + b'\xff' + b'ABCDEFGHIJKLMNO \x80\0' * 255
-    claim = bytes.fromhex('000178000001000000000004') + name + bytes.fromhex('00210001') + status * 4
-    labels = b''.join(bytes([each]) + b'\x01' * each for each in (63, 63, 63, 61)) + b'\0'
-    addresses = bytes.fromhex('000020000100000000') + (6 * 1_004).to_bytes(2, 'big') + b'\0\0\xff\xff\xff\xff' * 1_004
-    redirect = bytes.fromhex('000180000000000100000001') + labels + bytes.fromhex('000200010000000000ff') + labels + addresses
-    return [(payload.ljust(IN_LINE, b'\0'), length) for payload, length in ((claim, LONGEST_OF_19), (redirect, LONGEST))]
-
-
 class Phrases(Cases):
     """Holds phrases against the model, and remembers them."""
 
@@ -90,18 +76,14 @@ class Phrases(Cases):
 
 def main():
     """Runs all cases."""
-    parser = argparse.ArgumentParser()
-    parser.add_argument('--seed', type=int, default=1)
-    parser.add_argument('--payloads', type=int, default=10_000)
-    parser.add_argument('program', nargs='?', default=os.path.join(ROOT, 'crates', 'nbt', 'out', 'nbt'))
-    given = parser.parse_args()
+    given = asked(10_000)
     cases = Phrases(given.program)
     payloads = [(port, payload) for port in (137, 138, 139) for payload in example_bytes()]
     payloads.append(NO_NAMES)
     payloads += made_by_chance(random.Random(given.seed), given.payloads)
     for at in range(0, len(payloads), IN_CAPTURE):
         cases.check(payloads[at:at + IN_CAPTURE])
-    for payload, length in longest():
+    for payload, length in zip(longest_phrases(), (LONGEST_OF_19, LONGEST)):
         cases.check([(137, payload)])
         cases.count('' if len(cases.said[-1]) == length else f'{len(cases.said[-1])} bytes, not {length}: {cases.said[-1]}')
     longer = [it for it in cases.said if len(it) > LONGEST]

@@ -1,9 +1,12 @@
 """Runs of the program that are held against the model (tests/model), and how many went well, for brief_phrases.py, front_lines.py and
 json_objects.py."""
+import argparse
 import collections
 import itertools
 import os
 import subprocess
+
+from fuzz_inputs import ROOT
 
 LONGEST_PRINTED = 1_000
 SECONDS = 600
@@ -40,6 +43,18 @@ class Cases:
         print('compared: ' + ', '.join(f'{self.compared[it]} {it}' for it in sorted(self.compared)))
         print(f'{self.passed} passed, {self.failed} failed')
         return 1 if self.failed else 0
+
+
+def asked(payloads, **others):
+    """What the command line says: a seed, how many payloads, other numbers, and the program."""
+    parser = argparse.ArgumentParser()
+    for name, number in {'seed': 1, 'payloads': payloads, **others}.items():
+        parser.add_argument(f'--{name}', type=int, default=number)
+    parser.add_argument('program', nargs='?', default=os.path.join(ROOT, 'crates', 'nbt', 'out', 'nbt'))
+    words = parser.parse_args()
+    if not os.access(words.program, os.X_OK):
+        parser.error(f'{words.program} is missing: `make build` makes it')
+    return words
 
 
 def capture_of(payloads):

@@ -11,16 +11,14 @@ cut at each length too, until there are so many (20,000). Of captures of some hu
 
 Each capture is a case for each of the four, and so is each kind of front: there were some.
 """
-import argparse
 import itertools
 import json
-import os
 import random
 import sys
 
 sys.path[1:1] = [f'{sys.path[0]}/../{it}' for it in ('.', 'captures', 'lib')]
-from compared import Cases, capture_of
-from fuzz_inputs import ROOT, capture_lines, example_bytes
+from compared import Cases, asked, capture_of
+from fuzz_inputs import capture_lines, example_bytes
 from model.objects import SECTIONS, front_of, shown
 from model.text import front_lines, lines_of
 from object_inputs import Inputs
@@ -88,11 +86,7 @@ def shown_lines(payloads, more):
 
 def main():
     """Runs all cases."""
-    parser = argparse.ArgumentParser()
-    parser.add_argument('--seed', type=int, default=1)
-    parser.add_argument('--payloads', type=int, default=20_000)
-    parser.add_argument('program', nargs='?', default=os.path.join(ROOT, 'crates', 'nbt', 'out', 'nbt'))
-    given = parser.parse_args()
+    given = asked(20_000)
     cases = Fronts(given.program)
     payloads = payloads_of(random.Random(given.seed), given.payloads)
     for at in range(0, len(payloads), IN_CAPTURE):

@@ -11,7 +11,6 @@ were shown. Of each:
 - it ends as the model says, and as it does without `--json`;
 - where one byte of the output is changed, left out or doubled, at --changes places (2), that is noticed: a case each.
 """
-import argparse
 import itertools
 import json
 import os
@@ -23,7 +22,7 @@ import sys
 import tempfile
 
 sys.path[1:1] = [f'{sys.path[0]}/../{it}' for it in ('.', 'captures', 'lib')]
-from compared import LONGEST_PRINTED, Cases
+from compared import LONGEST_PRINTED, Cases, asked
 from fuzz_inputs import ROOT, capture_lines, example_bytes
 from limits import NAMED
 from model.captures import cut_at_line_feeds
@@ -158,7 +157,7 @@ def spelled_cases():
     for name in sorted(os.listdir(os.path.join(TESTS, 'cases'))):
         with open(os.path.join(TESTS, 'cases', name), encoding='utf-8') as cases:
             for line in cases:
-                if line.startswith('$ ') and re.search(r'\bnbt\b', line) and re.search(r'\b(show|replay|list)\b', line):
+                if line.startswith(('$ ', '& ')) and re.search(r'\bnbt\b', line) and re.search(r'\b(show|replay|list)\b', line):
                     yield re.sub(r'\{([A-Z_]+)\}', lambda it: spellings[it[1].lower()], line[2:].rstrip('\n'))
 
 
@@ -211,12 +210,7 @@ def made_by_chance(cases, payloads, count):
 
 def main():
     """Runs all cases."""
-    parser = argparse.ArgumentParser()
-    parser.add_argument('--seed', type=int, default=1)
-    parser.add_argument('--payloads', type=int, default=10_000)
-    parser.add_argument('--changes', type=int, default=2)
-    parser.add_argument('program', nargs='?', default=os.path.join(ROOT, 'crates', 'nbt', 'out', 'nbt'))
-    given = parser.parse_args()
+    given = asked(10_000, changes=2)
     cases = Objects(given.program, random.Random(given.seed), given.changes)
     for words, capture in recorded(cases.program):
         cases.check(words, capture)

@@ -4,16 +4,15 @@ import collections
 import re
 
 from model.captures import LONGEST_LINE, comment_text, numbered, read_capture
+from model.limits import INPUT, KEYS, MOST_KEYS, MOST_NAMES
 from model.names import Refused, name_of_text
 from model.objects import front_of, shown
 from model.phrases import said
 from model.reports import joined, listed, reported
-from model.tables import KEYS, PER_SOURCE, Table
+from model.tables import PER_SOURCE, Table
 
-LONGEST_INPUT = 16_777_216
-MOST_NAMES = 254
-MOST = {'--keys': 65_535, '--per-source': 65_535, '--input-limit': (1 << 64) - 1}
-USUAL = {'--keys': KEYS, '--per-source': PER_SOURCE, '--input-limit': LONGEST_INPUT}
+MOST = {'--keys': MOST_KEYS, '--per-source': MOST_KEYS, '--input-limit': (1 << 64) - 1}
+USUAL = {'--keys': KEYS, '--per-source': PER_SOURCE, '--input-limit': INPUT}
 OPTIONS = {
     'show': ('--input-limit', '--comments', '--brief', '--partial', '--json'),
     'replay': ('--keys', '--per-source', '--input-limit', '--comments', '--json'),
@@ -92,7 +91,7 @@ def stationed(texts):
 
 def of_tables(options, given):
     """What `nbt list` prints."""
-    if len(given) > LONGEST_INPUT:
+    if len(given) > INPUT:
         return Wanted([], 3, b'nbt: read\n')
     try:
         return Wanted(listed(joined(given, number_of(options, '--keys'), number_of(options, '--per-source'))))

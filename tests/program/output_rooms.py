@@ -9,6 +9,7 @@ import sys
 
 sys.path.insert(1, f'{sys.path[0]}/../lib')
 from process_inputs import SPOILT, packet
+from tally import tally
 
 FRAGMENTS = ((1, 3, 0, '6162'), (1, 2, 2, '6364'), (2, 3, 0, '00ff'), (3, 1, 7, ''))
 CAPTURE = ''.join(f'# key {row[0]}\n138 {at} {packet(*row)}\n' for at, row in enumerate(FRAGMENTS)) + '137 4 0001\n# end\ntick 2003\n'
@@ -22,22 +23,17 @@ def run(program, words, given, **asked):
     return ended.returncode, ended.stdout, ended.stderr
 
 
-def main(program, devices):
-    """Counts the runs that are right."""
+def cases(program, devices):
+    """The runs, and whether each is wrong."""
     table = run(program, ['save'], CAPTURE.encode())[1] + SPOILT
-    passed = failed = 0
     for words in COMMANDS:
         given = table if words[0] == 'list' else CAPTURE.encode()
         status, whole, errors = run(program, words, given)
         for room in range(len(whole) + 1):
             wanted = (status, whole, errors) if room == len(whole) else (3, whole[:room], b'nbt: write\n')
-            if run(program, words, given, LD_PRELOAD=devices, NBT_OUTPUT_ROOM=str(room)) == wanted:
-                passed += 1
-            else:
-                failed += 1
-                print(f"failed: nbt {' '.join(words)}, {room} bytes of its output taken")
-    print(f'{passed} passed, {failed} failed')
+            ended = run(program, words, given, LD_PRELOAD=devices, NBT_OUTPUT_ROOM=str(room))
+            yield f"nbt {' '.join(words)}, {room} bytes of its output taken", ended != wanted
 
 
 if __name__ == '__main__':
-    main(*sys.argv[1:])
+    tally(cases(*sys.argv[1:]))

@@ -64,7 +64,7 @@ PCAPS = ['a1b2c3d4', 'd4c3b2a1', 'a1b23c4d', '4d3cb2a1', '0a0d0d0a']
 def meanings():
     """The line of `nbt help` of each refusal, by its words: those of tests/cases/refusals.txt."""
     with open(os.path.join(TESTS, 'cases', 'refusals.txt'), 'rb') as cases:
-        lines = [filled(line) for line in cases if not line.startswith((b'#', b'$', b'\n'))]
+        lines = [filled(line) for line in cases if not line.startswith((b'#', b'$', b'&', b'\n'))]
     return {re.sub(rb' (AT|N)$', b'', line.split(b': ')[0]): line for line in lines}
 
 

@@ -15,6 +15,7 @@ sys.path[1:1] = [f'{sys.path[0]}/../{it}' for it in ('.', 'examples', 'lib')]
 from model.packets import MORE
 from served import Program, Served
 from tables_examples import LONGEST, drawn, table_of
+from tally import tally
 
 TRIPLES = 556
 MOST_FRAGMENTS = 5
@@ -56,21 +57,16 @@ def merges(merged, parts, given):
         yield f'{last} ({one} {other})', merged(given[last], both) == whole
 
 
-def main(program, shim):
-    """Counts the merges that are right."""
-    chance, program = random.Random(56), Merges(program, shim)
-    passed = failed = 0
+def cases(program):
+    """The merges of lists that are drawn, and whether each is wrong."""
+    chance = random.Random(56)
     with program.served:
         for _ in range(TRIPLES):
             parts = lists(chance)
             given = [line(it, chance.randrange(4) == 0) for it in parts]
             for which, is_right in merges(program.merged, parts, given):
-                passed += is_right
-                failed += not is_right
-                if not is_right:
-                    print(f'failed: nbt merge, {which} of the tables {b" ".join(given).decode()!r}')
-    print(f'{passed} passed, {failed} failed')
+                yield f'nbt merge, {which} of the tables {b" ".join(given).decode()!r}', not is_right
 
 
 if __name__ == '__main__':
-    main(*sys.argv[1:])
+    tally(cases(Merges(*sys.argv[1:])))

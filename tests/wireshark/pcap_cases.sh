@@ -14,7 +14,7 @@ odd() {
 # Twenty captures made by chance, beside an independent reading of them.
 random() {
     local line
-    line=$("$here/random_captures.py" 20 | tee "$room/random" | tail -n 1)
+    line=$("$here/wireshark/random_captures.py" 20 | tee "$room/random" | tail -n 1)
     grep '^failed: ' "$room/random"
     [[ $line =~ ^([0-9]+)' passed, '([0-9]+)' failed'$ ]] || line='0 passed, 1 failed'
     passed=$((passed + ${line%% *}))

@@ -1,5 +1,5 @@
 #!/usr/bin/env python3
-"""The program beside the same in plain Rust without proofs, tests/plain/.  Usage: tests/compare_plain.py [PROGRAM]
+"""The program beside the same in plain Rust without proofs, tests/plain/.  Usage: tests/bench/compare_plain.py [PROGRAM]
 
 Compiles the plain program twice: on std alone, and on the crates that nbt stands on (tests/bench/plain_program.py). Gives all three
 programs small captures of each kind and those of tests/bench.py, and says where what they print, a line on standard error or a status
@@ -15,7 +15,7 @@ import sys
 import tempfile
 
 sys.dont_write_bytecode = True
-sys.path[1:1] = [f'{sys.path[0]}/{it}' for it in ('bench', 'lib')]
+sys.path[1:1] = [f'{sys.path[0]}/../{it}' for it in ('.', 'lib')]
 import bench
 import plain_program
 from bench_captures import FRED, JOE, MOST_IN_A_CAPTURE, line, office, one_address

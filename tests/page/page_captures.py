@@ -1,7 +1,7 @@
 #!/usr/bin/env python3
 """Random captures through the page's own reading of files, beside tools/pcap2cap, which has tshark read them.
 
-Usage: tests/page_captures.py COUNT [SEED]
+Usage: tests/page/page_captures.py COUNT [SEED]
 
 Each has datagrams, fragments of IP and TCP streams as networks deliver them, below VLAN tags, with snap lengths, as pcap or pcapng, in
 either byte order; some of them cooked as Linux does, in both versions, or from a loopback. What both print has to be the same, byte for
@@ -9,18 +9,17 @@ byte: payloads with their moments, frames and ends, comments on what is left out
 last line is 'N passed, M failed'; a capture that fails is kept in the folder of temporary files, and named.
 """
 import os
-import random
 import re
 import struct
 import subprocess
 import sys
-import tempfile
 
 sys.dont_write_bytecode = True
-sys.path[1:1] = [f'{sys.path[0]}/{it}' for it in ('captures', 'lib')]
+sys.path[1:1] = [f'{sys.path[0]}/../{it}' for it in ('captures', 'lib')]
 import random_pcap
+from seeds import compared, first_unlike
 
-TOP = os.path.realpath(f'{sys.path[0]}/..')
+TOP = os.path.realpath(f'{sys.path[0]}/../..')
 PROGRAM = ['node', f'{TOP}/page/tests/capture.mjs']
 TOOL = [f'{TOP}/tools/pcap2cap']
 
@@ -63,27 +62,14 @@ def relinked(data, rng):
 
 
 def main():
-    count, seed = int(sys.argv[1]), sys.argv[2] if len(sys.argv) > 2 else 'page'
     random_pcap.vxlan = random_pcap.nested = random_pcap.gre = untunneled
-    failed = sum(not agrees(f'{seed}-{number}') for number in range(count))
-    print(f'{count - failed} passed, {failed} failed')
-    return failed > 0
+    return compared('page', lambda rng: relinked(random_pcap.pcap_of(rng), rng), first_difference)
 
 
-def agrees(seed):
-    """Whether both print the same of the capture of this seed."""
-    path = os.path.join(tempfile.gettempdir(), f'page-{os.getpid()}-{seed}.pcap')
-    with open(path, 'wb') as file:
-        rng = random.Random(seed)
-        file.write(relinked(random_pcap.pcap_of(rng), rng))
+def first_difference(path):
+    """What the two print of a capture, where it isn't the same."""
     given, wanted = (subprocess.run([*words, path], capture_output=True, text=True, timeout=120) for words in (PROGRAM, TOOL))
-    pairs = [(first.stdout, first.stderr) for first in (given, wanted)]
-    difference = first_difference(*(text.splitlines() for text, _ in pairs)) or first_difference(*(counts(summary) for _, summary in pairs))
-    if difference:
-        print(f'failed: {seed}: {difference} ({path})')
-    else:
-        os.remove(path)
-    return not difference
+    return first_unlike(given.stdout.splitlines(), wanted.stdout.splitlines()) or first_unlike(counts(given.stderr), counts(wanted.stderr))
 
 
 def counts(summary):
@@ -91,14 +77,6 @@ def counts(summary):
     if summary.endswith('it has no frame\n'):
         summary = '0 frames, 0 of these ports, 0 left out'
     return sorted(set(re.split(': |, ', summary.strip())))
-
-
-def first_difference(given, wanted):
-    for number in range(max(len(given), len(wanted))):
-        one, other = given[number:number + 1], wanted[number:number + 1]
-        if one != other:
-            return f'line {number + 1}: {str(one)[:200]}, not {str(other)[:200]}'
-    return None
 
 
 if __name__ == '__main__':

@@ -1,6 +1,6 @@
 #!/usr/bin/env python3
 """What `nbt replay` prints of a capture on standard input, by a station of the package for Python, but for why a payload is
-refused. Usage: library_replay.py NAME.. <CAPTURE."""
+refused. Usage: station_in_python.py NAME.. <CAPTURE."""
 import sys
 
 import nbt

@@ -1,7 +1,7 @@
 #!/usr/bin/env python3
 """Random captures that scapy makes, through tools/nbt-look, beside the fields of tshark (tests/look/look_counts.py).
 
-Usage: tests/scapy_looks.py COUNT [SEED]    with python3-scapy
+Usage: tests/look/scapy_looks.py COUNT [SEED]    with python3-scapy
 
 Stations of a network claim names, ask for them, answer, send datagrams and have sessions, over IPv4 and IPv6, with tags of 802.1Q in some
 captures. Large packets are cut into fragments of IP, of which some are lost and some come in another order; sessions are cut into segments at
@@ -12,15 +12,12 @@ Its last line is 'N passed, M failed'; a capture that fails is kept in the folde
 import dataclasses
 import itertools
 import logging
-import os
-import random
 import sys
-import tempfile
 
 logging.getLogger('scapy').setLevel(logging.ERROR)
 sys.dont_write_bytecode = True
-sys.path[1:1] = [f'{sys.path[0]}/{it}' for it in ('captures', 'lib', 'look')]
-from look_captures import pcap
+sys.path[1:1] = [f'{sys.path[0]}/../{it}' for it in ('captures', 'lib')]
+from wire import pcap
 from look_counts import first_difference
 from scapy.layers.inet import IP, TCP, UDP, fragment
 from scapy.layers.inet6 import IPv6, IPv6ExtHdrFragment, fragment6
@@ -28,6 +25,7 @@ from scapy.layers.l2 import Dot1Q, Ether
 from scapy.layers.netbios import (NBNSHeader, NBNSQueryRequest, NBNSQueryResponse, NBNSRegistrationRequest, NBNS_ADD_ENTRY,
                                   NBNSNodeStatusRequest, NBNSWackResponse, NBTDatagram, NBTSession)
 from scapy.packet import Raw
+from seeds import compared
 
 NAMES = (b'FRED', b'JOE', b'ANN', b'OFFICE')
 SUFFIXES = (0x4141, 0x4144, 0x4341, 0x424e, 0x424f)     # the letters of 00, 03, 20, 1d, 1e
@@ -39,23 +37,7 @@ HEADER = 4
 
 
 def main():
-    count, seed = int(sys.argv[1]), sys.argv[2] if len(sys.argv) > 2 else 'scapy'
-    failed = sum(not agrees(f'{seed}-{number}') for number in range(count))
-    print(f'{count - failed} passed, {failed} failed')
-    return failed > 0
-
-
-def agrees(seed):
-    """Whether the tool and tshark find the same in the capture of this seed."""
-    path = os.path.join(tempfile.gettempdir(), f'scapy-{os.getpid()}-{seed}.pcap')
-    with open(path, 'wb') as file:
-        file.write(Network(random.Random(seed)).pcap())
-    difference = first_difference(path)
-    if difference:
-        print(f'failed: {seed}: {difference} ({path})', flush=True)
-    else:
-        os.remove(path)
-    return not difference
+    return compared('scapy', lambda rng: Network(rng).pcap(), first_difference)
 
 
 class Network:

@@ -1,5 +1,5 @@
 #!/usr/bin/env python3
-"""What tools/nbt-look shows of packets that the snap length cut, beside a model.  Usage: tests/cut_looks.py    with python3-scapy
+"""What tools/nbt-look shows of packets that the snap length cut, beside a model.  Usage: tests/look/cut_looks.py    with python3-scapy
 
 The packets of tests/look/cut_captures.py are cut at several lengths. Of each frame the object of --json has the members that
 tests/model reads in the bytes that are left, the last line counts what is cut, and filters by name and kind choose those
@@ -13,13 +13,14 @@ import tempfile
 
 sys.dont_write_bytecode = True
 HERE = os.path.dirname(os.path.abspath(__file__))
-sys.path[1:1] = [f'{HERE}/{it}' for it in ('captures', 'lib', 'look')]
+sys.path[1:1] = [f'{HERE}/../{it}' for it in ('.', 'captures', 'lib')]
 from cut_captures import capture, payloads
 from model.names import Refused, domain_text, read_labels
 from model.objects import SECTIONS, front_of, shown
 from model.packets import SERVICE_HEADER
+from tally import tally
 
-TOOL = os.path.join(HERE, '../tools/nbt-look')
+TOOL = os.path.join(HERE, '../../tools/nbt-look')
 SNAPS = (42, 43, 52, 54, 60, 76, 89, 90, 92, 96, 110, 111, 124, 130, 160, 400)
 FILTERED = (60, 96, 124)         # those at which filters are tried
 BEFORE = 42                      # the bytes of a frame before its payload
@@ -28,14 +29,7 @@ OF_FRAME = 8                     # the members of all objects before `size`: the
 
 
 def main():
-    failed = 0
-    for snap in SNAPS:
-        difference = first_difference(snap)
-        failed += bool(difference)
-        if difference:
-            print(f'failed: a snap length of {snap}: {difference}', flush=True)
-    print(f'{len(SNAPS) - failed} passed, {failed} failed')
-    return failed > 0
+    return tally((f'a snap length of {snap}', first_difference(snap)) for snap in SNAPS)
 
 
 def first_difference(snap):

@@ -1,6 +1,6 @@
 #!/usr/bin/env bash
 # Makes examples/samba.pcap: Samba's nmbd, smbd, nmblookup and smbclient as two stations with a veth pair between them, each in
-# a network namespace of its own. It takes a minute and a half. Usage, as root: tests/samba_pcap.sh FILE, with what these
+# a network namespace of its own. It takes a minute and a half. Usage, as root: tests/wireshark/samba_pcap.sh FILE, with what these
 # packages have: apt-get install samba smbclient tshark tcpdump iproute2
 #
 # FRED (10.0.0.6) is a file server of the group OFFICE, and JOE (10.0.0.5) a station of it. JOE looks for FRED, for the group,

@@ -1,7 +1,7 @@
 #!/usr/bin/env python3
 """A pcap file of as many packets as are wanted, for the cost of tools/pcap2cap; always the same for a number and a seed.
 
-Usage: tests/big_pcap.py PACKETS PCAP [SEED]
+Usage: tests/captures/big_pcap.py PACKETS PCAP [SEED]
 
 Of ten packets some four are name service (UDP 137), three are datagrams (UDP 138), and three are segments (TCP 139) of
 streams that begin, carry some messages and end, 64 of them at a time. 724,638 packets are 200 MB. The frames are Ethernet,
@@ -12,8 +12,8 @@ import struct
 import sys
 
 sys.dont_write_bytecode = True
-sys.path.insert(1, f'{sys.path[0]}/lib')
-from wire import ACK, FIN, FRED, JOE, POSITIVE, REQUEST, SYN, TCP, UDP, datagram, ip, udp
+sys.path.insert(1, f'{sys.path[0]}/../lib')
+from wire import ACK, FIN, FRED, POSITIVE, REQUEST, SYN, TCP, UDP, datagram, ip, pcap_header, pcap_record, udp
 
 STREAMS = 64
 LAST_HOST = 250
@@ -26,11 +26,10 @@ def main():
     streams = [stream(rng) for _ in range(STREAMS)]
     moment = 0
     with open(path, 'wb') as file:
-        file.write(struct.pack('<LHHLLLL', 0xa1b2c3d4, 2, 4, 0, 0, 262_144, 1))
+        file.write(pcap_header())
         for _ in range(packets):
             moment += rng.randrange(1_000, 5_000)
-            data = ETHERNET + packet(rng, streams)
-            file.write(struct.pack('<LLLL', 1_700_000_000 + moment // 10**6, moment % 10**6, len(data), len(data)) + data)
+            file.write(pcap_record(moment, ETHERNET + packet(rng, streams)))
 
 
 def packet(rng, streams):

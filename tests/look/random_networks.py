@@ -2,7 +2,7 @@
 """Random networks through tools/nbt-look --summary, or with --page through the modules of the page in node: each has the tables that are true of
 it, and nothing that happened is missing.
 
-Usage: tests/random_networks.py [--page | --changed] COUNT [SEED [PROGRAM]], with nbt on PATH for nbt-look, or PROGRAM in its place for the page. The
+Usage: tests/look/random_networks.py [--page | --changed] COUNT [SEED [PROGRAM]], with nbt on PATH for nbt-look, or PROGRAM in its place for the page. The
 networks are those of the seeds SEED and on (1). What is true is known from what was made to happen (tests/look/story_network.py), by
 docs/SUMMARY.md. With --changed the captures are changed as nobody sends them, and both say the same, row for row. The last line is
 'N passed, M failed'; a capture that fails is kept in the folder of temporary files, and named.
@@ -15,7 +15,7 @@ import sys
 import tempfile
 
 sys.dont_write_bytecode = True
-sys.path[1:1] = [f'{os.path.dirname(os.path.abspath(__file__))}/{it}' for it in ('captures', 'lib', 'look')]
+sys.path[1:1] = [f'{sys.path[0]}/../{it}' for it in ('captures', 'lib')]
 import summary
 from story_changes import changed
 from story_network import Network
@@ -29,7 +29,7 @@ LISTS = ('names', 'refused', 'status', 'holder')
 def main():
     words = [each for each in sys.argv[1:] if not each.startswith('--')]
     count, first = int(words[0]), int(words[1]) if words[1:] else 1
-    program = words[2] if words[2:] else shutil.which('nbt')
+    program = summary.program_of(words[2:])
     networks = {seed: Network(seed) for seed in range(first, first + count)}
     with tempfile.TemporaryDirectory() as folder:
         paths = [written(f'{folder}/{seed}.pcap', network, seed) for seed, network in networks.items()]

@@ -1,7 +1,7 @@
 #!/usr/bin/env python3
 """Kills nbt-parallel or nbt-dask at random moments, gives it the same words again, and compares the tables.
 
-tests/scale_kills.py nbt-dask --count 60
+tests/scale/scale_kills.py nbt-dask --count 60
 """
 import argparse
 import os
@@ -14,9 +14,8 @@ import sys
 import tempfile
 import time
 
-HERE = pathlib.Path(__file__).resolve().parent
+HERE = pathlib.Path(__file__).resolve().parents[1]
 sys.path.insert(1, str(HERE / 'lib'))
-sys.path.insert(1, f'{sys.path[0]}/lib')
 from limits import MANY
 
 ENGINES = {'nbt-parallel': ['--jobs', '2'], 'nbt-dask': ['--workers', '2']}

@@ -1,9 +1,9 @@
 #!/usr/bin/env bash
 # The plugin with the Wireshark of another release of Debian: tests/plugin.sh in a root that mmdebstrap makes of it and removes again, and
-# each side's plugin given to the other's tshark, which must not load it. Usage, as root: tests/plugin_elsewhere.sh [SUITE [LIBRARY [PROGRAM
+# each side's plugin given to the other's tshark, which must not load it. Usage, as root: tests/plugin/plugin_elsewhere.sh [SUITE [LIBRARY [PROGRAM
 # [PART..]]]]. SUITE is trixie without it; the others are those of tests/plugin.sh. Its last line is 'N passed, M failed, K skipped'.
 set -uo pipefail
-. "$(dirname "$0")/lib/counting.sh"
+. "$(dirname "$0")/../lib/counting.sh"
 top=$(realpath "$here/..")
 suite=${1:-trixie}
 library=$(realpath "${2:-$top/out/lib}")

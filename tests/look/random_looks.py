@@ -1,9 +1,9 @@
 #!/usr/bin/env python3
 """Random captures through tools/nbt-look, beside an independent reading of their bytes and beside tshark.
 
-Usage: tests/random_looks.py COUNT [SEED]
+Usage: tests/look/random_looks.py COUNT [SEED]
 
-The captures are those of tests/random_captures.py. Of each:
+The captures are those of tests/wireshark/random_captures.py. Of each:
 - the packets are those that the reading has, each with its frame, time, addresses, ports and service;
 - each frame that the reading leaves out is there with a reason, and no other one but fragments of IP whose others are missing;
 - each frame in which tshark finds a packet of the name or datagram service is there, as a packet or with a reason;
@@ -13,46 +13,30 @@ Its last line is 'N passed, M failed'; a capture that fails is kept in the folde
 """
 import collections
 import json
-import os
-import random
 import re
 import subprocess
 import sys
-import tempfile
 
 sys.dont_write_bytecode = True
-sys.path[1:1] = [f'{sys.path[0]}/{it}' for it in ('captures', 'lib')]
+sys.path[1:1] = [f'{sys.path[0]}/../{it}' for it in ('captures', 'lib')]
 from pcap_expected import Expected
 from pcap_reading import frames_of
 from random_pcap import pcap_of
+from seeds import compared
 
-TOOL = f'{sys.path[0]}/../tools/nbt-look'
+TOOL = f'{sys.path[0]}/../../tools/nbt-look'
 CUT, FRAGMENTS = 'cut by the snap length', 'fragments of IP '
 SERVICES = '(nbns || nbdgm) && !icmp && !icmpv6'
 
 
 def main():
-    count, seed = int(sys.argv[1]), sys.argv[2] if len(sys.argv) > 2 else 'captures'
-    failed = sum(not agrees(f'{seed}-{number}') for number in range(count))
-    print(f'{count - failed} passed, {failed} failed')
-    return failed > 0
+    return compared('captures', pcap_of, first_difference)
 
 
-def agrees(seed):
-    """Whether the tool shows what the reading and tshark find, for the capture of this seed."""
-    data = pcap_of(random.Random(seed))
-    path = os.path.join(tempfile.gettempdir(), f'looks-{os.getpid()}-{seed}.pcap')
-    with open(path, 'wb') as file:
-        file.write(data)
-    difference = first_difference(path, frames_of(data))
-    if difference:
-        print(f'failed: {seed}: {difference} ({path})')
-    else:
-        os.remove(path)
-    return not difference
-
-
-def first_difference(path, frames):
+def first_difference(path):
+    """What the tool shows of a capture that the reading and tshark don't find, or the other way round."""
+    with open(path, 'rb') as file:
+        frames = frames_of(file.read())
     done = subprocess.run([TOOL, '--json', path], capture_output=True, text=True, timeout=120, check=False)
     objects = [json.loads(line) for line in done.stdout.splitlines()]
     packets = [each for each in objects if 'left_out' not in each and 'cut' not in each]

@@ -1,8 +1,8 @@
 #!/usr/bin/env bash
 # How many MiB of capture a second tools/nbt-parallel and tools/nbt-dask take, with 1, 2 and 4 workers: the best of three
-# runs each. Usage: tests/scale_bench.sh [PROGRAM]
+# runs each. Usage: tests/scale/scale_bench.sh [PROGRAM]
 set -euo pipefail
-here=$(cd "$(dirname "${BASH_SOURCE[0]}")" && pwd)
+here=$(cd "$(dirname "${BASH_SOURCE[0]}")/.." && pwd)
 program=$(realpath "${1:-$here/../crates/nbt/out/nbt}")
 room=$(mktemp -d)
 trap 'rm -rf "$room"' EXIT

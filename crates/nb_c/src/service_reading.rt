@@ -251,6 +251,7 @@ fn section_number(section: Option<Section>) -> u32
 }
 
 /// Fills in what was seen of an item of a packet, and its name.
+#[inline(always)]
 fn fill_numbers(section: u32, seen: &Seen, names: &NameReader<'_, '_>, into: &mut NbtServiceItem)
     requires named { (labels : List (List ℕ)) × IsSkipped names.now Followed seen.now.at labels
         seen.now.name }
@@ -275,6 +276,7 @@ fn fill_numbers(section: u32, seen: &Seen, names: &NameReader<'_, '_>, into: &mu
 }
 
 /// 1 where the bytes begin with the spelling of a NetBIOS name, 0 where with that of others.
+#[inline(always)]
 fn netbios_number(bytes: &[u8; MAX_SPELLING]) -> u8
     ensures { (labels : List (List ℕ)) (rest : List ℕ) → bytes.now ≡ spelling labels ++ rest →
         result ≡ netbios_number labels }
@@ -287,6 +289,7 @@ fn netbios_number(bytes: &[u8; MAX_SPELLING]) -> u8
 }
 
 /// Whether a label is the letters of a name's sixteen bytes. All are looked at, many at a time.
+#[inline(always)]
 fn are_letters(label: &[u8]) -> bool
     ensures { result ≡ are_letters label.now }
 {

@@ -3,6 +3,7 @@ ghost use Rattle.std.specs.Prelude.{◌≡◌, ◌≤◌, ℕ, List, length};
 ghost use Rattle.nb_c.specs.Names.{in_place, spelled_in_place};
 ghost use Rattle.nb_names.specs.declared.limits.TheConstants.{MAX_SPELLING};
 ghost use Rattle.nb_names.specs.declared.pointers.Pointers.TheVariants.{Followed};
+ghost use Rattle.nb_names.specs.Labels.{NameAt};
 ghost use Rattle.nb_names.specs.Skipped.{IsSkipped};
 
 use nb_names::limits::{LETTERS, MAX_SPELLING};
@@ -31,11 +32,21 @@ pub(crate) fn spell_domain(
 {
     match names.lent_at(at, Pointers::Followed, name) {
         Some(lent) => fill_spelling(lent.spelling(), into),
-        None => {
-            let domain = names.domain_at(at, Pointers::Followed, name);
-            fill_spelling(domain.spelling(), into);
-        }
+        None => spell_along(names, at, into),
     }
+}
+
+/// Fills in the spelling of the domain name at an offset of a packet, along the runs in which its
+/// labels stand. It is out of line, so that others don't pay for the room of a name, and given no
+/// more than it needs, so that nothing is kept for it.
+#[inline(never)]
+fn spell_along(names: &NameReader<'_, '_>, at: usize, into: &mut [u8; MAX_SPELLING])
+    requires { (labels : List (List ℕ)) × (next : ℕ) × NameAt names.now Followed at labels next }
+    ensures { (labels : List (List ℕ)) (next : ℕ) → NameAt names.now Followed at labels next →
+        into.new ≡ spelled_in_place labels }
+{
+    let (domain, _) = names.read_domain(at, Pointers::Followed).unwrap();
+    fill_spelling(domain.spelling(), into);
 }
 
 /// How many bytes the spelling of a NetBIOS name has whose scope has no label.

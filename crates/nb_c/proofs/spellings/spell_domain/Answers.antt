@@ -5,7 +5,3 @@ use Rattle.nb_c.proofs.spellings.spell_domain.Goals as goal
 
 pub returns-in-Some : goal.returns-in-Some
 returns-in-Some c labels is = c.fill_spelling.ensures ∙ ap in_place (c.spelling.ensures.value ∙ ap spelling (c.in-Some.ensures labels is))
-
-pub returns-in-None : goal.returns-in-None
-returns-in-None c labels is =
-    c.fill_spelling-in-None.ensures ∙ ap in_place (c.spelling-in-None.ensures.value ∙ ap spelling (c.domain_at-domain.ensures labels is))

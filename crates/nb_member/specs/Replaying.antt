@@ -1,14 +1,16 @@
 -- What a replay makes of a reader's bytes, a writer, and a member (our choice).
 use Rattle.std.specs.Prelude.{ℕ, List, take, ◌≤◌, length, Option, ◌+◌, ◌<◌, ◌++◌, ◌∷◌, ◌≡◌, Result, Ok, Err}
-use Rattle.std.specs.Io.KnownBytes.{IsAtEnd, Appends}
+use Rattle.std.specs.Io.KnownBytes.{IsAtEnd, Appends, Consumes}
 use Rattle.nb_member.specs.declared.limits.TheConstants.{MAX_LINE}
 use Rattle.nb_member.specs.declared.comments.Comments.{Comments}
 use Rattle.nb_member.specs.declared.event.Event.{Event}
 use Rattle.nb_member.specs.declared.replay_fault.ReplayFault.{ReplayFault}
 use Rattle.nb_member.specs.declared.replay_fault.ReplayFault.TheVariants.{Line, Read, Write, NoMemory}
+use Rattle.nb_names.specs.Counted.{Counts}
+use Rattle.nb_names.specs.Devices.{ShowsUnread}
 use Rattle.nb_names.specs.Lines.{CutInto, with_rest}
 use Rattle.nb_member.specs.Capture.{IsMalformed}
-use Rattle.nb_member.specs.Live.{Timed}
+use Rattle.nb_member.specs.Live.{Timed, live}
 use Rattle.nb_member.specs.Member.{MemberValue, Stands}
 use Rattle.nb_member.specs.Report.{ReportOf}
 
@@ -85,3 +87,12 @@ Replays comments most m H L bytes left new before after (Err Read) =
     × (length rest ≤ MAX_LINE) × Writes comments m H L lines new before after
 Replays comments most m H L bytes left new before after (Err Write) = Stops comments most m H L bytes left new before after
 Replays comments most m H L bytes left new before after (Err NoMemory) = Stops comments most m H L bytes left new before after
+
+-- ReplaysInput comments most m new old_in new_in reads later before after result: these bytes came from the reader, whose calls
+-- show why where the input wasn't read to its end, and m, whatever events it stands for, replayed them and became new
+abbrev pub ReplaysInput : Comments → ℕ → MemberValue → MemberValue → Option (List ℕ) → Option (List ℕ) → Counts → Counts
+    → Option (List ℕ) → Option (List ℕ) → Result ℕ ReplayFault → Type 0
+ReplaysInput comments most m new old_in new_in reads later before after result =
+    (bytes : List ℕ) × Consumes old_in new_in bytes
+    × ((result ≡ Err Read → ShowsUnread most bytes reads later)
+    × ((H : List Event) (s : Stands m H) → Replays comments most m H (live m.settings s.sayings) bytes new_in new before after result))

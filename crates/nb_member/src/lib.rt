@@ -55,7 +55,6 @@ pub use outcome::{Dropped, Outcome};
 pub use pair::{Pair, two_members};
 pub use replay_fault::ReplayFault;
 pub use replaying::{replay, replay_with, replay_within};
-pub use report::outcomes::{tell_dropped, tell_passed, tell_result};
 pub use report::push_parts;
 pub use run_report::{RunReport, RunStop};
 pub use runs::run;

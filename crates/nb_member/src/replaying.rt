@@ -1,13 +1,9 @@
 //! Replaying a capture in a member.
-ghost use Rattle.std.specs.Prelude.{◌≡◌, ℕ, List, Err};
-ghost use Rattle.std.specs.Io.KnownBytes.{Consumes};
+ghost use Rattle.std.specs.Prelude.{◌≡◌, Err};
 ghost use Rattle.nb_names.specs.declared.limits.TheConstants.{MAX_INPUT};
-ghost use Rattle.nb_names.specs.Devices.{ShowsUnread, ShowsWriteFault};
+ghost use Rattle.nb_names.specs.Devices.{ShowsWriteFault};
 ghost use Rattle.nb_member.specs.declared.comments.Comments.TheVariants.{LeftOut};
-ghost use Rattle.nb_member.specs.declared.event.Event.{Event};
-ghost use Rattle.nb_member.specs.Live.{live};
-ghost use Rattle.nb_member.specs.Member.{Stands};
-ghost use Rattle.nb_member.specs.Replaying.{Replays};
+ghost use Rattle.nb_member.specs.Replaying.{ReplaysInput};
 
 use crate::capture_options::CaptureOptions;
 use crate::comments::Comments;
@@ -62,15 +58,10 @@ pub fn replay<R: Read, W: Write>(
     writer: &mut Counted<W>,
     member: &mut Member,
 ) -> Result<u64, ReplayFault>
-    // The bytes that this call took from the reader, and what was made of them.
-    ensures replays { (bytes : List ℕ) ×
-        Consumes (R.remaining reader.old.inner) (R.remaining reader.new.inner) bytes ×
-        ((result ≡ Err ReplayFault.Read →
-        ShowsUnread MAX_INPUT bytes reader.old.counts reader.new.counts) ×
-        ((H : List Event) (s : Stands member.old H) →
-        Replays LeftOut MAX_INPUT member.old H (live member.old.settings s.sayings) bytes
-        (R.remaining reader.new.inner) member.new
-        (W.contents writer.old.inner) (W.contents writer.new.inner) result)) }
+    ensures replays { ReplaysInput LeftOut MAX_INPUT member.old member.new
+        (R.remaining reader.old.inner) (R.remaining reader.new.inner)
+        reader.old.counts reader.new.counts
+        (W.contents writer.old.inner) (W.contents writer.new.inner) result }
     ensures write { result ≡ Err ReplayFault.Write →
         ShowsWriteFault writer.old.counts writer.new.counts }
     ensures settings { member.new.settings ≡ member.old.settings }
@@ -92,15 +83,10 @@ pub fn replay_within<R: Read, W: Write>(
     member: &mut Member,
     most: u64,
 ) -> Result<u64, ReplayFault>
-    // The bytes that this call took from the reader, and what was made of them.
-    ensures replays { (bytes : List ℕ) ×
-        Consumes (R.remaining reader.old.inner) (R.remaining reader.new.inner) bytes ×
-        ((result ≡ Err ReplayFault.Read →
-        ShowsUnread most bytes reader.old.counts reader.new.counts) ×
-        ((H : List Event) (s : Stands member.old H) →
-        Replays LeftOut most member.old H (live member.old.settings s.sayings) bytes
-        (R.remaining reader.new.inner) member.new
-        (W.contents writer.old.inner) (W.contents writer.new.inner) result)) }
+    ensures replays { ReplaysInput LeftOut most member.old member.new
+        (R.remaining reader.old.inner) (R.remaining reader.new.inner)
+        reader.old.counts reader.new.counts
+        (W.contents writer.old.inner) (W.contents writer.new.inner) result }
     ensures write { result ≡ Err ReplayFault.Write →
         ShowsWriteFault writer.old.counts writer.new.counts }
     ensures settings { member.new.settings ≡ member.old.settings }
@@ -127,15 +113,10 @@ pub fn replay_with<R: Read, W: Write>(
     member: &mut Member,
     options: CaptureOptions,
 ) -> Result<u64, ReplayFault>
-    // The bytes that this call took from the reader, and what was made of them.
-    ensures replays { (bytes : List ℕ) ×
-        Consumes (R.remaining reader.old.inner) (R.remaining reader.new.inner) bytes ×
-        ((result ≡ Err ReplayFault.Read →
-        ShowsUnread options.most bytes reader.old.counts reader.new.counts) ×
-        ((H : List Event) (s : Stands member.old H) →
-        Replays options.comments options.most member.old H
-        (live member.old.settings s.sayings) bytes (R.remaining reader.new.inner) member.new
-        (W.contents writer.old.inner) (W.contents writer.new.inner) result)) }
+    ensures replays { ReplaysInput options.comments options.most member.old member.new
+        (R.remaining reader.old.inner) (R.remaining reader.new.inner)
+        reader.old.counts reader.new.counts
+        (W.contents writer.old.inner) (W.contents writer.new.inner) result }
     ensures write { result ≡ Err ReplayFault.Write →
         ShowsWriteFault writer.old.counts writer.new.counts }
     ensures settings { member.new.settings ≡ member.old.settings }

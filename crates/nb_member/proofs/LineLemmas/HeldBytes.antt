@@ -5,6 +5,7 @@ use borrow.Rule.Slice.PartMut.{post_of, put_mid}
 use Rattle.std.proofs.lemmas.List.{length-take-le, length-drop, take-append-le, take-append-drop, take_at, take-take, drop-drop, drop-take}
 use Rattle.std.proofs.lemmas.List.Elements.{Contains-append_left, Contains-append_cases}
 use Rattle.std.proofs.Math.Seq.{take-append-add, take-add}
+use Rattle.nb_member.specs.declared.limits.TheConstants.{MAX_LINE}
 use Rattle.nb_member.specs.Code.LineSteps.{IsFeedAt}
 use Rattle.nb_member.specs.LineRoom.{IsTooLong}
 
@@ -65,22 +66,22 @@ handed_out_is bytes start end size order kept within =
     (front_of_part start end size bytes order room, sym (drop-drop size start (take end bytes)))
 
 -- a first line feed that stands too far after
-pub too_long_feed : (bytes rest : List ℕ) (at : ℕ) → bytes ≡ rest → IsFeedAt bytes at → 262200 < at → IsTooLong rest
+pub too_long_feed : (bytes rest : List ℕ) (at : ℕ) → bytes ≡ rest → IsFeedAt bytes at → MAX_LINE < at → IsTooLong rest
 too_long_feed bytes rest at same f long =
-    let size : 262200 < length bytes = omega (arith, f.0, long) in
-    let more : 262201 ≤ at = omega (arith, long) in
+    let size : MAX_LINE < length bytes = omega (arith, f.0, long) in
+    let more : MAX_LINE + 1 ≤ at = omega (arith, long) in
     subst IsTooLong same (
       size,
-      (λ h. f.1 (subst (λ (bs : List ℕ). Contains bs 10) (take-append-drop 262201 (take at bytes))
-          (Contains-append_left (take 262201 (take at bytes)) (drop 262201 (take at bytes)) 10
-          (subst (λ (bs : List ℕ). Contains bs 10) (sym (take-take 262201 at bytes more)) h)))),
+      (λ h. f.1 (subst (λ (bs : List ℕ). Contains bs 10) (take-append-drop (MAX_LINE + 1) (take at bytes))
+          (Contains-append_left (take (MAX_LINE + 1) (take at bytes)) (drop (MAX_LINE + 1) (take at bytes)) 10
+          (subst (λ (bs : List ℕ). Contains bs 10) (sym (take-take (MAX_LINE + 1) at bytes more)) h)))),
     )
 
 -- too many bytes without a line feed
-pub too_long_open : (bytes rest : List ℕ) → bytes ≡ rest → ¬ Contains bytes 10 → 262200 < length bytes → IsTooLong rest
+pub too_long_open : (bytes rest : List ℕ) → bytes ≡ rest → ¬ Contains bytes 10 → MAX_LINE < length bytes → IsTooLong rest
 too_long_open bytes rest same free long =
     subst IsTooLong same (
       long,
-      (λ h. free (subst (λ (bs : List ℕ). Contains bs 10) (take-append-drop 262201 bytes)
-          (Contains-append_left (take 262201 bytes) (drop 262201 bytes) 10 h))),
+      (λ h. free (subst (λ (bs : List ℕ). Contains bs 10) (take-append-drop (MAX_LINE + 1) bytes)
+          (Contains-append_left (take (MAX_LINE + 1) bytes) (drop (MAX_LINE + 1) bytes) 10 h))),
     )

@@ -11,7 +11,7 @@ use Rattle.nb_member.specs.declared.line_read_fault.LineReadFault.TheVariants.{R
 use Rattle.nb_member.specs.declared.line_room.standing.Standing.TheVariants as standing
 use Rattle.nb_names.specs.Devices.{GrowTo}
 use Rattle.nb_member.specs.Code.LineSteps.{IsFeedAt}
-use Rattle.nb_member.specs.declared.limits.TheConstants.{MAX_READ}
+use Rattle.nb_member.specs.declared.limits.TheConstants.{MAX_LINE, MAX_READ}
 use Rattle.nb_member.specs.LineReading.{LastRead, ReadsLine}
 use Rattle.nb_member.specs.Code.LineSteps.{HandsFirst, ReadsMore, let_go_of, handed_out, with_standing, with_bytes}
 use Rattle.nb_member.specs.LineRoom.{RoomValue, IsOpen, IsTooLong}
@@ -72,7 +72,7 @@ all_handed new bytes is none =
     sym (append-nil bytes) ∙ ap (λ (bs : List ℕ). bytes ++ bs) (sym none) ∙ ap (λ (bs : List ℕ). bs ++ new.rest) (sym is)
 
 -- a line in front
-pub hands_line : (bytes : List ℕ) (old new : RoomValue) (at : ℕ) → bytes ≡ old.rest → IsFeedAt bytes at → at ≤ 262200
+pub hands_line : (bytes : List ℕ) (old new : RoomValue) (at : ℕ) → bytes ≡ old.rest → IsFeedAt bytes at → at ≤ MAX_LINE
     → new ≡ handed_out (at + 1) old → HandsFirst old (first.Line at) new
 hands_line bytes old new at same f short is =
     let line : List ℕ = take at bytes in
@@ -165,7 +165,7 @@ turn_line old room new before now counts later seen n s p =
     let lent : new.lent ≡ p.0 ++ 10 ∷ [] = ap (λ (r : RoomValue). r.lent) p.5 in
     let line : take n new.lent ≡ p.0 = ap (take n) lent ∙ take_at p.0 (10 ∷ []) n (sym p.1) in
     let reads : new.standing ≡ standing.Reading = ap (λ (r : RoomValue). r.standing) p.5 ∙ s.standing in
-    let short : length p.0 ≤ 262200 = subst (λ (k : ℕ). k ≤ 262200) p.1 p.2 in
+    let short : length p.0 ≤ MAX_LINE = subst (λ (k : ℕ). k ≤ MAX_LINE) p.1 p.2 in
     rw line (record {
       got = s.got;
       over = [];

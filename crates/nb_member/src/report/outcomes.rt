@@ -9,7 +9,7 @@ ghost use Rattle.nb_names.specs.NameText.{written};
 ghost use Rattle.nb_telling.specs.Fields.{Text, Data};
 ghost use Rattle.nb_member.specs.Keys.{outcome_key, key_key, kind_key, source_key, destination_key, data_key};
 ghost use Rattle.nb_member.specs.declared.outcome.Outcome.TheVariants.{Delivered, Unheard};
-ghost use Rattle.nb_member.specs.ReportFields.{dropped_fields, error_fields, outcome_fields, parts_fields, passed_fields, refused_fields, result_fields};
+ghost use Rattle.nb_member.specs.ReportFields.{dropped_fields, error_fields, outcome_fields, parts_fields, passed_fields, refused_fields};
 
 use crate::keys::{COUNT, DATA, DESTINATION, ERROR, KEY, KIND, OUTCOME, REFUSED, SOURCE};
 use crate::member_fault::MemberFault;
@@ -21,48 +21,16 @@ use nb_names::{LentName, NoMemory};
 use nb_telling::{Sink, tell_place};
 use std::alloc::Global;
 
-/// Tells a sink what became of a payload of port 138 that a member took or refused. Memory is taken
-/// for the bytes of an error packet, and by the sink.
-///
-/// # Errors
-///
-/// [`NoMemory`] where memory ran out. What the sink had is still its front; some of the fields may
-/// be told after it.
-///
-/// The fields are our choice.
-pub fn tell_result<S: Sink>(
-    alloc: Global,
-    taken: &Result<Outcome, MemberFault>,
-    sink: &mut S,
-) -> Result<(), NoMemory>
-    ensures told { OnOk result
-        (S.seen sink.new ≡ fold S.after (S.seen sink.old) (result_fields taken.now)) }
-    ensures front { Grows S.is_front (S.seen sink.old) (S.seen sink.new) }
-{
-    match taken {
-        Ok(outcome) => tell_outcome(alloc, outcome, sink),
-        Err(fault) => tell_refused(alloc, *fault, sink),
-    }
-}
-
-/// Tells a sink that a payload isn't the member's to take.
-///
-/// # Errors
-///
-/// [`NoMemory`], as [`tell_result`] has it.
-pub fn tell_passed<S: Sink>(sink: &mut S) -> Result<(), NoMemory>
+/// Tells that a payload isn't the member's to take.
+pub(crate) fn tell_passed<S: Sink>(sink: &mut S) -> Result<(), NoMemory>
     ensures told { OnOk result (S.seen sink.new ≡ fold S.after (S.seen sink.old) passed_fields) }
     ensures front { Grows S.is_front (S.seen sink.old) (S.seen sink.new) }
 {
     sink.text(OUTCOME, "passed")
 }
 
-/// Tells a sink what a look at the clock dropped.
-///
-/// # Errors
-///
-/// [`NoMemory`], as [`tell_result`] has it.
-pub fn tell_dropped<S: Sink>(dropped: Dropped, sink: &mut S) -> Result<(), NoMemory>
+/// Tells what a look at the clock dropped.
+pub(crate) fn tell_dropped<S: Sink>(dropped: Dropped, sink: &mut S) -> Result<(), NoMemory>
     ensures told { OnOk result
         (S.seen sink.new ≡ fold S.after (S.seen sink.old) (dropped_fields dropped.keys)) }
     ensures front { Grows S.is_front (S.seen sink.old) (S.seen sink.new) }

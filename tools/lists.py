@@ -10,7 +10,7 @@ import re
 import sys
 
 sys.dont_write_bytecode = True
-from making import crates, javascript, page, python, rust, tools
+from making import crates, javascript, python, rust, scripts, tools
 from making.header import TOP, Header
 
 BEGIN, END = '// ---- tools/lists.py --write makes what follows of include/nbt.h.', '// ---- Up to here.'
@@ -18,7 +18,6 @@ FILES = {
     'bindings/python/nbt/header.py': python.python_file,
     'bindings/rust/src/header.rs': rust.rust_file,
     'tools/nbt_pcap/header.py': tools.tools_file,
-    'page/src/model/vocabulary.js': page.page_file,
 }
 # What stands in other files, by what stands around it.
 OF_TABLES = ((r'(How many keys the table holds at most, 1 to )\d+(\.\nWithout it they are )\d+', '{MOST_KEYS}', '{KEYS}'),
@@ -72,7 +71,9 @@ def check():
 
 
 def main():
-    if sys.argv[1:] == ['--write']:
+    if sys.argv[1:] == ['--page']:
+        scripts.write(Header())
+    elif sys.argv[1:] == ['--write']:
         for path, text in made():
             path.write_text(text, encoding='utf-8')
     elif sys.argv[1:] == ['--check']:

@@ -2,7 +2,7 @@ import assert from 'node:assert/strict';
 import test from 'node:test';
 
 import { PayloadReader, framesOf } from '../src/containers/payloads.js';
-import { CUT, FRAGMENTS, FRAGMENTS_MISSING, FRAGMENTS_UNKNOWN, GAP, NO_REST, NO_START, RESET } from '../src/containers/report.js';
+import { CUT, FRAGMENTS, FRAGMENTS_MISSING, FRAGMENTS_UNKNOWN, GAP, NO_REST, NO_START, RESET } from '../src/made/reasons.js';
 import { slicesOf } from '../src/containers/slices.js';
 import { bytesOf, block, enhanced, ethernet, face, ipv4, ipv6, message, number, pcap, section, tcp, udp } from './building.mjs';
 

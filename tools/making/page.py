@@ -4,7 +4,7 @@ import importlib
 import json
 import re
 
-from .header import MADE, TOP, in_lines
+from .header import TOP, in_lines
 
 SOURCE = TOP / 'tools' / 'nbt_look' / 'vocabulary.py'
 DEFINED = re.compile(r'((?:^#.*\n)*)^(?:class )?(\w+)(?: = |\(enum)', re.MULTILINE)
@@ -15,7 +15,7 @@ KEYS_OF_OBJECTS = ('SECTIONS',)
 
 def page_file(header):
     """The module, of which nothing is left out but what is told of the kinds."""
-    parts = [f'/** The numbers of include/nbt.h that the page reads, and the words and limits of tools/nbt_look/vocabulary.py. {MADE} */']
+    parts = [f'/** The numbers of include/nbt.h that the page reads, and the words and limits of tools/nbt_look/vocabulary.py. */']
     for name in LISTED:
         numbers = in_lines([f'{each.name}: {each.digits},' for each in header.enums[name]], '    ', 140)
         parts.append(f'/** {header.titles[name]} */\nexport const {name.upper()} = Object.freeze({{\n{numbers}\n}});')

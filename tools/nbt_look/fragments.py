@@ -1,14 +1,12 @@
 """Fragments of IP whose others haven't come: which of them are of these ports, and what is missing of their packets."""
 import collections
 
+from nbt_pcap.reasons import FRAGMENTS_CUT, FRAGMENTS_MISSING, FRAGMENTS_UNKNOWN
 from nbt_pcap.rows import is_joined
 
 # What a row has of a fragment.
 FIELDS = ('ip.id', 'ip.proto', 'ip.frag_offset', 'ip.flags.mf', 'ipv6.fraghdr.ident', 'ipv6.fraghdr.nxt', 'ipv6.fraghdr.offset',
           'ipv6.fraghdr.more', 'data.data')
-MISSING = 'fragments of IP whose others are missing'
-CUT = 'fragments of IP that are cut themselves'
-UNKNOWN = 'fragments of IP without the one that has the ports'
 UDP, TCP = '17', '6'
 # Of how many packets fragments wait.
 MOST_WAITING = 4_096
@@ -78,7 +76,8 @@ class Unfinished:
     def tell(self, waiting):
         missing = waiting.missing()
         for mark, is_cut in waiting.marks:
-            self.report.count(mark, CUT if is_cut else MISSING if waiting.ours else UNKNOWN, () if is_cut else missing)
+            reason = FRAGMENTS_CUT if is_cut else FRAGMENTS_MISSING if waiting.ours else FRAGMENTS_UNKNOWN
+            self.report.count(mark, reason, () if is_cut else missing)
 
     def finish(self):
         for each in self.waiting.values():

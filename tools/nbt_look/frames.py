@@ -1,6 +1,7 @@
 """The packets of tshark's rows, and what is left out, each with its frame."""
 from nbt_pcap.frames import Reader
-from nbt_pcap.report import CUT, Report
+from nbt_pcap.reasons import CUT
+from nbt_pcap.report import Report
 from nbt_pcap.rows import is_joined, values_of
 
 from .fragments import FIELDS as FRAGMENT_FIELDS
@@ -141,7 +142,7 @@ class Frames(Reader):
 
     def finish(self):
         """What is known at the end alone."""
-        self.sessions.finish()
+        self.streams.finish()
         self.unfinished.finish()
 
 

@@ -9,7 +9,7 @@ from nbt_pcap import tshark
 from nbt_pcap.lines import Refused
 from nbt_pcap.process import Stopped, say
 from nbt_pcap.progress import Progress
-from nbt_pcap.report import CUT
+from nbt_pcap.reasons import CUT
 from nbt_shards import ending
 from nbt_shards.programs import BUILT, INSTALLED, local_program
 

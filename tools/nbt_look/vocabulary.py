@@ -1,4 +1,4 @@
-"""The words and limits of the summary, which nbt-look and the page have alike: tools/lists.py makes page/src/model/vocabulary.js of this file."""
+"""The words and limits of the summary, which nbt-look and the page have alike: tools/lists.py --page makes page/src/made/vocabulary.js of this file."""
 import enum
 
 from nbt_pcap.header import FRAGMENTS, NBSTAT
@@ -103,6 +103,10 @@ TABLES = {
     'failed': ('failed datagrams', ('key', 'state', 'source', 'destination', 'bytes_known', 'size', 'missing', 'frames')),
     'malformed': ('malformed', ('reason', 'packets', 'frame', 'payload_byte')),
     'left-out': ('left out', ('reason', 'frames'))}
+# The start of 1970, which stands for the time of a frame without one. In nanoseconds.
+EPOCH = 0
+# After all times. In nanoseconds.
+FOREVER = 2**64
 # How long a station that broadcasts a claim waits for objections: BCAST_REQ_RETRY_TIMEOUT, RFC 1002 section 6. In nanoseconds.
 OBJECTING = 250_000_000
 # How long after its latest repeat a request may be answered: twice UCAST_REQ_RETRY_TIMEOUT, our choice. In nanoseconds.

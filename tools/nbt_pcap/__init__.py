@@ -8,8 +8,9 @@ layers       the packets of a row: which of its fields belong together
 fragments    the times of IP fragments
 clock        the times of frames
 report       what is left out: comments, and the counts of the summary by reason
+reasons      why something is left out
 frames       a row, and the lines that it gives
-sessions     the TCP streams of port 139
+streams      the TCP streams of port 139
 direction    the bytes that one side of a stream sends
 session      the header of a session packet
 capture      the lines, and the ticks between them

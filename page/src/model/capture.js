@@ -3,7 +3,7 @@ import { bytesOf, digitsOf } from '../containers/digits.js';
 import { LineFault, linesOf } from '../containers/lines.js';
 import { LEFT_OUT } from './packets.js';
 import { momentOf, utc } from '../model/times.js';
-import { KEPT_FOR } from './vocabulary.js';
+import { KEPT_FOR } from '../made/vocabulary.js';
 
 /** A line. A payload's has the row that it is of, where the capture is made of frames.
  * @typedef {{kind: 'payload', port: number, moment: number | bigint, bytes: Uint8Array, row: number | null}} PayloadOf

@@ -1,6 +1,6 @@
 /** Datagrams put together, by the library: the table of a file, what it lists, and what a station with chosen names is handed. */
 import { digitsOf } from '../containers/digits.js';
-import { MOST_KEYS, PORT } from '../model/vocabulary.js';
+import { MOST_KEYS, PORT } from '../made/vocabulary.js';
 import { pause } from './pause.js';
 
 /** How many lines are looked at, or payloads go into a station, before the worker looks whether something is wanted of it. */
@@ -102,5 +102,5 @@ export async function compared(one, other) {
     const tables = [await tableOf(one), await tableOf(other)];
     const joined = one.library.merge(tables[0], tables[1], { keys: MOST_KEYS });
     const [first, second, both] = [...tables, joined].map((table) => listed(one.library, table));
-    return { first, second, both, firsts: [one, other].map((tap) => tap.seen.firsts.entries) };
+    return { first, second, both, firsts: [one, other].map((tap) => new Map(tap.seen.firsts.entries.items())) };
 }

@@ -15,7 +15,7 @@ INDENT = '    '
 MODULES = {'nbt_pcap': ('direction', 'reasons', 'session', 'streams'),
            'nbt_look': ('rooms', 'owners', 'parts', 'messages', 'waiting', 'tenures', 'claims', 'conflicts', 'names', 'queries', 'stations', 'sessions',
                         'kinds', 'places', 'pieces', 'datagrams', 'seen', 'shown', 'counts')}
-MADE = TOP / 'page' / 'src' / 'made'
+PLACE = 'page/src/made'
 KNOWN = {'vocabulary', *(name for names in MODULES.values() for name in names)}
 
 
@@ -184,12 +184,9 @@ def names_of(function):
     return found
 
 
-def write(header):
-    """Writes all that the page has of the tools, and takes away what it had."""
-    MADE.mkdir(exist_ok=True)
-    made = {'vocabulary': page_file(header), **{name: Script(package, name).text() for package, names in MODULES.items() for name in names}}
-    for each in MADE.glob('*.js'):
-        if each.stem not in made:
-            each.unlink()
-    for name, text in made.items():
-        (MADE / f'{name}.js').write_text(text, encoding='utf-8')
+def scripts(header):
+    """The files that the page has of the tools, each with its text."""
+    yield f'{PLACE}/vocabulary.js', page_file(header)
+    for package, names in MODULES.items():
+        for name in names:
+            yield f'{PLACE}/{name}.js', Script(package, name).text()

@@ -14,6 +14,7 @@ streams      the TCP streams of port 139
 direction    the bytes that one side of a stream sends
 session      the header of a session packet
 capture      the lines, and the ticks between them
+ticks        the clock of a capture
 lines        lines that are read, and what a comment says of a frame
 packets      packets of IP, UDP and TCP that carry payloads
 progress     how far it is, on a terminal

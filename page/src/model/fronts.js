@@ -7,10 +7,7 @@ const HEADER = 12;
 const ID_AND_WORD = 4;
 const TYPE_AND_CLASS = 4;
 const CLASS = 2;
-/** The fewest bytes of a question: a name of one byte, and what follows it. */
-const LEAST = 5;
 const ONE_QUESTION = [0, 1, 0, 0, 0, 0, 0, 0];
-const REFUSED = 'refused: ';
 
 /** An object of JSON, as far as the page looks at it: the members are those of docs/FORMATS.md, "JSON".
  * @typedef {{name: string, type: string}} Question
@@ -22,30 +19,18 @@ const REFUSED = 'refused: ';
  * @property {{name: string, type?: string}} [about] the first name of a front in which no question or record stands whole
  *
  * What it is read by.
- * @typedef {Pick<import('../../../bindings/javascript/nbt.mjs').Nbt, 'json' | 'brief' | 'readDatagramFront'>} Reader */
+ * @typedef {Pick<import('../../../bindings/javascript/nbt.mjs').Nbt, 'json' | 'readServiceFront' | 'readDatagramFront'>} Reader */
 
 /** The members that stand of a payload of port 137; none where its header doesn't stand.
  * @param {Reader} library @param {Uint8Array} bytes
  * @returns {Told} */
 export function serviceFront(library, bytes) {
     if (bytes.length < HEADER) return {};
-    const counts = [4, 6, 8, 10].map((at) => bytes[at] * 256 + bytes[at + 1]);
-    const told = read(library, bytes, counts, wholeItems(library, bytes, counts));
+    const { counts, questions, records } = library.readServiceFront(bytes);
+    /** @type {Told} */
+    const told = JSON.parse(library.json(PORT.NAMES, withItems(bytes, counts, questions.length + records.length)));
     if (!SECTIONS.some((section) => told[section]?.length)) Object.assign(told, aboutOf(library, bytes));
     return told;
-}
-
-/** How many of the items stand whole, one after another.
- * @param {Reader} library @param {Uint8Array} bytes @param {number[]} counts */
-function wholeItems(library, bytes, counts) {
-    const all = counts.reduce((sum, each) => sum + each, 0);
-    let [whole, most] = [0, Math.min(all, Math.floor((bytes.length - HEADER) / LEAST))];
-    while (whole < most) {
-        const middle = Math.ceil((whole + most) / 2);
-        if (library.brief(PORT.NAMES, withItems(bytes, counts, middle)).startsWith(REFUSED)) most = middle - 1;
-        else whole = middle;
-    }
-    return whole;
 }
 
 /** A packet whose header says that it has so many items.
@@ -59,12 +44,6 @@ function withItems(bytes, counts, items) {
         left -= kept;
     }
     return made;
-}
-
-/** @param {Reader} library @param {Uint8Array} bytes @param {number[]} counts @param {number} items
- * @returns {Told} */
-function read(library, bytes, counts, items) {
-    return JSON.parse(library.json(PORT.NAMES, withItems(bytes, counts, items)));
 }
 
 /** The name of the first question or record, and its type, as far as they stand: both stand alike in a question, as which it is read. What is

@@ -18,5 +18,6 @@ ticks        the clock of a capture
 lines        lines that are read, and what a comment says of a frame
 packets      packets of IP, UDP and TCP that carry payloads
 progress     how far it is, on a terminal
+replacing    files that are written whole
 process      standard streams, messages, exit status
 """

@@ -10,7 +10,7 @@ from . import header, names
 from .buffers import Buffer, given
 from .header import FIRST, MORE, MOST_DATAGRAM, DatagramType
 from .library import BYTES, Reader, writer
-from .numbers import Address, address_number, encoded, named, number
+from .numbers import Address, Flag, address_number, encoded, named, number
 from .statuses import NbtError
 
 # A header, and as many bytes as DGM_LENGTH can say.
@@ -28,16 +28,8 @@ class Flagged:
     """What FLAGS say of a fragment."""
 
     flags: int
-
-    @property
-    def more(self) -> bool:
-        """Whether more fragments follow."""
-        return self.flags & MORE != 0
-
-    @property
-    def first(self) -> bool:
-        """Whether it is the first fragment."""
-        return self.flags & FIRST != 0
+    more = Flag(MORE)    # whether more fragments follow
+    first = Flag(FIRST)  # whether it is the first fragment
 
 
 @dataclass(frozen=True)

@@ -10,7 +10,7 @@ from . import names
 from .buffers import Buffer, lend
 from .header import AA, B, NM_FLAGS, R, RA, RD, SERVICE_ENTRY, SERVICE_HEADER, TC, Operation, ResultCode
 from .library import ADDRESS, ALONE, DONE, LENGTH, behind, call, error_of
-from .numbers import whole_number
+from .numbers import Flag, whole_number
 from .rdata import DomainName, Rdata, read_rdata
 from .statuses import NbtError
 
@@ -61,31 +61,11 @@ class ServicePacket:
     authorities: Tuple[Record, ...]
     additional: Tuple[Record, ...]
     used: int                           # the bytes of the packet, or of what stands: what follows them isn't looked at
-
-    @property
-    def authoritative(self) -> bool:
-        """AA."""
-        return self.flags & AA != 0
-
-    @property
-    def truncated(self) -> bool:
-        """TC."""
-        return self.flags & TC != 0
-
-    @property
-    def recursion_desired(self) -> bool:
-        """RD."""
-        return self.flags & RD != 0
-
-    @property
-    def recursion_available(self) -> bool:
-        """RA."""
-        return self.flags & RA != 0
-
-    @property
-    def broadcast(self) -> bool:
-        """B."""
-        return self.flags & B != 0
+    authoritative = Flag(AA)
+    truncated = Flag(TC)
+    recursion_desired = Flag(RD)
+    recursion_available = Flag(RA)
+    broadcast = Flag(B)
 
     @property
     def records(self) -> Tuple[Record, ...]:

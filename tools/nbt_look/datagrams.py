@@ -63,7 +63,7 @@ class Failed:
         """Asks what the pieces of each say together."""
         for each in self.listed([pieces for pieces, _ in self.unlisted.values()]) if self.unlisted else ():
             _, row = self.unlisted[each['key']]
-            row['bytes_known'], row['size'], row['missing'] = each.get('held'), each.get('end'), missing(each)
+            row['bytes_known'], row['size'], row['missing'] = each.get('held'), each.get('end'), runs_missing(each['places'], each['end'])
         self.unlisted = {}
         self.size = 0
 
@@ -75,14 +75,14 @@ class Failed:
         return self.room.others
 
 
-def missing(listed):
-    """What is missing, of an entry of `nbt list --json`: from which byte on, and how many; where the end isn't known, all that follows."""
+def runs_missing(places, end):
+    """What is missing beside what stands from one place to another: from which byte on, and how many; where the end isn't known, all that
+    follows."""
     found, due = [], 0
-    for start, end in listed['places']:
+    for start, behind in places:
         if start > due:
             found.append({'from': due, 'bytes': start - due})
-        due = end
-    end = listed['end']
+        due = max(due, behind)
     if end is None or due < end:
         found.append({'from': due, 'bytes': None if end is None else end - due})
     return found

@@ -41,23 +41,16 @@ class DatagramFront(Flagged):
     identifier: int                 # DGM_ID
     address: ipaddress.IPv4Address  # SOURCE_IP
     port: int                       # SOURCE_PORT
-    offset: int                     # PACKET_OFFSET; 0 but in a fragment
+    offset: int                     # PACKET_OFFSET: where the data begins in the datagram's; 0 but in a fragment
     source: Optional[str]           # SOURCE_NAME, as a text; None but in a fragment, and where it isn't there whole
     destination: Optional[str]      # DESTINATION_NAME, as a text; None but in a fragment, and where not both are there whole
 
 
 @dataclass(frozen=True)
-class Datagram(Flagged):
-    """A packet of port 138."""
+class Datagram(DatagramFront):
+    """A packet of port 138. The destination of a query is there, too."""
 
     type: DatagramType
-    flags: int                      # FLAGS, all eight bits
-    identifier: int                 # DGM_ID
-    address: ipaddress.IPv4Address  # SOURCE_IP
-    port: int                       # SOURCE_PORT
-    offset: int                     # PACKET_OFFSET: where the data begins in the datagram's; 0 but in a fragment
-    source: Optional[str]           # SOURCE_NAME, as a text; None but in a fragment
-    destination: Optional[str]      # DESTINATION_NAME, as a text; None in an error
     data: bytes                     # a fragment's data, or an error's code, which is one byte; b'' in a query
     used: int                       # the bytes of the packet: what follows them isn't looked at
 

@@ -98,38 +98,23 @@ macro_rules! sequences {
 
 sequences!(Questions, Records, Addresses, NodeNames);
 
-impl Serialize for Packet<'_> {
-    fn serialize<S: Serializer>(&self, out: S) -> Result<S::Ok, S::Error> {
-        let mut fields = out.serialize_struct("Packet", 4)?;
-        fields.serialize_field("header", &self.header)?;
-        fields.serialize_field("questions", &self.questions())?;
-        fields.serialize_field("records", &self.records())?;
-        fields.serialize_field("used", &self.used)?;
-        fields.end()
-    }
+/// Structures of which some fields are what a call answers.
+macro_rules! fields {
+    ($($of:ty as $name:literal, |$it:ident| $($field:ident: $value:expr),*;)*) => {$(
+        impl Serialize for $of {
+            fn serialize<S: Serializer>(&self, out: S) -> Result<S::Ok, S::Error> {
+                let ($it, mut fields) = (self, out.serialize_struct($name, [$(stringify!($field)),*].len())?);
+                $(fields.serialize_field(stringify!($field), &$value)?;)*
+                fields.end()
+            }
+        }
+    )*};
 }
 
-impl Serialize for Record<'_> {
-    fn serialize<S: Serializer>(&self, out: S) -> Result<S::Ok, S::Error> {
-        let mut fields = out.serialize_struct("Record", 6)?;
-        fields.serialize_field("section", &self.section)?;
-        fields.serialize_field("name", &self.name)?;
-        fields.serialize_field("kind", &self.kind())?;
-        fields.serialize_field("class", &self.class)?;
-        fields.serialize_field("time_to_live", &self.time_to_live)?;
-        fields.serialize_field("rdata", &self.rdata())?;
-        fields.end()
-    }
-}
-
-impl Serialize for session::Packet<'_> {
-    fn serialize<S: Serializer>(&self, out: S) -> Result<S::Ok, S::Error> {
-        let mut fields = out.serialize_struct("Packet", 5)?;
-        fields.serialize_field("kind", &self.kind())?;
-        fields.serialize_field("body", &digits_of(self.body()))?;
-        fields.serialize_field("names", &self.names())?;
-        fields.serialize_field("retarget", &self.retarget())?;
-        fields.serialize_field("used", &self.used())?;
-        fields.end()
-    }
+fields! {
+    Packet<'_> as "Packet", |it| header: it.header, questions: it.questions(), records: it.records(), used: it.used;
+    Record<'_> as "Record", |it| section: it.section, name: it.name, kind: it.kind(), class: it.class, time_to_live: it.time_to_live,
+        rdata: it.rdata();
+    session::Packet<'_> as "Packet", |it| kind: it.kind(), body: digits_of(it.body()), names: it.names(), retarget: it.retarget(),
+        used: it.used();
 }

@@ -7,8 +7,8 @@ BINARY = {ast.Add: '+', ast.Sub: '-', ast.Mult: '*', ast.Pow: '**', ast.BitAnd: 
 ORDER = {ast.Lt: '<', ast.LtE: '<=', ast.Gt: '>', ast.GtE: '>=', ast.Is: '===', ast.IsNot: '!=='}
 # Methods that JavaScript has by another name, and those that python.js has as functions.
 RENAMED = {'append': 'push', 'startswith': 'startsWith', 'endswith': 'endsWith'}
-METHODS = {'clear', 'extend', 'get', 'hex', 'index', 'insert', 'isdigit', 'items', 'keys', 'partition', 'pop', 'removeprefix', 'rpartition', 'setdefault', 'strip', 'values'}
-BUILT_IN = {'all', 'any', 'bool', 'bytearray', 'int', 'iter', 'len', 'list', 'max', 'min', 'next', 'range', 'sorted', 'str', 'sum', 'tuple', 'zip'}
+METHODS = {'clear', 'extend', 'get', 'hex', 'insert', 'isdigit', 'items', 'partition', 'pop', 'removeprefix', 'rpartition', 'setdefault', 'strip', 'values'}
+BUILT_IN = {'all', 'any', 'bool', 'bytearray', 'int', 'iter', 'len', 'list', 'max', 'min', 'next', 'sorted', 'str', 'sum', 'tuple', 'zip'}
 
 
 class Unknown(Exception):

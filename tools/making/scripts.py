@@ -109,23 +109,22 @@ class Script:
     def put_return(self, node, depth):
         self.put(depth, f'return {self.expressions.of(node.value)};' if node.value else 'return null;')
 
-    def put_if(self, node, depth):
-        self.put(depth, f'if ({self.expressions.test(node.test)}) {{')
-        self.body(node.body, depth + 1)
-        if node.orelse:
-            self.put(depth, '} else {')
-            self.body(node.orelse, depth + 1)
+    def block(self, head, nodes, depth):
+        self.put(depth, f'{head} {{')
+        self.body(nodes, depth + 1)
         self.put(depth, '}')
+
+    def put_if(self, node, depth):
+        self.block(f'if ({self.expressions.test(node.test)})', node.body, depth)
+        if node.orelse:
+            self.block('else', node.orelse, depth)
 
     def put_while(self, node, depth):
-        self.put(depth, f'while ({self.expressions.test(node.test)}) {{')
-        self.body(node.body, depth + 1)
-        self.put(depth, '}')
+        self.block(f'while ({self.expressions.test(node.test)})', node.body, depth)
 
     def put_for(self, node, depth):
-        self.put(depth, f"for ({self.expressions.target(node.target)} of {self.expressions.helper('list', self.expressions.of(node.iter))}) {{")
-        self.body(node.body, depth + 1)
-        self.put(depth, '}')
+        items = self.expressions.helper('list', self.expressions.of(node.iter))
+        self.block(f'for ({self.expressions.target(node.target)} of {items})', node.body, depth)
 
     def put_assign(self, node, depth):
         if self.are_apart(node.targets[0], node.value):
@@ -168,11 +167,10 @@ class Script:
             where = self.expressions.of(place.upper) if isinstance(place, ast.Slice) else self.expressions.of(place)
             self.put(depth, self.expressions.helper('remove', self.expressions.of(each.value), where, str(isinstance(place, ast.Slice)).lower()) + ';')
 
-    def put_continue(self, _node, depth):
-        self.put(depth, 'continue;')
+    def put_continue(self, node, depth):
+        self.put(depth, f'{type(node).__name__.lower()};')
 
-    def put_break(self, _node, depth):
-        self.put(depth, 'break;')
+    put_break = put_continue
 
 
 def names_of(function):

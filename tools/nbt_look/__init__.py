@@ -10,7 +10,6 @@ without      frames that have no packet, and what they are
 texts        items of a capture that is text
 piped        standard input where it is a pipe
 telling      `nbt show --json` as children
-reading      the texts that they answer
 fronts       what stands of packets that are cut or malformed, in words
 ordering     items by their frames
 filters      which packets are wanted

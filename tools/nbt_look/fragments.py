@@ -2,7 +2,7 @@
 import collections
 
 from nbt_pcap.reasons import FRAGMENTS_CUT, FRAGMENTS_MISSING, FRAGMENTS_UNKNOWN
-from nbt_pcap.rows import is_joined
+from nbt_pcap.rows import is_joined, last
 
 from .datagrams import runs_missing
 
@@ -73,11 +73,6 @@ class Unfinished:
     def finish(self):
         for each in self.waiting.values():
             self.tell(each)
-
-
-def last(text):
-    """The value of the innermost header."""
-    return text.rpartition(',')[2]
 
 
 def is_set(flag):

@@ -2,7 +2,7 @@
 from nbt_pcap.frames import Reader
 from nbt_pcap.reasons import CUT
 from nbt_pcap.report import Report
-from nbt_pcap.rows import is_joined, values_of
+from nbt_pcap.rows import is_joined, last
 
 from .fragments import FIELDS as FRAGMENT_FIELDS
 from .fragments import Unfinished
@@ -144,8 +144,3 @@ class Frames(Reader):
         """What is known at the end alone."""
         self.streams.finish()
         self.unfinished.finish()
-
-
-def last(text):
-    """The last value of a field: that of the innermost header."""
-    return values_of(text)[-1] if ',' in text else text

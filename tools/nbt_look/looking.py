@@ -21,11 +21,10 @@ from .items import Cut, Opened, Packet
 from .listing import Listing
 from .objects import Objects
 from .ordering import WINDOW, Ordering
-from .reading import READ
 from .screen import Screen
 from .summary import Summary
 from .tally import Tally
-from .telling import Telling
+from .telling import READ, Telling
 from .texts import batches_of
 from .times import Times
 from .whole import Whole, WholeObject

@@ -7,8 +7,7 @@ from nbt_pcap.header import MOST_KEYS
 from nbt_pcap.process import Stopped
 
 from .pieces import Piece, Pieces
-from .reading import READ
-from .telling import Child
+from .telling import READ, Child
 from .vocabulary import PIECES
 
 # A station that has this name alone: whether it hears a datagram or not, the report says when one is whole.

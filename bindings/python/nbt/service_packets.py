@@ -36,12 +36,9 @@ class Question:
 
 
 @dataclass(frozen=True)
-class Record:
-    """What is said of a name."""
+class Record(Question):
+    """What is said of a name: its type and class are RR_TYPE and RR_CLASS."""
 
-    name: Union[str, DomainName]  # the text of a NetBIOS name; a DomainName where it is none
-    type: int                     # RR_TYPE, as of enum nbt_record_type
-    class_number: int             # RR_CLASS
     time_to_live: int             # TTL, in seconds
     rdata: Rdata                  # the bytes, where it is of another type, or hasn't the form of its type
 

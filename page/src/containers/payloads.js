@@ -134,7 +134,7 @@ export class PayloadReader {
         if (segment.syn) this.opened(segment);
         const sides = [[stream, internet.source, segment.source], [stream, internet.destination, segment.destination]];
         const { flags, sequence, size, payload } = segment;
-        for (const bytes of this.streams.segment(...sides, flags, sequence, size, payload.subarray(0, size))) this.payload(PORT.SESSIONS, below, bytes);
+        for (const bytes of this.streams.segment(...sides, flags, sequence, size, payload.subarray(0, size))) this.payload(139, below, bytes);
     }
 
     /** @param {import('./transport.js').Segment} segment one with a SYN */

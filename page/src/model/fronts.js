@@ -29,7 +29,7 @@ export function serviceFront(library, bytes) {
     const { counts, questions, records } = library.readServiceFront(bytes);
     /** @type {Told} */
     const told = JSON.parse(library.json(PORT.NAMES, withItems(bytes, counts, questions.length + records.length)));
-    if (!SECTIONS.some((section) => told[section]?.length)) Object.assign(told, aboutOf(library, bytes));
+    if (!SECTIONS.some((section) => Reflect.get(told, section)?.length)) Object.assign(told, aboutOf(library, bytes));
     return told;
 }
 

@@ -72,12 +72,9 @@ export const tuple = list;
 export const iter = list;
 export const next = (items) => items[0];
 export const items = (it) => (isDict(it) ? it.items() : Object.entries(it));
-export const keys = list;
 export const values = (it) => (isDict(it) ? it.values() : Object.values(it));
 export const zip = (one, other) => list(one).map((each, at) => [each, other[at]]);
-export const range = (count) => Array.from({ length: count }, (_, at) => at);
 export const slice = (it, from, to) => it.slice(from, to);
-export const index = (it, each) => it.indexOf(each);
 export const extend = (it, more) => (Array.isArray(it) ? it.push(...more) : it.push(more));
 export const insert = (it, place, each) => it.splice(place, 0, each);
 

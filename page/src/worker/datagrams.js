@@ -1,42 +1,34 @@
 /** What becomes of the datagrams of a file, by a station of the library. */
 import { Datagrams } from '../made/datagrams.js';
 import { Piece, Pieces } from '../made/pieces.js';
-import { MOST_KEYS, PIECES, PORT } from '../made/vocabulary.js';
+import { PIECES, PORT } from '../made/vocabulary.js';
 import { keyOf } from '../model/keys.js';
-import { pause } from './pause.js';
+import { throughStation } from './station.js';
 
 /** A station that has this name alone: whether it hears a datagram or not, it says when one is whole. */
 const NAME = '*<00>';
-/** How many payloads go into a station before the worker looks whether something is wanted of it. */
-const PART = 256;
 /** Why a station has no place for a piece. */
 const REFUSED = ['MISPLACED_FIRST', 'LONG', 'FULL_SOURCE', 'FULL'];
 
 /** @param {import('./tap.js').Tap} tap
  * @returns {Promise<Datagrams>} */
 export async function datagramsOf(tap) {
-    const station = new tap.library.Station([NAME], '0.0.0.0', { keys: MOST_KEYS });
     const datagrams = new Datagrams((/** @type {Uint8Array[][]} */ several) => several.map((pieces) => keyOf(listOf(tap, pieces).split('\n')[0])));
     for (const names of tap.cut) datagrams.count(names, 'cut');
     const pieces = new Pieces(datagrams.ended.bind(datagrams));
     let [count, moment] = [-1, -1n];
-    try {
-        for (const line of tap.capture()) {
-            if (line.kind !== 'payload') continue;
-            count += 1;
-            const piece = line.port === PORT.DATAGRAMS ? pieceOf(tap, line, line.row ?? count) : null;
-            if (piece && piece.moment !== moment) pieces.drop(station.tick(piece.moment));
-            if (piece) {
-                pieces.report(piece, reportOf(station, piece));
-                moment = piece.moment;
-            }
-            if (count % PART === PART - 1) await pause();
-        }
+    return throughStation(tap, [NAME], (station, line) => {
+        if (line.kind !== 'payload') return;
+        count += 1;
+        const piece = line.port === PORT.DATAGRAMS ? pieceOf(tap, line, line.row ?? count) : null;
+        if (!piece) return;
+        if (piece.moment !== moment) pieces.drop(station.tick(piece.moment));
+        moment = piece.moment;
+        pieces.report(piece, reportOf(station, piece));
+    }, () => {
         pieces.finish();
         return datagrams;
-    } finally {
-        station.close();
-    }
+    });
 }
 
 /** @param {import('./tap.js').Tap} tap @param {{moment: number | bigint, bytes: Uint8Array}} line @param {number} row

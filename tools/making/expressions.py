@@ -1,6 +1,5 @@
 """Expressions of Python as those of JavaScript, by page/src/model/python.js, which has what the two have in different ways."""
 import ast
-import enum
 import json
 
 BINARY = {ast.Add: '+', ast.Sub: '-', ast.Mult: '*', ast.Pow: '**', ast.BitAnd: '&', ast.BitOr: '|', ast.LShift: '<<', ast.RShift: '>>'}
@@ -178,8 +177,3 @@ class Expressions:
 
     def of_yieldfrom(self, node):
         return f'yield* {self.of(node.value)}'
-
-
-def enums_in(names):
-    """The enumerations among the names of a module."""
-    return {name: value for name, value in names.items() if isinstance(value, enum.EnumMeta)}

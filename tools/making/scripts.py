@@ -3,10 +3,11 @@
 What they may say is what this and expressions.py know: no exceptions, no arguments by their names but `key`, no classes within others.
 """
 import ast
+import enum
 import importlib
 import json
 
-from .expressions import Expressions, enums_in
+from .expressions import Expressions
 from .header import TOP
 from .page import page_file
 
@@ -24,7 +25,7 @@ class Script:
 
     def __init__(self, package, name):
         self.module = importlib.import_module(f'{package}.{name}')
-        self.expressions = Expressions(enums_in(vars(self.module)))
+        self.expressions = Expressions({name: value for name, value in vars(self.module).items() if isinstance(value, enum.EnumMeta)})
         self.tree = ast.parse((TOP / 'tools' / package / f'{name}.py').read_text(encoding='utf-8'))
         self.lines = []
 

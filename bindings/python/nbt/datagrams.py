@@ -24,16 +24,8 @@ ERROR = writer('nbt_datagram_error', ctypes.c_uint16, ctypes.c_uint32, ctypes.c_
 QUERY = writer('nbt_datagram_query', ctypes.c_uint8, ctypes.c_uint16, ctypes.c_uint32, ctypes.c_uint16, *BYTES)
 
 
-class Flagged:
-    """What FLAGS say of a fragment."""
-
-    flags: int
-    more = Flag(MORE)    # whether more fragments follow
-    first = Flag(FIRST)  # whether it is the first fragment
-
-
 @dataclass(frozen=True)
-class DatagramFront(Flagged):
+class DatagramFront:
     """What stands at the front of a payload of port 138: the header and, of a fragment, the names that are there whole."""
 
     type: Union[DatagramType, int]  # the number where no packet has it
@@ -44,6 +36,8 @@ class DatagramFront(Flagged):
     offset: int                     # PACKET_OFFSET: where the data begins in the datagram's; 0 but in a fragment
     source: Optional[str]           # SOURCE_NAME, as a text; None but in a fragment, and where it isn't there whole
     destination: Optional[str]      # DESTINATION_NAME, as a text; None but in a fragment, and where not both are there whole
+    more = Flag(MORE)               # whether more fragments follow
+    first = Flag(FIRST)             # whether it is the first fragment
 
 
 @dataclass(frozen=True)

@@ -16,7 +16,7 @@
 //! # Ok::<(), Box<dyn std::error::Error>>(())
 //! ```
 
-use std::fmt::{Display, Write};
+use std::fmt::Write;
 
 use serde::de::{Deserialize, Deserializer, Error as _, Unexpected};
 use serde::ser::{Error as _, Serialize, SerializeStruct, Serializer};
@@ -25,12 +25,20 @@ use crate::rdata::{Addresses, NodeNames};
 use crate::service_packets::{Packet, Questions, Record, Records};
 use crate::{session, Name, Spelling};
 
-/// A value as the text that it shows itself as. Unlike `collect_str` it has an error where memory ran out for that text.
-fn shown<S: Serializer>(value: impl Display, out: S) -> Result<S::Ok, S::Error> {
-    let mut text = String::new();
-    write!(text, "{value}").map_err(S::Error::custom)?;
-    out.serialize_str(&text)
+/// Values as the text that each shows itself as. Unlike `collect_str` it has an error where memory ran out for that text.
+macro_rules! texts {
+    ($($each:ty),*) => {$(
+        impl Serialize for $each {
+            fn serialize<S: Serializer>(&self, out: S) -> Result<S::Ok, S::Error> {
+                let mut text = String::new();
+                write!(text, "{self}").map_err(S::Error::custom)?;
+                out.serialize_str(&text)
+            }
+        }
+    )*};
 }
+
+texts!(Name, Spelling<'_>);
 
 /// Bytes as two hexadecimal digits each.
 pub(crate) fn digits<S: Serializer>(bytes: impl AsRef<[u8]>, out: S) -> Result<S::Ok, S::Error> {
@@ -63,18 +71,6 @@ fn bytes_of(digits: &str) -> Option<Vec<u8>> {
         _ => None,
     };
     digits.as_bytes().chunks(2).map(byte).collect()
-}
-
-impl Serialize for Name {
-    fn serialize<S: Serializer>(&self, out: S) -> Result<S::Ok, S::Error> {
-        shown(self, out)
-    }
-}
-
-impl Serialize for Spelling<'_> {
-    fn serialize<S: Serializer>(&self, out: S) -> Result<S::Ok, S::Error> {
-        shown(self, out)
-    }
 }
 
 /// From the text of a NetBIOS name, as by [`str::parse`].

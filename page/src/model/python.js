@@ -171,15 +171,9 @@ export const isdigit = (text) => /^[0-9]+$/.test(text);
 export const strip = (text, letters) => text.replace(new RegExp(`^[${letters.replace(/[\]\\]/g, '\\$&')}]+|[${letters.replace(/[\]\\]/g, '\\$&')}]+$`, 'g'), '');
 export const removeprefix = (text, front) => (text.startsWith(front) ? text.slice(front.length) : text);
 
-export function partition(text, between) {
-    const place = text.indexOf(between);
-    return place < 0 ? [text, '', ''] : [text.slice(0, place), between, text.slice(place + between.length)];
-}
-
-export function rpartition(text, between) {
-    const place = text.lastIndexOf(between);
-    return place < 0 ? ['', '', text] : [text.slice(0, place), between, text.slice(place + between.length)];
-}
+const cutAt = (text, between, place) => [text.slice(0, place), between, text.slice(place + between.length)];
+export const partition = (text, between) => (text.includes(between) ? cutAt(text, between, text.indexOf(between)) : [text, '', '']);
+export const rpartition = (text, between) => (text.includes(between) ? cutAt(text, between, text.lastIndexOf(between)) : ['', '', text]);
 
 /** A text in which each %s and %d stands for the next word. */
 export function format(text, words) {

@@ -1,25 +1,22 @@
 #!/usr/bin/env python3
 """What the bindings, the tools and the page list alike, made of one source each: of include/nbt.h its numbers, its limits and, for Rust and
-Python, its structures and calls; of tools/nbt_look/vocabulary.py the words of the summary, for the page.
+Python, its structures and calls; of modules of the tools those of the page.
 
-Usage: tools/lists.py --write writes the files anew, the marked parts of others, and what stands within further ones, as limits in manual pages.
---check says which differ from that, and which numbers of nbt.h aren't those of the crates' sources; its last line is 'N passed, M failed', a
-case for each file and each number.
+Usage: tools/lists.py --made writes what isn't kept in the repository: what makes the library or the page begins with it. --write writes that, and
+anew the file that is kept, the marked parts of others, and what stands within further ones, as limits in manual pages. --check says which of the
+latter differ from that, and which numbers of nbt.h aren't those of the crates' sources; its last line is 'N passed, M failed', a case for each
+file and each number.
 """
 import re
 import sys
 
 sys.dont_write_bytecode = True
-from making import crates, javascript, page, python, rust, tools
+from making import crates, javascript, python, rust, scripts, tools
 from making.header import TOP, Header
 
 BEGIN, END = '// ---- tools/lists.py --write makes what follows of include/nbt.h.', '// ---- Up to here.'
-FILES = {
-    'bindings/python/nbt/header.py': python.python_file,
-    'bindings/rust/src/header.rs': rust.rust_file,
-    'tools/nbt_pcap/header.py': tools.tools_file,
-    'page/src/model/vocabulary.js': page.page_file,
-}
+MADE = {'bindings/python/nbt/header.py': python.python_file, 'bindings/rust/src/header.rs': rust.rust_file}
+KEPT = {'tools/nbt_pcap/header.py': tools.tools_file}
 # What stands in other files, by what stands around it.
 OF_TABLES = ((r'(How many keys the table holds at most, 1 to )\d+(\.\nWithout it they are )\d+', '{MOST_KEYS}', '{KEYS}'),
              (r'(How many keys of one source address the table holds at most, 1 to )\d+', '{MOST_KEYS}'))
@@ -40,10 +37,19 @@ def with_part(text, part):
     return front + begin + part + end + behind
 
 
-def made():
-    """Each file, as it should be."""
+def write_made(header):
+    """Writes what isn't kept in the repository."""
+    for name, text in (*((name, maker(header)) for name, maker in MADE.items()), *scripts.scripts(header)):
+        path = TOP / name
+        path.parent.mkdir(exist_ok=True)
+        if not path.exists() or path.read_text(encoding='utf-8') != text:
+            path.write_text(text, encoding='utf-8')
+
+
+def kept():
+    """Each file that is kept, as it should be."""
     header = Header()
-    for name, maker in FILES.items():
+    for name, maker in KEPT.items():
         yield TOP / name, maker(header)
     for name, maker in PARTS.items():
         yield TOP / name, with_part((TOP / name).read_text(encoding='utf-8'), maker(header))
@@ -60,7 +66,7 @@ def made():
 def check():
     """The faults, and how many cases there are."""
     faults, cases = [], 0
-    for path, text in made():
+    for path, text in kept():
         cases += 1
         if not path.exists() or path.read_text(encoding='utf-8') != text:
             faults.append(f'{path.relative_to(TOP)} is not what tools/lists.py --write makes')
@@ -72,9 +78,12 @@ def check():
 
 
 def main():
-    if sys.argv[1:] == ['--write']:
-        for path, text in made():
+    if sys.argv[1:] == ['--made']:
+        write_made(Header())
+    elif sys.argv[1:] == ['--write']:
+        for path, text in kept():
             path.write_text(text, encoding='utf-8')
+        write_made(Header())
     elif sys.argv[1:] == ['--check']:
         faults, cases = check()
         print(*(f'failed: {each}' for each in faults), f'{cases - len(faults)} passed, {len(faults)} failed', sep='\n')

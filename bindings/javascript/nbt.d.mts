@@ -29,15 +29,19 @@ export declare class NbtError extends Error {
     constructor(number: number, at: number | null, words: string);
 }
 
+/** By what the fragments of a datagram belong together: SOURCE_IP, SOURCE_PORT and DGM_ID. */
+export interface Key {
+    address: string;
+    port: number;
+    identifier: number;
+}
+
 /** What stands at the front of a payload of port 138, whether or not a packet does: RFC 1002 sections 4.4.1 and 4.4.2. */
-export interface DatagramFront {
+export interface DatagramFront extends Key {
     /** MSG_TYPE, one of enum nbt_datagram_type, or one that no packet has. */
     type: number;
     /** FLAGS, all eight bits, as of enum nbt_datagram_flag. */
     flags: number;
-    identifier: number;
-    address: string;
-    port: number;
     /** Where the data begins in the datagram's; 0 but in a fragment. */
     offset: number;
     /** SOURCE_NAME as a text; null but in a fragment, and where it isn't there whole. */
@@ -54,13 +58,17 @@ export interface Datagram extends DatagramFront {
     data: Uint8Array;
 }
 
-/** A datagram to be written: 0x10 to a unique name, 0x11 to a group, 0x12 a broadcast. */
-export interface DatagramToWrite {
-    type: number;
+/** By what a packet of port 138 that is to be written says whose it is. */
+export interface Sender {
     identifier: number;
     address: Address;
     /** 138 without it. */
     port?: number;
+}
+
+/** A datagram to be written: 0x10 to a unique name, 0x11 to a group, 0x12 a broadcast. */
+export interface DatagramToWrite extends Sender {
+    type: number;
     source: string;
     destination: string;
     data: Bytes;
@@ -68,24 +76,16 @@ export interface DatagramToWrite {
     most?: number;
 }
 
-/** An error packet to be written, which says why a datagram wasn't taken. */
-export interface DatagramErrorToWrite {
-    /** The datagram's. */
-    identifier: number;
-    /** Address and port are those of the station that sends the error; 138 without a port. */
-    address: Address;
-    port?: number;
+/** An error packet to be written, which says why a datagram wasn't taken: the identifier is the datagram's, address and port those of the station
+ * that sends the error. */
+export interface DatagramErrorToWrite extends Sender {
     /** 0x82 nobody has the name that it is for, 0x83 and 0x84 the format of its source's and of its destination's name. */
     code: number;
 }
 
 /** A query to a distribution server, or its answer, to be written: 0x14 the question, 0x15 it has the name, 0x16 it hasn't. */
-export interface DatagramQueryToWrite {
+export interface DatagramQueryToWrite extends Sender {
     type: number;
-    identifier: number;
-    address: Address;
-    /** 138 without it. */
-    port?: number;
     name: string;
 }
 
@@ -188,13 +188,6 @@ export interface Response {
 export interface Limits {
     keys?: number;
     perSource?: number;
-}
-
-/** By what the fragments of a datagram belong together: SOURCE_IP, SOURCE_PORT and DGM_ID. */
-export interface Key {
-    address: string;
-    port: number;
-    identifier: number;
 }
 
 /** A datagram that is handed over. */

@@ -54,9 +54,3 @@ export function ipv6(payload, { protocol = 17, headers = [] } = {}) {
 
 export const udp = (payload, { source = 137, destination = 137, size = payload.length } = {}) =>
     bytesOf(number(source, 2), number(destination, 2), number(size + 8, 2), [0, 0], payload);
-
-export function tcp(payload, { source = 1024, destination = 139, sequence = 1, flags = 0x10 } = {}) {
-    return bytesOf(number(source, 2), number(destination, 2), number(sequence, 4), number(0, 4), [0x50, flags, 0, 0, 0, 0, 0, 0], payload);
-}
-
-export const message = (body) => bytesOf([0, 0], number(body.length, 2), body);

@@ -3,7 +3,7 @@
 import { readFileSync } from 'node:fs';
 
 import { PayloadReader, framesOf } from '../src/containers/payloads.js';
-import { FRAGMENTS_CUT, FRAGMENTS_MISSING, FRAGMENTS_UNKNOWN } from '../src/containers/report.js';
+import { FRAGMENTS_CUT, FRAGMENTS_MISSING, FRAGMENTS_UNKNOWN } from '../src/made/reasons.js';
 import { slicesOf } from '../src/containers/slices.js';
 import { made, textOf } from '../src/model/capture.js';
 import { LEFT_OUT, Packets } from '../src/model/packets.js';

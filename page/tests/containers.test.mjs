@@ -2,9 +2,9 @@ import assert from 'node:assert/strict';
 import test from 'node:test';
 
 import { PayloadReader, framesOf } from '../src/containers/payloads.js';
-import { CUT, FRAGMENTS, FRAGMENTS_MISSING, FRAGMENTS_UNKNOWN, GAP, NO_REST, NO_START, RESET } from '../src/containers/report.js';
+import { CUT, FRAGMENTS, FRAGMENTS_MISSING, FRAGMENTS_UNKNOWN } from '../src/made/reasons.js';
 import { slicesOf } from '../src/containers/slices.js';
-import { bytesOf, block, enhanced, ethernet, face, ipv4, ipv6, message, number, pcap, section, tcp, udp } from './building.mjs';
+import { bytesOf, block, enhanced, ethernet, face, ipv4, ipv6, number, pcap, section, udp } from './building.mjs';
 
 const QUERY = bytesOf([0, 3, 1, 0x10, 0, 1, 0, 0, 0, 0, 0, 0]);
 
@@ -88,29 +88,6 @@ test('fragments of IP come together in any order, and one that is missing is lef
     const differing = { bytes: ethernet(ipv4(other.subarray(16, 40), { offset: 16, more: true })) };
     assert.deepEqual(leftOut(pcap([parts[0], parts[1], differing, parts[2]])), [[4, FRAGMENTS]]);
     assert.deepEqual(leftOut(pcap([parts[1]])), [[1, FRAGMENTS_UNKNOWN]]);
-});
-
-test('session packets are cut from a stream in the order of its numbers', () => {
-    const first = message([1, 2, 3]);
-    const second = message([4, 5, 6, 7]);
-    const stream = bytesOf(first, second);
-    const segment = (from, to, rest = {}) => ({ bytes: ethernet(ipv4(tcp(stream.subarray(from, to), { sequence: 101 + from, ...rest }), { protocol: 6 })) });
-    const start = { bytes: ethernet(ipv4(tcp([], { sequence: 100, flags: 2 }), { protocol: 6 })) };
-    const wanted = [hex(first), hex(second)];
-    assert.deepEqual(payloads(pcap([start, segment(0, 15)])), wanted);
-    assert.deepEqual(payloads(pcap([start, segment(9, 15), segment(0, 5), segment(3, 9), segment(0, 5)])), wanted);
-    assert.deepEqual(leftOut(pcap([start, segment(0, 7), segment(9, 15)])), [[3, GAP]]);
-    assert.deepEqual(leftOut(pcap([start, segment(0, 9)])), [[2, NO_REST]]);
-    assert.deepEqual(leftOut(pcap([segment(0, 3)])), [[1, NO_START]]);
-    assert.deepEqual(leftOut(pcap([start, segment(0, 7, { flags: 4 })])), [[2, RESET]]);
-});
-
-test('numbers of a stream pass 2^32', () => {
-    const stream = bytesOf(message([1, 2, 3]), message([4, 5]));
-    const first = 2 ** 32 - 6;
-    const frame = (from, to) => ({ bytes: ethernet(ipv4(tcp(stream.subarray(from, to), { sequence: (first + 1 + from) % 2 ** 32 }), { protocol: 6 })) });
-    const start = { bytes: ethernet(ipv4(tcp([], { sequence: first, flags: 2 }), { protocol: 6 })) };
-    assert.deepEqual(payloads(pcap([start, frame(7, 13), frame(0, 7)])), [hex(message([1, 2, 3])), hex(message([4, 5]))]);
 });
 
 test('what is cut by the snap length is left out with how much is missing', () => {

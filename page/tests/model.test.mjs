@@ -10,8 +10,7 @@ import { Blocks, Column, Texts } from '../src/model/columns.js';
 import { commentOf, made, textOf, written } from '../src/model/capture.js';
 import { keyOf } from '../src/model/keys.js';
 import { LEFT_OUT, Packets } from '../src/model/packets.js';
-import { placeInName } from '../src/model/places.js';
-import { Seen } from '../src/model/seen.js';
+import { place_of } from '../src/made/places.js';
 import { momentOf, since, utc } from '../src/model/times.js';
 import { Advice, placed } from '../src/view/advice.js';
 import { Filter } from '../src/view/filter.js';
@@ -26,18 +25,6 @@ import { answersTo } from '../src/view/placing.js';
 
 const bytes = (text) => Uint8Array.from(text, (each) => each.charCodeAt(0));
 const fileOf = (text) => slicesOf(bytes(text));
-const ends = (frame, source, destination, rest = {}) =>
-    ({ frame, port: 137, time: BigInt(frame) * 1_000_000_000n, source, sourcePort: '137', destination, destinationPort: '137', mac: null, ...rest });
-const entry = (address, flags = '0000') => ({ flags, ont: '0', address });
-
-function service(op, name, { word = '2910', rcode = 'ok', address = '10.0.0.5', flags = '0000', id = '0001', ttl = 300, type = '0020', names } = {}) {
-    const record = { name, type, ttl, entries: [entry(address, flags)], ...(names ? { names } : {}) };
-    const isRequest = word < '8';
-    return {
-        id, word, op, rcode, questions: isRequest ? [{ name, type, class: '0001' }] : [], answers: isRequest ? [] : [record], authorities: [],
-        additional: isRequest && op !== 'query' ? [record] : [],
-    };
-}
 
 test('ends with and without ports, of both kinds of addresses', () => {
     for (const [end, host, port] of [['10.0.0.5:137', '10.0.0.5', '137'], ['[fe80::5]:138', 'fe80::5', '138'], ['[fe80::5]', 'fe80::5', ''],
@@ -99,8 +86,8 @@ test('which byte of the payload a byte of a name is', () => {
         [138, `\x12${'.'.repeat(13)}${scoped}${bad}`, 'destination name: not netbios 5', 60], [138, `\x14${'.'.repeat(9)}${bad}`, 'destination name: not netbios 5', 15],
         [139, `\x81...${bad}${bad}`, 'name: not netbios 5', 9], [139, `\x81...${good}${bad}`, 'name: not netbios 5', 43],
         [139, `\x81...\x03abc\0${good}`, 'name: not netbios 0', 4], [138, `\x10${'.'.repeat(13)}\xc0\x0c${bad}`, 'destination name: not netbios 5', null],
-    ]) assert.deepEqual(placeInName(port, bytes(text), refused), { inName: Number(refused.at(-1)), inPayload: at }, refused);
-    assert.equal(placeInName(138, bytes(''), 'source name: truncated 0'), null);
+    ]) assert.equal(place_of(port, bytes(text), { refused }), at, refused);
+    assert.equal(place_of(138, bytes(''), { refused: 'source name: truncated 0', at: 3 }), 3);
 });
 
 test('times', () => {
@@ -139,89 +126,17 @@ test('the capture of packets: ticks for each second, and in a pause those that d
     assert.equal(commentOf('# a \\ "b" \x01\xff'), '# a \\ "b" \\01\\ff');
 });
 
-test('claims of one name: conflicts, refusals, releases', () => {
-    const seen = new Seen();
-    seen.take(service('registration', 'FRED<20>'), '', ends(1, '10.0.0.5', '10.0.0.255'));
-    seen.take(service('registration', 'FRED<20>'), '', ends(2, '10.0.0.5', '10.0.0.255'));
-    seen.take(service('registration', 'FRED<20>', { address: '10.0.0.6' }), '', ends(3, '10.0.0.6', '10.0.0.255'));
-    seen.take(service('registration', 'FRED<20>', { word: 'ad86', rcode: 'ACT_ERR' }), '', ends(4, '10.0.0.5', '10.0.0.6'));
-    seen.take(service('release', 'FRED<20>', { word: '3010' }), '', ends(5, '10.0.0.5', '10.0.0.255'));
-    seen.take(service('registration', 'ANN<00>', { word: 'ad87', rcode: 'CFT_ERR' }), '', ends(6, '10.0.0.7', '10.0.0.8'));
-    const rows = seen.tables().names.map(({ name, address, how, until, conflicts, refusals, kind }) => [name, address, how, until, conflicts, refusals, kind]);
-    assert.deepEqual(rows, [['ANN<00>', '10.0.0.8', 'lost', 6_000_000_000n, 1, 0, 'workstation'],
-        ['FRED<20>', '10.0.0.5', 'released', 5_000_000_000n, 1, 0, 'file server'], ['FRED<20>', '10.0.0.6', 'refused', null, 1, 1, 'file server']]);
-    assert.deepEqual(seen.tables().names.map(({ lifetime }) => lifetime), [null, null, null]);
-    assert.deepEqual(seen.tables().stations.filter(({ refused }) => refused.length).map(({ address, refused }) => [address, refused]), [['10.0.0.6', ['FRED<20>']]]);
-});
-
-test('conflicts: who holds a name, who was refused it and by whom', () => {
-    const claim = (seen, frame, address, name = 'FRED<20>') => seen.take(service('registration', name, { address }), '', ends(frame, address, '10.0.0.255'));
-    const answer = (seen, frame, by, to, rcode, address = '10.0.0.5', id = '0001') =>
-        seen.take(service('registration', 'FRED<20>', { word: 'ad86', rcode, address, id }), '', ends(frame, by, to));
-    const said = (seen) => seen.tables().conflicts.map((each) => [each.frame, outcome(each)]);
-    const own = new Seen();
-    assert.deepEqual([claim(own, 1, '10.0.0.5'), claim(own, 2, '10.0.0.6')], [false, true]);
-    assert.deepEqual(said(own), [[2, 'FRED<20>: 10.0.0.5 and 10.0.0.6 claim it, and nobody was refused it.']]);
-    assert.equal(answer(own, 3, '10.0.0.5', '10.0.0.6', 'ACT_ERR'), true);
-    assert.deepEqual(said(own), [[3, 'FRED<20>: 10.0.0.5 holds it; 10.0.0.6 was refused it.']]);
-    claim(own, 4, '10.0.0.7', 'ANN<00>');
-    claim(own, 5, '10.0.0.8', 'ANN<00>');
-    assert.equal(summary(own.tables().conflicts), '2 names are in conflict.');
-    const server = new Seen();
-    claim(server, 1, '10.0.0.6');
-    answer(server, 2, '10.0.0.1', '10.0.0.6', 'ACT_ERR');
-    assert.deepEqual(said(server), [[2, 'FRED<20>: 10.0.0.5 holds it; 10.0.0.6 was refused it by 10.0.0.1.']]);
-    const echoed = new Seen();
-    answer(echoed, 1, '10.0.0.1', '10.0.0.6', 'ACT_ERR', '10.0.0.6');
-    assert.deepEqual(said(echoed), [[1, "FRED<20>: 10.0.0.1 refused it to 10.0.0.6; who holds it isn't in the capture."]]);
-    const demanded = new Seen();
-    for (const last of [5, 6, 7]) claim(demanded, last, `10.0.0.${last}`);
-    answer(demanded, 8, '10.0.0.6', '10.0.0.5', 'CFT_ERR', '10.0.0.6', '0002');
-    assert.deepEqual(said(demanded), [[7, 'FRED<20>: 10.0.0.6 and 10.0.0.7 claim it, and nobody was refused it.'],
-        [8, 'FRED<20>: 10.0.0.6 holds it; 10.0.0.5 was refused it.']]);
-    const policy = new Seen();
-    claim(policy, 1, '10.0.0.6');
-    assert.deepEqual([answer(policy, 2, '10.0.0.1', '10.0.0.6', 'RFS_ERR'), said(policy), summary(policy.tables().conflicts)], [false, [], 'No name is in conflict.']);
-    const asked = new Seen();
-    assert.equal(asked.take(service('query', 'FRED<20>', { word: '8507', rcode: 'CFT_ERR' }), '', ends(1, '10.0.0.1', '10.0.0.9')), true);
-    assert.deepEqual(said(asked), [[1, "FRED<20>: 10.0.0.1 says that it is in conflict; who holds it isn't in the capture."]]);
-    const group = { name: 'WORK<00>', holders: ['10.0.0.1', '10.0.0.2'], refused: '10.0.0.3', by: '10.0.0.1', frame: 4 };
-    assert.equal(outcome(group), 'WORK<00>: 10.0.0.1 and 10.0.0.2 hold it; 10.0.0.3 was refused it by 10.0.0.1.');
-});
-
-test('queries without an answer', () => {
-    const seen = new Seen();
-    seen.take(service('query', 'FRED<20>', { word: '0110' }), '', ends(1, '10.0.0.5', '10.0.0.255'));
-    seen.take(service('query', 'ANN<00>', { word: '0110', id: '0002' }), '', ends(2, '10.0.0.5', '10.0.0.255'));
-    seen.take(service('query', 'ANN<00>', { word: '0110', id: '0003' }), '', ends(3, '10.0.0.5', '10.0.0.255'));
-    seen.take(service('query', 'FRED<20>', { word: '8500' }), '', ends(4, '10.0.0.6', '10.0.0.5'));
-    const rows = () => seen.tables().queries.map(({ name, by, times, frames, answered }) => [name, by, times, frames, answered]);
-    assert.deepEqual(rows(), [['ANN<00>', '10.0.0.5', 2, [2, 3], null]]);
-    seen.take(service('query', 'ANN<00>', { word: '0110', id: '0004' }), '', ends(5, '10.0.0.5', '10.0.0.255'));
-    seen.take(service('query', 'ANN<00>', { word: '8500', id: '0004' }), '', ends(6, '10.0.0.6', '10.0.0.5'));
-    assert.deepEqual(rows(), [['ANN<00>', '10.0.0.5', 2, [2, 3], 6]]);
-});
-
-test('sessions: who called whom, and what came of it', () => {
-    const seen = new Seen();
-    const at = (told, brief, isBack = false) => seen.take(told, brief, ends(1, isBack ? '10.0.0.9' : '10.0.0.5', isBack ? '10.0.0.5' : '10.0.0.9',
-        { port: 139, sourcePort: isBack ? '139' : '1024', destinationPort: isBack ? '1024' : '139' }));
-    at({ kind: 'request', called: 'FRED<20>', calling: 'JOE<00>' }, 'calls FRED<20> as JOE<00>');
-    at({ kind: 'positive' }, 'accepts', true);
-    at({ kind: 'message', length: 5 }, 'sends 5 bytes');
-    at({ kind: 'message', length: 7 }, 'sends 7 bytes', true);
-    at({ kind: 'request', called: 'FRED<20>', calling: 'JOE<00>' }, 'calls FRED<20> as JOE<00>');
-    at({ kind: 'negative', code: '82' }, 'refuses: called name not present (82)', true);
-    assert.deepEqual(seen.tables().sessions, [{ calling: 'JOE<00>', called: 'FRED<20>', from: '10.0.0.5', to: '10.0.0.9', calls: 2, accepted: 1,
-        refused: ['called name not present (82): 1'], sent: 5, received: 7 }]);
-});
-
-test('refusals are counted without their places', () => {
-    const seen = new Seen();
-    for (const [frame, refused, at] of [[3, 'name: bad pointer 50', 50], [4, 'name: bad pointer 12', 12], [5, 'unknown type', undefined]]) {
-        seen.take({ refused, at }, '', ends(frame, '10.0.0.5', '10.0.0.9'));
-    }
-    assert.deepEqual(seen.tables().malformed, [{ reason: 'name: bad pointer', packets: 2, frame: 3, payload_byte: 50 }, { reason: 'unknown type', packets: 1, frame: 5, payload_byte: null }]);
+test('how conflicts ended, in words', () => {
+    for (const [holder, refused, by, words] of [
+        [['10.0.0.5', '10.0.0.6'], null, null, '10.0.0.5 and 10.0.0.6 claim it, and nobody was refused it.'],
+        [['10.0.0.5'], '10.0.0.6', '10.0.0.5', '10.0.0.5 holds it; 10.0.0.6 was refused it.'],
+        [['10.0.0.5'], '10.0.0.6', '10.0.0.1', '10.0.0.5 holds it; 10.0.0.6 was refused it by 10.0.0.1.'],
+        [[], '10.0.0.6', '10.0.0.1', "10.0.0.1 refused it to 10.0.0.6; who holds it isn't in the capture."],
+        [[], null, '10.0.0.1', "10.0.0.1 says that it is in conflict; who holds it isn't in the capture."],
+        [['10.0.0.1', '10.0.0.2'], '10.0.0.3', '10.0.0.1', '10.0.0.1 and 10.0.0.2 hold it; 10.0.0.3 was refused it by 10.0.0.1.'],
+    ]) assert.equal(outcome({ name: 'FRED<20>', holder, refused, by, frame: 4 }), `FRED<20>: ${words}`);
+    assert.deepEqual([[], ['a'], ['a', 'b', 'a']].map((names) => summary(names.map((name) => ({ name })))),
+        ['No name is in conflict.', 'One name is in conflict.', '2 names are in conflict.']);
 });
 
 test('the keys of a list, and what is known of them', () => {

@@ -50,6 +50,10 @@ export function libraryBy(program) {
     return {
         json,
         brief: (port, bytes) => JSON.parse(json(port, bytes)).brief,
+        readServiceFront(bytes) {
+            const { questions, answers, authorities, additional } = JSON.parse(front.ask(lineOf(137, 0, bytes)));
+            return { counts: [4, 6, 8, 10].map((at) => bytes[at] * 256 + bytes[at + 1]), questions, records: [answers, authorities, additional].flat() };
+        },
         readDatagramFront: (bytes) => frontOf(JSON.parse(front.ask(lineOf(138, 0, bytes)))),
         Station: stationsBy(program),
         close: () => [whole, front].forEach((each) => each.close()),

@@ -28,10 +28,10 @@ function tapOf(path) {
 for (const path of paths) {
     const tap = tapOf(path);
     const datagrams = await datagramsOf(tap);
-    const tables = { ...tap.seen.tables(), ...datagrams.tables() };
-    const text = (row, column) => shownAs(row, column, (time) => since(time, tap.first));
+    const tables = { ...tap.seen.tables(), datagrams: datagrams.rows(), failed: datagrams.failed.rows() };
+    const text = (title, row, column) => shownAs(title, row, column, (time) => since(time, tap.first));
     const shown = TABLES.filter(({ key }) => tables[key]?.length).map(({ key, title, columns }) =>
-        [title, { columns: columns.map((each) => each.replace('_', ' ')), rows: tables[key].map((row) => columns.map((each) => text(row, each))) }]);
+        [title, { columns: columns.map((each) => each.replace('_', ' ')), rows: tables[key].map((row) => columns.map((each) => text(title, row, each))) }]);
     console.log(JSON.stringify(Object.fromEntries(shown)));
 }
 library.close();

@@ -1,4 +1,4 @@
-"""What nbt-look is made of, over nbt_pcap.
+"""What nbt-look is made of, over nbt_pcap. Of what tools/making/scripts.py lists the page's modules are made, too.
 
 arguments    its command line
 looking      one pass over a capture: from packets to what is printed of them
@@ -10,7 +10,6 @@ without      frames that have no packet, and what they are
 texts        items of a capture that is text
 piped        standard input where it is a pipe
 telling      `nbt show --json` as children
-reading      the texts that they answer
 fronts       what stands of packets that are cut or malformed, in words
 ordering     items by their frames
 filters      which packets are wanted
@@ -30,7 +29,9 @@ places       which byte of a payload the place of a fault is
 advice       what to do about a fault, by its port
 tally        what the last line counts
 counts       counts in words
+shown        how values of tables are shown
 summary      the summary, by docs/SUMMARY.md, whose parts are these:
+seen         all of them but those of datagrams
 messages     packets of port 137, by what they do with a name
 owners       which addresses are one station's
 waiting      requests, and which responses answer them
@@ -41,8 +42,9 @@ conflicts    who holds a name, and who was refused it
 stations     who sends packets, and what they are called
 queries      queries without an answer
 sessions     who called whom
-replaying    `nbt replay` as a child, and what it reports
+replaying    `nbt replay` as a child
 datagrams    which are whole, incomplete, spoilt, and what those lack
+pieces       what becomes of pieces of datagrams, by what a station reports
 rooms        how many entries a part keeps
 page         a page for a browser with a capture in it
 """

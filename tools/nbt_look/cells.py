@@ -3,6 +3,8 @@ below."""
 import itertools
 import textwrap
 
+from .shown import cell
+
 BETWEEN = '  '
 
 
@@ -59,12 +61,3 @@ def fold(cells, width):
 def lines_of(value):
     """A value as lines: a list has one for each of its values."""
     return list(map(cell, value)) or ['-'] if isinstance(value, (list, tuple)) else [cell(value)]
-
-
-def cell(value, _row=None):
-    """A value as a table has it."""
-    if isinstance(value, bool):
-        return 'yes' if value else 'no'
-    if isinstance(value, (list, tuple)):
-        return ', '.join(map(cell, value)) or '-'
-    return '-' if value in (None, '') else str(value)

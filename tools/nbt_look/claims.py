@@ -30,7 +30,7 @@ class Claims:
         if message.is_broadcast and message.item.frame.source_mac:
             self.owners.join(message.item.frame.source_mac, message.source)
         act = self.acts.get(message.act)
-        return bool(act and act(message))
+        return act is not None and bool(act(message))
 
     def see(self, at):
         """Takes the time of any packet: claims are over at the end of the capture that are over by then."""
@@ -59,8 +59,7 @@ class Claims:
                 is_contested = True
         return is_contested
 
-    @staticmethod
-    def claim(tenure, group, message):
+    def claim(self, tenure, group, message):
         """Takes a claim; answers whether it is more than one that stood already. What is cut changes nothing that is known."""
         is_known = tenure.standing in CLAIMING
         is_new = not is_known or group not in (None, tenure.group)
@@ -137,8 +136,7 @@ class Claims:
         """Takes a frame of port 137 of which not even the header stands: it may be an objection to what its target claims."""
         self.left_open([each for each in self.open_to.pop(target, {}).values() if each.due is not None and at <= each.due])
 
-    @staticmethod
-    def left_open(tenures):
+    def left_open(self, tenures):
         """An answer of which no name stands may be an objection: silence decides nothing then."""
         for each in tenures:
             each.due = None
@@ -226,12 +224,13 @@ class Claims:
     def tenure(self, name, address, station):
         """The tenure of a name at an address, made where there is none; None where there is no room for it."""
         found = self.tenures.get((name, address), lambda: Tenure(name, address, station or address))
-        kept = found and self.of_name.get(name, list)
-        if kept is not None and found not in kept:
-            if len(kept) >= MOST_OF_NAME:
-                kept[:] = [each for each in kept if each.standing in CLAIMING]
-            if len(kept) < MOST_OF_NAME:
-                kept.append(found)
+        kept = None if found is None else self.of_name.get(name, lambda: [])
+        if kept is None or found in kept:
+            return found
+        if len(kept) >= MOST_OF_NAME:
+            kept = self.of_name.entries[name] = [each for each in kept if each.standing in CLAIMING]
+        if len(kept) < MOST_OF_NAME:
+            kept.append(found)
         return found
 
     def recorded(self, message):
@@ -278,7 +277,7 @@ class Claims:
             if self.is_against(each, tenure, at):
                 is_held = Standing.HOLDS in (each.standing, tenure.standing)
                 self.conflicts.open(tenure.name, (each.address, tenure.address), is_held, max(each.began, tenure.began))
-                is_contested |= is_held or each.due is not None or tenure.due is not None
+                is_contested = is_contested or is_held or each.due is not None or tenure.due is not None
         return is_contested
 
     def is_against(self, other, tenure, at):

@@ -36,16 +36,16 @@ class Undecided:
     pairs: list
 
     def row(self):
-        claimants = list(dict.fromkeys(address for each in self.pairs for address in each.addresses))
-        return {'name': self.name, 'holder': claimants, 'refused': None, 'by': None, 'frame': min(each.frame for each in self.pairs)}
+        claimants = []
+        for each in self.pairs:
+            claimants.extend([address for address in each.addresses if address not in claimants])
+        return {'name': self.name, 'holder': claimants, 'refused': None, 'by': None, 'frame': min([each.frame for each in self.pairs])}
 
 
 class Conflicts:
     """The conflicts of a capture, by name and by who was refused it."""
 
     title, head = TABLES['conflicts']
-    texts = {'holder': lambda claimants, row: (', ' if row['by'] else ' or ').join(claimants) or 'not in the capture',
-             'refused': lambda refused, row: refused or 'nobody'}
 
     def __init__(self, owners):
         self.owners = owners
@@ -55,13 +55,13 @@ class Conflicts:
     def open(self, name, addresses, is_held, frame):
         """Two stations claim a name. It is a conflict once one of them holds it."""
         pairs = self.undecided.get(name, lambda: Room(MOST_PAIRS))
-        pair = None if pairs is None else pairs.get(frozenset(addresses), lambda: Pair(addresses, frame))
+        pair = None if pairs is None else pairs.get(tuple(sorted(addresses)), lambda: Pair(addresses, frame))
         if pair and not pair.is_held:
             pair.frame, pair.is_held = frame, is_held
 
     def is_open(self, name, addresses):
         """Whether one of these claims a name that another station holds."""
-        return any(not set(addresses).isdisjoint(each.addresses) for each in self.held(name))
+        return any(address in addresses for each in self.held(name) for address in each.addresses)
 
     def held(self, name):
         """The pairs of a name that are a conflict: of which one holds it, and that aren't of one station."""
@@ -82,14 +82,11 @@ class Conflicts:
             del pairs[key]
 
     def all(self):
-        return [*self.decided.entries.values(), *(Undecided(name, pairs) for name in self.undecided.entries if (pairs := self.held(name)))]
-
-    def count(self, name):
-        """How many rows a name has."""
-        return sum(each.name == name for each in self.all())
+        undecided = [Undecided(name, self.held(name)) for name in self.undecided.entries]
+        return [*self.decided.entries.values(), *[each for each in undecided if each.pairs]]
 
     def rows(self, _times):
-        return sorted((each.row() for each in self.all()), key=lambda row: row['frame'])
+        return sorted([each.row() for each in self.all()], key=lambda row: row['frame'])
 
     def others(self):
         return self.undecided.others + self.decided.others + sum(each.others for each in self.undecided.entries.values())

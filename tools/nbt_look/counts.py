@@ -1,5 +1,5 @@
 """Counts in words."""
-from nbt_pcap.report import GAP
+from nbt_pcap.reasons import GAP
 
 
 def counted(count, what):
@@ -16,4 +16,5 @@ def left_out_words(item):
     """Why something is left out, with what is missing: of a gap in TCP how many bytes, of fragments of IP which."""
     if item.reason == GAP and item.missing:
         return '%s, %s' % (GAP, counted(item.missing[0]['bytes'], 'byte'))
-    return ': '.join(filter(None, (item.reason, ', '.join(map(run_text, item.missing)))))
+    missing = ', '.join([run_text(each) for each in item.missing])
+    return item.reason + ': ' + missing if missing else item.reason

@@ -1,7 +1,7 @@
 """Which packets are wanted: by name, host, port and kind."""
 from .claims import Claims
 from .items import LeftOut, Packet
-from .kinds import kinds_of, names_in
+from .kinds import kinds_of
 from .kindwords import about
 from .messages import message_of
 from .sessions import Streams
@@ -31,7 +31,7 @@ class Filter:
             return False
         if self.ports and not self.ports & {ends.source_port, ends.target_port, str(getattr(item, 'service', ''))}:
             return False
-        if self.kinds and not is_conflict and not self.kinds & kinds_of(shown):
+        if self.kinds and not is_conflict and self.kinds.isdisjoint(kinds_of(getattr(item, 'service', None), shown)):
             return False
         return not self.names or (shown is not None and any(self.is_named(each) for each in (*names_in(shown), *called)))
 
@@ -42,3 +42,17 @@ class Filter:
     def notes(self):
         """What is said where nothing was found of some kinds."""
         return ['no packet of kind ' + about(each) for each in sorted(self.kinds)]
+
+
+def names_in(shown):
+    """The texts of all names in a packet."""
+    for key in ('source', 'destination', 'called', 'calling'):
+        if key in shown:
+            yield shown[key]
+    if 'about' in shown:
+        yield shown['about']['name']
+    for section in ('questions', 'answers', 'authorities', 'additional'):
+        for each in shown.get(section, ()):
+            yield each['name']
+            for name in each.get('names', ()):
+                yield name['name']

@@ -1,14 +1,14 @@
 """Fragments of IP whose others haven't come: which of them are of these ports, and what is missing of their packets."""
 import collections
 
-from nbt_pcap.rows import is_joined
+from nbt_pcap.reasons import FRAGMENTS_CUT, FRAGMENTS_MISSING, FRAGMENTS_UNKNOWN
+from nbt_pcap.rows import is_joined, last
+
+from .datagrams import runs_missing
 
 # What a row has of a fragment.
 FIELDS = ('ip.id', 'ip.proto', 'ip.frag_offset', 'ip.flags.mf', 'ipv6.fraghdr.ident', 'ipv6.fraghdr.nxt', 'ipv6.fraghdr.offset',
           'ipv6.fraghdr.more', 'data.data')
-MISSING = 'fragments of IP whose others are missing'
-CUT = 'fragments of IP that are cut themselves'
-UNKNOWN = 'fragments of IP without the one that has the ports'
 UDP, TCP = '17', '6'
 # Of how many packets fragments wait.
 MOST_WAITING = 4_096
@@ -24,17 +24,6 @@ class Waiting:
 
     def __init__(self):
         self.marks, self.places, self.ours, self.end = [], [], None, None
-
-    def missing(self):
-        """The runs of bytes that no fragment has."""
-        found, due = [], 0
-        for start, end in sorted(self.places):
-            if start > due:
-                found.append({'from': due, 'bytes': start - due})
-            due = max(due, end)
-        if self.end is None:
-            found.append({'from': due, 'bytes': None})
-        return found
 
 
 class Unfinished:
@@ -76,18 +65,14 @@ class Unfinished:
         waiting.marks.append((self.report.mark, bool(row.short)))
 
     def tell(self, waiting):
-        missing = waiting.missing()
+        missing = runs_missing(sorted(waiting.places), waiting.end)
         for mark, is_cut in waiting.marks:
-            self.report.count(mark, CUT if is_cut else MISSING if waiting.ours else UNKNOWN, () if is_cut else missing)
+            reason = FRAGMENTS_CUT if is_cut else FRAGMENTS_MISSING if waiting.ours else FRAGMENTS_UNKNOWN
+            self.report.count(mark, reason, () if is_cut else missing)
 
     def finish(self):
         for each in self.waiting.values():
             self.tell(each)
-
-
-def last(text):
-    """The value of the innermost header."""
-    return text.rpartition(',')[2]
 
 
 def is_set(flag):

@@ -1,7 +1,8 @@
 """The packets of tshark's rows, and what is left out, each with its frame."""
 from nbt_pcap.frames import Reader
-from nbt_pcap.report import CUT, Report
-from nbt_pcap.rows import is_joined, values_of
+from nbt_pcap.reasons import CUT
+from nbt_pcap.report import Report
+from nbt_pcap.rows import is_joined, last
 
 from .fragments import FIELDS as FRAGMENT_FIELDS
 from .fragments import Unfinished
@@ -141,10 +142,5 @@ class Frames(Reader):
 
     def finish(self):
         """What is known at the end alone."""
-        self.sessions.finish()
+        self.streams.finish()
         self.unfinished.finish()
-
-
-def last(text):
-    """The last value of a field: that of the innermost header."""
-    return values_of(text)[-1] if ',' in text else text

@@ -9,7 +9,7 @@ from nbt_pcap import tshark
 from nbt_pcap.lines import Refused
 from nbt_pcap.process import Stopped, say
 from nbt_pcap.progress import Progress
-from nbt_pcap.report import CUT
+from nbt_pcap.reasons import CUT
 from nbt_shards import ending
 from nbt_shards.programs import BUILT, INSTALLED, local_program
 
@@ -21,11 +21,10 @@ from .items import Cut, Opened, Packet
 from .listing import Listing
 from .objects import Objects
 from .ordering import WINDOW, Ordering
-from .reading import READ
 from .screen import Screen
 from .summary import Summary
 from .tally import Tally
-from .telling import Telling
+from .telling import READ, Telling
 from .texts import batches_of
 from .times import Times
 from .whole import Whole, WholeObject

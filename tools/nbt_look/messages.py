@@ -2,10 +2,13 @@
 from dataclasses import dataclass
 
 from .parts import entries, group_of, is_response, subject, type_of
-from .vocabulary import MULTIHOMED, NOBODYS, STATUS_TYPE, Act, Front
+from .vocabulary import EPOCH, MULTIHOMED, NOBODYS, STATUS_TYPE, Act, Front
 
 CLAIMS = (Act.CLAIMS, Act.OVERWRITES)
 REGISTERING = ('registration', 'refresh', MULTIHOMED)
+# By OPCODE, and whether RCODE is 0, what a response does that answers no claim.
+RESPONSES = {('query', True): Act.ANSWERS, ('query', False): Act.FINDS_NONE, ('release', True): Act.RELEASED, ('release', False): Act.KEEPS,
+             ('wack', True): Act.WAITS, ('wack', False): Act.WAITS}
 
 
 @dataclass(frozen=True)
@@ -20,7 +23,7 @@ class Message:
 
     @property
     def at(self):
-        return self.item.frame.at or 0
+        return self.item.frame.at or EPOCH
 
     @property
     def frame(self):
@@ -55,13 +58,18 @@ class Message:
     @property
     def lifetime(self):
         """The TTL of its first record, in seconds; None where none stands."""
-        return next((each['ttl'] for each in self.shown['answers'] + self.shown['additional']), None)
+        records = self.own_records()
+        return records[0]['ttl'] if records else None
+
+    def own_records(self):
+        """Those that say something of a name by themselves."""
+        return [*self.shown['answers'], *self.shown['additional']]
 
     def places(self):
         """Name, address, whether it is a group, and TTL, of each address in its records; of a claim or release of which no record stands
         its sender's, and then it isn't known whether it is a group."""
         found = [(record['name'], each['address'], group_of(each), record['ttl'])
-                 for record in self.shown['answers'] + self.shown['additional'] for each in record.get('entries', ())]
+                 for record in self.own_records() for each in record.get('entries', ())]
         if found or self.front is Front.WHOLE or is_response(self.shown) or self.name is None:
             return found
         return [(self.name, self.source, None, None)]
@@ -86,14 +94,15 @@ def act_of(shown):
     is_positive = shown['rcode'] == 'ok'
     if operation in REGISTERING:
         return registered_of(operation, shown) if is_positive else refused_of(operation, shown)
-    return {('query', True): Act.ANSWERS, ('query', False): Act.FINDS_NONE, ('release', True): Act.RELEASED, ('release', False): Act.KEEPS,
-            ('wack', True): Act.WAITS, ('wack', False): Act.WAITS}.get((operation, is_positive), Act.OTHER)
+    return RESPONSES.get((operation, is_positive), Act.OTHER)
 
 
 def request_of(operation, shown):
     if operation == 'query':
-        is_front = 'cut' in shown or 'refused' in shown
-        return {STATUS_TYPE: Act.ASKS_STATUS, None: Act.ASKS_SOMETHING if is_front else Act.ASKS}.get(type_of(shown), Act.ASKS)
+        kind = type_of(shown)
+        if kind == STATUS_TYPE:
+            return Act.ASKS_STATUS
+        return Act.ASKS_SOMETHING if kind is None and ('cut' in shown or 'refused' in shown) else Act.ASKS
     if operation == 'registration' and 'RD' not in shown['flags']:
         return Act.OVERWRITES
     return Act.CLAIMS if operation in REGISTERING else Act.RELEASES if operation == 'release' else Act.OTHER

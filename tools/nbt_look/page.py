@@ -3,11 +3,10 @@ import base64
 import contextlib
 import html
 import os
-import stat
 import sys
-import tempfile
 
 from nbt_pcap.process import Stopped
+from nbt_pcap.replacing import faults_of, keep_mode, new_file, standing
 
 HERE = os.path.dirname(os.path.abspath(__file__))
 # Where the page is: beside the installed tools, or where `make page` puts it.
@@ -15,10 +14,7 @@ PLACES = (os.path.join(HERE, '..', 'nbt.html'), os.path.join(HERE, '..', '..', '
 GIVEN = '<script type="application/octet-stream" id="given" data-name=""></script>'
 # How many bytes of a capture a page is given: it grows by a third more.
 MOST = 20_000_000
-OTHERS = {stat.S_IFLNK: 'a link', stat.S_IFDIR: 'a folder'}
 PREFIX = '.nbt-look.'
-UMASK = os.umask(0o077)
-os.umask(UMASK)
 
 
 def write(options):
@@ -52,23 +48,11 @@ def read(path):
     return data
 
 
-@contextlib.contextmanager
-def faults_of(path):
-    """What goes wrong with a file, as the reason to stop."""
-    try:
-        yield
-    except OSError as error:
-        raise Stopped(3, f'{path}: {error.strerror}') from error
-
-
 def judged(path, given):
     """What the system says of the file at a path, None where nothing stands there; Stopped where it is no file that may be written anew."""
-    try:
-        found = os.lstat(path)
-    except FileNotFoundError:
+    found = standing(path)
+    if found is None:
         return None
-    if not stat.S_ISREG(found.st_mode):
-        raise Stopped(3, f'{path}: it is {OTHERS.get(stat.S_IFMT(found.st_mode), "no regular file")}, and stays as it is')
     with contextlib.suppress(OSError):
         if os.path.samestat(found, os.fstat(0) if given == '-' else os.stat(given)):
             raise Stopped(3, f'{path}: it is the capture, and stays as it is')
@@ -76,14 +60,9 @@ def judged(path, given):
 
 
 def put(path, text, before):
-    """Writes the file whole, by a name that nobody has, or not at all. The mode of one before it stays."""
-    folder = os.path.dirname(os.path.abspath(path))
-    with tempfile.NamedTemporaryFile('w', dir=folder, prefix=PREFIX, delete=False, encoding='utf-8', errors='surrogateescape') as file:
-        try:
-            file.write(text)
-            file.flush()
-            os.fchmod(file.fileno(), stat.S_IMODE(before.st_mode) if before else 0o666 & ~UMASK)
-            os.replace(file.name, path)
-        finally:
-            with contextlib.suppress(FileNotFoundError):
-                os.unlink(file.name)
+    """Writes the file whole. The mode of one before it stays."""
+    with new_file(os.path.dirname(os.path.abspath(path)), PREFIX, encoding='utf-8', errors='surrogateescape') as file:
+        file.write(text)
+        file.flush()
+        keep_mode(file.fileno(), before)
+        os.replace(file.name, path)

@@ -11,7 +11,10 @@ def is_response(shown):
 
 def first_of(shown):
     """The first question, or else the first record; of a front perhaps its name and type alone. None where none stands."""
-    return next((shown[section][0] for section in SECTIONS if shown[section]), shown.get('about'))
+    for section in SECTIONS:
+        if shown[section]:
+            return shown[section][0]
+    return shown.get('about')
 
 
 def subject(shown):
@@ -28,7 +31,7 @@ def type_of(shown):
 
 
 def records_of(shown):
-    return shown['answers'] + shown['authorities'] + shown['additional']
+    return [*shown['answers'], *shown['authorities'], *shown['additional']]
 
 
 def entries(shown):

@@ -1,11 +1,10 @@
 """Which byte of a payload the place of a fault is."""
-import re
-
 from nbt_pcap.header import QUERIES
 
 # Of these the place counts in the spelling of a name (RFC 1002 section 4.1), and not in the payload.
-IN_NAME = re.compile('^(.*): not netbios ([0-9]+)$')
-LETTERS = frozenset(b'ABCDEFGHIJKLMNOP')
+IN_NAME = ': not netbios '
+# The letters A to P.
+LEAST, MOST = 0x41, 0x50
 FRONT = 32
 LONGEST_LABEL = 63
 # Where the first name of a packet begins: of port 139, and of port 138 by its type (RFC 1002 sections 4.3.2, 4.4.2 and 4.4.4).
@@ -14,16 +13,18 @@ OF_SESSION, OF_DATAGRAM, OF_QUERY = 4, 14, 10
 
 def is_in_name(refused):
     """Whether the place of a fault counts in a name."""
-    return bool(IN_NAME.match(refused))
+    _, found, place = refused.rpartition(IN_NAME)
+    return bool(found) and place.isdigit()
 
 
 def place_of(port, data, shown):
     """The byte of the payload at which the fault of a packet is, or None."""
-    named = IN_NAME.match(shown.get('refused', ''))
-    if not named:
+    refused = shown.get('refused', '')
+    if not is_in_name(refused):
         return shown.get('at')
-    at = begin(port, data, named[1])
-    return None if at is None else at + int(named[2])
+    words, _, place = refused.rpartition(IN_NAME)
+    at = begin(port, data, words)
+    return None if at is None else at + int(place)
 
 
 def begin(port, data, words):
@@ -37,7 +38,7 @@ def begin(port, data, words):
 
 def is_netbios(data, at):
     """Whether the name's first label is a NetBIOS name's."""
-    return data[at] == FRONT and LETTERS.issuperset(data[at + 1:at + 1 + FRONT])
+    return data[at] == FRONT and all(LEAST <= each <= MOST for each in data[at + 1:at + 1 + FRONT])
 
 
 def after(data, at):

@@ -1,5 +1,4 @@
 """Queries and node status requests that nobody answers: RFC 1002 sections 4.2.12 to 4.2.18."""
-import collections
 from dataclasses import dataclass, field
 
 from .rooms import Room
@@ -8,10 +7,9 @@ from .waiting import Waiting
 
 KINDS = {Act.ASKS: 'query', Act.ASKS_STATUS: 'status', Act.ASKS_SOMETHING: None}
 RESPONSES = (Act.ANSWERS, Act.FINDS_NONE)
-
-
 OF_FRONT = {Front.WHOLE: Answer.WHOLE, Front.CUT: Answer.CUT, Front.MALFORMED: Answer.MALFORMED}
-RANKS = list(Answer)
+# How much an answer says.
+RANKS = {Answer.NEVER: 0, Answer.UNKNOWN: 1, Answer.CUT: 2, Answer.MALFORMED: 3, Answer.WHOLE: 4}
 
 
 @dataclass
@@ -27,9 +25,12 @@ class Unanswered:
     def count(self, request, answer, frame):
         self.since = min(self.since, request.since)
         self.times += request.times
-        self.frames = sorted(self.frames + request.frames)[:MOST_FRAMES]
-        if (RANKS.index(answer), frame or 0) >= (RANKS.index(self.answer), self.answered or 0):
+        self.frames = sorted([*self.frames, *request.frames])[:MOST_FRAMES]
+        if (RANKS[answer], frame or 0) >= (RANKS[self.answer], self.answered or 0):
             self.answer, self.answered = answer, frame
+
+    def copy(self):
+        return Unanswered(self.since, self.times, self.frames, self.answer, self.answered)
 
 
 class Queries:
@@ -38,11 +39,10 @@ class Queries:
     title, head = TABLES['queries']
 
     def __init__(self, owners):
-        self.waiting = Waiting(owners, self.over)
+        self.waiting = Waiting(owners, lambda request: self.over(self.room, request))
         self.room = Room()                           # those without an answer
         self.answered = Room()                       # the frame of the latest answer
         self.unread = Room()                         # the times of what can't be read, by who sent it, or anybody, to whom
-        self.texts = {'answered': answered_text}
 
     def take(self, message):
         if message.act in KINDS and message.name is not None:
@@ -56,24 +56,26 @@ class Queries:
 
     def answer(self, request, answer, frame):
         """Keeps the first answer that says the most."""
-        if request.answer is not None and RANKS.index(answer) <= RANKS.index(request.answer[0]):
+        if request.answer is not None and RANKS[answer] <= RANKS[request.answer[0]]:
             return
         request.answer = answer, None if answer is Answer.UNKNOWN else frame
-        found = answer is Answer.WHOLE and self.answered.get(key_of(request), lambda: [0])
+        found = self.answered.get(key_of(request), lambda: [0]) if answer is Answer.WHOLE else None
         if found:
             found[0] = max(found[0], frame)
 
     def cannot_read(self, source, target, at):
         """Takes a frame of port 137 of which not even the header stands."""
         for each in (source, None):
-            times = self.unread.get((each, target), lambda: collections.deque(maxlen=MOST_UNREAD))
+            times = self.unread.get((each, target), lambda: [])
             if times is not None:
                 times.append(at)
+                if len(times) > MOST_UNREAD:
+                    times.pop(0)
 
-    def over(self, request):
+    def over(self, room, request):
         """Counts a request that waits no longer, unless its answer stands whole."""
         answer, frame = request.answer or (self.unread_answer(request), None)
-        found = answer is not Answer.WHOLE and self.room.get(key_of(request), lambda: Unanswered(request.since))
+        found = None if answer is Answer.WHOLE else room.get(key_of(request), lambda: Unanswered(request.since))
         if found:
             found.count(request, answer, frame)
 
@@ -81,9 +83,19 @@ class Queries:
         times = self.unread.entries.get((None if request.is_broadcast else request.asked, request.asker), ())
         return Answer.UNKNOWN if any(request.since <= at <= request.until for at in times) else Answer.NEVER
 
+    def until_now(self):
+        """Those without an answer, and those that wait for one."""
+        room = Room()
+        room.others = self.room.others
+        for key, each in self.room.entries.items():
+            room.entries[key] = each.copy()
+        for each in self.waiting.all():
+            self.over(room, each)
+        return room
+
     def rows(self, times):
-        self.waiting.finish()
-        return [self.row(key, each, times) for key, each in sorted(self.room.entries.items(), key=lambda pair: tuple(each or '' for each in pair[0]))]
+        found = sorted(self.until_now().entries.items(), key=lambda pair: [each or '' for each in pair[0]])
+        return [self.row(key, each, times) for key, each in found]
 
     def row(self, key, each, times):
         """A later answer that stands whole says more than a front of one."""
@@ -96,14 +108,8 @@ class Queries:
                 'answered': frame, 'answer': answer}
 
     def others(self):
-        return self.room.others
+        return self.until_now().others
 
 
 def key_of(request):
     return request.name, request.kind, request.asker, request.asked
-
-
-def answered_text(frame, row):
-    """What answered, in words."""
-    words = {'later': 'a later one, in frame %s', 'cut': 'frame %s, cut', 'malformed': 'frame %s, malformed'}.get(row['answer'])
-    return words % frame if words else row['answer']

@@ -1,5 +1,4 @@
 """Sessions: who called whom, and what came of it. RFC 1002 section 4.3 and 5.3."""
-import collections
 from dataclasses import dataclass, field
 
 from .rooms import Room
@@ -24,7 +23,7 @@ class Streams:
 
     def __init__(self, ports):
         self.ports = ports           # those of the service
-        self.sessions = collections.OrderedDict()
+        self.sessions = {}
 
     def opened(self, item):
         """A connection is opened: with a SYN of its own after packets of another session this is a new one."""
@@ -38,8 +37,8 @@ class Streams:
         key, here, there = key_of(item), (item.source, item.source_port), (item.target, item.target_port)
         session = self.sessions.get(key)
         if session is None or (shown['kind'] == 'request' and here != session.caller and session.sequence is None):
-            session = self.keep(key, Session(*self.sides(here, there, shown['kind'])))
-        self.sessions.move_to_end(key)
+            session = Session(*self.sides(here, there, shown['kind']))
+        self.keep(key, session)
         session.is_begun = True
         if shown['kind'] == 'request':
             session.calling, session.called, session.is_accepted = shown['calling'], shown['called'], False
@@ -52,10 +51,11 @@ class Streams:
         return (there, here) if is_answer and kind != 'request' else (here, there)
 
     def keep(self, key, session):
+        """Puts it behind those that went on before it."""
+        self.sessions.pop(key, None)
         self.sessions[key] = session
         if len(self.sessions) > MOST_STREAMS:
-            self.sessions.popitem(last=False)
-        return session
+            self.sessions.pop(next(iter(self.sessions)))
 
     def called(self, item, shown):
         """The names of the session that a packet is of."""
@@ -73,7 +73,7 @@ def is_told(item, shown):
 def key_of(item):
     if item.stream is not None:
         return item.stream
-    return frozenset(((item.source, item.source_port), (item.target, item.target_port)))
+    return tuple(sorted([(item.source, item.source_port), (item.target, item.target_port)]))
 
 
 @dataclass
@@ -84,7 +84,10 @@ class Calls:
     accepted: int = 0
     sent: int = 0
     received: int = 0
-    refused: collections.Counter = field(default_factory=collections.Counter)
+    refused: dict = field(default_factory=dict)
+
+    def refuse(self, words):
+        self.refused[words] = self.refused.get(words, 0) + 1
 
 
 class Sessions:
@@ -104,7 +107,7 @@ class Sessions:
         if not is_told(item, shown):
             return
         session, is_back = self.streams.take(item, shown)
-        calls = self.room.get((session.calling, session.called, session.caller[0], session.callee[0]), Calls)
+        calls = self.room.get((session.calling, session.called, session.caller[0], session.callee[0]), lambda: Calls())
         if calls:
             self.count(calls, session, shown, is_back)
 
@@ -115,9 +118,9 @@ class Sessions:
         elif kind == 'positive' or (kind == 'message' and session.calling is not None and not session.is_accepted):
             self.accept(calls, session)
         elif kind == 'negative':
-            calls.refused[shown['brief'].removeprefix('refuses: ')] += 1
+            calls.refuse(shown['brief'].removeprefix('refuses: '))
         elif kind == 'retarget':
-            calls.refused['retargeted to %s, port %d' % (shown['address'], shown['to_port'])] += 1
+            calls.refuse('retargeted to %s, port %d' % (shown['address'], shown['to_port']))
         if kind == 'message':
             calls.sent += 0 if is_back else shown['length']
             calls.received += shown['length'] if is_back else 0
@@ -133,9 +136,9 @@ class Sessions:
     def rows(self, _times):
         found = []
         for key, each in self.room.entries.items():
-            refused = ['%s: %d' % pair for pair in each.refused.items()]
+            refused = ['%s: %d' % (words, times) for words, times in each.refused.items()]
             found.append(dict(zip(self.head, (*key, each.calls, each.accepted, refused, each.sent, each.received))))
-        return sorted(found, key=lambda row: tuple(row[key] or '' for key in self.head[:4]))
+        return sorted(found, key=lambda row: [row[key] or '' for key in self.head[:4]])
 
     def others(self):
         return self.room.others

@@ -1,38 +1,13 @@
 """The summary of a capture: what is known of names, stations, queries, sessions and datagrams, and what is malformed. docs/SUMMARY.md says what
 makes a row of each table."""
 import json
-import re
 
-from .claims import Claims
 from .counts import counted
 from .datagrams import Datagrams
-from .messages import message_of
-from .names import Names
-from .queries import Queries
-from .sessions import Sessions
-from .stations import Stations
+from .replaying import Replay, listing
+from .seen import Seen
+from .shown import TEXTS
 from .vocabulary import TABLES
-
-PLACE = re.compile(' [0-9]+$')
-
-
-class Faults:
-    """The packets that nbt refuses to read, by reason, with the first frame of each, and the byte of its payload at which the fault is."""
-
-    title, head = TABLES['malformed']
-
-    def __init__(self):
-        self.reasons = {}
-
-    def take(self, item, shown):
-        if 'refused' in shown:
-            self.reasons.setdefault(PLACE.sub('', shown['refused']), [0, item.frame.number, shown.get('at')])[0] += 1
-
-    def rows(self, _times):
-        return [dict(zip(self.head, (reason, *each))) for reason, each in sorted(self.reasons.items())]
-
-    def others(self):
-        return 0
 
 
 class LeftOut:
@@ -57,49 +32,27 @@ class Summary:
 
     def __init__(self, screen, times, options, program):
         self.screen, self.times, self.as_json, self.chosen = screen, times, options.json, options.tables
-        self.claims, self.datagrams, self.faults, self.missed = Claims(), Datagrams(program), Faults(), LeftOut()
-        self.stations, self.queries = Stations(self.claims), Queries(self.claims.owners)
-        self.sessions = Sessions(options.session_ports, self.stations.named)
-        self.parts = [Names(self.claims), self.claims.conflicts, self.stations, self.queries, self.sessions, self.datagrams,
-                      self.datagrams.failed, self.faults, self.missed]
+        self.seen, self.datagrams, self.missed = Seen(options.session_ports), Datagrams(listing(program)), LeftOut()
+        self.replay = Replay(program, self.datagrams)
+        self.parts = [*self.seen.parts, self.datagrams, self.datagrams.failed, self.seen.faults, self.missed]
 
     def packet(self, item, shown, _text):
-        self.faults.take(item, shown)
-        self.take(item, shown)
+        self.seen.faults.take(item, shown)
+        self.cut(item, shown)
 
     def cut(self, item, shown):
-        """What stands of it counts, and is marked where it says less than a whole one."""
-        self.take(item, shown)
-
-    def take(self, item, shown):
-        message = message_of(item, shown)
-        self.claims.see(item.frame.at or 0)
-        self.stations.take(item, shown, message)
-        if message:
-            self.claims.take(message)
-            self.queries.take(message)
-        elif item.service == 137:
-            self.cannot_read(item.source, item.target, item.frame.at or 0)
-        self.sessions.take(item, shown)
-        self.datagrams.take(item, shown)
+        self.seen.take(item, shown)
+        self.replay.take(item, shown)
 
     def opened(self, item):
-        self.sessions.opened(item)
+        self.seen.sessions.opened(item)
 
     def left_out(self, item):
-        """Its reason is counted elsewhere; it may have been an answer."""
-        frame = item.frame
-        if '137' in (frame.source_port, frame.target_port):
-            self.cannot_read(frame.source, frame.target, frame.at or 0)
-
-    def cannot_read(self, source, target, at):
-        """Takes a frame of the name service of which not even the header stands."""
-        self.queries.cannot_read(source, target, at)
-        self.claims.cannot_read(target, at)
+        self.seen.left_out(item.frame, item.frame.at)
 
     def finish(self, tally, left_out):
-        self.claims.finish()
-        self.datagrams.finish()
+        self.seen.claims.finish()
+        self.replay.finish()
         self.missed.counts = {reason: count for reason, count in left_out.items() if count}
         parts = [part for part in self.parts if part.title in self.chosen or not self.chosen]
         if self.as_json:
@@ -114,7 +67,7 @@ class Summary:
         """A table. One that has no row is there where it is asked for."""
         rows = part.rows(self.times.text)
         if rows:
-            self.screen.table(part.title, rows, part.head, getattr(part, 'texts', {}))
+            self.screen.table(part.title, rows, part.head, TEXTS.get(part.title, {}))
         elif self.chosen and not part.others():
             self.screen.line('%s: none' % part.title, 'head')
         if part.others():

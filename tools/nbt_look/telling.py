@@ -3,6 +3,7 @@ import collections
 import os
 import select
 import subprocess
+from json.decoder import JSONDecoder
 
 from nbt_pcap.capture import NO_LIMIT
 from nbt_pcap.process import Stopped
@@ -17,6 +18,8 @@ PART = 262_144
 # What the children are asked: of packets a phrase, of fronts what stands of them.
 WHOLE, FRONT = '--brief', '--partial'
 REFUSED = '"refused":'
+# The object of JSON of a text, and where it ends.
+READ = JSONDecoder().raw_decode
 
 
 class Told:

@@ -1,9 +1,9 @@
 """A name at an address: what is known of it, from when to when."""
 from dataclasses import dataclass
 
+from .times import nanoseconds
 from .vocabulary import Standing
 
-SECOND = 10**9
 CLAIMING = (Standing.CLAIMS, Standing.HOLDS)
 KEPT = (*CLAIMING, Standing.SAID)
 
@@ -47,7 +47,7 @@ class Tenure:
 
     def over(self):
         """When its lifetime is over; None where it has no end."""
-        return self.counted + self.lifetime * SECOND if self.lifetime else None
+        return self.counted + nanoseconds(self.lifetime) if self.lifetime else None
 
     def stands(self, at):
         """Whether a station claims or holds the name then."""

@@ -1,4 +1,4 @@
-"""The words and limits of the summary, which nbt-look and the page have alike: tools/lists.py makes page/src/model/vocabulary.js of this file."""
+"""The words and limits of the summary, which nbt-look and the page have alike: tools/lists.py --made makes page/src/made/vocabulary.js of this file."""
 import enum
 
 from nbt_pcap.header import FRAGMENTS, NBSTAT
@@ -103,10 +103,13 @@ TABLES = {
     'failed': ('failed datagrams', ('key', 'state', 'source', 'destination', 'bytes_known', 'size', 'missing', 'frames')),
     'malformed': ('malformed', ('reason', 'packets', 'frame', 'payload_byte')),
     'left-out': ('left out', ('reason', 'frames'))}
-# How long a station that broadcasts a claim waits for objections: BCAST_REQ_RETRY_TIMEOUT, RFC 1002 section 6. In nanoseconds.
+# The start of 1970, which stands for the time of a frame without one, and a time after all others.
+EPOCH, FOREVER = 0, 2**64
+# How long a station that broadcasts a claim waits for objections: BCAST_REQ_RETRY_TIMEOUT, RFC 1002 section 6.
 OBJECTING = 250_000_000
-# How long after its latest repeat a request may be answered: twice UCAST_REQ_RETRY_TIMEOUT, our choice. In nanoseconds.
+# How long after its latest repeat a request may be answered: twice UCAST_REQ_RETRY_TIMEOUT, our choice.
 ANSWERING = 10_000_000_000
+IN_NANOSECONDS = ('EPOCH', 'FOREVER', 'OBJECTING', 'ANSWERING')
 # How many names, claims, stations, pairs of callers and so on are kept at most; the rest is counted.
 MOST_ENTRIES = 16_384
 # How many tenures of a name are looked at for conflicts, and how many pairs of addresses that claim one name are kept.

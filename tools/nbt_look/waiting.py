@@ -1,11 +1,8 @@
 """Requests of the name service that wait for their answers: RFC 1002 sections 4.2.1.1 and 6."""
-import collections
-import math
 from dataclasses import dataclass, field
 
-from .vocabulary import ANSWERING, MOST_FRAMES, MOST_OF_ONE, MOST_WAITING, Front
-
-SECOND = 10**9
+from .times import nanoseconds
+from .vocabulary import ANSWERING, FOREVER, MOST_FRAMES, MOST_OF_ONE, MOST_WAITING, Front
 
 
 @dataclass
@@ -43,7 +40,7 @@ class Waiting:
 
     def __init__(self, owners, over=lambda request: None):
         self.owners, self.over = owners, over
-        self.requests = collections.OrderedDict()
+        self.requests = {}
 
     def put(self, message, kind):
         """Takes a request, or one more time of it. An identifier that is used for another question lets the one before go."""
@@ -63,7 +60,7 @@ class Waiting:
         if len(waiting) > MOST_OF_ONE:
             self.over(waiting.pop(next(iter(waiting))))
         if len(self.requests) > MOST_WAITING:
-            for each in self.requests.popitem(last=False)[1].values():
+            for each in self.requests.pop(next(iter(self.requests))).values():
                 self.over(each)
 
     def of(self, message):
@@ -75,17 +72,14 @@ class Waiting:
 
     def wait(self, message):
         """A WACK: the answer may take as long as its TTL says, and without end where no TTL stands any more."""
-        until = message.at + (message.lifetime or 0) * SECOND
-        if message.lifetime is None and message.front is not Front.WHOLE:
-            until = math.inf
+        is_open = message.lifetime is None and message.front is not Front.WHOLE
+        until = FOREVER if is_open else message.at + nanoseconds(message.lifetime or 0)
         for each in self.of(message):
             each.until = max(each.until, until)
 
     def is_asked(self, request, source):
         return request.is_broadcast or not request.asked or self.owners.are_one(request.asked, source)
 
-    def finish(self):
-        """What is known at the end alone."""
-        while self.requests:
-            for each in self.requests.popitem(last=False)[1].values():
-                self.over(each)
+    def all(self):
+        """Those that wait still."""
+        return [each for waiting in self.requests.values() for each in waiting.values()]

@@ -1,6 +1,7 @@
 """The lines of a capture: payloads and comments, and the clock whose ticks stand between them."""
-from .header import INPUT, KEPT_FOR
+from .header import INPUT
 from .process import say, write
+from .ticks import Ticks
 
 # How many bytes nbt reads of one input at most, and what is said where more were written than it reads without an option.
 NO_LIMIT = 18_446_744_073_709_551_615
@@ -37,36 +38,27 @@ class Capture:
 
     def __init__(self, output, options):
         self.bare = options.bare     # whether payloads come without a comment on their frame
-        self.ticks = not options.no_ticks
+        self.has_ticks = not options.no_ticks
+        self.ticks = Ticks()
         self.line = output.lines.append
-        self.next_second = 1_000     # the moment of the next tick
-        self.latest = 0              # the latest moment of a payload
 
     def comment(self, text):
         self.line('# ' + text)
 
     def payload(self, port, moment, digits, comment):
-        if moment >= self.next_second:
+        if moment >= self.ticks.next:
             self.tick(moment)
         if comment:
             self.line(comment)
         self.line('%d %d %s' % (port, moment, digits or 'empty'))
-        if moment > self.latest:
-            self.latest = moment
+        if moment > self.ticks.latest:
+            self.ticks.latest = moment
 
     def tick(self, moment):
-        """A tick for each second that begins until this moment; of a pause, those that drop keys, and the last one."""
-        end = moment // 1000 * 1000
-        if self.ticks and end >= self.next_second:
-            for at in range(self.next_second, min(end - 1, self.last_drop()) + 1, 1000):
-                self.line('tick %d' % at)
-            self.line('tick %d' % end)
-            self.next_second = end + 1000
+        """The ticks until this moment."""
+        for at in self.ticks.until(moment) if self.has_ticks else ():
+            self.line('tick %d' % at)
 
     def pause(self, moment):
         """The ticks until this moment that drop keys: no packet has come."""
-        self.tick(min(moment, self.last_drop()))
-
-    def last_drop(self):
-        """The moment of the tick that drops the last key."""
-        return ((self.latest + KEPT_FOR) // 1000 + 1) * 1000
+        self.tick(min(moment, self.ticks.last_drop()))

@@ -1,8 +1,7 @@
 """The bytes that one side of a TCP stream sends: put into order, and cut into session packets."""
 import bisect
-import collections
 
-from .report import GAP, NO_PACKET, NO_REST
+from .reasons import GAP, NO_PACKET, NO_REST
 from .session import HEADER, has_header, is_whole, size_of
 
 # Bounds on what is held of one direction past missing bytes, and on the bytes of all of them that may come again.
@@ -17,15 +16,18 @@ class Recent:
     """The latest bytes of all streams that are in order, for what comes again."""
 
     def __init__(self):
-        self.parts = collections.deque()
+        self.parts = {}              # by their numbers
+        self.first, self.behind = 0, 0
         self.size = 0
 
     def keep(self, past, data):
-        past += data
-        self.parts.append((past, len(data)))
+        past.extend(data)
+        self.parts[self.behind] = past, len(data)
+        self.behind += 1
         self.size += len(data)
         while self.size > MOST_RECENT or len(self.parts) > MOST_RECENT_PIECES:
-            oldest, count = self.parts.popleft()
+            oldest, count = self.parts.pop(self.first)
+            self.first += 1
             del oldest[:count]
             self.size -= count
 
@@ -46,7 +48,7 @@ class Direction:
         self.held = bytearray()              # bytes in order that aren't cut yet, or the first of those that never are
         self.past = bytearray()              # the latest bytes before the next one
         self.uncut = 0                       # how many bytes in order are in no packet
-        self.frames = collections.deque()    # the places at which bytes of frames end that are in no packet yet, and their marks
+        self.frames = []                     # the places at which bytes of frames end that are in no packet yet, and their marks
         self.cut = True                      # whether packets are still cut
         self.lost = None                     # how many bytes were missing where that was given up, and how many came after
         self.end = None                      # the place after the last byte, by FIN
@@ -74,7 +76,7 @@ class Direction:
             differing = self.compare(place, data)
             data = data[self.due - place:]
             place = self.due
-        if not data:
+        if len(data) == 0:
             return differing
         if self.lost:
             self.lost[1] += len(data)
@@ -112,14 +114,14 @@ class Direction:
         self.recent.keep(self.past, data)
         if self.cut:
             self.frames.append((self.due, mark))
-            self.held += data
+            self.held.extend(data)
         else:
             self.report.count(mark, NO_PACKET)
-            self.held += data[:max(0, SHOWN - len(self.held))]
+            self.held.extend(data[:max(0, SHOWN - len(self.held))])
 
     def put_aside(self, place, data):
         """Keeps those bytes that weren't there. Answers how many others differ from those that were."""
-        differing, end, new = 0, place + len(data), []
+        differing, end, added = 0, place + len(data), []
         at = max(bisect.bisect_right(self.early, (place + 1,)) - 1, 0)
         cursor = place
         for start, piece, _ in self.early[at:]:
@@ -128,16 +130,16 @@ class Direction:
             if start + len(piece) <= cursor:
                 continue
             if cursor < start:
-                new.append((cursor, data[cursor - place:start - place], self.report.mark))
+                added.append((cursor, data[cursor - place:start - place], self.report.mark))
                 cursor = start
             stop = min(end, start + len(piece))
             differing += unlike(piece[cursor - start:stop - start], data[cursor - place:stop - place])
             cursor = stop
         if cursor < end:
-            new.append((cursor, data[cursor - place:], self.report.mark))
-        for piece in new:
-            bisect.insort(self.early, piece)
-            self.early_size += len(piece[1])
+            added.append((cursor, data[cursor - place:], self.report.mark))
+        for each in added:
+            bisect.insort(self.early, each)
+            self.early_size += len(each[1])
         return differing
 
     def give_up(self):
@@ -150,18 +152,20 @@ class Direction:
     def packets(self):
         """The session packets that are whole by now. Nothing is cut after a header that no session packet has."""
         while self.cut and len(self.held) >= HEADER:
-            size = size_of(self.held)
+            size = size_of(self.held[:HEADER])
             if len(self.held) < size:
                 return
-            packet = bytes(self.held[:size])
+            packet = self.held[:size]
             del self.held[:size]
             self.uncut -= size
-            while self.frames and self.frames[0][0] <= self.due - self.uncut:
-                self.report.completed(self.frames.popleft()[1])
+            done = [mark for place, mark in self.frames if place <= self.due - self.uncut]
+            del self.frames[:len(done)]
+            for each in done:
+                self.report.completed(each)
             self.cut = has_header(packet)
             yield packet
         if not self.cut:
-            del self.held[SHOWN:]
+            self.held = bytearray(self.held[:SHOWN])
             self.count_frames()
 
     def count_frames(self):
@@ -181,7 +185,9 @@ class Direction:
 
     def tell(self):
         """The comment on the bytes that are in no packet."""
-        missing = self.lost or (self.early and [self.early[0][0] - self.due, self.early_size])
+        missing = self.lost
+        if self.early and not missing:
+            missing = [self.early[0][0] - self.due, self.early_size]
         if not self.uncut and not missing:
             return
         self.count_frames()
@@ -189,7 +195,7 @@ class Direction:
         if self.uncut:
             text += ' (%s%s)' % (self.held[:SHOWN].hex(), '..' if self.uncut > SHOWN else '')
         if missing:
-            text += ', then missing: %d, then captured: %d' % tuple(missing)
+            text += ', then missing: %d, then captured: %d' % (missing[0], missing[1])
         self.report.comment(text)
 
     def is_over(self):
@@ -197,7 +203,7 @@ class Direction:
 
     def let_go(self):
         """Gives back the bytes that might have come again."""
-        self.past.clear()
+        del self.past[:len(self.past)]
 
 
 def unlike(one, other):

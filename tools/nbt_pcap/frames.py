@@ -3,9 +3,9 @@ from .clock import Clock
 from .fragments import Fragments
 from .layers import TCP_HEADER, UDP_HEADER, Segment, Unpaired, packets_of, shape_of
 from .process import Stopped
-from .report import BAD_LENGTH, CUT, FRAGMENTS, STOPPED, UNPAIRED
+from .reasons import BAD_LENGTH, CUT, FRAGMENTS, STOPPED, UNPAIRED
 from .rows import is_joined, row_of
-from .sessions import Sessions
+from .streams import Streams
 
 # The words before the count of all frames, which comes last.
 COUNTED = 'Packet Lengths '
@@ -26,7 +26,7 @@ class Reader:
         self.clock = Clock()
         self.fragments = Fragments()
         self.report = report
-        self.sessions = Sessions(self.report)
+        self.streams = Streams(self.report)
 
     def row(self, text):
         if text.startswith(COUNTED):
@@ -106,7 +106,9 @@ class Reader:
 
     def segment(self, row, packet):
         if packet.size and packet.flags:
-            for whole in self.sessions.segment(packet):
+            sides = [(packet.stream, host, port) for host, port in ((packet.host.source, packet.source), (packet.host.target, packet.target))]
+            data = bytes.fromhex(packet.payload.replace(':', ''))
+            for whole in self.streams.segment(*sides, int(packet.flags, 16), int(packet.sequence), int(packet.size), data):
                 self.payload(row, 139, whole.hex(), packet)
         elif packet.host.size is None or packet.host.size > TCP_HEADER:
             self.report.leave_out(self.report.cut, 'the file ends ' + ('inside its TCP header' if packet.target else 'before its ports'))

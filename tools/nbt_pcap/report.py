@@ -1,19 +1,7 @@
 """What is said of frames in comments, and how many of them are counted as left out, by reason."""
 import collections
 
-# Why bytes of a frame are in no line.
-CUT = 'cut by the snap length'
-SHORT = 'shorter than its headers say'
-BAD_LENGTH = 'a length that the packet lacks'
-UNPAIRED = 'headers that do not pair'
-STOPPED = 'where tshark stopped'
-FRAGMENTS = 'fragments of IP that come late or differ'
-NO_START = 'of a TCP stream whose start is missing'
-GAP = 'after a gap in TCP'
-NO_PACKET = 'where no session packet begins'
-NO_REST = 'a session packet whose rest is missing'
-RESET = 'with RST'
-DIFFERING = 'sent again with other bytes'
+from .reasons import CUT, SHORT
 
 
 class Mark:

@@ -32,3 +32,8 @@ def is_joined(row):
 
 def values_of(text):
     return text.split(BETWEEN) if text else []
+
+
+def last(text):
+    """The last value of a field: that of the innermost header."""
+    return text.rpartition(BETWEEN)[2]

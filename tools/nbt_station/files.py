@@ -3,41 +3,32 @@ own kind; whatever else stands there stays."""
 import contextlib
 import os
 import re
-import stat
-import tempfile
 
+from nbt_pcap import replacing
 from nbt_pcap.process import Stopped
+from nbt_pcap.replacing import keep_mode, standing
 
 # What both forms of a saved table begin with, in the digits of `nbt save`.
 FORMS = (b'4e425431', b'4e425432')
 DIGITS = b'0123456789abcdef'
 NUMBER = re.compile(rb'[1-9][0-9]{0,8}\n?')
-OTHERS = {stat.S_IFLNK: 'a link', stat.S_IFDIR: 'a folder'}
 PREFIX = '.nbt-station.'
-UMASK = os.umask(0o077)
-os.umask(UMASK)
 
 
 @contextlib.contextmanager
 def faults_of(path):
-    """What goes wrong with a file, as the reason to stop."""
+    """What goes wrong with a file, as the reason to stop; want of memory too."""
     try:
-        yield
-    except OSError as error:
-        raise Stopped(3, f'{path}: {error.strerror}') from error
+        with replacing.faults_of(path):
+            yield
     except MemoryError as error:
         raise Stopped(3, f'{path}: memory') from error
 
 
 def judged(path, is_own, kind):
     """What the system says of the file at a path, None where nothing stands there; Stopped where it isn't of this kind."""
-    try:
-        found = os.lstat(path)
-    except FileNotFoundError:
-        return None
-    if not stat.S_ISREG(found.st_mode):
-        raise Stopped(3, f'{path}: it is {OTHERS.get(stat.S_IFMT(found.st_mode), "no regular file")}, and stays as it is')
-    if found.st_size and not is_own(path):
+    found = standing(path)
+    if found and found.st_size and not is_own(path):
         raise Stopped(3, f'{path}: it is no {kind}, and stays as it is')
     return found
 
@@ -66,31 +57,22 @@ def save_table(path, text):
         with new_file(path) as file:
             file.write(text)
             file.flush()
+            if before:
+                keep_owner(file.fileno(), before)
             keep_mode(file.fileno(), before)
             os.fsync(file.fileno())
             os.replace(file.name, path)
 
 
-@contextlib.contextmanager
 def new_file(path):
-    """A file in the folder of another, which goes unless it was moved."""
-    folder = os.path.dirname(os.path.abspath(path)) if os.path.basename(path) else path
-    with tempfile.NamedTemporaryFile('w', dir=folder, prefix=PREFIX, delete=False) as file:
-        try:
-            yield file
-        finally:
-            with contextlib.suppress(FileNotFoundError):
-                os.unlink(file.name)
+    """A file in the folder of another."""
+    return replacing.new_file(os.path.dirname(os.path.abspath(path)) if os.path.basename(path) else path, PREFIX)
 
 
-def keep_mode(number, before):
-    """Gives an open file the mode and the owner of the one before it, or the mode of a new one."""
-    if before is None:
-        os.fchmod(number, 0o666 & ~UMASK)
-        return
+def keep_owner(number, before):
+    """Gives an open file the owner of the one before it."""
     with contextlib.suppress(PermissionError):
         os.fchown(number, before.st_uid, before.st_gid)
-    os.fchmod(number, stat.S_IMODE(before.st_mode))
 
 
 # ---- the pid file

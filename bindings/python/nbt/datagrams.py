@@ -10,7 +10,7 @@ from . import header, names
 from .buffers import Buffer, given
 from .header import FIRST, MORE, MOST_DATAGRAM, DatagramType
 from .library import BYTES, Reader, writer
-from .numbers import Address, address_number, encoded, named, number
+from .numbers import Address, Flag, address_number, encoded, named, number
 from .statuses import NbtError
 
 # A header, and as many bytes as DGM_LENGTH can say.
@@ -24,24 +24,8 @@ ERROR = writer('nbt_datagram_error', ctypes.c_uint16, ctypes.c_uint32, ctypes.c_
 QUERY = writer('nbt_datagram_query', ctypes.c_uint8, ctypes.c_uint16, ctypes.c_uint32, ctypes.c_uint16, *BYTES)
 
 
-class Flagged:
-    """What FLAGS say of a fragment."""
-
-    flags: int
-
-    @property
-    def more(self) -> bool:
-        """Whether more fragments follow."""
-        return self.flags & MORE != 0
-
-    @property
-    def first(self) -> bool:
-        """Whether it is the first fragment."""
-        return self.flags & FIRST != 0
-
-
 @dataclass(frozen=True)
-class DatagramFront(Flagged):
+class DatagramFront:
     """What stands at the front of a payload of port 138: the header and, of a fragment, the names that are there whole."""
 
     type: Union[DatagramType, int]  # the number where no packet has it
@@ -49,23 +33,18 @@ class DatagramFront(Flagged):
     identifier: int                 # DGM_ID
     address: ipaddress.IPv4Address  # SOURCE_IP
     port: int                       # SOURCE_PORT
-    offset: int                     # PACKET_OFFSET; 0 but in a fragment
+    offset: int                     # PACKET_OFFSET: where the data begins in the datagram's; 0 but in a fragment
     source: Optional[str]           # SOURCE_NAME, as a text; None but in a fragment, and where it isn't there whole
     destination: Optional[str]      # DESTINATION_NAME, as a text; None but in a fragment, and where not both are there whole
+    more = Flag(MORE)               # whether more fragments follow
+    first = Flag(FIRST)             # whether it is the first fragment
 
 
 @dataclass(frozen=True)
-class Datagram(Flagged):
-    """A packet of port 138."""
+class Datagram(DatagramFront):
+    """A packet of port 138. The destination of a query is there, too."""
 
     type: DatagramType
-    flags: int                      # FLAGS, all eight bits
-    identifier: int                 # DGM_ID
-    address: ipaddress.IPv4Address  # SOURCE_IP
-    port: int                       # SOURCE_PORT
-    offset: int                     # PACKET_OFFSET: where the data begins in the datagram's; 0 but in a fragment
-    source: Optional[str]           # SOURCE_NAME, as a text; None but in a fragment
-    destination: Optional[str]      # DESTINATION_NAME, as a text; None in an error
     data: bytes                     # a fragment's data, or an error's code, which is one byte; b'' in a query
     used: int                       # the bytes of the packet: what follows them isn't looked at
 

@@ -4,10 +4,20 @@ from __future__ import annotations
 import enum
 import ipaddress
 from operator import index
-from typing import SupportsIndex, Type, TypeVar, Union
+from typing import Any, SupportsIndex, Type, TypeVar, Union
 
 Address = Union[str, int, ipaddress.IPv4Address]
 Member = TypeVar('Member', bound=enum.IntEnum)
+
+
+class Flag:
+    """An attribute that says whether a bit of `flags` is set."""
+
+    def __init__(self, bit: int) -> None:
+        self.bit = bit
+
+    def __get__(self, instance: Any, owner: Any = None) -> bool:
+        return bool(instance.flags & self.bit)
 
 
 def whole_number(value: SupportsIndex, what: str) -> int:

@@ -11,6 +11,7 @@ from typing import Any, List, Optional, Tuple, Union
 from . import names
 from .header import ACT, CNF, DRG, G, NB, NBSTAT, NS, PRM, SERVICE_ADDRESS, SERVICE_NODE, NodeType, Status
 from .library import ADDRESS, ALONE, DONE, LENGTH, call
+from .numbers import Flag
 from .statuses import NbtError
 
 
@@ -18,11 +19,7 @@ class Flagged:
     """What NB_FLAGS and NAME_FLAGS have alike."""
 
     flags: int
-
-    @property
-    def group(self) -> bool:
-        """G: whether it is a group's name."""
-        return self.flags & G != 0
+    group = Flag(G)  # whether it is a group's name
 
     @property
     def node_type(self) -> NodeType:
@@ -42,28 +39,12 @@ class NbEntry(Flagged):
 class NodeName(Flagged):
     """One of the names of a node."""
 
-    name: str   # as a text
-    flags: int  # NAME_FLAGS
-
-    @property
-    def deregistered(self) -> bool:
-        """DRG: whether it is being given up."""
-        return self.flags & DRG != 0
-
-    @property
-    def conflict(self) -> bool:
-        """CNF: whether another node claims it."""
-        return self.flags & CNF != 0
-
-    @property
-    def active(self) -> bool:
-        """ACT."""
-        return self.flags & ACT != 0
-
-    @property
-    def permanent(self) -> bool:
-        """PRM: whether it is the node's permanent name."""
-        return self.flags & PRM != 0
+    name: str                 # as a text
+    flags: int                # NAME_FLAGS
+    deregistered = Flag(DRG)  # whether it is being given up
+    conflict = Flag(CNF)      # whether another node claims it
+    active = Flag(ACT)
+    permanent = Flag(PRM)     # whether it is the node's permanent name
 
 
 @dataclass(frozen=True)

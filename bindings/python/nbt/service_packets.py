@@ -10,7 +10,7 @@ from . import names
 from .buffers import Buffer, lend
 from .header import AA, B, NM_FLAGS, R, RA, RD, SERVICE_ENTRY, SERVICE_HEADER, TC, Operation, ResultCode
 from .library import ADDRESS, ALONE, DONE, LENGTH, behind, call, error_of
-from .numbers import whole_number
+from .numbers import Flag, whole_number
 from .rdata import DomainName, Rdata, read_rdata
 from .statuses import NbtError
 
@@ -36,12 +36,9 @@ class Question:
 
 
 @dataclass(frozen=True)
-class Record:
-    """What is said of a name."""
+class Record(Question):
+    """What is said of a name: its type and class are RR_TYPE and RR_CLASS."""
 
-    name: Union[str, DomainName]  # the text of a NetBIOS name; a DomainName where it is none
-    type: int                     # RR_TYPE, as of enum nbt_record_type
-    class_number: int             # RR_CLASS
     time_to_live: int             # TTL, in seconds
     rdata: Rdata                  # the bytes, where it is of another type, or hasn't the form of its type
 
@@ -61,31 +58,11 @@ class ServicePacket:
     authorities: Tuple[Record, ...]
     additional: Tuple[Record, ...]
     used: int                           # the bytes of the packet, or of what stands: what follows them isn't looked at
-
-    @property
-    def authoritative(self) -> bool:
-        """AA."""
-        return self.flags & AA != 0
-
-    @property
-    def truncated(self) -> bool:
-        """TC."""
-        return self.flags & TC != 0
-
-    @property
-    def recursion_desired(self) -> bool:
-        """RD."""
-        return self.flags & RD != 0
-
-    @property
-    def recursion_available(self) -> bool:
-        """RA."""
-        return self.flags & RA != 0
-
-    @property
-    def broadcast(self) -> bool:
-        """B."""
-        return self.flags & B != 0
+    authoritative = Flag(AA)
+    truncated = Flag(TC)
+    recursion_desired = Flag(RD)
+    recursion_available = Flag(RA)
+    broadcast = Flag(B)
 
     @property
     def records(self) -> Tuple[Record, ...]:

@@ -102,4 +102,16 @@ macro_rules! numbered {
     };
 }
 
-pub(crate) use {constants, numbered, statuses, structures};
+/// Whether bits of a field are set, with a call for each.
+macro_rules! flags {
+    ($of:ty, $field:ident: $($(#[$each:meta])* $name:ident $bit:path;)*) => {
+        impl $of {
+            $($(#[$each])*
+            pub fn $name(&self) -> bool {
+                self.$field & $bit != 0
+            })*
+        }
+    };
+}
+
+pub(crate) use {constants, flags, numbered, statuses, structures};

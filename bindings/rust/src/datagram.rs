@@ -23,6 +23,7 @@
 
 use std::net::{Ipv4Addr, SocketAddrV4};
 
+use crate::codes::flags;
 use crate::header::{
     datagram_flag, nbt_datagram_error, nbt_datagram_query, nbt_datagram_read, nbt_datagram_write, FoundDatagram, DONE,
 };
@@ -79,16 +80,11 @@ pub struct Fragment<'a> {
     pub data: &'a [u8],
 }
 
-impl Packet<'_> {
+flags! { Packet<'_>, flags:
     /// Whether more fragments follow.
-    pub fn has_more(&self) -> bool {
-        self.flags & datagram_flag::MORE != 0
-    }
-
+    has_more datagram_flag::MORE;
     /// Whether it is the first fragment.
-    pub fn is_first(&self) -> bool {
-        self.flags & datagram_flag::FIRST != 0
-    }
+    is_first datagram_flag::FIRST;
 }
 
 /// Reads the packet at the front of a payload of port 138. No memory is taken.

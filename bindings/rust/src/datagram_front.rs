@@ -2,6 +2,7 @@
 
 use std::net::{Ipv4Addr, SocketAddrV4};
 
+use crate::codes::flags;
 use crate::datagram::read;
 use crate::header::{datagram_flag, nbt_datagram_front, FoundDatagramFront, DONE};
 use crate::room::found;
@@ -27,16 +28,11 @@ pub struct Header<'a> {
     pub destination: Option<Spelling<'a>>,
 }
 
-impl Header<'_> {
+flags! { Header<'_>, flags:
     /// Whether more fragments follow.
-    pub fn has_more(&self) -> bool {
-        self.flags & datagram_flag::MORE != 0
-    }
-
+    has_more datagram_flag::MORE;
     /// Whether it is that of the first fragment.
-    pub fn is_first(&self) -> bool {
-        self.flags & datagram_flag::FIRST != 0
-    }
+    is_first datagram_flag::FIRST;
 }
 
 /// What stands of a payload, and why it isn't a packet.

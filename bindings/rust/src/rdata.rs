@@ -2,6 +2,7 @@
 
 use std::net::Ipv4Addr;
 
+use crate::codes::flags;
 use crate::header::service::NodeType;
 use crate::header::{
     name_flag, nbt_service_address, nbt_service_node, nbt_service_unit, FoundServiceAddress, FoundServiceNode,
@@ -42,45 +43,62 @@ impl<'a> Rdata<'a> {
     }
 }
 
-/// The addresses of a NetBIOS name that haven't been handed out yet: RFC 1002 section 4.2.13.
-#[derive(Clone, Debug)]
-pub struct Addresses<'a> {
-    data: &'a [u8],
-    next: usize,
-    count: usize,
-}
-
-impl<'a> Addresses<'a> {
-    /// Those of RDATA, which has a form if a call past the last one says how many there are.
-    fn of(data: &'a [u8]) -> Option<Addresses<'a>> {
-        let (status, _, count) = address_at(data, usize::MAX);
-        (status == NO_PART).then_some(Addresses { data, next: 0, count })
-    }
-}
-
-impl Iterator for Addresses<'_> {
-    type Item = Entry;
-
-    fn next(&mut self) -> Option<Entry> {
-        let (status, found, _) = address_at(self.data, self.next);
-        if status != DONE {
-            return None;
+/// The parts of RDATA of one type that haven't been handed out yet, which a call fills in one by one.
+macro_rules! parts {
+    ($(#[$of:meta])* $name:ident: $call:ident($kind:ident) -> $structure:ident, |$found:ident| -> $item:ident $made:expr) => {
+        $(#[$of])*
+        #[derive(Clone, Debug)]
+        pub struct $name<'a> {
+            data: &'a [u8],
+            next: usize,
+            count: usize,
         }
-        self.next += 1;
-        Some(Entry { nb_flags: found.flags, address: Ipv4Addr::from(found.address) })
-    }
 
-    fn size_hint(&self) -> (usize, Option<usize>) {
-        let left = self.count - self.next;
-        (left, Some(left))
-    }
+        impl<'a> $name<'a> {
+            /// Those of RDATA, which has a form if a call past the last one says how many there are.
+            fn of(data: &'a [u8]) -> Option<$name<'a>> {
+                let (status, _, count) = $name::at(data, usize::MAX);
+                (status == NO_PART).then_some($name { data, next: 0, count })
+            }
+
+            /// What the library answers for the part of a number.
+            fn at(data: &[u8], number: usize) -> (u32, $structure, usize) {
+                found!($structure, $call($kind, [data], number))
+            }
+        }
+
+        impl Iterator for $name<'_> {
+            type Item = $item;
+
+            fn next(&mut self) -> Option<$item> {
+                let (status, $found, _) = $name::at(self.data, self.next);
+                if status != DONE {
+                    return None;
+                }
+                self.next += 1;
+                Some($made)
+            }
+
+            fn size_hint(&self) -> (usize, Option<usize>) {
+                let left = self.count - self.next;
+                (left, Some(left))
+            }
+        }
+
+        impl ExactSizeIterator for $name<'_> {}
+    };
 }
 
-impl ExactSizeIterator for Addresses<'_> {}
+parts! {
+    /// The addresses of a NetBIOS name that haven't been handed out yet: RFC 1002 section 4.2.13.
+    Addresses: nbt_service_address(NB) -> FoundServiceAddress,
+    |found| -> Entry Entry { nb_flags: found.flags, address: Ipv4Addr::from(found.address) }
+}
 
-/// What the library answers for the address of a number.
-fn address_at(data: &[u8], number: usize) -> (u32, FoundServiceAddress, usize) {
-    found!(FoundServiceAddress, nbt_service_address(NB, [data], number))
+parts! {
+    /// The names of a node that haven't been handed out yet.
+    NodeNames: nbt_service_node(NBSTAT) -> FoundServiceNode,
+    |found| -> NodeName NodeName { name: Name::from(found.name), flags: found.flags }
 }
 
 /// The names of a node: RFC 1002 section 4.2.18.
@@ -105,76 +123,23 @@ pub struct NodeName {
 }
 
 impl NodeName {
-    /// G: whether it is a group's name.
-    pub fn is_group(&self) -> bool {
-        self.flags & name_flag::G != 0
-    }
-
     /// ONT.
     pub fn node_type(&self) -> NodeType {
         NodeType::of_flags(self.flags)
     }
+}
 
+flags! { NodeName, flags:
+    /// G: whether it is a group's name.
+    is_group name_flag::G;
     /// DRG: whether it is being given up.
-    pub fn is_deregistered(&self) -> bool {
-        self.flags & name_flag::DRG != 0
-    }
-
+    is_deregistered name_flag::DRG;
     /// CNF: whether another node claims it.
-    pub fn is_in_conflict(&self) -> bool {
-        self.flags & name_flag::CNF != 0
-    }
-
+    is_in_conflict name_flag::CNF;
     /// ACT.
-    pub fn is_active(&self) -> bool {
-        self.flags & name_flag::ACT != 0
-    }
-
+    is_active name_flag::ACT;
     /// PRM: whether it is the node's permanent name.
-    pub fn is_permanent(&self) -> bool {
-        self.flags & name_flag::PRM != 0
-    }
-}
-
-/// The names of a node that haven't been handed out yet.
-#[derive(Clone, Debug)]
-pub struct NodeNames<'a> {
-    data: &'a [u8],
-    next: usize,
-    count: usize,
-}
-
-impl<'a> NodeNames<'a> {
-    /// Those of RDATA, which has a form if a call past the last one says how many there are.
-    fn of(data: &'a [u8]) -> Option<NodeNames<'a>> {
-        let (status, _, count) = node_at(data, usize::MAX);
-        (status == NO_PART).then_some(NodeNames { data, next: 0, count })
-    }
-}
-
-impl Iterator for NodeNames<'_> {
-    type Item = NodeName;
-
-    fn next(&mut self) -> Option<NodeName> {
-        let (status, found, _) = node_at(self.data, self.next);
-        if status != DONE {
-            return None;
-        }
-        self.next += 1;
-        Some(NodeName { name: Name::from(found.name), flags: found.flags })
-    }
-
-    fn size_hint(&self) -> (usize, Option<usize>) {
-        let left = self.count - self.next;
-        (left, Some(left))
-    }
-}
-
-impl ExactSizeIterator for NodeNames<'_> {}
-
-/// What the library answers for the name of a number.
-fn node_at(data: &[u8], number: usize) -> (u32, FoundServiceNode, usize) {
-    found!(FoundServiceNode, nbt_service_node(NBSTAT, [data], number))
+    is_permanent name_flag::PRM;
 }
 
 /// The unit that stands behind the names, if it does.

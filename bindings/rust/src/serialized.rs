@@ -16,7 +16,7 @@
 //! # Ok::<(), Box<dyn std::error::Error>>(())
 //! ```
 
-use std::fmt::{Display, Write};
+use std::fmt::Write;
 
 use serde::de::{Deserialize, Deserializer, Error as _, Unexpected};
 use serde::ser::{Error as _, Serialize, SerializeStruct, Serializer};
@@ -25,12 +25,20 @@ use crate::rdata::{Addresses, NodeNames};
 use crate::service_packets::{Packet, Questions, Record, Records};
 use crate::{session, Name, Spelling};
 
-/// A value as the text that it shows itself as. Unlike `collect_str` it has an error where memory ran out for that text.
-fn shown<S: Serializer>(value: impl Display, out: S) -> Result<S::Ok, S::Error> {
-    let mut text = String::new();
-    write!(text, "{value}").map_err(S::Error::custom)?;
-    out.serialize_str(&text)
+/// Values as the text that each shows itself as. Unlike `collect_str` it has an error where memory ran out for that text.
+macro_rules! texts {
+    ($($each:ty),*) => {$(
+        impl Serialize for $each {
+            fn serialize<S: Serializer>(&self, out: S) -> Result<S::Ok, S::Error> {
+                let mut text = String::new();
+                write!(text, "{self}").map_err(S::Error::custom)?;
+                out.serialize_str(&text)
+            }
+        }
+    )*};
 }
+
+texts!(Name, Spelling<'_>);
 
 /// Bytes as two hexadecimal digits each.
 pub(crate) fn digits<S: Serializer>(bytes: impl AsRef<[u8]>, out: S) -> Result<S::Ok, S::Error> {
@@ -65,18 +73,6 @@ fn bytes_of(digits: &str) -> Option<Vec<u8>> {
     digits.as_bytes().chunks(2).map(byte).collect()
 }
 
-impl Serialize for Name {
-    fn serialize<S: Serializer>(&self, out: S) -> Result<S::Ok, S::Error> {
-        shown(self, out)
-    }
-}
-
-impl Serialize for Spelling<'_> {
-    fn serialize<S: Serializer>(&self, out: S) -> Result<S::Ok, S::Error> {
-        shown(self, out)
-    }
-}
-
 /// From the text of a NetBIOS name, as by [`str::parse`].
 impl<'de> Deserialize<'de> for Name {
     fn deserialize<D: Deserializer<'de>>(from: D) -> Result<Name, D::Error> {
@@ -98,38 +94,23 @@ macro_rules! sequences {
 
 sequences!(Questions, Records, Addresses, NodeNames);
 
-impl Serialize for Packet<'_> {
-    fn serialize<S: Serializer>(&self, out: S) -> Result<S::Ok, S::Error> {
-        let mut fields = out.serialize_struct("Packet", 4)?;
-        fields.serialize_field("header", &self.header)?;
-        fields.serialize_field("questions", &self.questions())?;
-        fields.serialize_field("records", &self.records())?;
-        fields.serialize_field("used", &self.used)?;
-        fields.end()
-    }
+/// Structures of which some fields are what a call answers.
+macro_rules! fields {
+    ($($of:ty as $name:literal, |$it:ident| $($field:ident: $value:expr),*;)*) => {$(
+        impl Serialize for $of {
+            fn serialize<S: Serializer>(&self, out: S) -> Result<S::Ok, S::Error> {
+                let ($it, mut fields) = (self, out.serialize_struct($name, [$(stringify!($field)),*].len())?);
+                $(fields.serialize_field(stringify!($field), &$value)?;)*
+                fields.end()
+            }
+        }
+    )*};
 }
 
-impl Serialize for Record<'_> {
-    fn serialize<S: Serializer>(&self, out: S) -> Result<S::Ok, S::Error> {
-        let mut fields = out.serialize_struct("Record", 6)?;
-        fields.serialize_field("section", &self.section)?;
-        fields.serialize_field("name", &self.name)?;
-        fields.serialize_field("kind", &self.kind())?;
-        fields.serialize_field("class", &self.class)?;
-        fields.serialize_field("time_to_live", &self.time_to_live)?;
-        fields.serialize_field("rdata", &self.rdata())?;
-        fields.end()
-    }
-}
-
-impl Serialize for session::Packet<'_> {
-    fn serialize<S: Serializer>(&self, out: S) -> Result<S::Ok, S::Error> {
-        let mut fields = out.serialize_struct("Packet", 5)?;
-        fields.serialize_field("kind", &self.kind())?;
-        fields.serialize_field("body", &digits_of(self.body()))?;
-        fields.serialize_field("names", &self.names())?;
-        fields.serialize_field("retarget", &self.retarget())?;
-        fields.serialize_field("used", &self.used())?;
-        fields.end()
-    }
+fields! {
+    Packet<'_> as "Packet", |it| header: it.header, questions: it.questions(), records: it.records(), used: it.used;
+    Record<'_> as "Record", |it| section: it.section, name: it.name, kind: it.kind(), class: it.class, time_to_live: it.time_to_live,
+        rdata: it.rdata();
+    session::Packet<'_> as "Packet", |it| kind: it.kind(), body: digits_of(it.body()), names: it.names(), retarget: it.retarget(),
+        used: it.used();
 }

@@ -23,6 +23,7 @@
 
 use std::net::Ipv4Addr;
 
+use crate::codes::flags;
 use crate::header::{name_flag, nbt_service_request, NODE_STATUS, QUERY, REFRESH, REGISTRATION, RELEASE};
 use crate::room::written;
 use crate::Result;
@@ -51,12 +52,12 @@ pub struct Entry {
     pub address: Ipv4Addr,
 }
 
-impl Entry {
+flags! { Entry, nb_flags:
     /// G: whether it is a group's name.
-    pub fn is_group(&self) -> bool {
-        self.nb_flags & name_flag::G != 0
-    }
+    is_group name_flag::G;
+}
 
+impl Entry {
     /// ONT.
     pub fn node_type(&self) -> NodeType {
         NodeType::of_flags(self.nb_flags)

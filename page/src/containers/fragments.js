@@ -1,5 +1,5 @@
 /** Fragments of IP, put together where all of a packet came within 60 seconds (RFC 8200 section 4.5) and none contradicts another. */
-import { FRAGMENTS_CUT, FRAGMENTS_MISSING, FRAGMENTS_UNKNOWN } from './report.js';
+import { FRAGMENTS_CUT, FRAGMENTS_MISSING, FRAGMENTS_UNKNOWN } from '../made/reasons.js';
 
 const TIMER = 60_000_000_000n;
 /** How many packets wait for fragments at a time, and how many bytes of them. */

@@ -26,6 +26,12 @@ export class Growing {
         this.to += bytes.length;
     }
 
+    /** A copy of what stands between two places.
+     * @param {number} [from] @param {number} [to] */
+    slice(from, to) {
+        return this.bytes.slice(from, to);
+    }
+
     /** @param {number} count */
     drop(count) {
         this.from = Math.min(this.from + count, this.to);

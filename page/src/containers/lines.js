@@ -1,6 +1,6 @@
 /** The lines of a capture that is text: docs/FORMATS.md, "Captures". */
 import { bytesOf } from './digits.js';
-import { MOST_LINE } from '../model/vocabulary.js';
+import { MOST_LINE } from '../made/vocabulary.js';
 import { FORM, faultOf } from './line_faults.js';
 
 const LINE = /^(?:(137|138|139) ([0-9]{1,20}) ((?:[0-9a-fA-F]{2})+|empty)|tick ([0-9]{1,20})|(#[^]*)?)$/;

@@ -1,12 +1,13 @@
 /** The payloads of ports 137, 138 and 139 that a pcap or pcapng file has, and what is left out of it, by reason. */
-import { PORT } from '../model/vocabulary.js';
+import { BAD_LENGTH, CUT, FRAGMENTS } from '../made/reasons.js';
+import { Streams } from '../made/streams.js';
+import { PORT } from '../made/vocabulary.js';
 import { Fragments } from './fragments.js';
 import { internetIn } from './internet.js';
 import { packetIn } from './link.js';
 import { isPcap, pcapFrames } from './pcap.js';
 import { isPcapng, pcapngFrames } from './pcapng.js';
-import { BAD_LENGTH, CUT, FRAGMENTS, Report } from './report.js';
-import { Streams } from './streams.js';
+import { Report } from './report.js';
 import { TCP, TCP_HEADER, UDP, UDP_HEADER, datagramIn, portsIn, segmentIn } from './transport.js';
 import { linkName, wrappingOf } from './unread.js';
 
@@ -92,7 +93,7 @@ export class PayloadReader {
         }
         const ports = portsIn(internet.payload);
         if (!ports) {
-            if (internet.protocol === UDP || internet.size > TCP_HEADER) this.report.leaveOut(this.report.cut, 'the file ends before its ports');
+            if (internet.protocol === UDP || internet.size > TCP_HEADER) this.report.leave_out(this.report.cut, 'the file ends before its ports');
             return;
         }
         this.report.mark.source = `${internet.source}:${ports.source}`;
@@ -104,7 +105,7 @@ export class PayloadReader {
             return this.other('another port');
         }
         this.ours += 1;
-        if (why) return this.report.leaveOut(FRAGMENTS, why);
+        if (why) return this.report.leave_out(FRAGMENTS, why);
         if (segment) return this.segment(internet, below, segment, stream);
         this.datagram(internet, below, ports.source === PORT.NAMES || ports.source === PORT.DATAGRAMS ? ports.source : ports.destination);
     }
@@ -112,13 +113,13 @@ export class PayloadReader {
     /** @param {import('./internet.js').Internet} internet @param {Below} below @param {number} port */
     datagram(internet, below, port) {
         const { payload, size } = datagramIn(internet);
-        if (!payload) return this.report.leaveOut(this.report.cut, 'the file ends inside its UDP header');
+        if (!payload) return this.report.leave_out(this.report.cut, 'the file ends inside its UDP header');
         if (size < 0 || payload.length < size) {
             const reason = payload.length < size && this.report.cut === CUT ? CUT : BAD_LENGTH;
             const isFront = reason === CUT && payload.length > 0;
             if (isFront) this.give({ kind: 'cut', port: /** @type {137 | 138} */ (port), mark: this.report.mark, mac: below.mac, bytes: payload });
             const there = `its UDP length is ${size + UDP_HEADER}, and the file has ${payload.length} bytes of its payload`;
-            return this.report.leaveOut(reason, there);
+            return this.report.leave_out(reason, there);
         }
         this.payload(/** @type {137 | 138} */ (port), below, payload);
     }
@@ -127,13 +128,13 @@ export class PayloadReader {
      * @param {import('./transport.js').Segment} segment @param {number} stream */
     segment(internet, below, segment, stream) {
         if (!segment.payload) {
-            if (internet.size > TCP_HEADER) this.report.leaveOut(this.report.cut, 'the file ends inside its TCP header');
+            if (internet.size > TCP_HEADER) this.report.leave_out(this.report.cut, 'the file ends inside its TCP header');
             return;
         }
-        const { source, destination } = this.report.mark;
         if (segment.syn) this.opened(segment);
-        const title = `stream ${stream} from ${internet.source.replace(/^\[|\]$/g, '')} port ${segment.source}`;
-        for (const bytes of this.streams.take({ stream, from: source, to: destination, title, segment })) this.payload(PORT.SESSIONS, below, bytes);
+        const sides = [[stream, internet.source, segment.source], [stream, internet.destination, segment.destination]];
+        const { flags, sequence, size, payload } = segment;
+        for (const bytes of this.streams.segment(...sides, flags, sequence, size, payload.subarray(0, size))) this.payload(139, below, bytes);
     }
 
     /** @param {import('./transport.js').Segment} segment one with a SYN */

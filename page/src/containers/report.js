@@ -1,18 +1,6 @@
 /** What is left out of a file: its frames, each once and for the first reason, and comments on them, in the words of nbt-pcap2cap. */
 
-export const CUT = 'cut by the snap length';
-export const SHORT = 'shorter than its headers say';
-export const BAD_LENGTH = 'a length that the packet lacks';
-export const FRAGMENTS = 'fragments of IP that come late or differ';
-export const FRAGMENTS_MISSING = 'fragments of IP whose others are missing';
-export const FRAGMENTS_CUT = 'fragments of IP that are cut themselves';
-export const FRAGMENTS_UNKNOWN = 'fragments of IP without the one that has the ports';
-export const NO_START = 'of a TCP stream whose start is missing';
-export const GAP = 'after a gap in TCP';
-export const NO_PACKET = 'where no session packet begins';
-export const NO_REST = 'a session packet whose rest is missing';
-export const RESET = 'with RST';
-export const DIFFERING = 'sent again with other bytes';
+import { CUT, SHORT } from '../made/reasons.js';
 
 /** A frame, as far as it is named: addresses with ports, where they are known.
  * @typedef {object} Mark
@@ -32,6 +20,10 @@ export class Report {
         this.cut = CUT;
     }
 
+    get number() {
+        return this.mark.frame;
+    }
+
     /** @param {Mark} mark the next frame */
     begin(mark) {
         this.mark = mark;
@@ -46,6 +38,9 @@ export class Report {
         this.give({ kind: 'left out', mark, why });
     }
 
+    /** That another frame completes the packet of a frame is nothing of which something is left out. */
+    completed() {}
+
     /** @param {string} text */
     comment(text) {
         this.give({ kind: 'comment', text });
@@ -59,7 +54,7 @@ export class Report {
     }
 
     /** @param {string} why @param {string} text */
-    leaveOut(why, text) {
+    leave_out(why, text) {
         this.note(why, `frame ${this.mark.frame} is left out: ${text}`);
     }
 }

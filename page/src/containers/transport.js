@@ -16,7 +16,7 @@ const LEAST_OF_TCP = 16;
  * @typedef {object} Segment
  * @property {number} source @property {number} destination @property {number} sequence
  * @property {number} acknowledged the place that it says comes next from the other side, where `ack` is set
- * @property {boolean} syn @property {boolean} fin @property {boolean} rst @property {boolean} ack
+ * @property {number} flags @property {boolean} syn @property {boolean} ack
  * @property {Uint8Array | null} payload @property {number} size */
 
 /** The ports of a datagram or a segment; null where the file ends before them.
@@ -45,14 +45,13 @@ export function segmentIn(packet) {
     const destination = word(bytes, 2);
     const header = bytes.length > 12 ? (bytes[12] >> 4) * 4 : TCP_HEADER;
     if (bytes.length < LEAST_OF_TCP || header < TCP_HEADER) {
-        return { source, destination, sequence: 0, acknowledged: 0, syn: false, fin: false, rst: false, ack: false, payload: null, size: packet.size };
+        return { source, destination, sequence: 0, acknowledged: 0, flags: 0, syn: false, ack: false, payload: null, size: packet.size };
     }
     const flags = bytes[13];
     const sequence = word(bytes, 4) * 0x10000 + word(bytes, 6);
     const acknowledged = word(bytes, 8) * 0x10000 + word(bytes, 10);
     const payload = bytes.subarray(Math.min(header, bytes.length));
     return {
-        source, destination, sequence, acknowledged, payload, size: Math.max(0, packet.size - header),
-        fin: (flags & 1) !== 0, syn: (flags & 2) !== 0, rst: (flags & 4) !== 0, ack: (flags & 16) !== 0,
+        source, destination, sequence, acknowledged, flags, syn: (flags & 2) !== 0, ack: (flags & 16) !== 0, payload, size: Math.max(0, packet.size - header),
     };
 }

@@ -3,7 +3,7 @@ import { bytesOf, digitsOf } from '../containers/digits.js';
 import { LineFault, linesOf } from '../containers/lines.js';
 import { LEFT_OUT } from './packets.js';
 import { momentOf, utc } from '../model/times.js';
-import { KEPT_FOR } from './vocabulary.js';
+import { Ticks } from '../made/ticks.js';
 
 /** A line. A payload's has the row that it is of, where the capture is made of frames.
  * @typedef {{kind: 'payload', port: number, moment: number | bigint, bytes: Uint8Array, row: number | null}} PayloadOf
@@ -42,24 +42,6 @@ export function* made({ packets, first }) {
         clock.latest = Math.max(clock.latest, moment);
         yield { kind: 'comment', text: `# frame ${packet.frame} ${utc(packet.time)} ${packet.source} > ${packet.destination}` };
         yield { kind: 'payload', port: packet.port, moment, bytes: packet.bytes, row };
-    }
-}
-
-/** The ticks: one for each second that begins; in a pause those that drop a key, and the last one. */
-class Ticks {
-    constructor() {
-        this.next = 1_000;
-        this.latest = 0;
-    }
-
-    /** @param {number} moment */
-    *until(moment) {
-        const end = moment - (moment % 1_000);
-        if (end < this.next) return;
-        const last = (Math.floor((this.latest + KEPT_FOR) / 1_000) + 1) * 1_000;
-        for (let at = this.next; at <= Math.min(end - 1, last); at += 1_000) yield at;
-        yield end;
-        this.next = end + 1_000;
     }
 }
 

@@ -1,42 +1,36 @@
 /** What stands of a packet that the snap length cut, or that the library refuses to read: as far as its header, names and records are whole. */
 
-import { DATAGRAM_TYPE, PIECES, PORT, SECTIONS } from './vocabulary.js';
+import { DATAGRAM_TYPE, PIECES, PORT, SECTIONS } from '../made/vocabulary.js';
 
 /** Of port 137 the header, with its first four bytes, and what follows the name of a question. RFC 1002 section 4.2.1. */
 const HEADER = 12;
 const ID_AND_WORD = 4;
 const TYPE_AND_CLASS = 4;
 const CLASS = 2;
-/** The fewest bytes of a question: a name of one byte, and what follows it. */
-const LEAST = 5;
 const ONE_QUESTION = [0, 1, 0, 0, 0, 0, 0, 0];
-const REFUSED = 'refused: ';
 
-/** What it is read by.
- * @typedef {Pick<import('../../../bindings/javascript/nbt.mjs').Nbt, 'json' | 'brief' | 'readDatagramFront'>} Reader */
+/** An object of JSON, as far as the page looks at it: the members are those of docs/FORMATS.md, "JSON".
+ * @typedef {{name: string, type: string}} Question
+ * @typedef {object} Told
+ * @property {string} [kind] @property {string} [key] @property {string} [source] @property {string} [destination]
+ * @property {string} [brief] @property {string} [refused] @property {number} [at]
+ * @property {Question[]} [questions] @property {unknown[]} [answers] @property {unknown[]} [authorities] @property {unknown[]} [additional]
+ * @property {boolean} [cut] the snap length cut it, and this is what stands
+ * @property {{name: string, type?: string}} [about] the first name of a front in which no question or record stands whole
+ *
+ * What it is read by.
+ * @typedef {Pick<import('../../../bindings/javascript/nbt.mjs').Nbt, 'json' | 'readServiceFront' | 'readDatagramFront'>} Reader */
 
 /** The members that stand of a payload of port 137; none where its header doesn't stand.
  * @param {Reader} library @param {Uint8Array} bytes
- * @returns {import('./parts.js').Told} */
+ * @returns {Told} */
 export function serviceFront(library, bytes) {
     if (bytes.length < HEADER) return {};
-    const counts = [4, 6, 8, 10].map((at) => bytes[at] * 256 + bytes[at + 1]);
-    const told = read(library, bytes, counts, wholeItems(library, bytes, counts));
-    if (!SECTIONS.some((section) => told[section]?.length)) Object.assign(told, aboutOf(library, bytes));
+    const { counts, questions, records } = library.readServiceFront(bytes);
+    /** @type {Told} */
+    const told = JSON.parse(library.json(PORT.NAMES, withItems(bytes, counts, questions.length + records.length)));
+    if (!SECTIONS.some((section) => Reflect.get(told, section)?.length)) Object.assign(told, aboutOf(library, bytes));
     return told;
-}
-
-/** How many of the items stand whole, one after another.
- * @param {Reader} library @param {Uint8Array} bytes @param {number[]} counts */
-function wholeItems(library, bytes, counts) {
-    const all = counts.reduce((sum, each) => sum + each, 0);
-    let [whole, most] = [0, Math.min(all, Math.floor((bytes.length - HEADER) / LEAST))];
-    while (whole < most) {
-        const middle = Math.ceil((whole + most) / 2);
-        if (library.brief(PORT.NAMES, withItems(bytes, counts, middle)).startsWith(REFUSED)) most = middle - 1;
-        else whole = middle;
-    }
-    return whole;
 }
 
 /** A packet whose header says that it has so many items.
@@ -52,22 +46,16 @@ function withItems(bytes, counts, items) {
     return made;
 }
 
-/** @param {Reader} library @param {Uint8Array} bytes @param {number[]} counts @param {number} items
- * @returns {import('./parts.js').Told} */
-function read(library, bytes, counts, items) {
-    return JSON.parse(library.json(PORT.NAMES, withItems(bytes, counts, items)));
-}
-
 /** The name of the first question or record, and its type, as far as they stand: both stand alike in a question, as which it is read. What is
  * missing of the type and class is filled up.
  * @param {Reader} library @param {Uint8Array} bytes
- * @returns {import('./parts.js').Told} */
+ * @returns {Told} */
 function aboutOf(library, bytes) {
     let end = HEADER;
     while (end < bytes.length && bytes[end]) end += 1 + bytes[end];
     const missing = end < bytes.length ? Math.max(end + 1 + TYPE_AND_CLASS - bytes.length, 0) : 0;
     const made = Uint8Array.from([...bytes.subarray(0, ID_AND_WORD), ...ONE_QUESTION, ...bytes.subarray(HEADER), ...new Array(missing).fill(0)]);
-    const { questions } = /** @type {import('./parts.js').Told} */ (JSON.parse(library.json(PORT.NAMES, made)));
+    const { questions } = /** @type {Told} */ (JSON.parse(library.json(PORT.NAMES, made)));
     if (!questions?.length) return {};
     const [{ name, type }] = questions;
     return { about: missing > CLASS ? { name } : { name, type } };
@@ -75,7 +63,7 @@ function aboutOf(library, bytes) {
 
 /** The names that stand of a payload of port 138, and the key and the kind of a datagram.
  * @param {Reader} library @param {Uint8Array} bytes
- * @returns {import('./parts.js').Told} */
+ * @returns {Told} */
 export function datagramFront(library, bytes) {
     const front = frontIn(library, bytes);
     const kind = front && PIECES[front.type - DATAGRAM_TYPE.UNIQUE];

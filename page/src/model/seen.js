@@ -1,124 +1,66 @@
-/** What is made of the packets of a capture, one after another. */
-import { Claims } from './claims.js';
-import { messageOf } from './messages.js';
-import { compare, nameRows } from './names.js';
-import { serviceOf } from './parts.js';
-import { Queries } from './queries.js';
-import { Room } from './rooms.js';
-import { Sessions } from './sessions.js';
-import { Stations } from './stations.js';
+/** What is made of the packets of a file, one after another: what nbt-look sums up too, and what the page alone tells. */
+import { Seen as Summed, without_place as withoutPlace } from '../made/seen.js';
+import { Room } from '../made/rooms.js';
+import { MOST_KEYS, PIECES, PORT } from '../made/vocabulary.js';
 import { UnreadFrames } from './unread.js';
-import { MOST_KEYS, PIECES, PORT } from './vocabulary.js';
 
-/** Where a packet stands in the file, and who sent it to whom.
- * @typedef {object} Ends
- * @property {number} frame
- * @property {number} port the service's
- * @property {bigint | null} time nanoseconds since 1970
- * @property {string} source an address
- * @property {string} sourcePort @property {string} destination @property {string} destinationPort
- * @property {string | null} mac
- * @typedef {import('./parts.js').Told} Told
- * @typedef {{reason: string, packets: number, frame: number, payload_byte: number | null}} Refusal
- * @typedef {{reason: string, frames: number}} Loss */
+/** An item, as the tools have it: what stands in a frame, of which service, and who sent it to whom. Times are nanoseconds since 1970.
+ * @typedef {{source: string, source_port: string, target: string, target_port: string}} Ends
+ * @typedef {Ends & {frame: {number: number, at: bigint | null, source_mac: string | null}, service: number, stream: null}} Item
+ * @typedef {import('./fronts.js').Told} Told */
 
-/** All that is summed up. Its memory is by the number of names and stations, with a bound. */
+/** A row has its times as they are.
+ * @param {bigint} time */
+const asItIs = (time) => time;
+
 export class Seen {
     constructor() {
         this.packets = 0;
         this.refusedPackets = 0;
-        this.claims = new Claims();
-        this.queries = new Queries(this.claims.owners);
-        this.stations = new Stations();
-        this.sessions = new Sessions((address, name) => this.stations.named(address, name));
-        /** @type {Room<Refusal>} */
-        this.refused = new Room();
-        /** @type {Room<Loss>} */
-        this.leftOut = new Room();
+        this.summed = new Summed([String(PORT.SESSIONS)]);
+        /** By reason.
+         * @type {Map<string, number>} */
+        this.leftOut = new Map();
         this.unread = new UnreadFrames();
-        /** The frame in which the first piece of a datagram came, by its key.
-         * @type {Room<number>} */
+        /** The frame in which the first piece of a datagram came, by its key. */
         this.firsts = new Room(MOST_KEYS);
     }
 
     /** @param {Told} told with what stands of it, where it is refused
-     * @param {string} brief @param {Ends} ends
+     * @param {Item} item
      * @returns {boolean} whether it is of a conflict about a name */
-    take(told, brief, ends) {
+    take(told, item) {
         this.packets += 1;
-        if (told.refused !== undefined) this.refuse(told.refused, told.at ?? null, ends.frame);
-        else if (told.key !== undefined && PIECES.includes(told.kind ?? '')) this.firsts.get(told.key, () => ends.frame);
-        const service = serviceOf(told);
-        const message = service && messageOf(service, ends);
-        this.claims.see(ends.time ?? 0n);
-        this.stations.take(told, message, ends);
-        this.sessions.take(told, brief, ends);
-        if (message) return this.message(message);
-        if (ends.port === PORT.NAMES) this.cannotRead(ends);
-        return false;
+        this.refusedPackets += Number(told.refused !== undefined);
+        this.summed.faults.take(item, told);
+        if (told.refused === undefined && told.key !== undefined && PIECES.includes(told.kind ?? '')) this.firsts.get(told.key, () => item.frame.number);
+        return this.summed.take(item, told);
     }
 
-    /** Takes what stands of a packet that the snap length cut.
-     * @param {Told} told @param {Ends} ends */
-    cut(told, ends) {
-        const service = serviceOf(told);
-        const message = service && messageOf(service, ends);
-        this.claims.see(ends.time ?? 0n);
-        this.stations.take(told, message, ends);
-        if (message) this.message(message);
-        else if (ends.port === PORT.NAMES) this.cannotRead(ends);
+    /** @param {string} reason @param {Ends | null} ends of what isn't known otherwise @param {bigint | null} time */
+    leave(reason, ends, time) {
+        this.leftOut.set(reason, (this.leftOut.get(reason) ?? 0) + 1);
+        if (ends) this.summed.left_out(ends, time);
     }
 
-    /** @param {import('./messages.js').Message} message */
-    message(message) {
-        this.queries.take(message);
-        return this.claims.take(message);
+    /** The parts of the summary, by the words that choose their tables. */
+    parts() {
+        const [names, conflicts, stations, queries, sessions] = this.summed.parts;
+        return { names, conflicts, stations, queries, sessions, malformed: this.summed.faults };
     }
 
-    /** Takes a frame of the name service of which not even the header stands.
-     * @param {{source: string, destination: string, time: bigint | null}} ends */
-    cannotRead({ source, destination, time }) {
-        this.queries.cannotRead(source, destination, time ?? 0n);
-        this.claims.cannotRead(destination, time ?? 0n);
-    }
-
-    /** @param {string} refused @param {number | null} byte @param {number} frame */
-    refuse(refused, byte, frame) {
-        this.refusedPackets += 1;
-        const reason = withoutPlace(refused);
-        const entry = this.refused.get(reason, () => ({ reason, packets: 0, frame, payload_byte: byte }));
-        if (entry) entry.packets += 1;
-    }
-
-    /** @param {string} reason */
-    leave(reason) {
-        const entry = this.leftOut.get(reason, () => ({ reason, frames: 0 }));
-        if (entry) entry.frames += 1;
-    }
-
-    /** The tables, by their titles. */
+    /** The tables. */
     tables() {
-        return {
-            names: nameRows(this.claims), conflicts: this.claims.conflicts.rows(),
-            stations: this.stations.rows((name, address) => this.claims.isRefused(name, address)), queries: this.queries.rows(), sessions: this.sessions.rows(),
-            malformed: [...this.refused.entries.values()].sort((one, other) => compare(one.reason, other.reason)),
-            'left-out': [...this.leftOut.entries.values()].sort((one, other) => other.frames - one.frames),
-            unread: this.unread.rows(),
-        };
+        const rows = Object.entries(this.parts()).map(([key, part]) => [key, part.rows(asItIs)]);
+        const left = Array.from(this.leftOut, ([reason, frames]) => ({ reason, frames })).sort((one, other) => other.frames - one.frames);
+        return { ...Object.fromEntries(rows), 'left-out': left, unread: this.unread.rows() };
     }
 
     /** Of each table how many packets were more than are kept. */
     notKept() {
-        const { claims, stations, queries, sessions } = this;
-        return {
-            conflicts: claims.conflicts.others, names: claims.tenures.others, stations: stations.room.others, queries: queries.room.others,
-            sessions: sessions.room.others, unread: this.unread.room.others,
-        };
+        const others = Object.entries(this.parts()).map(([key, part]) => [key, part.others()]);
+        return { ...Object.fromEntries(others), unread: this.unread.room.others };
     }
 }
 
-/** The text of a fault without the number with which it ends.
- * @param {string} refused */
-export function withoutPlace(refused) {
-    return refused.replace(/ \d+$/, '');
-}
+export { withoutPlace };

@@ -3,6 +3,9 @@
 const SECOND = 1_000_000_000n;
 const MILLISECOND = 1_000_000n;
 
+/** @param {number} seconds */
+export const nanoseconds = (seconds) => BigInt(seconds) * SECOND;
+
 /** A time in UTC with six places, or `-` where there is none.
  * @param {bigint | null} time nanoseconds since 1970 */
 export function utc(time) {

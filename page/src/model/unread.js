@@ -1,5 +1,5 @@
 /** Frames that aren't read here, by link type and by why. */
-import { Room } from './rooms.js';
+import { Room } from '../made/rooms.js';
 
 /** How many pairs of a link type and a reason are told apart. */
 const MOST = 64;
@@ -10,7 +10,6 @@ const MOST = 64;
 export class UnreadFrames {
     constructor() {
         this.frames = 0;
-        /** @type {Room<UnreadRow>} */
         this.room = new Room(MOST);
     }
 
@@ -21,8 +20,9 @@ export class UnreadFrames {
         if (row) row.frames += 1;
     }
 
+    /** @returns {UnreadRow[]} */
     rows() {
-        return Array.from(this.room.entries.values());
+        return this.room.entries.values();
     }
 
     /** How many there are, and of what: a link type, or what packets are wrapped in.

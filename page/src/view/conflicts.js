@@ -1,15 +1,16 @@
 /** Conflicts in words: who holds a name and who was refused it, or that several claim it and nobody was refused. */
 
-/** @typedef {import('../model/conflicts.js').Conflict} Conflict */
+/** A row. Where nobody is refused several claim the name, who are its holders; where it isn't known who holds it, there is none.
+ * @typedef {{name: string, holder: string[], refused: string | null, by: string | null, frame: number}} Conflict */
 
 /** How a conflict ended, as a sentence.
  * @param {Conflict} conflict */
-export function outcome({ name, holders, refused, by }) {
+export function outcome({ name, holder: holders, refused, by }) {
     const holder = holders.join(' and ');
     if (!refused && by) return `${name}: ${by} says that it is in conflict; who holds it isn't in the capture.`;
     if (!refused) return `${name}: ${holders.slice(0, -1).join(', ')} and ${holders.at(-1)} claim it, and nobody was refused it.`;
     if (!holder) return `${name}: ${by} refused it to ${refused}; who holds it isn't in the capture.`;
-    return `${name}: ${holder} ${holders.length > 1 ? 'hold' : 'holds'} it; ${refused} was refused it${holders.includes(by) && holders.length === 1 ? '' : ` by ${by}`}.`;
+    return `${name}: ${holder} ${holders.length > 1 ? 'hold' : 'holds'} it; ${refused} was refused it${holders.includes(by ?? '') && holders.length === 1 ? '' : ` by ${by}`}.`;
 }
 
 /** Of how many names there are conflicts.

@@ -1,5 +1,5 @@
 /** The view of what is given out, as files: each is byte for byte what the program prints. */
-import { MOST_KEYS } from '../model/vocabulary.js';
+import { MOST_KEYS } from '../made/vocabulary.js';
 import { byId, element, number } from './dom.js';
 import { quoted } from './shell.js';
 

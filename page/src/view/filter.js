@@ -1,5 +1,5 @@
 /** Which packets are shown: words of a box, and what was chosen of the counts. */
-import { KINDS, SERVICES } from '../model/vocabulary.js';
+import { KINDS, SERVICES } from '../made/vocabulary.js';
 
 /** A whole address of IPv4, which is no part of another one. */
 const ADDRESS = /^\d{1,3}(?:\.\d{1,3}){3}$/;

@@ -1,5 +1,5 @@
 /** What is said where the filter leaves no row: what the box takes, and words in place of a filter of Wireshark. */
-import { KINDS, SERVICES } from '../model/vocabulary.js';
+import { KINDS, SERVICES } from '../made/vocabulary.js';
 
 /** A comparison of Wireshark: a field, how it is compared, and the value. */
 const COMPARISON = /([a-z][\w.]*)\s*(==|eq\b|~|matches\b|contains\b)\s*("[^"]*"|[^\s&|()]+)/gi;

@@ -48,7 +48,7 @@ export class NamesView {
                 const more = notKept[key] ? [element('p', { class: 'quiet' }, `and ${counted(notKept[key], 'packet')} of more than are kept`)] : [];
                 if (!rows.length) return more;
                 const head = columns.map((each) => (each === 'frame' ? app.unit : each.replace('_', ' ')));
-                const cells = rows.map((/** @type {any} */ row) => columns.map((column) => this.cell(row, column)));
+                const cells = rows.map((/** @type {any} */ row) => columns.map((column) => this.cell(title, row, column)));
                 return [table(title, head, cells, (at) => standing(key, rows[at], lost)), ...more];
             }));
     }
@@ -72,11 +72,11 @@ export class NamesView {
         return element('span', {}, ...frames.flatMap((each, at) => [...(at ? [', '] : []), this.link(String(each), { frame: each, filter: '' })]));
     }
 
-    /** @param {any} row @param {string} column
+    /** @param {string} title @param {any} row @param {string} column
      * @returns {Node | string} */
-    cell(row, column) {
+    cell(title, row, column) {
         const value = row[column];
-        const text = shownAs(row, column, (time) => this.time(time));
+        const text = shownAs(title, row, column, (time) => this.time(time));
         if (column === 'frames' && Array.isArray(value)) return this.frames(value);
         if (column === 'answered' && value !== null) return this.link(text.replace('frame', this.app.unit), { frame: value, filter: '' });
         if (column === 'frame') return this.link(text, { frame: Number(value), filter: '' });
@@ -105,6 +105,6 @@ function standing(key, row, lost) {
     if (key === 'conflicts') return row.refused ? 'decided' : 'undecided';
     if (key === 'malformed') return 'bad';
     if (key !== 'names') return '';
-    if (row.how === 'refused' || lost.has(`${row.name} ${row.address}`)) return 'bad';
+    if (row.how.startsWith('refused') || lost.has(`${row.name} ${row.address}`)) return 'bad';
     return row.conflicts || row.refusals ? 'contested' : '';
 }

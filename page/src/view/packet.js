@@ -1,6 +1,6 @@
 /** All of one packet: where it comes from, what it says, its fault, its fields and bytes. */
 import { hostOf } from '../containers/ends.js';
-import { placeInName } from '../model/places.js';
+import { is_in_name as isInName, place_of as placeOf } from '../made/places.js';
 import { since } from '../model/times.js';
 import { placed } from './advice.js';
 import { byId, element, withCode } from './dom.js';
@@ -28,11 +28,10 @@ export class PacketPanel {
      * @param {string} phrase what its row says */
     show(packet, first, phrase) {
         const refused = typeof packet.told?.refused === 'string' ? packet.told.refused : '';
-        const named = placeInName(packet.port, packet.bytes, refused);
-        const at = named ? named.inPayload : typeof packet.told?.at === 'number' ? packet.told.at : null;
+        const at = packet.told && placeOf(packet.port, packet.bytes, packet.told);
         this.root.replaceChildren(
             this.hidden, element('h2', {}, `${packet.isFrame ? 'Frame' : 'Line'} ${packet.frame}`), element('p', { class: 'said' }, packet.said || phrase),
-            ...(refused ? [this.fault(refused, named)] : []), facts(packet, first),
+            ...(refused ? [this.fault(refused, at)] : []), facts(packet, first),
             ...(packet.told ? [fields(packet.told), ...dumpOf(packet.bytes, at)] : []),
             ...(packet.isFrame ? [wireshark(packet)] : []));
     }
@@ -42,9 +41,10 @@ export class PacketPanel {
         this.hidden.hidden = !isHidden;
     }
 
-    /** @param {string} refused @param {import('../model/places.js').NamePlace | null} named */
-    fault(refused, named) {
-        const place = named && named.inPayload !== null ? [element('p', {}, `Byte ${named.inName} of the name is byte ${named.inPayload} of the payload.`)] : [];
+    /** @param {string} refused @param {number | null} at */
+    fault(refused, at) {
+        const inName = refused.slice(refused.lastIndexOf(' ') + 1);
+        const place = at !== null && isInName(refused) ? [element('p', {}, `Byte ${inName} of the name is byte ${at} of the payload.`)] : [];
         return element('div', { class: 'fault', role: 'note', 'aria-label': 'Why it is refused' },
             element('b', {}, placed(refused)), element('p', {}, ...withCode(this.advice.of(refused))), ...place);
     }

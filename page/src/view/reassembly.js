@@ -1,6 +1,6 @@
 /** The reassembly's view: each key as a bar, and what a station with chosen names is handed, and when. */
 import { keyOf } from '../model/keys.js';
-import { MOST_NAMES } from '../model/vocabulary.js';
+import { MOST_NAMES } from '../made/vocabulary.js';
 import { hashOf } from './address.js';
 import { bar, folded, preview } from './bars.js';
 import { byId, counted, element, number, table } from './dom.js';

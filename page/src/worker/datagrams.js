@@ -1,43 +1,53 @@
 /** What becomes of the datagrams of a file, by a station of the library. */
-import { Datagrams } from '../model/datagrams.js';
-import { Replay } from '../model/replay.js';
-import { MOST_KEYS, PIECES, PORT } from '../model/vocabulary.js';
-import { pause } from './pause.js';
+import { Datagrams } from '../made/datagrams.js';
+import { Piece, Pieces } from '../made/pieces.js';
+import { PIECES, PORT } from '../made/vocabulary.js';
+import { keyOf } from '../model/keys.js';
+import { throughStation } from './station.js';
 
 /** A station that has this name alone: whether it hears a datagram or not, it says when one is whole. */
 const NAME = '*<00>';
-/** How many payloads go into a station before the worker looks whether something is wanted of it. */
-const PART = 256;
+/** Why a station has no place for a piece. */
+const REFUSED = ['MISPLACED_FIRST', 'LONG', 'FULL_SOURCE', 'FULL'];
 
 /** @param {import('./tap.js').Tap} tap
  * @returns {Promise<Datagrams>} */
 export async function datagramsOf(tap) {
-    const station = new tap.library.Station([NAME], '0.0.0.0', { keys: MOST_KEYS });
-    const datagrams = new Datagrams((pieces) => listOf(tap, pieces));
+    const datagrams = new Datagrams((/** @type {Uint8Array[][]} */ several) => several.map((pieces) => keyOf(listOf(tap, pieces).split('\n')[0])));
     for (const names of tap.cut) datagrams.count(names, 'cut');
-    const replay = new Replay(station, (held, key, state) => datagrams.ended(held, key, state));
-    let count = -1;
-    try {
-        for (const line of tap.capture()) {
-            if (line.kind !== 'payload') continue;
-            count += 1;
-            const piece = line.port === PORT.DATAGRAMS ? pieceOf(tap, line, line.row ?? count) : null;
-            if (piece) replay.take(piece);
-            if (count % PART === PART - 1) await pause();
-        }
-        replay.finish();
+    const pieces = new Pieces(datagrams.ended.bind(datagrams));
+    let [count, moment] = [-1, -1n];
+    return throughStation(tap, [NAME], (station, line) => {
+        if (line.kind !== 'payload') return;
+        count += 1;
+        const piece = line.port === PORT.DATAGRAMS ? pieceOf(tap, line, line.row ?? count) : null;
+        if (!piece) return;
+        if (piece.moment !== moment) pieces.drop(station.tick(piece.moment));
+        moment = piece.moment;
+        pieces.report(piece, reportOf(station, piece));
+    }, () => {
+        pieces.finish();
         return datagrams;
-    } finally {
-        station.close();
-    }
+    });
 }
 
 /** @param {import('./tap.js').Tap} tap @param {{moment: number | bigint, bytes: Uint8Array}} line @param {number} row
- * @returns {import('../model/replay.js').Piece | null} null of a packet that has no piece */
+ * @returns {Piece | null} null of a packet that has no piece */
 function pieceOf(tap, { moment, bytes }, row) {
     const { key, kind, source, destination, refused } = JSON.parse(tap.library.json(PORT.DATAGRAMS, bytes));
     if (refused !== undefined || !PIECES.includes(kind)) return null;
-    return { moment: BigInt(moment), key, names: { source, destination, kind }, frame: tap.packets.at(row).frame, bytes };
+    return new Piece(BigInt(moment), key, [source, destination, kind], tap.packets.at(row).frame, bytes);
+}
+
+/** What a station reports of a piece, as `nbt replay --json` says it.
+ * @param {import('../../../bindings/javascript/nbt.mjs').Station} station @param {Piece} piece */
+function reportOf(station, { moment, data }) {
+    try {
+        return { outcome: station.take(moment, data).outcome.toLowerCase() };
+    } catch (error) {
+        if (!REFUSED.includes(Reflect.get(Object(error), 'status'))) throw error;
+        return { refused: /** @type {Error} */ (error).message };
+    }
 }
 
 /** @param {import('./tap.js').Tap} tap @param {Uint8Array[]} pieces */

@@ -92,13 +92,13 @@ const answers = {
     /** @param {{tap: number}} asked */
     async datagrams({ tap }) {
         const datagrams = await datagramsOf(tapOf(tap));
-        return { tables: datagrams.tables(), notKept: { datagrams: datagrams.room.others, failed: datagrams.failed.others } };
+        return { tables: { datagrams: datagrams.rows(), failed: datagrams.failed.rows() }, notKept: { datagrams: datagrams.others(), failed: datagrams.failed.others() } };
     },
 
     /** @param {{tap: number}} asked */
     async listed({ tap }) {
         const of = tapOf(tap);
-        return { lines: listed(library, await tableOf(of)), firsts: of.seen.firsts.entries };
+        return { lines: listed(library, await tableOf(of)), firsts: new Map(of.seen.firsts.entries.items()) };
     },
 
     /** @param {{tap: number}} asked */

@@ -1,10 +1,8 @@
 /** Datagrams put together, by the library: the table of a file, what it lists, and what a station with chosen names is handed. */
 import { digitsOf } from '../containers/digits.js';
-import { MOST_KEYS, PORT } from '../model/vocabulary.js';
-import { pause } from './pause.js';
+import { MOST_KEYS, PORT } from '../made/vocabulary.js';
+import { throughStation } from './station.js';
 
-/** How many lines are looked at, or payloads go into a station, before the worker looks whether something is wanted of it. */
-const PART = 256;
 const MOST_DELIVERIES = 10_000;
 /** Why a fragment isn't taken: for what stands in it, or for keys that there are. */
 const MALFORMED = ['MISPLACED_FIRST', 'LONG'];
@@ -22,20 +20,11 @@ const NO_ROOM = ['FULL', 'FULL_SOURCE'];
  * @returns {Promise<Uint8Array>} */
 export async function tableOf(tap) {
     if (tap.table) return tap.table;
-    const station = new tap.library.Station([], '0.0.0.0', { keys: MOST_KEYS });
-    let count = 0;
-    try {
-        for (const line of tap.capture()) {
-            if (line.kind === 'payload' && line.port === PORT.DATAGRAMS) pass(() => station.take(0, line.bytes), MALFORMED);
-            count += 1;
-            if (count % PART === 0) await pause();
-        }
-        const table = station.save();
-        if (tap.isRead) tap.table = table;
-        return table;
-    } finally {
-        station.close();
-    }
+    const table = await throughStation(tap, [], (station, line) => {
+        if (line.kind === 'payload' && line.port === PORT.DATAGRAMS) pass(() => station.take(0, line.bytes), MALFORMED);
+    }, (station) => station.save());
+    if (tap.isRead) tap.table = table;
+    return table;
 }
 
 /** Takes a payload; one that is refused with a status of these is passed over.
@@ -55,24 +44,16 @@ function pass(take, statuses) {
  * @param {import('./tap.js').Tap} tap @param {string[]} names
  * @returns {Promise<{handed: Handed[], more: number}>} */
 export async function handedTo(tap, names) {
-    const station = new tap.library.Station(names, '0.0.0.0', { keys: MOST_KEYS });
     /** @type {Handed[]} */
     const handed = [];
-    let [count, more] = [0, 0];
-    try {
-        for (const line of tap.capture()) {
-            if (line.kind === 'tick') station.tick(BigInt(line.moment));
-            if (line.kind !== 'payload' || line.port !== PORT.DATAGRAMS) continue;
-            const delivery = pass(() => station.take(BigInt(line.moment), line.bytes), [...MALFORMED, ...NO_ROOM])?.delivery;
-            if (delivery && handed.length === MOST_DELIVERIES) more += 1;
-            else if (delivery) handed.push(described(delivery, line.row, line.moment));
-            count += 1;
-            if (count % PART === 0) await pause();
-        }
-        return { handed, more };
-    } finally {
-        station.close();
-    }
+    let more = 0;
+    return throughStation(tap, names, (station, line) => {
+        if (line.kind === 'tick') station.tick(BigInt(line.moment));
+        if (line.kind !== 'payload' || line.port !== PORT.DATAGRAMS) return;
+        const delivery = pass(() => station.take(BigInt(line.moment), line.bytes), [...MALFORMED, ...NO_ROOM])?.delivery;
+        if (delivery && handed.length === MOST_DELIVERIES) more += 1;
+        else if (delivery) handed.push(described(delivery, line.row, line.moment));
+    }, () => ({ handed, more }));
 }
 
 /** @param {import('../../../bindings/javascript/nbt.mjs').Delivery} delivery @param {number | null} row
@@ -102,5 +83,5 @@ export async function compared(one, other) {
     const tables = [await tableOf(one), await tableOf(other)];
     const joined = one.library.merge(tables[0], tables[1], { keys: MOST_KEYS });
     const [first, second, both] = [...tables, joined].map((table) => listed(one.library, table));
-    return { first, second, both, firsts: [one, other].map((tap) => tap.seen.firsts.entries) };
+    return { first, second, both, firsts: [one, other].map((tap) => new Map(tap.seen.firsts.entries.items())) };
 }

@@ -3,11 +3,11 @@ import { hostOf, portOf, shown } from '../containers/ends.js';
 import { made, written } from '../model/capture.js';
 import { Seen, withoutPlace } from '../model/seen.js';
 import { datagramFront, serviceFront } from '../model/fronts.js';
-import { kindsOf } from '../model/kinds.js';
+import { kinds_of as kindsOf } from '../made/kinds.js';
 import { Batch } from './batch.js';
 import { slicesOf } from './file.js';
 import { LEFT_OUT, Packets } from '../model/packets.js';
-import { MOST_KEYS, SERVICES } from '../model/vocabulary.js';
+import { MOST_KEYS, SERVICES } from '../made/vocabulary.js';
 
 /** Of how many datagrams that are cut the names are kept. */
 const MOST_CUT = MOST_KEYS;
@@ -34,7 +34,7 @@ export class Tap {
         this.table = null;
         this.isRead = false;
         /** The names of datagrams that the snap length cut behind them.
-         * @type {import('../model/replay.js').Names[]} */
+         * @type {[string, string, string][]} */
         this.cut = [];
         /** The latest frame of which a front was taken. */
         this.frontOf = 0;
@@ -56,14 +56,14 @@ export class Tap {
     front({ port, mark, mac, bytes }) {
         this.frontOf = mark.frame;
         const told = { ...this.standing(port, bytes), cut: true };
-        this.seen.cut(told, endsOf(mark, port, mac));
+        this.seen.summed.take(itemOf(mark, port, mac), told);
         const { source, destination, kind } = told;
-        if (kind && source !== undefined && destination !== undefined && this.cut.length < MOST_CUT) this.cut.push({ source, destination, kind });
+        if (kind && source !== undefined && destination !== undefined && this.cut.length < MOST_CUT) this.cut.push([source, destination, kind]);
     }
 
     /** What stands of a payload that isn't a whole packet.
      * @param {number} port @param {Uint8Array} bytes
-     * @returns {import('../model/parts.js').Told} */
+     * @returns {import('../model/fronts.js').Told} */
     standing(port, bytes) {
         if (port === 139) return {};
         return port === 137 ? serviceFront(this.library, bytes) : datagramFront(this.library, bytes);
@@ -71,31 +71,26 @@ export class Tap {
 
     /** @param {import('../containers/payloads.js').Opened} item */
     opened({ caller, callee, sequence, isFirst }) {
-        const [from, to] = [caller, callee].map((end) => ({ address: hostOf(end), port: portOf(end) }));
-        this.seen.sessions.opened({ caller: from, callee: to, sequence, isFirst });
+        this.seen.summed.sessions.opened({ ...endsOf(caller, callee), stream: null, sequence, is_first: isFirst });
     }
 
     /** @param {import('../containers/payloads.js').Payload} item */
     payload({ port, mark, mac, vlan, bytes }) {
         const text = this.library.json(port, bytes);
         const said = this.library.brief(port, bytes);
-        /** @type {import('../model/parts.js').Told} */
+        /** @type {import('../model/fronts.js').Told} */
         const told = JSON.parse(text);
-        const standing = told.refused === undefined ? told : { ...this.standing(port, bytes), ...told };
-        const isConflict = this.seen.take(standing, said, endsOf(mark, port, mac));
+        const standing = { ...(told.refused !== undefined && this.standing(port, bytes)), ...told, brief: said };
+        const isConflict = this.seen.take(standing, itemOf(mark, port, mac));
         this.packets.add(mark, { port, mac, vlan, bytes });
-        const kinds = kindsOf(told, port);
+        const kinds = kindsOf(port, told);
         if (isConflict && !kinds.includes('conflict')) kinds.push('conflict');
         this.row(mark, port, kinds.join(' '), told.refused === undefined ? '' : withoutPlace(told.refused), said);
     }
 
     /** @param {import('../containers/report.js').LeftOut} item */
     leftOut({ mark, why }) {
-        this.seen.leave(why);
-        const { source, destination } = mark;
-        if (mark.frame !== this.frontOf && [source, destination].some((end) => portOf(end) === '137')) {
-            this.seen.cannotRead({ source: hostOf(source), destination: hostOf(destination), time: mark.time });
-        }
+        this.seen.leave(why, mark.frame === this.frontOf ? null : endsOf(mark.source, mark.destination), mark.time);
         this.packets.add(mark, { port: LEFT_OUT, mac: null, vlan: null, bytes: new Uint8Array(0) });
         const sizes = mark.captured < mark.size ? `, ${mark.captured} of ${mark.size} bytes` : '';
         this.row(mark, LEFT_OUT, 'left-out', why, `left out: ${why}${sizes}`);
@@ -118,17 +113,23 @@ export class Tap {
     /** What is counted. */
     counts() {
         const { seen } = this;
-        const left = Array.from(seen.leftOut.entries.values(), (each) => each.frames).reduce((sum, each) => sum + each, 0);
-        const { ofName, conflicts } = seen.claims;
+        const left = Array.from(seen.leftOut.values()).reduce((sum, each) => sum + each, 0);
+        const { of_name: ofName, conflicts } = seen.summed.claims;
         return {
-            frames: this.frames, packets: seen.packets, refused: seen.refusedPackets, leftOut: left, names: ofName.entries.size, conflicts: conflicts.count,
+            frames: this.frames, packets: seen.packets, refused: seen.refusedPackets, leftOut: left, names: ofName.entries.size, conflicts: conflicts.all().length,
             unread: seen.unread.counts(),
         };
     }
 }
 
 /** @param {import('../containers/report.js').Mark} mark @param {number} port @param {string | null} mac
+ * @returns {import('../model/seen.js').Item} */
+function itemOf({ frame, time, source, destination }, port, mac) {
+    return { ...endsOf(source, destination), frame: { number: frame, at: time, source_mac: mac }, service: port, stream: null };
+}
+
+/** @param {string} source @param {string} target
  * @returns {import('../model/seen.js').Ends} */
-function endsOf({ frame, time, source, destination }, port, mac) {
-    return { frame, port, time, mac, source: hostOf(source), sourcePort: portOf(source), destination: hostOf(destination), destinationPort: portOf(destination) };
+function endsOf(source, target) {
+    return { source: hostOf(source), source_port: portOf(source), target: hostOf(target), target_port: portOf(target) };
 }

@@ -1,8 +1,6 @@
 """The TCP streams of port 139: which side of which stream a segment is of, and how streams begin and end."""
-import collections
-
 from .direction import ALL, MOST_RECENT, Direction, Recent
-from .report import DIFFERING, NO_START, RESET
+from .reasons import DIFFERING, NO_START, RESET
 from .session import HEADER
 
 FIN, SYN, RST = 0x01, 0x02, 0x04
@@ -12,30 +10,27 @@ MOST_DIRECTIONS = 16_384
 MOST_CLOSED = 4_096
 
 
-class Sessions:
+class Streams:
     """All streams. What is left out is said to `report`, which counts it."""
 
     def __init__(self, report):
         self.report = report
-        self.open = collections.OrderedDict()      # those that had a segment last come last
-        self.closed = collections.OrderedDict()    # the first and the next place of those that ended last
+        self.open = {}               # those that had a segment last come last
+        self.closed = {}             # the first and the next place of those that ended last
         self.held = 0
         self.recent = Recent()
 
-    def segment(self, packet):
-        """The session packets that are whole with the latest frame's segment."""
-        flags, sequence = int(packet.flags, 16), int(packet.sequence)
-        data, size = bytes.fromhex(packet.payload.replace(':', '')), int(packet.size)
-        key = packet.stream, packet.host.source, packet.source
+    def segment(self, key, back, flags, sequence, size, data):
+        """The session packets that are whole with the latest frame's segment, of which the file has this data. Its side and the one that it
+        is sent to have each a key: the number of the stream, an address and a port."""
         if flags & RST:
             if size:
                 self.report.leave_out(RESET, 'the %d bytes of its segment come with RST' % size)
             self.end(key)
-            self.end((packet.stream, packet.host.target, packet.target))
+            self.end(back)
             return
         if size > len(data):
-            self.report.note(self.report.cut, 'frame %s: the file has %d of the %d bytes of its segment'
-                             % (self.report.number, len(data), size))
+            self.report.note(self.report.cut, 'frame %s: the file has %d of the %d bytes of its segment' % (self.report.number, len(data), size))
         direction = self.direction(key, flags, sequence, data)
         if direction:
             before = direction.size()
@@ -58,7 +53,7 @@ class Sessions:
             if direction is None or direction.place(sequence + 1) != direction.first:
                 self.end(key)
                 direction = self.begin(key, sequence + 1)
-        elif direction is None and data:
+        elif direction is None and len(data):
             if len(data) < HEADER:
                 self.report.leave_out(NO_START, 'it has %d bytes of a stream whose start the file lacks' % len(data))
                 return None
@@ -66,7 +61,8 @@ class Sessions:
             self.report.comment('%s: frame %s is taken for its start, which the file lacks'
                                 % (direction.title, self.report.number))
         if direction:
-            self.open.move_to_end(key)
+            self.open.pop(key)
+            self.open[key] = direction
         return direction
 
     def came_before(self, key, syn, sequence, data):
@@ -87,7 +83,7 @@ class Sessions:
         """The packets of a segment, in whatever order segments come, and however often."""
         if direction.pass_on(place, data):
             yield data
-        elif data:
+        elif len(data):
             yield from self.pieces(direction, place, data)
 
     def pieces(self, direction, place, data):
@@ -113,7 +109,7 @@ class Sessions:
         direction.let_go()
         self.closed[key] = direction.first, direction.due
         if len(self.closed) > MOST_CLOSED:
-            self.closed.popitem(last=False)
+            self.closed.pop(next(iter(self.closed)))
 
     def let_go(self):
         """Ends directions where there are too many, or too many bytes: those whose last segment is the longest ago."""

@@ -1,0 +1,29 @@
+/** Stations of the library over the lines of a tap. */
+import { MOST_KEYS } from '../made/vocabulary.js';
+import { pause } from './pause.js';
+
+/** How many lines are looked at before the worker looks whether something is wanted of it. */
+const PART = 256;
+
+/** @typedef {import('../../../bindings/javascript/nbt.mjs').Station} Station
+ * @typedef {import('../model/capture.js').CaptureLine} CaptureLine */
+
+/** Hands the lines of a tap to what uses a station with these names, and answers what comes of that at the end.
+ * @template T
+ * @param {import('./tap.js').Tap} tap @param {string[]} names
+ * @param {(station: Station, line: CaptureLine) => void} take @param {(station: Station) => T} end
+ * @returns {Promise<T>} */
+export async function throughStation(tap, names, take, end) {
+    const station = new tap.library.Station(names, '0.0.0.0', { keys: MOST_KEYS });
+    let count = 0;
+    try {
+        for (const line of tap.capture()) {
+            take(station, line);
+            count += 1;
+            if (count % PART === 0) await pause();
+        }
+        return end(station);
+    } finally {
+        station.close();
+    }
+}

@@ -1,25 +1,35 @@
-"""The objects that a command line of `nbt show`, `replay` or `list` prints of an input with `--json`, and how it ends, for
-tests/program/json_objects.py: options, comments, malformed lines and limits, from docs/FORMATS.md."""
-import collections
+"""What a command line prints of an input by the model (tests/model), with `--json` and without, and how it ends: options, comments, malformed lines
+and limits, from docs/FORMATS.md. For tests/program/beside_model.py and tests/fuzz.py."""
+import json
 import re
+from dataclasses import dataclass
 
 from model.captures import LONGEST_LINE, comment_text, numbered, read_capture
 from model.limits import INPUT, KEYS, MOST_KEYS, MOST_NAMES
 from model.names import Refused, name_of_text
 from model.objects import front_of, shown
 from model.phrases import said
-from model.reports import joined, listed, reported
+from model.reports import agrees, joined, listed, listed_text, report_text, reported, save
 from model.tables import PER_SOURCE, Table
+from model.text import front_lines, lines_of
+from object_inputs import OPTIONS
 
 MOST = {'--keys': MOST_KEYS, '--per-source': MOST_KEYS, '--input-limit': (1 << 64) - 1}
 USUAL = {'--keys': KEYS, '--per-source': PER_SOURCE, '--input-limit': INPUT}
-OPTIONS = {
-    'show': ('--input-limit', '--comments', '--brief', '--partial', '--json'),
-    'replay': ('--keys', '--per-source', '--input-limit', '--comments', '--json'),
-    'list': ('--keys', '--per-source', '--json'),
-}
 
-Wanted = collections.namedtuple('Wanted', 'objects status errors', defaults=(0, b''))
+
+@dataclass
+class Wanted:
+    """What is printed, a text and objects a line each, the status, and standard error; None where names are refused, for some reason."""
+
+    lines: list
+    objects: list
+    status: int = 0
+    errors: bytes = b''
+
+    def output(self, is_json=False):
+        lines = [json.dumps(it, separators=(',', ':')) for it in self.objects] if is_json else self.lines
+        return ''.join(f'{it}\n' for it in lines).encode()
 
 
 class Unknown(Exception):
@@ -27,17 +37,16 @@ class Unknown(Exception):
 
 
 def wanted(words, given):
-    """What a command prints of an input, as objects, its status, and what stands on standard error: of names that are refused
-    None, which is as without `--json`. Raises Unknown where clap answers."""
+    """What a command prints of an input. Raises Unknown where clap answers."""
     command, (options, names) = words[0], parsed(words)
-    if command == 'list':
-        return of_tables(options, given)
+    if command in ('merge', 'list', 'agree'):
+        return of_tables(command, options, given)
     station = stationed(names)
     if command == 'replay' and station is None:
-        return Wanted([], 1, None)
+        return Wanted([], [], 1, None)
     if '--brief' in options and '--partial' in options:
-        return Wanted([], 1, b'nbt: arguments\n')
-    return of_capture(command, options, station, given)
+        return Wanted([], [], 1, b'nbt: arguments\n')
+    return saved(options, given) if command == 'save' else of_capture(command, options, station, given)
 
 
 def parsed(words):
@@ -89,41 +98,65 @@ def stationed(texts):
     return None if len(names) > MOST_NAMES else names
 
 
-def of_tables(options, given):
-    """What `nbt list` prints."""
+def of_tables(command, options, given):
+    """What `nbt merge`, `list` and `agree` print."""
     if len(given) > INPUT:
-        return Wanted([], 3, b'nbt: read\n')
+        return Wanted([], [], 3, b'nbt: read\n')
     try:
-        return Wanted(listed(joined(given, number_of(options, '--keys'), number_of(options, '--per-source'))))
+        if command == 'agree':
+            lines = agrees(given, '--list' in options).decode().splitlines()
+            return Wanted(lines, [], int(lines != ['equal']))
+        table = joined(given, number_of(options, '--keys'), number_of(options, '--per-source'))
     except Refused as refused:
-        return Wanted([], 1, f'nbt: {refused}\n'.encode())
+        return Wanted([], [], 1, f'nbt: {refused}\n'.encode())
+    keys = listed(table)
+    return Wanted([table.saved().hex()] if command == 'merge' else list(map(listed_text, keys)), keys)
+
+
+def table_of(options):
+    return Table(number_of(options, '--keys'), number_of(options, '--per-source'))
+
+
+def saved(options, given):
+    """What `nbt save` prints."""
+    _, lines, *ending = read_within(given, number_of(options, '--input-limit'))
+    table = table_of(options)
+    try:
+        save(lines, table)
+    except Refused as refused:
+        return Wanted([], [], 1, f'nbt: {refused}\n'.encode())
+    return Wanted([] if ending[0] else [table.saved().hex()], [], *ending)
 
 
 def of_capture(command, options, names, given):
     """What `nbt show` and `nbt replay` print."""
     finished, lines, *ending = read_within(given, number_of(options, '--input-limit'))
-    table = Table(number_of(options, '--keys'), number_of(options, '--per-source'))
+    table = table_of(options)
     answers = {it.number: told(command, table, names, it, options) for it in lines}
-    comments = {number: line for number, line in finished if line.startswith(b'#')}
-    objects = []
+    comments = {number: comment_text(line) for number, line in finished if line.startswith(b'#')}
+    texts, objects = [], []
     for number in sorted(answers.keys() | comments.keys() if '--comments' in options else answers):
-        comment = comments.get(number if number in comments else number - 1)
-        moment, payload = answers.get(number, ({}, {}))
-        said_before = {} if comment is None else {'comment': comment_text(comment)}
-        objects.append({'line': number} | moment | said_before | payload)
-    return Wanted(objects, *ending)
+        said_before = comments.get(number if number in comments else number - 1)
+        text, moment, members = answers.get(number, ([comments.get(number)], {}, {}))
+        texts += text
+        objects.append({'line': number} | moment | ({} if said_before is None else {'comment': said_before}) | members)
+    return Wanted(texts, objects, *ending)
 
 
 def told(command, table, names, line, options):
-    """The port and the moment of a line, and what is told of it, with its phrase or its front where that is asked for."""
-    moment = {'moment': line.moment}
+    """The text of a line, its port and moment, and what is told of it, with its phrase or its front where that is asked for."""
+    number, port, payload = line.number, line.port, line.payload
+    moment = ({} if port is None else {'port': port}) | {'moment': line.moment}
     if command == 'replay':
-        return ({} if line.port is None else {'port': line.port}) | moment, reported(table, names, line)
-    if line.port is None:
-        return moment, {'kind': 'tick'}
-    phrase = {'brief': said(line.port, line.payload)} if '--brief' in options else {}
-    front = front_of(line.port, line.payload) if '--partial' in options else {}
-    return {'port': line.port} | moment, phrase | shown(line.port, line.payload) | front
+        answer = reported(table, names, line)
+        return [f'{number} {report_text(answer)}'], moment, answer
+    if port is None:
+        return [f'{number} tick {line.moment}'], moment, {'kind': 'tick'}
+    first, *parts = [said(port, payload)] if '--brief' in options else lines_of(port, payload)
+    more = front_lines(port, payload) if '--partial' in options else []
+    phrase = {'brief': said(port, payload)} if '--brief' in options else {}
+    front = front_of(port, payload) if '--partial' in options else {}
+    return [f'{number} {port} {first}', *parts, *more], moment, phrase | shown(port, payload) | front
 
 
 def read_within(given, limit):

@@ -113,7 +113,7 @@ class Bench:
         self.program, self.folder, self.bars = program, folder, Bars(small)
         self.part, self.times, least = (10, 1, 100) if small else (1, 4, 250)
         self.sizes = [least, least * 10, least * 100]
-        self.plain = plain_program.compiled(folder, plain_program.CRATES)
+        self.plain = plain_program.compiled(folder)
 
     def row(self, words, title, path, packets, beside=None, bar=None):
         """Prints the row of a command, and gives its instructions. The last column has them beside so many others."""
@@ -127,9 +127,17 @@ class Bench:
         return counted
 
     def beside_plain(self, words, title, path, packets):
-        """The row of a command beside the plain program."""
-        beside = instructions([self.plain, *words], path) if self.plain else None
+        """The row of a command beside the plain program, which prints the same."""
+        beside = None
+        if self.plain:
+            beside, same = instructions([self.plain, *words], path), self.printed(self.plain, words, path) == self.printed(self.program, words, path)
+            self.bars.counts(same, f'{words[0]}, {title}: the plain program prints the same')
         return self.row(words, title, path, packets, beside, PLAIN[words[0]])
+
+    @staticmethod
+    def printed(program, words, path):
+        with open(path, 'rb') as capture:
+            return subprocess.run([program, *words], stdin=capture, stdout=subprocess.PIPE, check=True).stdout
 
     def fragments(self):
         """The rows of captures of fragments, for each command."""
@@ -206,7 +214,7 @@ def main():
         print('\n| Command | Of | %s | Times, of at most |\n|---|---|---|---|---|---|' % ' | '.join(f'{size:,}' for size in bench.sizes))
         bench.growth()
     if not bench.plain:
-        print('skipped: the rows beside the plain program, which wants cargo of 1.82 and crates in ' + plain_program.REGISTRY)
+        print('skipped: the rows beside the plain program: ' + plain_program.WANTED)
     for each in bench.bars.past:
         print('failed: ' + each)
     print(bench.bars.counted())

@@ -3,32 +3,14 @@
 
 Usage: tests/fuzz.py [--seconds N] [--seed N] [--inputs N] [PROGRAM]. They are made from the bytes of the examples of
 crates/nb_examples, the captures of examples/, packets that the program builds, and datagrams of made senders. The runs over
-each input are held against rules. Those on forms (tests/fuzz/fuzz_forms.py):
+each input are held against rules:
 
 - ends: within limits of time and memory, with a status of 0 to 3; standard error is empty at 0, one line `nbt: TEXT` at
   1 and 3, clap's text at 2; where they are refused `name`, `build`, `save`, `merge` and `list` print nothing;
-- lines: `show` and `replay` answer each line of a capture up to the first malformed one, whose number is the fault's;
-- commented: with `--comments` they print the same, and each comment in its place;
-- loaded: `merge` of what `save` and `merge` print prints it again, and `agree` of it twice says `equal`;
-- turned: tables that are merged in another order come to the same;
-- listed: `list` ends as `merge` does, and has a line for each key of what it joins, ascending;
-- built: where a shown packet is one that `build` makes, `build` gives its bytes again;
-- named: what `name` spells is read as the same name.
-
-Those on answers (tests/fuzz/fuzz_answers.py), of which the model is tests/model, written from the pages alone:
-
-- shown, reported, saved, listed by the model: `show`, `replay`, `save` and `list` print what the model does, of any capture, with
-  ticks and limits;
-- merged, agreed by the model: so do `merge`, `list` and `agree` of any lines, or they end with the model's fault;
-- saved alike, handed over alike: the same fragments in another order and number, with other spare bits, are saved as the
-  same bytes, and of each key that isn't spoilt a station hands over the same, once;
-- listed as delivered: what `list` has as whole is what a station with all destinations hands over;
-- merged as a tree: tables that are merged in any grouping, order and number come to the table of all that went into them;
-- streams cut, streams walked: of packets of port 139 in a row each front is shown as the pages say, and `used` leads from
-  packet to packet, whatever follows.
-
-And those on a run that is repeated (tests/fuzz/fuzz_hostile.py):
-
+- told: `show`, `replay`, `save`, `merge`, `list` and `agree`, with options and limits, print what the model does (tests/model, written from the
+  pages alone; tests/program/printed.py), of any capture and any lines, whatever the order and number of fragments and tables;
+- built: what `build` makes is no refused packet, and is shown as the model does;
+- named: `name` spells and reads names as the model does;
 - the same answer twice: the same words and input give the same output, errors and status;
 - short reads: so they do over devices that move few bytes or are interrupted (tests/lib/devices.c);
 - memory refused: with a request for memory refused (tests/lib/refuse_memory.c) it ends with `nbt: memory` and status 3, after
@@ -47,90 +29,128 @@ import sys
 import tempfile
 import time
 
-sys.path[1:1] = [f'{sys.path[0]}/{it}' for it in ('captures', 'fuzz', 'lib')]
-from fuzz_answers import Answers
-from fuzz_forms import Forms
-from fuzz_hostile import Hostile
-from fuzz_inputs import NAMES, ROOT, Maker, capture_lines, example_bytes, spelled
-from fuzz_runs import Runner, Wrong
-from fuzz_traffic import Traffic
-from model.names import Name, text_of
+sys.path[1:1] = [f'{sys.path[0]}/{it}' for it in ('captures', 'fuzz', 'lib', 'program')]
+from fuzz_inputs import NAMES, ROOT, capture_lines, example_bytes, spelled
+from fuzz_runs import Runner, Wrong, answers, expect
+from fuzz_traffic import Traffic, session_packet
+from model.names import Refused, name_of_text, read_name, spelling_of, text_of
+from object_inputs import Inputs
+from printed import Unknown, wanted
 
-RULES = ('ends', 'lines', 'commented', 'loaded', 'turned', 'listed', 'built', 'named', 'shown', 'reported', 'saved',
-         'listed by the model', 'merged by the model', 'agreed by the model', 'saved alike', 'handed over alike',
-         'listed as delivered', 'merged as a tree', 'streams cut', 'streams walked', 'the same answer twice', 'short reads',
-         'memory refused')
+RULES = ('ends', 'told', 'built', 'named', 'the same answer twice', 'short reads', 'memory refused')
 LONGEST_PRINTED = 1_000
-STATION = (Name(b'FRED'.ljust(15) + b'\x20', ()), Name(b'JOE'.ljust(15) + b'\0', ()))
 
 
-class Inputs:
+class Rules:
     """Makes inputs, and holds the program's runs over them against the rules."""
 
     def __init__(self, runner, rng):
-        self.runner = runner
-        self.rng = rng
-        self.maker = Maker(rng, *seeds(runner))
-        self.forms = Forms(runner, rng)
-        self.answers = Answers(runner, rng)
-        self.hostile = Hostile(runner, rng)
-        self.kinds = [self.capture] * 4 + [self.tables] * 3 + [self.building, self.naming] * 2 + [self.words]
-        self.kinds += [self.answers.traffic] * 4 + [self.answers.orders, self.answers.trees, self.answers.streams] * 2
+        self.runner, self.rng = runner, rng
+        self.inputs = Inputs(rng, *seeds(runner))
+        self.kinds = [self.capture] * 4 + [self.tables] * 3 + [self.building, self.naming, self.stream] * 2 + [self.words]
 
     def one(self, number):
         """Each kind in turn, and then any."""
         self.runner.history.clear()
         (self.kinds[number] if number < len(self.kinds) else self.rng.choice(self.kinds))()
-        self.hostile.repeat()
+        self.runner.repeat(self.rng)
+
+    def told(self, words, given):
+        """A run beside the model, in text or in JSON."""
+        with self.runner.rule('told'):
+            made = self.runner.run(words, given)
+            try:
+                model = wanted(words, given)
+            except Unknown:
+                return expect(made.status == 2 or made.status == 0 and b'--help' in made.output, f'it ends with {made.status}')
+            answers(made, model.output('--json' in words), model.status, made.errors if model.errors is None else model.errors.decode())
+
+    def commands(self, given, *commands):
+        for command in commands:
+            words = self.inputs.words(command, given)
+            if command in ('show', 'replay', 'list') and self.rng.random() < 0.4:
+                words.insert(1, '--json')
+            self.told(words, given)
 
     def capture(self):
-        """A capture of changed lines."""
-        given = self.maker.capture()
-        self.forms.capture(given)
-        self.answers.capture(given, STATION)
+        """A capture of changed lines, or of fragments that meet, with ticks and faults."""
+        self.commands(self.rng.choice((self.inputs.capture, self.inputs.maker.capture))(), 'show', 'replay', 'save')
 
     def tables(self):
         """Lines that are saved tables, or were."""
-        maker, rng, count = self.maker, self.rng, self.rng.choice((1, 1, 2, 2, 3))
-        if rng.random() < 0.5:
-            lines = [maker.saved() for _ in range(count)]
-        else:
-            tables = self.answers.saved_tables(count)
-            lines = [(maker.changed(it) if rng.random() < 0.3 else it).hex().encode() for it in tables]
-        given = b'\n'.join(lines) + (b'\n' if rng.random() < 0.8 else b'')
-        self.forms.tables(given)
-        self.answers.tables(given)
+        self.commands(self.inputs.tables(), 'merge', 'list', 'agree')
+
+    def stream(self):
+        """Fronts of packets of port 139 in a row, from any packet on."""
+        packets = [session_packet(self.rng, self.inputs.traffic.name) for _ in range(self.rng.choice((1, 2, 3, 5)))]
+        stream = b''.join(packets[self.rng.randrange(len(packets)):])
+        cuts = range(len(stream) + 1) if len(stream) < 400 else [*self.rng.sample(range(len(stream)), 4), 0, 1, 3, 4, 5, 72, len(stream)]
+        self.told(['show'], b''.join(b'139 0 %b\n' % (stream[:it].hex().encode() or b'empty') for it in cuts))
 
     def building(self):
         """The words of `build`."""
-        self.forms.words(self.maker.building(), b'')
+        made = self.runner.run(self.inputs.maker.building())
+        if made.status == 0 and made.output[:3].isdigit():
+            with self.runner.rule('built'):
+                self.told(['show'], made.output)
+                shown = self.runner.history[-1].output
+                expect(b' refused ' not in shown and b' more ' not in shown, 'a built packet is refused')
 
     def naming(self):
         """The words of `name`."""
-        maker, rng = self.maker, self.rng
-        name = text_of(Traffic(rng).name())
-        value = rng.choice((r'\2d' + name[1:] if name[0] == '-' else name, maker.text(rng.choice(NAMES)), maker.saved().decode('latin-1')))
-        self.forms.words(rng.choice((['name', value], ['name', '--bytes', spelled('FRED').hex()], ['name', '--bytes', value])), b'')
+        text = text_of(Traffic(self.rng).name())
+        text = self.rng.choice((text, text, self.inputs.maker.text(self.rng.choice(NAMES)))).encode('utf-8', 'replace').decode()
+        digits = self.rng.choice((spelled('FRED').hex(), self.inputs.maker.saved().decode('latin-1').replace('\0', '0')))
+        for words, model in ((['name', '--', text], spelling), (['name', '--bytes', '--', digits], text_in)):
+            with self.runner.rule('named'):
+                answers(self.runner.run(words), *model(words[-1]))
 
     def words(self):
         """Any words."""
-        maker, rng = self.maker, self.rng
+        maker, rng = self.inputs.maker, self.rng
         first = rng.choice(('name', 'show', 'build', 'replay', 'save', 'merge', 'list', 'agree', maker.word()))
-        words = [first] + [maker.word() for _ in range(rng.randrange(5))]
-        self.forms.words(words, rng.choice((maker.capture(), maker.saved(), b'')))
+        self.runner.run([first] + [maker.word() for _ in range(rng.randrange(5))], rng.choice((maker.capture(), maker.saved(), b'')))
+
+
+def refused(answer):
+    """What is printed of a name, or why it is refused."""
+    def answered(value):
+        try:
+            return f'{answer(value)}\n'.encode(), 0, ''
+        except Refused as fault:
+            return b'', 1, f'nbt: {fault}\n'
+    return answered
+
+
+@refused
+def spelling(text):
+    return spelling_of(name_of_text(text.encode('utf-8', 'surrogateescape'))).hex()
+
+
+@refused
+def text_in(digits):
+    try:
+        data = bytes.fromhex(digits) if digits.isascii() and not any(map(str.isspace, digits)) else None
+    except ValueError:
+        data = None
+    if data is None:
+        raise Refused('bad hex')
+    name, end = read_name(data, 0)
+    if end < len(data):
+        raise Refused(f'trailing bytes {end}')
+    return text_of(name)
 
 
 def seeds(runner):
     """The payloads and the lines that inputs are made from."""
-    payloads = [it for it in example_bytes() if 0 < len(it) <= 2_000]
+    payloads, lines = [it for it in example_bytes() if 0 < len(it) <= 2_000], list(capture_lines())
     for words in (['query', '0003', 'FRED<20>'], ['registration', '0002', 'FRED<20>', '300000', '0000', '10.0.0.5'],
                   ['status', '0001', 'JOE<00>'], ['request', 'JOE<00>', 'FRED<20>'], ['error', '10.0.0.9:138/0001', '82'],
                   ['find', '10.0.0.5:138/0001', 'FRED<20>'], ['retarget', '10.0.0.7', '139']):
         payloads.append(bytes.fromhex(runner.run(['build', *words]).output.split()[2].decode()))
     for count in (1, 2, 5):
-        lines = list(capture_lines())
         payloads.append(bytes.fromhex(runner.run(['save'], b'\n'.join(lines[:count * 3])).output.decode()))
-    return payloads, list(capture_lines())
+    return payloads, lines
 
 
 def keep(runner, number, seed, wrong):
@@ -161,13 +181,13 @@ def write(path, data):
 
 def work(given, runner):
     """Makes inputs until the time or their number is over; how many there were, and how many failed."""
-    inputs = Inputs(runner, random.Random(given.seed))
+    rules = Rules(runner, random.Random(given.seed))
     number = failures = 0
     end = time.monotonic() + given.seconds
     while number < given.inputs and time.monotonic() < end:
         number += 1
         try:
-            inputs.one(number - 1)
+            rules.one(number - 1)
         except Wrong as wrong:
             failures += 1
             keep(runner, number, given.seed, wrong)

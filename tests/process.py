@@ -19,7 +19,7 @@ import time
 sys.path[1:1] = [f'{sys.path[0]}/{it}' for it in ('lib', 'program')]
 from limits import MANY
 from parts import check, counts, enough, finish, least, part, skip
-from process_inputs import CAPTURE, COMMANDS, FRED, READING, REPORT, captures, chained, repeated, roomy
+from process_inputs import CAPTURE, COMMANDS, FRED, READING, REPORT, captures, chained, forms, repeated, roomy
 from process_runs import (broken_pipe, bytes_of, closed, instructions, limited, lines_of, requests as counted_requests, rest_of,
                           run, small_pipe, start, starts, wait)
 from process_terminals import advised, at_terminals, dropped, given_files, looked, mistaken, plain, short_of_memory
@@ -44,7 +44,7 @@ def failing_outputs():
     """An output that takes nothing: a broken pipe, also where SIGPIPE is ignored or nobody reads errors, a full disk, a
     closed one, one opened for reading, and all three streams closed. Where nothing is to be written, nothing fails."""
     ignored = lambda: signal.signal(signal.SIGPIPE, signal.SIG_IGN)
-    for words, given, status, output, errors in COMMANDS:
+    for words, given, status, output, errors in (*COMMANDS, (['--help'], b'', *run(['--help']))):
         wanted = (3, b'nbt: write\n') if output else (status, errors)
         name = 'nbt ' + ' '.join(words)
         for how, before in [('a broken pipe', None), ('a broken pipe, SIGPIPE ignored', ignored)]:
@@ -57,6 +57,7 @@ def failing_outputs():
         for how, path, mode in [('full', '/dev/full', 'wb'), ('opened for reading', os.devnull, 'rb')]:
             with open(path, mode) as stream:
                 check(run(words, given, stdout=stream)[::2] == wanted, f'{name}, standard output {how}')
+        check(run(words, given, before=closed(1), stdout=None)[::2] == wanted, f'{name}, standard output closed')
         ended = run(words, before=closed(0, 1, 2), stdin=None, stdout=None, stderr=None)[0]
         check(ended in (1, 3), f'{name}, all streams closed')
 
@@ -127,6 +128,7 @@ def inputs():
         ended = run(words, before=closed(2), stdin=directory, stderr=None)
         check(ended == (3, b'', b''), f'{name}, a directory as input, standard error closed')
         os.close(directory)
+        check(run(words, before=closed(0), stdin=None) == (3, b'', b'nbt: read\n'), f'{name}, standard input closed')
         with open(os.devnull, 'wb') as writing:
             check(run(words, stdin=writing) == (3, b'', b'nbt: read\n'), f'{name}, an input opened for writing')
         with open('/dev/zero', 'rb') as zeros:
@@ -162,7 +164,12 @@ def stopping_input(words):
 
 
 def open_inputs():
-    """An input that stays open after a line at which the command ends: it doesn't wait for more."""
+    """An input that stays open after a line at which the command ends, or that can't be written: it doesn't wait for more."""
+    for words in (['show'], ['replay', 'FRED<20>']):
+        with open('/dev/full', 'wb') as full:
+            process = start(words, stdout=full)
+        process.stdin.write(b'tick 1\n')
+        check(wait(process) == (3, b'nbt: write\n'), f'nbt {words[0]}, standard output full, an input that stays open')
     for words, given, *wanted in [
             (['show'], b'tick 1\nx\n', 1, b'1 tick 1\n', b'nbt: line 2\n'),
             (['replay', 'FRED<20>'], b'tick 1\nx\n', 1, b'1 dropped 0\n', b'nbt: line 2\n'),
@@ -229,7 +236,8 @@ def small_files(limit):
 
 def cut_files(path):
     """A file that takes fewer bytes than the output has, for each such number: it gets exactly those."""
-    for words, given, _, output, _ in COMMANDS:
+    for words, given in [*((words, given) for words, given, *_ in COMMANDS), *forms()]:
+        output = run(words, given)[1]
         for room in range(len(output)):
             with open(path, 'wb') as stream:
                 ended = run(words, given, before=small_files(room), stdout=stream)[::2]

@@ -1,6 +1,6 @@
 #!/usr/bin/env bash
-# The built program as a process of its own: exit statuses, words, streams that are closed or full, how often it writes,
-# and each request for memory refused in turn. Usage: tests/program.sh [PROGRAM]; its last line is 'N passed, M failed, K
+# The built program as a process of its own: exit statuses, words, what it prints, how often it writes, and each request
+# for memory refused in turn. Usage: tests/program.sh [PROGRAM]; its last line is 'N passed, M failed, K
 # skipped'.
 set -uo pipefail
 . "$(dirname "$0")/lib/counting.sh"
@@ -89,58 +89,7 @@ saved() {
     count $? 'nbt merge: the same in the other order, in the first form where there is one'
 }
 
-# ---- Streams that can't be read or written; a closed standard error changes nothing.
-
-# fails_to WHAT WORDS: the last command ended with status 3 and `nbt: WHAT`.
-fails_to() {
-    [ $? -eq 3 ] && holds "$room/errors" "nbt: $1"$'\n'
-    count $? "$2"
-}
-
-failing_inputs() {
-    local words
-    nbt show <&- >"$room/output" 2>"$room/errors"
-    [ $? -eq 3 ] && holds "$room/output" '' && holds "$room/errors" $'nbt: read\n'
-    count $? 'nbt show, standard input closed'
-    for words in show save "replay FRED<20>" merge list agree; do
-        nbt $words <"$room" >"$room/output" 2>"$room/errors"
-        [ $? -eq 3 ] && holds "$room/output" '' && holds "$room/errors" $'nbt: read\n'
-        count $? "nbt $words, a folder as standard input"
-    done
-}
-
-failing_outputs() {
-    local words
-    for words in 'name FRED<20>' "name --bytes $fred" 'build keepalive' --help --version; do
-        nbt $words >/dev/full 2>"$room/errors"
-        fails_to write "nbt $words, standard output full"
-        nbt $words >&- 2>"$room/errors"
-        fails_to write "nbt $words, standard output closed"
-    done
-    printf 'tick 1\nx\n' >"$room/input"
-    for words in show 'replay FRED<20>'; do
-        nbt $words <"$room/input" >/dev/full 2>"$room/errors"
-        fails_to write "nbt $words, standard output full, a malformed line behind it"
-    done
-    nbt save </dev/null >/dev/full 2>"$room/errors"
-    fails_to write 'nbt save, standard output full'
-    seq 5000 | sed 's/.*/tick 1/' >"$room/input"
-    for words in show 'replay A<20>'; do
-        nbt $words <"$room/input" >/dev/full 2>"$room/errors"
-        fails_to write "nbt $words, standard output full before the end"
-    done
-    printf '%s\n' 4e425432000000010a000005008a000100 4e425432000000010a000005008a000100 >"$room/input"
-    for words in merge list agree; do
-        nbt $words <"$room/input" >/dev/full 2>"$room/errors"
-        fails_to write "nbt $words, standard output full"
-    done
-    nbt name FRED >"$room/output" 2>/dev/full
-    [ $? -eq 1 ] && holds "$room/output" ''
-    count $? 'nbt name FRED, standard error full'
-    nbt nonsense >"$room/output" 2>&-
-    [ $? -eq 2 ] && holds "$room/output" ''
-    count $? 'nbt nonsense, standard error closed'
-}
+# ---- How the program reads and writes; streams that fail are those of tests/process.py.
 
 # `name` and `build` read nothing.
 unread_inputs() {
@@ -180,37 +129,9 @@ long_reports() {
     done
 }
 
-# What a line gives is there before the next line is sent; where it can't be written the program ends without one.
-waiting_inputs() {
-    local words line n
-    mkfifo "$room/sent" "$room/shown"
-    for words in show 'replay A<20>'; do
-        nbt $words <"$room/sent" >"$room/shown" &
-        exec 3<>"$room/sent" 4<"$room/shown"
-        for n in 1 2 3; do
-            echo "tick $n" >&3
-            line=''
-            IFS= read -r -t 30 line <&4
-            [[ $line == "$n tick $n" || $line == "$n dropped 0" ]]
-            count $? "nbt $words, line $n of an input that waits"
-        done
-        exec 3>&- 4<&-
-        wait $!
-        nbt $words <"$room/sent" >/dev/full 2>"$room/errors" &
-        exec 3<>"$room/sent"
-        echo tick 1 >&3
-        wait $!
-        fails_to write "nbt $words, standard output full, an input that waits"
-        exec 3>&-
-    done
-}
-
 streams() {
-    failing_inputs
-    failing_outputs
     unread_inputs
     long_reports
-    waiting_inputs
 }
 
 # ---- Each request for memory refused.
@@ -299,11 +220,8 @@ printf '#!/bin/sh\nexec env LD_PRELOAD=%s/devices.so "$@"\n' "$room" >"$room/bin
 ln -s "$here/program/barred" "$room/bin"
 part shims compile devices refuse_memory
 parts cases pages saved
-# Beside the model: tables in every order and grouping, objects, phrases, what still stands of packets that are refused or cut.
+# Beside the model: tables in every order and grouping; what is printed of captures and tables, phrases, and fronts of packets.
 part merges counted_by program/random_merges.py "$program" "$room/refuse_memory.so"
-part objects counted_by program/json_objects.py "$program"
-part phrases counted_by program/brief_phrases.py "$program"
-part fronts counted_by program/front_lines.py "$program"
-part rooms counted_by program/output_rooms.py "$program" "$room/devices.so"
+part model counted_by program/beside_model.py "$program"
 parts streams memory
 finish

@@ -1,6 +1,6 @@
 """The bars of tests/bench.py, and the rows that are known to miss theirs."""
 
-# Instructions, as so many times those of the plain program on the same crates.
+# Instructions, as so many times those of the plain program.
 PLAIN = {'replay': 1.15, 'show': 1.1, 'save': 1.1, 'merge': 2.0}
 # Merges of few large entries are shown without a bar.
 WITHOUT = {('merge', 'pieces of a byte, shuffled'), ('merge', 'pieces of a byte, descending'), ('merge', 'pieces of 400 bytes, shuffled')}
@@ -37,11 +37,13 @@ class Bars:
             self.skipped += 1
             return ''
         most = max(bar, self.known.get(row, bar))
-        if number > most * ALLOWED:
-            self.past.append('%s: %.2f, where at most %.2f was expected' % (', '.join(row), number, most))
-        else:
-            self.within += 1
+        self.counts(number <= most * ALLOWED, '%s: %.2f, where at most %.2f was expected' % (', '.join(row), number, most))
         return '%.2f of %.2f' % (number, bar) + (', known to be %.2f' % most if number > bar and row in self.known else '')
+
+    def counts(self, good, what):
+        self.within += good
+        if not good:
+            self.past.append(what)
 
     def counted(self):
         return f'{self.within} passed, {len(self.past)} failed, {self.skipped} skipped'

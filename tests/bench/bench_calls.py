@@ -1,19 +1,19 @@
 """What calls of the library cost, for tests/bench_library.py: rows of objects, of packets of port 137 from C and from Python, and
 of a station that takes in a table."""
 import os
-import shutil
 import subprocess
 import sys
 
+import plain_program
 from bench import instructions
 from bench_rows import Row, call_seconds, compiled, least, printed, ratio, requests
 
 LIB = os.path.dirname(os.path.abspath(__file__))
 TOP = os.path.join(LIB, '..', '..')
-INCLUDE, PLAIN = os.path.join(TOP, 'include'), os.path.join(TOP, 'tests', 'plain', 'service_reader.rs')
-MOST_OF_OBJECTS, MOST_OF_ITEMS, MOST_OF_DPKT, MOST_OF_ABSORB = 2.0, 1.3, 1.5, 1.0
+INCLUDE = os.path.join(TOP, 'include')
+MOST_OF_OBJECTS, MOST_OF_ITEMS, MOST_OF_DPKT, MOST_OF_ABSORB = 2.0, 0.95, 1.5, 1.0
 # What it costs to judge a packet whole before its items, which judge themselves: it may get no worse.
-MOST_OF_JUDGED = 1.37
+MOST_OF_JUDGED = 1.0
 KEYS = 60_000
 
 
@@ -42,10 +42,9 @@ def items(folder, library, path, count):
     rows = [Row(title, a_payload([loop, *words], path, count), least(call_seconds, [loop, '1', *words], path))
             for title, words in (('nbt_service_header, each item and part, from C', []), ('the same after nbt_service_read', ['judged']))]
     memory = Row('requests of these calls for memory', of=float(taken), most=0.0)
-    if not shutil.which('rustc'):
-        return [*rows, memory, Row('a plain reader of port 137', said="rustc isn't installed")]
-    plain = os.path.join(folder, 'plain_service')
-    subprocess.run(['rustc', '-C', 'opt-level=3', '--edition', '2021', '-o', plain, PLAIN], check=True)
+    plain = plain_program.compiled(folder)
+    if not plain:
+        return [*rows, memory, Row('a plain reader of port 137', said=plain_program.WANTED)]
     bar = Row('a plain reader of port 137, in Rust', a_payload([plain], path, count), least(call_seconds, [plain, '1'], path))
     sums = {printed([program, '1', *words], path)[0] for program, *words in ([loop], [loop, 'judged'], [plain])}
     assert len(sums) == 1, f'they read other values: {sums}'

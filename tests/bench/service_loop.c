@@ -1,7 +1,7 @@
 /* What reading a packet of port 137 costs: reads a capture, and then has the library read each payload of it, ROUNDS times, with
  * all its questions and records and the parts of RDATA. Usage: service_loop ROUNDS [judged] <CAPTURE. The header is read and then item
  * after item; where `judged` is said, nbt_service_read judges the whole packet before. Prints the sum of what was read, as
- * tests/plain/service_reader.rs does, and the nanoseconds of processor time of the calls. */
+ * tests/plain/sum.rs does, and the nanoseconds of processor time of the calls. */
 #define _GNU_SOURCE
 #include "../lib/payloads.h"
 #include <nbt.h>

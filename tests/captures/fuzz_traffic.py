@@ -1,9 +1,8 @@
 """Captures of port 138 in which fragments of a few datagrams meet, and streams of port 139, made by chance, for
 tests/fuzz.py."""
-from model.limits import MOST_KEYS
 from model.names import Name, spelling_of
 from model.packets import FIRST, MORE
-from model.tables import KEYS, LONGEST, PER_SOURCE, TIMER
+from model.tables import LONGEST, TIMER
 
 SCOPES = [(), (), (), (b'NETBIOS', b'COM'), (b'A',), (b'a',), (b'\x00.<', b'x' * 63)]
 FRONTS = [b'JOE', b'FRED', b'ANN', b'*' + bytes(14), b'', b'-', b'fred', b'A B', b'FIFTEEN LETTERS', b'\xff\\<.']
@@ -163,18 +162,6 @@ class Traffic:
             if rng.random() < 0.05:
                 lines.append(rng.choice((b'', b'# any', b'137 0 00', b'139 5 empty')))
         return b''.join(it + b'\n' for it in lines)
-
-
-def some_limits(rng):
-    """The words for a table's limits, or none, and the two numbers."""
-    words, keys, per_source = [], KEYS, PER_SOURCE
-    if rng.random() < 0.4:
-        keys = rng.choice((1, 2, 3, MOST_KEYS))
-        words += ['--keys', str(keys)]
-    if rng.random() < 0.4:
-        per_source = rng.choice((1, 2, 3, MOST_KEYS))
-        words += ['--per-source', str(per_source)]
-    return words, keys, per_source
 
 
 def digits(payload):

@@ -1,9 +1,10 @@
-"""Payloads, captures and saved tables made by chance, for tests/program/json_objects.py.
+"""Payloads, captures and saved tables made by chance, for tests/program/beside_model.py and tests/fuzz.py.
 
-Packets of port 137 are made here, of all kinds, with pointers good and bad; the others as for tests/fuzz.py."""
+Packets of port 137 are made here, of all kinds, with pointers good and bad; the others by fuzz_inputs.py and fuzz_traffic.py."""
 from fuzz_inputs import Maker, likely_port
-from fuzz_traffic import LONGEST_LAST_LABEL, Traffic, capture_of, digits, header, session_packet, some_limits
+from fuzz_traffic import LONGEST_LAST_LABEL, Traffic, capture_of, digits, header, session_packet
 from model.captures import LONGEST_LINE, read_capture
+from model.limits import MOST_KEYS
 from model.names import Name, labels_of, spelling_of, text_of
 from model.packets import NB, NBSTAT, NS, SESSION_LENGTHS
 from model.reports import save
@@ -136,6 +137,16 @@ def session_of_any_length(rng, _):
     return header(kind, body) + (body if rng.random() < 0.5 and len(body) < LONGEST_PAYLOAD else b'')
 
 
+LIMITS = (1, 2, 3, MOST_KEYS)
+# The options of the commands that read captures or tables.
+OPTIONS = {
+    'show': ('--input-limit', '--comments', '--brief', '--partial', '--json'),
+    'replay': ('--keys', '--per-source', '--input-limit', '--comments', '--json'),
+    'save': ('--keys', '--per-source', '--input-limit'),
+    'merge': ('--keys', '--per-source'),
+    'list': ('--keys', '--per-source', '--json'),
+    'agree': ('--list',),
+}
 SESSIONS = (session_packet, session_packet, session_request, session_of_any_length)
 
 
@@ -212,14 +223,14 @@ class Inputs:
     def words(self, command, given):
         """The words of a command with some of its options, in any order; each name of a station once or more."""
         rng, options = self.rng, []
-        if command != 'list':
-            options += [it for it in (['--comments'], self.input_limit(given)) if rng.random() < 0.5]
-        if command == 'show' and rng.random() < 0.6:
-            options.append([rng.choice(('--brief', '--partial'))])
-        if command != 'show':
-            limits = some_limits(rng)[0]
-            options += [[*it] if rng.random() < 0.5 else ['='.join(it)] for it in zip(limits[::2], limits[1::2])]
+        for each in OPTIONS[command]:
+            values = {'--input-limit': self.input_limit(given), '--keys': rng.choice(LIMITS), '--per-source': rng.choice(LIMITS)}
+            if each != '--json' and rng.random() < 0.4:
+                value = [str(values[each])] if each in values else []
+                options.append([each, *value] if rng.random() < 0.5 else ['='.join([each, *value])])
         rng.shuffle(options)
+        if ['--brief'] in options and ['--partial'] in options and rng.random() < 0.9:
+            options.remove(rng.choice((['--brief'], ['--partial'])))
         words = [command, *sum(options, [])]
         if command == 'replay':
             names = [text_of(it) for it in rng.choices(self.traffic.names, k=rng.choice((1, 2, 4)))]
@@ -227,7 +238,6 @@ class Inputs:
         return words
 
     def input_limit(self, given):
-        """The words for a limit, which the input rarely passes."""
+        """A limit, which the input rarely passes."""
         rng, size = self.rng, len(given) or 1
-        most = rng.choice((size - 1, size - 1, size, size + 1, LATEST)) if rng.random() < 0.8 else rng.randrange(1, size + 1)
-        return ['--input-limit', str(max(1, most))]
+        return max(1, rng.choice((size - 1, size - 1, size, size + 1, LATEST)) if rng.random() < 0.8 else rng.randrange(1, size + 1))

@@ -1,4 +1,5 @@
-"""Runs of the program, each under limits of time and memory, and rules that they are held against, for tests/fuzz.py."""
+"""Runs of the program, each under limits of time and memory, and repeated: as they were, over slow devices, and with too little memory. For
+tests/fuzz.py."""
 import collections
 import contextlib
 import os
@@ -18,6 +19,7 @@ TEXTS = re.compile(rf'nbt: (?:{NAME_FAULT}|bad text {AT}|too long|full(?: source
                    rf'|zero piece|line {AT}|bad hex|trailing bytes {AT}|arguments|no tables|two tables wanted'
                    rf'|too many names|read|write|memory)\n')
 MEMORY_OR_DEVICE = re.compile(r'nbt: (?:read|write|memory)\n')
+FRONTS_ARE_LEFT_BY = ('show', 'replay')
 SILENT = ('name', 'build', 'save', 'merge', 'list')
 Run = collections.namedtuple('Run', 'words given environment status output errors')
 
@@ -110,6 +112,46 @@ class Runner:
         self.history.append(made)
         self.statuses[made.status] += 1
         return made
+
+    def repeat(self, rng):
+        """Repeats one of the runs that were made, in some of three ways."""
+        made = rng.choice(self.history)
+        with self.rule('the same answer twice'):
+            ends_as(self.run(made.words, made.given), made)
+        if rng.random() < 0.4 and not any(it.startswith('@') for it in made.words):
+            self.slowly(made, rng)
+        if rng.random() < 0.4:
+            self.without_memory(made, rng)
+
+    def slowly(self, made, rng):
+        """Reads and writes that move few bytes, and are interrupted, make no difference."""
+        with self.rule('short reads'):
+            most = rng.choice((1, 2, 7, 100, 4_095)) if len(made.given) + len(made.output) < 20_000 else 1_000
+            asked = {'NBT_MOST': most, 'NBT_READ_INTERRUPTS': rng.choice((0, 0, 1, 5)),
+                     'NBT_WRITE_INTERRUPTS': rng.choice((0, 0, 1, 5))}
+            ends_as(self.run(made.words, made.given, 'devices', **asked), made)
+
+    def without_memory(self, made, rng):
+        """Where a request for memory is refused, that is said, after whole lines of the output or none."""
+        with self.rule('memory refused'):
+            path = os.path.join(self.folder, 'requests')
+            ample = self.run(made.words, made.given, 'refuse_memory', NBT_REQUESTS=path)
+            ends_as(ample, made)
+            with open(path, encoding='ascii') as requests:
+                number = int(requests.read())
+            expect(number > 0, 'it asks for no memory')
+            for which in rng.sample(range(1, number + 1), min(number, 3)):
+                self.refused(made, which)
+
+    def refused(self, made, which):
+        """The same run, one request for memory refused."""
+        short = self.run(made.words, made.given, 'refuse_memory', NBT_REFUSED=which)
+        if made.status == 2 and short.status == 2:
+            return ends_as(short, made)
+        expect((short.status, short.errors) == (3, 'nbt: memory\n'), f'it ends with {short.status} and {short.errors!r}')
+        left = short.output
+        expect(not left or made.words[0] in FRONTS_ARE_LEFT_BY, 'an output at a refusal')
+        expect(made.output.startswith(left) and left[-1:] in (b'', b'\n'), 'no front of whole lines')
 
 
 def check_ending(made):

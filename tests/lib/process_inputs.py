@@ -43,6 +43,15 @@ COMMANDS = [
 READING = [['show'], ['save'], ['replay', 'FRED<20>'], ['merge'], ['list'], ['agree']]
 
 
+def forms():
+    """Commands that print in each form, and their inputs."""
+    rows = ((1, 3, 0, '6162'), (1, 2, 2, '6364'), (2, 3, 0, '00ff'), (3, 1, 7, ''))
+    given = ''.join(f'# key {row[0]}\n138 {at} {packet(*row)}\n' for at, row in enumerate(rows)) + '137 4 0001\n# end\ntick 2003\n'
+    for words in (['show', '--brief'], ['show', '--comments', '--json'], ['replay', '--json', '--comments', 'FRED<20>']):
+        yield words, given.encode()
+    yield ['list', '--json'], SPOILT
+
+
 def captures(count, data=''):
     """A capture of first fragments, each of another key."""
     return b''.join(f'138 0 {packet(it, data=data)}\n'.encode() for it in range(count))

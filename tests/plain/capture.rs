@@ -1,7 +1,7 @@
 //! The lines of a capture.
 
+use crate::bad;
 use crate::basics::{read_digits, read_line, space_in};
-use crate::Fault;
 use std::io::{self, BufReader, Read};
 
 /// The most bytes of a line, its line feed not counted.
@@ -54,30 +54,20 @@ fn parse(line: &[u8], payload: &mut Vec<u8>) -> Option<Line> {
     Some(Line::Payload(port, moment))
 }
 
-/// Gives each line's number, what it says, and its payload, as far as the capture can be read.
-pub fn each_line(mut act: impl FnMut(u64, Line, &[u8]) -> Result<(), Fault>) -> Result<(), Fault> {
-    let mut input = BufReader::with_capacity(BUFFER, io::stdin().lock().take(MOST_INPUT + 1));
-    let (mut line, mut payload, mut left) = (Vec::new(), Vec::new(), MOST_INPUT);
+/// Gives each line's number, what it says, and its payload.
+pub fn each_line(mut act: impl FnMut(u64, Line, &[u8]) -> io::Result<()>) -> io::Result<()> {
+    let mut input = BufReader::with_capacity(BUFFER, io::stdin().lock().take(MOST_INPUT));
+    let (mut line, mut payload) = (Vec::new(), Vec::new());
     for number in 1.. {
         line.clear();
-        let done = read_line(&mut input, LONGEST_LINE + 1, &mut line);
-        let over = line.len() as u64 > left;
-        left = left.saturating_sub(line.len() as u64);
-        let ended = line.last() == Some(&b'\n');
-        if ended || over {
-            line.pop();
-        }
-        if line.len() > LONGEST_LINE {
-            return Err(Fault::Line(number));
-        }
-        if done.is_err() || over {
-            return Err(Fault::Read);
-        }
-        if !ended && line.is_empty() {
-            break;
+        read_line(&mut input, LONGEST_LINE + 1, &mut line)?;
+        match line.pop() {
+            None => break,
+            Some(b'\n') => {}
+            Some(_) => return Err(bad()),
         }
         if !line.is_empty() && line[0] != b'#' {
-            let read = parse(&line, &mut payload).ok_or(Fault::Line(number))?;
+            let read = parse(&line, &mut payload).ok_or_else(bad)?;
             act(number, read, &payload)?;
         }
     }

@@ -1,12 +1,12 @@
 //! The join of saved tables: their entries sorted by key, of which those of one key are joined.
 
+use crate::bad;
 use crate::basics::read_digits;
 use crate::capture::MOST_INPUT;
 use crate::names::read_name;
 use crate::packets::{two_bytes, Key};
 use crate::report::Report;
 use crate::save::{save_front, save_held, save_number, save_run, save_spoilt, HELD, MAGIC, SPOILT};
-use crate::Fault;
 use std::io::{self, Read};
 
 /// An entry as it is saved, its key left out, and what it says, if its key isn't spoilt.
@@ -52,8 +52,8 @@ impl<'a> Rest<'a> {
 
     fn kind_and_names(&mut self) -> Option<&'a [u8]> {
         (0x10..=0x12).contains(self.0.first()?).then_some(())?;
-        let middle = read_name(self.0, 1).ok()?;
-        let end = read_name(self.0, middle).ok()?;
+        let middle = read_name(self.0, 1)?;
+        let end = read_name(self.0, middle)?;
         self.take(end)
     }
 
@@ -84,12 +84,7 @@ impl<'a> Rest<'a> {
             return None;
         }
         let runs = self.runs(end)?;
-        Some(Held {
-            kind_and_names,
-            end,
-            promise,
-            runs,
-        })
+        Some(Held { kind_and_names, end, promise, runs })
     }
 
     fn entry(&mut self) -> Option<Entry<'a>> {
@@ -105,42 +100,32 @@ impl<'a> Rest<'a> {
     }
 }
 
-/// Adds the entries of a saved table, if it is well formed, and has no more keys than may be.
-fn read_table<'a>(table: &'a [u8], most: usize, entries: &mut Vec<Entry<'a>>) -> Result<(), Fault> {
-    let bad = || Fault::Refused("bad table");
-    let mut rest = Rest(table.strip_prefix(MAGIC).ok_or_else(bad)?);
-    let count = rest.take(4).ok_or_else(bad)?;
-    let count = two_bytes(count, 0) as usize * 65_536 + two_bytes(count, 2) as usize;
+/// Adds the entries of a saved table, if it is well formed.
+fn read_table<'a>(table: &'a [u8], entries: &mut Vec<Entry<'a>>) -> Option<()> {
+    let mut rest = Rest(table.strip_prefix(MAGIC)?);
+    let count = rest.number()? << 16 | rest.number()?;
     let mut last = None;
     for _ in 0..count {
-        let entry = rest.entry().ok_or_else(bad)?;
-        if last >= Some(entry.key) {
-            return Err(bad());
+        let entry = rest.entry()?;
+        if last.replace(entry.key) >= Some(entry.key) {
+            return None;
         }
-        last = Some(entry.key);
         entries.push(entry);
     }
-    match rest.0 {
-        [] if count <= most => Ok(()),
-        [] => Err(Fault::Refused("full")),
-        _ => Err(bad()),
-    }
+    rest.0.is_empty().then_some(())
 }
 
-fn tables(input: &[u8]) -> Result<Vec<Vec<u8>>, Fault> {
-    let lines = input.strip_suffix(b"\n").unwrap_or(input);
-    if input.is_empty() {
-        return Err(Fault::Refused("no tables"));
-    }
+fn tables(input: &[u8]) -> Option<Vec<Vec<u8>>> {
+    let lines = input.strip_suffix(b"\n")?;
     let mut tables = Vec::new();
-    for (number, line) in (1..).zip(lines.split(|character| *character == b'\n')) {
+    for line in lines.split(|character| *character == b'\n') {
         let mut bytes = Vec::new();
-        if line.is_empty() || !read_digits(line, &mut bytes) {
-            return Err(Fault::Line(number));
+        if !read_digits(line, &mut bytes) {
+            return None;
         }
         tables.push(bytes);
     }
-    Ok(tables)
+    Some(tables)
 }
 
 /// The bytes of entries of one key, and where in them each run begins.
@@ -191,10 +176,8 @@ fn join(entries: &[Entry], joined: &mut Joined, report: &mut Report) -> Option<(
     let held = held?;
     let end = held.iter().find_map(|held| held.end);
     let promise = held.iter().filter_map(|held| held.promise).max();
-    let same = |each: &&Held| {
-        each.kind_and_names == held[0].kind_and_names
-            && each.end.is_none_or(|place| Some(place) == end)
-    };
+    let same =
+        |each: &&Held| each.kind_and_names == held[0].kind_and_names && each.end.is_none_or(|place| Some(place) == end);
     let mut runs = Vec::new();
     for each in &held {
         let mut rest = Rest(each.runs);
@@ -210,36 +193,22 @@ fn join(entries: &[Entry], joined: &mut Joined, report: &mut Report) -> Option<(
     if !held.iter().all(same) || !end.is_none_or(within) {
         return None;
     }
-    save_held(
-        entries[0].key,
-        &[held[0].kind_and_names],
-        [end, promise],
-        report,
-    );
+    save_held(entries[0].key, &[held[0].kind_and_names], [end, promise], report);
     joined.save(report);
     Some(())
 }
 
 /// Prints the join of the tables that are read.
-pub fn merge(most: usize, report: &mut Report) -> Result<(), Fault> {
+pub fn merge(report: &mut Report) -> io::Result<()> {
     let mut input = Vec::new();
-    let read = io::stdin()
-        .lock()
-        .take(MOST_INPUT + 1)
-        .read_to_end(&mut input);
-    if read.is_err() || input.len() as u64 > MOST_INPUT {
-        return Err(Fault::Read);
-    }
-    let tables = tables(&input)?;
+    io::stdin().lock().take(MOST_INPUT).read_to_end(&mut input)?;
+    let tables = tables(&input).ok_or_else(bad)?;
     let mut entries = Vec::new();
     for table in &tables {
-        read_table(table, most, &mut entries)?;
+        read_table(table, &mut entries).ok_or_else(bad)?;
     }
     entries.sort_by_key(|entry| entry.key);
     let of_one_key = || entries.chunk_by(|one, next| one.key == next.key);
-    if of_one_key().count() > most {
-        return Err(Fault::Refused("full"));
-    }
     save_front(of_one_key().count(), report);
     let mut joined = Joined::default();
     for entries in of_one_key() {

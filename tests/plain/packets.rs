@@ -1,6 +1,6 @@
 //! The packets of port 138.
 
-use crate::names::{read_name, NameFault};
+use crate::names::read_name;
 
 /// The sender's address and port and the datagram's identifier, in this order in one number.
 #[derive(Clone, Copy, PartialEq, Eq, PartialOrd, Ord, Hash)]
@@ -9,9 +9,7 @@ pub struct Key(u64);
 impl Key {
     /// The key that stands in the header of a packet.
     pub fn of(packet: &[u8]) -> Key {
-        let address_and_port = packet[4..10]
-            .iter()
-            .fold(0, |number, byte| number << 8 | *byte as u64);
+        let address_and_port = packet[4..10].iter().fold(0, |number, byte| number << 8 | *byte as u64);
         Key(address_and_port << 16 | two_bytes(packet, 2) as u64)
     }
 
@@ -41,8 +39,6 @@ pub const BROADCAST: u8 = 0x12;
 const MORE: u8 = 1;
 pub const FIRST: u8 = 2;
 pub const NOT_PRESENT: u8 = 0x82;
-const BAD_SOURCE: u8 = 0x83;
-const BAD_DESTINATION: u8 = 0x84;
 
 pub struct Fragment<'a> {
     pub kind: u8,
@@ -70,17 +66,6 @@ impl Fragment<'_> {
     }
 }
 
-pub enum Refusal {
-    Truncated(usize),
-    UnknownType,
-    /// Whose name is bad, and why; the error packet's key and code.
-    Name(&'static str, NameFault, Option<(Key, u8)>),
-    Misplaced,
-    TooLong,
-    FullSource,
-    Full,
-}
-
 /// What a packet has beside its kind, its flags and its key.
 pub enum Packet<'a> {
     Direct(Fragment<'a>),
@@ -93,36 +78,25 @@ pub fn two_bytes(bytes: &[u8], at: usize) -> u16 {
     u16::from_be_bytes([bytes[at], bytes[at + 1]])
 }
 
-fn first_bytes(packet: &[u8], count: usize) -> Result<&[u8], Refusal> {
-    packet.get(..count).ok_or(Refusal::Truncated(packet.len()))
-}
-
-pub fn decode(packet: &[u8]) -> Result<Packet<'_>, Refusal> {
-    match first_bytes(packet, 10)?[0] {
+/// What stands in a packet, if it is a good one.
+pub fn decode(packet: &[u8]) -> Option<Packet<'_>> {
+    match packet.get(..10)?[0] {
         0x10..=0x12 => fragment(packet).map(Packet::Direct),
-        0x13 => first_bytes(packet, 11).map(|bytes| Packet::Error(bytes[10])),
-        0x14..=0x16 => match read_name(packet, 10) {
-            Ok(end) => Ok(Packet::Query(&packet[10..end])),
-            Err(fault) => Err(Refusal::Name("destination", fault, None)),
-        },
-        _ => Err(Refusal::UnknownType),
+        0x13 => packet.get(10).copied().map(Packet::Error),
+        0x14..=0x16 => Some(Packet::Query(&packet[10..read_name(packet, 10)?])),
+        _ => None,
     }
 }
 
-fn fragment(packet: &[u8]) -> Result<Fragment<'_>, Refusal> {
-    let header = first_bytes(packet, 14)?;
-    let whole = first_bytes(packet, 14 + two_bytes(header, 10) as usize)?;
-    let key = Key::of(whole);
-    let kind = header[0];
-    let bad =
-        |whose, fault, code| Refusal::Name(whose, fault, (kind == UNIQUE).then_some((key, code)));
-    let middle = read_name(whole, 14).map_err(|fault| bad("source", fault, BAD_SOURCE))?;
-    let end =
-        read_name(whole, middle).map_err(|fault| bad("destination", fault, BAD_DESTINATION))?;
-    Ok(Fragment {
-        kind,
+fn fragment(packet: &[u8]) -> Option<Fragment<'_>> {
+    let header = packet.get(..14)?;
+    let whole = packet.get(..14 + two_bytes(header, 10) as usize)?;
+    let middle = read_name(whole, 14)?;
+    let end = read_name(whole, middle)?;
+    Some(Fragment {
+        kind: header[0],
         flags: header[1],
-        key,
+        key: Key::of(whole),
         offset: two_bytes(header, 12) as u32,
         names: &whole[14..end],
         source_length: middle - 14,

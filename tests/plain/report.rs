@@ -2,9 +2,8 @@
 
 use crate::basics::push_digits;
 use crate::capture::BUFFER;
-use crate::names::{is_plain, label_bytes, labels, name_bytes, NameFault, FIRST_LABEL, FRONT};
-use crate::packets::{Fragment, Key, Refusal, UNIQUE};
-use crate::Fault;
+use crate::names::{is_plain, label_bytes, labels, name_bytes, FIRST_LABEL, FRONT};
+use crate::packets::{Fragment, Key, UNIQUE};
 use std::fs::File;
 use std::io::{self, Write};
 use std::os::fd::AsFd;
@@ -18,17 +17,17 @@ impl Report {
     }
 
     /// Prints all that waits, as it is: std's own writer would look for its last line feed.
-    pub fn print(&mut self) -> Result<(), Fault> {
+    pub fn print(&mut self) -> io::Result<()> {
         if self.0.is_empty() {
             return Ok(());
         }
         let output = io::stdout().as_fd().try_clone_to_owned();
         let done = output.and_then(|output| File::from(output).write_all(&self.0));
         self.0.clear();
-        done.map_err(|_| Fault::Write)
+        done
     }
 
-    pub fn print_if_long(&mut self) -> Result<(), Fault> {
+    pub fn print_if_long(&mut self) -> io::Result<()> {
         if self.0.len() < BUFFER {
             return Ok(());
         }
@@ -109,10 +108,7 @@ impl Report {
 
     /// The sixteen bytes of a name, without its scope.
     pub fn sixteen(&mut self, bytes: &[u8]) {
-        let length = bytes[..FRONT]
-            .iter()
-            .rposition(|byte| *byte != b' ')
-            .map_or(0, |last| last + 1);
+        let length = bytes[..FRONT].iter().rposition(|byte| *byte != b' ').map_or(0, |last| last + 1);
         self.items(&bytes[..length]);
         self.words("<");
         self.digits(&bytes[FRONT..]);
@@ -146,12 +142,6 @@ impl Report {
         }
     }
 
-    pub fn name_fault(&mut self, fault: NameFault) {
-        self.words(fault.words);
-        self.words(" ");
-        self.number(fault.place as u64);
-    }
-
     /// An error packet to answer; it comes from 0.0.0.0:138.
     pub fn error(&mut self, key: Key, code: u8) {
         self.words(" error 1302");
@@ -174,28 +164,5 @@ impl Report {
         self.name(destination);
         self.words(" ");
         self.data(data);
-    }
-
-    pub fn refused(&mut self, refusal: Refusal) {
-        self.words("refused ");
-        match refusal {
-            Refusal::Truncated(place) => {
-                self.words("truncated ");
-                self.number(place as u64);
-            }
-            Refusal::UnknownType => self.words("unknown type"),
-            Refusal::Name(whose, fault, error) => {
-                self.words(whose);
-                self.words(" name: ");
-                self.name_fault(fault);
-                if let Some((key, code)) = error {
-                    self.error(key, code);
-                }
-            }
-            Refusal::Misplaced => self.words("misplaced first"),
-            Refusal::TooLong => self.words("too long"),
-            Refusal::FullSource => self.words("full source"),
-            Refusal::Full => self.words("full"),
-        }
     }
 }

@@ -1,32 +1,30 @@
 //! Tables as bytes, in hexadecimal.
 
+use crate::bad;
 use crate::capture::{each_line, Line};
-use crate::packets::{decode, Key, Packet, Refusal};
+use crate::packets::{decode, Key, Packet};
 use crate::report::Report;
 use crate::tables::{Datagram, Table};
-use crate::Fault;
+use std::io;
 
 pub const MAGIC: &[u8] = b"NBT2";
 pub const SPOILT: u8 = 0;
 pub const HELD: u8 = 1;
 
-fn take(table: &mut Table, moment: u64, payload: &[u8]) -> Result<(), Fault> {
-    let Ok(Packet::Direct(fragment)) = decode(payload) else {
-        return Ok(());
-    };
-    match table.insert(moment, &fragment) {
-        Err(Refusal::Full) => Err(Fault::Refused("full")),
-        Err(Refusal::FullSource) => Err(Fault::Refused("full source")),
-        _ => Ok(()),
+fn take(table: &mut Table, moment: u64, payload: &[u8]) -> Option<()> {
+    if let Packet::Direct(fragment) = decode(payload)? {
+        table.insert(moment, &fragment)?;
     }
+    Some(())
 }
 
 /// Prints the table of a capture.
-pub fn save(mut table: Table, report: &mut Report) -> Result<(), Fault> {
+pub fn save(report: &mut Report) -> io::Result<()> {
+    let mut table = Table::default();
     each_line(|_, line, payload| {
         match line {
             Line::Tick(now) => drop(table.tick(now)),
-            Line::Payload(138, moment) => take(&mut table, moment, payload)?,
+            Line::Payload(138, moment) => take(&mut table, moment, payload).ok_or_else(bad)?,
             Line::Payload(..) => {}
         }
         Ok(())
@@ -55,12 +53,7 @@ pub fn save_spoilt(key: Key, report: &mut Report) {
 }
 
 /// What of a datagram stands before its runs.
-pub fn save_held(
-    key: Key,
-    kind_and_names: &[&[u8]],
-    places: [Option<u32>; 2],
-    report: &mut Report,
-) {
+pub fn save_held(key: Key, kind_and_names: &[&[u8]], places: [Option<u32>; 2], report: &mut Report) {
     report.digits(&key.bytes());
     report.digits(&[HELD]);
     for bytes in kind_and_names {

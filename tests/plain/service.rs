@@ -1,88 +1,61 @@
 //! The packets of port 137.
 
-use crate::names::{read_domain, NameFault};
+use crate::names::read_domain;
 use crate::packets::two_bytes;
 use crate::report::Report;
 
 const HEADER: usize = 12;
 const NAME_SERVER: u16 = 0x0002;
-const ADDRESSES: u16 = 0x0020;
-const STATUS: u16 = 0x0021;
+pub const ADDRESSES: u16 = 0x0020;
+pub const STATUS: u16 = 0x0021;
 /// The sections of records, and where their counts stand.
-const RECORDS: [(&str, usize); 3] = [("answer", 6), ("authority", 8), ("additional", 10)];
+pub const RECORDS: [(&str, usize); 3] = [("answer", 6), ("authority", 8), ("additional", 10)];
 const COUNTS: [(&str, usize); 4] = [(" qd=", 4), (" an=", 6), (" ns=", 8), (" ar=", 10)];
-const FLAGS: [(u16, &str); 5] = [
-    (0x0400, "AA"),
-    (0x0200, "TC"),
-    (0x0100, "RD"),
-    (0x0080, "RA"),
-    (0x0010, "B"),
-];
-const NAME_FLAGS: [(u16, &str); 5] = [
-    (0x8000, "G"),
-    (0x1000, "DRG"),
-    (0x0800, "CNF"),
-    (0x0400, "ACT"),
-    (0x0200, "PRM"),
-];
-const RCODES: [&str; 8] = [
-    "ok", "FMT_ERR", "SRV_ERR", "NAM_ERR", "IMP_ERR", "RFS_ERR", "ACT_ERR", "CFT_ERR",
-];
-
-enum ServiceFault {
-    Truncated,
-    Name(NameFault),
-    NameRdata(usize),
-}
+const FLAGS: [(u16, &str); 5] = [(0x0400, "AA"), (0x0200, "TC"), (0x0100, "RD"), (0x0080, "RA"), (0x0010, "B")];
+const NAME_FLAGS: [(u16, &str); 5] =
+    [(0x8000, "G"), (0x1000, "DRG"), (0x0800, "CNF"), (0x0400, "ACT"), (0x0200, "PRM")];
+const RCODES: [&str; 8] = ["ok", "FMT_ERR", "SRV_ERR", "NAM_ERR", "IMP_ERR", "RFS_ERR", "ACT_ERR", "CFT_ERR"];
 
 /// Where a question or a record stands: its name, and the fields after it.
 pub struct Entry {
-    name: usize,
-    fields: usize,
+    pub name: usize,
+    pub fields: usize,
 }
 
 /// A packet, and what was found in it.
-struct Service<'a> {
-    packet: &'a [u8],
-    entries: &'a mut Vec<Entry>,
+pub struct Service<'a> {
+    pub packet: &'a [u8],
+    pub entries: &'a mut Vec<Entry>,
 }
 
 impl Service<'_> {
-    fn count(&self, at: usize) -> usize {
+    pub fn count(&self, at: usize) -> usize {
         two_bytes(self.packet, at) as usize
     }
 
-    fn need(&self, end: usize) -> Result<usize, ServiceFault> {
-        if end <= self.packet.len() {
-            Ok(end)
-        } else {
-            Err(ServiceFault::Truncated)
-        }
+    fn need(&self, end: usize) -> Option<usize> {
+        (end <= self.packet.len()).then_some(end)
     }
 
-    fn domain(&self, at: usize) -> Result<usize, ServiceFault> {
-        read_domain(self.packet, at).map_err(ServiceFault::Name)
-    }
-
-    fn question(&mut self, name: usize) -> Result<usize, ServiceFault> {
-        let fields = self.domain(name)?;
+    fn question(&mut self, name: usize) -> Option<usize> {
+        let fields = read_domain(self.packet, name)?;
         self.entries.push(Entry { name, fields });
         self.need(fields + 4)
     }
 
-    fn record(&mut self, name: usize) -> Result<usize, ServiceFault> {
-        let fields = self.domain(name)?;
+    fn record(&mut self, name: usize) -> Option<usize> {
+        let fields = read_domain(self.packet, name)?;
         let rdata = self.need(fields + 10)?;
         let end = self.need(rdata + self.count(fields + 8))?;
-        if two_bytes(self.packet, fields) == NAME_SERVER && self.domain(rdata)? != end {
-            return Err(ServiceFault::NameRdata(rdata));
+        if two_bytes(self.packet, fields) == NAME_SERVER && read_domain(self.packet, rdata)? != end {
+            return None;
         }
         self.entries.push(Entry { name, fields });
-        Ok(end)
+        Some(end)
     }
 
     /// Judges all of the packet, and gives the offset after the last record.
-    fn read(&mut self) -> Result<usize, ServiceFault> {
+    pub fn read(&mut self) -> Option<usize> {
         self.entries.clear();
         let mut at = self.need(HEADER)?;
         for _ in 0..self.count(4) {
@@ -93,7 +66,7 @@ impl Service<'_> {
                 at = self.record(at)?;
             }
         }
-        Ok(at)
+        Some(at)
     }
 
     fn show_header(&self, used: usize, report: &mut Report) {
@@ -211,25 +184,9 @@ fn show_status(rdata: &[u8], report: &mut Report) {
     }
 }
 
-pub fn show_service(packet: &[u8], entries: &mut Vec<Entry>, report: &mut Report) {
+pub fn show_service(packet: &[u8], entries: &mut Vec<Entry>, report: &mut Report) -> Option<()> {
     let mut service = Service { packet, entries };
-    let fault = match service.read() {
-        Ok(used) => return service.show(used, report),
-        Err(fault) => fault,
-    };
-    report.words("refused ");
-    match fault {
-        ServiceFault::Truncated => {
-            report.words("truncated ");
-            report.number(packet.len() as u64);
-        }
-        ServiceFault::Name(fault) => {
-            report.words("name: ");
-            report.name_fault(fault);
-        }
-        ServiceFault::NameRdata(place) => {
-            report.words("name rdata ");
-            report.number(place as u64);
-        }
-    }
+    let used = service.read()?;
+    service.show(used, report);
+    Some(())
 }

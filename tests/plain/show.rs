@@ -1,23 +1,16 @@
 //! What `show` prints of each line of a capture.
 
+use crate::bad;
 use crate::capture::{each_line, Line};
-use crate::packets::{decode, two_bytes, Key, Packet, Refusal};
+use crate::packets::{decode, two_bytes, Key, Packet};
 use crate::report::Report;
 use crate::service::show_service;
 use crate::session::show_session;
-use crate::Fault;
+use std::io;
 
-const KINDS: [&str; 7] = [
-    "unique ",
-    "group ",
-    "broadcast ",
-    "error ",
-    "find ",
-    "found ",
-    "missing ",
-];
+const KINDS: [&str; 7] = ["unique ", "group ", "broadcast ", "error ", "find ", "found ", "missing "];
 
-pub fn show(report: &mut Report) -> Result<(), Fault> {
+pub fn show(report: &mut Report) -> io::Result<()> {
     let mut entries = Vec::new();
     each_line(|number, line, payload| {
         report.number(number);
@@ -28,15 +21,15 @@ pub fn show(report: &mut Report) -> Result<(), Fault> {
             }
             Line::Payload(137, _) => {
                 report.words(" 137 ");
-                show_service(payload, &mut entries, report);
+                show_service(payload, &mut entries, report).ok_or_else(bad)?;
             }
             Line::Payload(138, _) => {
                 report.words(" 138 ");
-                show_datagram(payload, report);
+                show_datagram(payload, report).ok_or_else(bad)?;
             }
             Line::Payload(..) => {
                 report.words(" 139 ");
-                show_session(payload, report);
+                show_session(payload, report).ok_or_else(bad)?;
             }
         }
         report.words("\n");
@@ -44,14 +37,8 @@ pub fn show(report: &mut Report) -> Result<(), Fault> {
     })
 }
 
-fn show_datagram(payload: &[u8], report: &mut Report) {
-    let packet = match decode(payload) {
-        Ok(packet) => packet,
-        Err(Refusal::Name(whose, fault, _)) => {
-            return report.refused(Refusal::Name(whose, fault, None))
-        }
-        Err(refusal) => return report.refused(refusal),
-    };
+fn show_datagram(payload: &[u8], report: &mut Report) -> Option<()> {
+    let packet = decode(payload)?;
     report.words(KINDS[(payload[0] - 0x10) as usize]);
     report.words("flags=");
     report.digits(&payload[1..2]);
@@ -82,4 +69,5 @@ fn show_datagram(payload: &[u8], report: &mut Report) {
     };
     report.words(" used=");
     report.number(used as u64);
+    Some(())
 }

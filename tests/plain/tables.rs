@@ -1,10 +1,11 @@
 //! Datagrams that are put together, and the table of their keys.
 
 use crate::basics::{kept, Kept};
-use crate::packets::{Fragment, Key, Refusal, FIRST};
+use crate::packets::{Fragment, Key, FIRST};
 use std::collections::hash_map::Entry as Slot;
 use std::collections::{BTreeMap, HashMap};
 
+const MOST_KEYS: usize = 65_535;
 const LONGEST_DATAGRAM: u32 = 65_535;
 /// For how many milliseconds a key is held.
 const HELD_FOR: u64 = 2_000;
@@ -45,10 +46,7 @@ impl Datagram {
         if !fragment.more() {
             return self.end.is_none_or(|end| end == reach)
                 && self.promise.is_none_or(|promise| promise < reach)
-                && self
-                    .runs
-                    .last_key_value()
-                    .is_none_or(|(start, bytes)| start + bytes.len() as u32 <= reach);
+                && self.runs.last_key_value().is_none_or(|(start, bytes)| start + bytes.len() as u32 <= reach);
         }
         self.end.is_none_or(|end| reach < end)
     }
@@ -100,11 +98,10 @@ impl Datagram {
     fn join(&mut self, offset: u32, data: &[u8]) {
         let reach = offset + data.len() as u32;
         let before = self.runs.range_mut(..=offset).next_back();
-        let (start, mut run) =
-            match before.filter(|(start, run)| *start + run.len() as u32 >= offset) {
-                Some((&start, run)) => (start, std::mem::take(run)),
-                None => (offset, self.next_run(offset, data)),
-            };
+        let (start, mut run) = match before.filter(|(start, run)| *start + run.len() as u32 >= offset) {
+            Some((&start, run)) => (start, std::mem::take(run)),
+            None => (offset, self.next_run(offset, data)),
+        };
         append(&mut run, start, offset, data);
         while let Some((&next, _)) = self.runs.range(start + 1..=reach).next() {
             if let Some(bytes) = self.runs.remove(&next) {
@@ -125,11 +122,10 @@ impl Datagram {
     }
 
     fn is_whole(&self) -> bool {
-        self.end
-            .is_some_and(|end| match self.runs.first_key_value() {
-                None => end == 0,
-                Some((start, bytes)) => *start == 0 && bytes.len() as u32 == end,
-            })
+        self.end.is_some_and(|end| match self.runs.first_key_value() {
+            None => end == 0,
+            Some((start, bytes)) => *start == 0 && bytes.len() as u32 == end,
+        })
     }
 
     /// The data of a whole datagram.
@@ -152,111 +148,47 @@ struct Held {
     datagram: Option<Datagram>,
 }
 
-/// How many keys there may be, and how many there are of each address, where that is limited.
-struct Limits {
-    keys: usize,
-    per_source: Option<usize>,
-    of_address: HashMap<u32, usize>,
-}
-
-impl Limits {
-    fn take(&mut self, address: u32, held: usize) -> Result<(), Refusal> {
-        let Some(most) = self.per_source else {
-            return if held < self.keys {
-                Ok(())
-            } else {
-                Err(Refusal::Full)
-            };
-        };
-        let count = self.of_address.get(&address).map_or(0, |count| *count);
-        if count >= most {
-            return Err(Refusal::FullSource);
-        }
-        if held >= self.keys {
-            return Err(Refusal::Full);
-        }
-        self.of_address.insert(address, count + 1);
-        Ok(())
-    }
-
-    fn give_back(&mut self, address: u32) {
-        if let Slot::Occupied(mut count) = self.of_address.entry(address) {
-            *count.get_mut() -= 1;
-            if *count.get() == 0 {
-                count.remove();
-            }
-        }
-    }
-}
-
 pub enum Change<'a> {
     Kept,
     Spoilt,
     Whole(&'a Datagram),
 }
 
+#[derive(Default)]
 pub struct Table {
-    limits: Limits,
     held: HashMap<Key, Held>,
 }
 
 impl Table {
-    pub fn new(keys: usize, per_source: Option<usize>) -> Table {
-        Table {
-            limits: Limits {
-                keys,
-                per_source,
-                of_address: HashMap::new(),
-            },
-            held: HashMap::new(),
+    /// Takes a fragment in, if it is a good one and there is room, and says what it changed.
+    pub fn insert(&mut self, moment: u64, fragment: &Fragment) -> Option<Change<'_>> {
+        let is_first = fragment.flags & FIRST != 0;
+        if is_first != (fragment.offset == 0) || fragment.reach() > LONGEST_DATAGRAM {
+            return None;
         }
-    }
-
-    /// Takes a fragment in, if the limits allow it, and says what it changed.
-    pub fn insert(&mut self, moment: u64, fragment: &Fragment) -> Result<Change<'_>, Refusal> {
-        if (fragment.flags & FIRST != 0) != (fragment.offset == 0) {
-            return Err(Refusal::Misplaced);
-        }
-        if fragment.reach() > LONGEST_DATAGRAM {
-            return Err(Refusal::TooLong);
-        }
-        let count = self.held.len();
+        let is_full = self.held.len() >= MOST_KEYS;
         let state = match self.held.entry(fragment.key) {
             Slot::Occupied(held) => &mut held.into_mut().datagram,
+            Slot::Vacant(_) if is_full => return None,
             Slot::Vacant(place) => {
-                self.limits.take(fragment.key.address(), count)?;
-                &mut place
-                    .insert(Held {
-                        since: moment,
-                        datagram: Some(Datagram::new(fragment)),
-                    })
-                    .datagram
+                let since = moment;
+                let datagram = Some(Datagram::new(fragment));
+                &mut place.insert(Held { since, datagram }).datagram
             }
         };
-        if state
-            .as_ref()
-            .is_some_and(|datagram| !datagram.agrees(fragment))
-        {
+        if state.as_ref().is_some_and(|datagram| !datagram.agrees(fragment)) {
             *state = None;
-            return Ok(Change::Spoilt);
+            return Some(Change::Spoilt);
         }
         let Some(datagram) = state else {
-            return Ok(Change::Kept);
+            return Some(Change::Kept);
         };
-        Ok(if datagram.add(fragment) {
-            Change::Whole(datagram)
-        } else {
-            Change::Kept
-        })
+        Some(if datagram.add(fragment) { Change::Whole(datagram) } else { Change::Kept })
     }
 
     /// What is known of each key, ascending.
     pub fn sorted(&self) -> Vec<(Key, Option<&Datagram>)> {
-        let mut sorted: Vec<_> = self
-            .held
-            .iter()
-            .map(|(key, held)| (*key, held.datagram.as_ref()))
-            .collect();
+        let mut sorted: Vec<_> = self.held.iter().map(|(key, held)| (*key, held.datagram.as_ref())).collect();
         sorted.sort_unstable_by_key(|(key, _)| *key);
         sorted
     }
@@ -264,14 +196,7 @@ impl Table {
     /// Drops the keys whose time is over at this moment, and counts them.
     pub fn tick(&mut self, now: u64) -> usize {
         let before = self.held.len();
-        let limits = &mut self.limits;
-        self.held.retain(|key, held| {
-            let stays = now.saturating_sub(held.since) < HELD_FOR;
-            if !stays && limits.per_source.is_some() {
-                limits.give_back(key.address());
-            }
-            stays
-        });
+        self.held.retain(|_, held| now.saturating_sub(held.since) < HELD_FOR);
         before - self.held.len()
     }
 }

@@ -1,53 +1,82 @@
 #!/usr/bin/env python3
-"""Random captures through tools/pcap2cap, beside an independent reading of their bytes.
+"""Random captures through the page's own reading of files, beside tools/pcap2cap, which has tshark read them.
 
-Usage: tests/wireshark/random_captures.py COUNT [SEED]
+Usage: tests/page/page_captures.py COUNT [SEED]
 
-Each has datagrams, fragments of IP and TCP streams as networks deliver them, below VLAN tags and tunnels, with snap lengths, as
-pcap or pcapng. Each payload has to come once, in order, with its moment, frame and addresses, and the summary has to be exact.
-Its last line is 'N passed, M failed'; a capture that fails is kept in the folder of temporary files, and named.
+Each has datagrams, fragments of IP and TCP streams as networks deliver them, below VLAN tags, with snap lengths, as pcap or pcapng, in
+either byte order; some of them cooked as Linux does, in both versions, or from a loopback. What both print has to be the same, byte for
+byte: payloads with their moments, frames and ends, comments on what is left out, ticks, and the summary with its counts by reason. Its
+last line is 'N passed, M failed'; a capture that fails is kept in the folder of temporary files, and named.
 """
+import os
+import re
+import struct
 import subprocess
 import sys
 
 sys.dont_write_bytecode = True
 sys.path[1:1] = [f'{sys.path[0]}/../{it}' for it in ('captures', 'lib')]
-from pcap_expected import Expected
-from pcap_reading import frames_of
-from random_pcap import pcap_of
+import random_pcap
 from seeds import compared, first_unlike
 
-TOOL = f'{sys.path[0]}/../../tools/pcap2cap'
+TOP = os.path.realpath(f'{sys.path[0]}/../..')
+PROGRAM = ['node', f'{TOP}/page/tests/capture.mjs']
+TOOL = [f'{TOP}/tools/pcap2cap']
+
+
+def untunneled(packet):
+    """The page reads no tunnels."""
+    return packet
+
+
+# Link layers of frames that were of Ethernet: their numbers, and what stands in the place of the addresses and the type.
+COOKED, COOKED_2, NULL, LOOPBACK = 113, 276, 0, 108
+IPV4, IPV6 = b'\x08\x00', b'\x86\xdd'
+
+
+def link_of(link, kind):
+    """The header of a link layer, before the packet that a type of Ethernet names."""
+    if link == COOKED:
+        return struct.pack('>HHH8s', 0, 1, 6, bytes(8)) + kind
+    if link == COOKED_2:
+        return kind + struct.pack('>HLHBB8s', 0, 1, 1, 0, 6, bytes(8))
+    family = 2 if kind == IPV4 else 30
+    return struct.pack('<L' if link == NULL else '>L', family)
+
+
+def relinked(data, rng):
+    """A pcap file of Ethernet with another link layer, or the same one."""
+    order = {b'\xd4\xc3\xb2\xa1': '<', b'\x4d\x3c\xb2\xa1': '<', b'\xa1\xb2\xc3\xd4': '>', b'\xa1\xb2\x3c\x4d': '>'}.get(data[:4])
+    link = rng.choice((None, COOKED, COOKED_2, NULL, LOOPBACK))
+    if order is None or link is None or struct.unpack(order + 'L', data[20:24])[0] != random_pcap.ETHERNET:
+        return data
+    parts, at = [data[:20] + struct.pack(order + 'L', link)], 24
+    while at < len(data):
+        second, part, captured, size = struct.unpack(order + '4L', data[at:at + 16])
+        frame, at = data[at + 16:at + 16 + captured], at + 16 + captured
+        if captured < 14 or (link in (NULL, LOOPBACK) and frame[12:14] not in (IPV4, IPV6)):
+            continue
+        front = link_of(link, frame[12:14])
+        parts.append(struct.pack(order + '4L', second, part, captured - 14 + len(front), size - 14 + len(front)) + front + frame[14:])
+    return b''.join(parts)
 
 
 def main():
-    return compared('captures', pcap_of, first_difference)
+    random_pcap.vxlan = random_pcap.nested = random_pcap.gre = untunneled
+    return compared('page', lambda rng: relinked(random_pcap.pcap_of(rng), rng), first_difference)
 
 
 def first_difference(path):
-    """What the tool gives of a capture, where the independent reading says something else."""
-    with open(path, 'rb') as file:
-        frames = frames_of(file.read())
-    expected = Expected(frames)
-    done = subprocess.run([TOOL, path], capture_output=True, text=True, timeout=120)
-    summary = f'{len(frames)} frames, {expected.ours} of these ports, {len(expected.left_out)} left out'
-    if not adds_up(done.stderr.strip(), summary):
-        return f'{done.stderr.strip()}, not {summary}; left out: {sorted(expected.left_out)}'
-    return first_unlike(payloads(done.stdout), expected.lines)
+    """What the two print of a capture, where it isn't the same."""
+    given, wanted = (subprocess.run([*words, path], capture_output=True, text=True, timeout=120) for words in (PROGRAM, TOOL))
+    return first_unlike(given.stdout.splitlines(), wanted.stdout.splitlines()) or first_unlike(counts(given.stderr), counts(wanted.stderr))
 
 
-def adds_up(text, summary):
-    """Whether a summary begins so, and has as many frames by reason as are left out."""
-    front, _, reasons = text.partition(': ')
-    counts = [int(each.split(' ', 1)[0]) for each in reasons.split(', ') if each]
-    return front == summary and sum(counts) == int(summary.split()[-3])
-
-
-def payloads(text):
-    """The lines of payloads, with the comments on their frames."""
-    lines = text.splitlines()
-    return [line for number, line in enumerate(lines) if line.startswith('13') or (
-        line.startswith('# frame ') and lines[number + 1:number + 2] and lines[number + 1].startswith('13') and ' > ' in line)]
+def counts(summary):
+    """What a summary counts; the order of reasons with the same count is left to each. pcap2cap says in words that there is no frame."""
+    if summary.endswith('it has no frame\n'):
+        summary = '0 frames, 0 of these ports, 0 left out'
+    return sorted(set(re.split(': |, ', summary.strip())))
 
 
 if __name__ == '__main__':

@@ -11,12 +11,6 @@ pub fn kept(names: &[u8]) -> Kept {
     Kept::try_from(names).expect("at most two names")
 }
 
-pub fn digit(character: u8) -> Option<u8> {
-    let mut value = [0];
-    hex::decode_to_slice([b'0', character], &mut value).ok()?;
-    Some(value[0])
-}
-
 /// Puts the bytes that the digits stand for in the place of what was there. Says whether they are
 /// digits, two for each byte.
 pub fn read_digits(digits: &[u8], bytes: &mut Vec<u8>) -> bool {

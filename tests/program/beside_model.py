@@ -1,0 +1,247 @@
+#!/usr/bin/env python3
+"""What the program prints of captures and saved tables, with `--json` and without, beside a model that reads payloads and tables.
+
+Usage: tests/program/beside_model.py [--seed N] [--payloads N] [PROGRAM]; its last line is 'N passed, M failed', the one before says what was
+compared. A case is a command with an input: those of tests/cases, the payloads of the examples of crates/nb_examples, the captures of examples/, the
+examples cut at each length, and captures and saved tables made by chance, until so many payloads (10,000) were shown. It prints what the model
+has, byte for byte, and ends as that says, with `--json` too, where the command takes it. A case is also each kind of front and each phrase of
+docs/FORMATS.md: there were some; and the two longest phrases are as long as that page has it, and none is longer.
+"""
+import argparse
+import collections
+import os
+import random
+import re
+import shlex
+import subprocess
+import sys
+import tempfile
+
+sys.path[1:1] = [f'{sys.path[0]}/../{it}' for it in ('.', 'captures', 'lib')]
+from fuzz_inputs import ROOT, capture_lines, example_bytes
+from limits import NAMED
+from model.objects import SECTIONS
+from object_inputs import OPTIONS, Inputs, ServicePacket
+from payloads import longest_phrases
+from printed import Unknown, wanted
+from seeds import first_unlike
+
+TESTS = os.path.join(ROOT, 'tests')
+SECONDS, LONGEST_PRINTED = 600, 1_000
+SPELLINGS = re.compile(r'^(\w+)=([0-9a-z$]+)$', re.MULTILINE)
+STATION = ['FRED<20>', 'JOE<00>', 'ANN<03>.A']
+LONGEST_PAYLOAD, LONGEST_EXAMPLE, IN_CAPTURE, FRONTS = 2_000, 400, 500, 10_000
+TABLES = 3
+RECORDER = '''#!/bin/sh
+case $1 in
+show | replay | save | merge | list | agree)
+    record=$(mktemp -d "$NBT_RECORDS/XXXXXX")
+    cat >"$record/input"
+    for word; do printf '%s\\n' "$word"; done >"$record/words"
+    exec "$NBT_PROGRAM" "$@" <"$record/input"
+    ;;
+esac
+exec "$NBT_PROGRAM" "$@"
+'''
+DEVICES = '''#!/bin/sh
+exec env "$@"
+'''
+KINDS = (
+    'none of 137', '137 with items', '137 without', 'none of 138', '138 without names', '138 with source',
+    '138 with both', '138 of no kind', 'none of 139', '139 of a kind', '139 of no kind',
+)
+# Flag words and codes that the standard has.
+OPERATIONS, OUTCOMES, CODES = (0, 0, 5, 5, 6, 7, 8, 9, 15), (0, 0, 0, 1, 2, 3, 4, 5, 6, 7, 8), (0x80, 0x81, 0x82, 0x83, 0x84, 0x8f)
+PHRASES = re.compile(r'^\| .* \| `([^`]+)` \|$', re.MULTILINE)
+BY = re.compile(r'[A-Z]+|[.*+?^$()\[\]{}|\\]')
+# The status of a node that has a unit and no names, which chance makes too seldom.
+NO_NAMES = 137, bytes.fromhex('000184000000000100000000' '00' '00210001' '00000000' '0007' '00' '001122334455')
+# How long the longest phrases are: where no name has more than 19 bytes, and of any names.
+LONGEST_OF_19, LONGEST = 205, 1_633
+
+
+class Cases:
+    """Holds runs against the model, counts them, and remembers fronts and phrases."""
+
+    def __init__(self, program, rng):
+        self.program, self.rng = os.path.abspath(program), rng
+        self.passed = self.failed = 0
+        self.compared, self.said = collections.Counter(), []
+
+    def count(self, why):
+        """One case more, which went well if nothing is wrong."""
+        self.passed += not why
+        self.failed += bool(why)
+        if why:
+            print(f'failed: {why[:LONGEST_PRINTED]}', flush=True)
+
+    def check(self, words, given):
+        """A command with an input, and with `--json` where it takes that. Where the model knows no such command, clap answers."""
+        command, *rest = [it for it in words if it != '--json']
+        found = {}
+        for form in ([], ['--json'])[:1 + ('--json' in OPTIONS[command])]:
+            made = subprocess.run([self.program, command, *form, *rest], input=given, capture_output=True, timeout=SECONDS, check=False)
+            try:
+                model = found['model'] = found.get('model') or wanted([command, *rest], given)
+                why = unlike(made, model, bool(form))
+            except Unknown:
+                why = '' if made.returncode == 2 or made.returncode == 0 and b'--help' in made.stdout else f'clap ends with {made.returncode}'
+            self.count(why and f'nbt {shlex.join([command, *form, *rest])}: {why}, input {given[:300]!r}')
+        if 'model' in found and command == 'show':
+            self.remember(rest, found['model'].objects)
+
+    def remember(self, words, objects):
+        self.compared['payloads'] += sum('port' in it for it in objects)
+        self.said += [it['brief'] for it in objects if 'brief' in it]
+        if '--partial' in words:
+            self.compared.update(kind_of(it) for it in objects if 'refused' in it or 'more' in it)
+
+    def end(self):
+        """Prints what was compared, and the last line; the status."""
+        print('compared: ' + ', '.join(f'{self.compared[it]} {it}' for it in sorted(self.compared)))
+        print(f'{self.passed} passed, {self.failed} failed')
+        return 1 if self.failed else 0
+
+
+def unlike(made, model, is_json):
+    """How a run isn't as the model has it, if it isn't."""
+    if (made.returncode, made.stderr) != (model.status, made.stderr if model.errors is None else model.errors):
+        return f'it ends as {made.returncode}, {made.stderr}, not as {model.status}, {model.errors}'
+    right = model.output(is_json)
+    return '' if made.stdout == right else first_unlike(made.stdout.split(b'\n'), right.split(b'\n'))
+
+
+def kind_of(front):
+    """Which kind of front an object has."""
+    port = front['port']
+    if port == 137:
+        return 'none of 137' if 'id' not in front else '137 with items' if any(front.get(it) for it in SECTIONS) else '137 without'
+    if 'type' in front or 'kind' not in front:
+        return f'{port} of no kind' if 'type' in front else f'none of {port}'
+    if port == 139:
+        return '139 of a kind'
+    return '138 with both' if 'destination' in front else '138 with source' if 'source' in front else '138 without names'
+
+
+def spelled_cases():
+    """The commands of tests/cases that read a capture or tables, with their spellings."""
+    with open(os.path.join(TESTS, 'program.sh'), encoding='utf-8') as script:
+        spellings = dict(SPELLINGS.findall(script.read()))
+    spellings['empty'] = spellings['empty'].replace('$joe', spellings['joe']).replace('$fred', spellings['fred'])
+    spellings |= {name.lower(): str(limit) for name, limit in NAMED.items()}
+    for name in sorted(os.listdir(os.path.join(TESTS, 'cases'))):
+        with open(os.path.join(TESTS, 'cases', name), encoding='utf-8') as cases:
+            for line in cases:
+                if line.startswith(('$ ', '& ')) and re.search(r'\bnbt\b', line) and re.search(r'\b(show|replay|save|merge|list|agree)\b', line):
+                    yield re.sub(r'\{([A-Z_]+)\}', lambda it: spellings[it[1].lower()], line[2:].rstrip('\n'))
+
+
+def recorded(program):
+    """The words and the input of each run of such a command; devices that fail are left out."""
+    with tempfile.TemporaryDirectory() as room:
+        records, tools, files = (os.path.join(room, it) for it in ('records', 'bin', 'files'))
+        for folder in (records, tools, files):
+            os.mkdir(folder)
+        for tool, text in (('nbt', RECORDER), ('hostile', DEVICES)):
+            with open(os.path.join(tools, tool), 'w', encoding='utf-8') as written:
+                written.write(text)
+            os.chmod(written.name, 0o755)
+        env = {**os.environ, 'PATH': f'{tools}:{os.environ["PATH"]}', 'NBT_RECORDS': records, 'NBT_PROGRAM': program}
+        for command in spelled_cases():
+            subprocess.run(['bash', '-c', command], cwd=files, env=env, stdin=subprocess.DEVNULL, stdout=subprocess.DEVNULL,
+                           stderr=subprocess.DEVNULL, timeout=120, check=False)
+        for record in sorted(os.listdir(records)):
+            with open(os.path.join(records, record, 'words'), encoding='utf-8') as words, \
+                    open(os.path.join(records, record, 'input'), 'rb') as given:
+                yield words.read().split('\n')[:-1], given.read()
+
+
+def capture_of(payloads):
+    """A capture of payloads with their ports."""
+    return b''.join(b'%d 7 %b\n' % (port, payload.hex().encode() or b'empty') for port, payload in payloads)
+
+
+def samples(cases, payloads):
+    """Each payload of the examples at each port, with comments between; the captures of examples/; and the examples cut at each length."""
+    captures = [b'\n'.join(capture_lines())]
+    for port in (137, 138, 139):
+        lines = [b'# %d "\\\x07\xff\n%d %d %b' % (at, port, at, it.hex().encode() or b'empty') for at, it in enumerate(payloads)]
+        captures.append(b'\n\n'.join(lines))
+    for given in captures:
+        for words in (['show'], ['show', '--comments'], ['show', '--brief'], ['replay', *STATION], ['replay', '--comments', *STATION], ['save']):
+            cases.check(words, given)
+    for table in payloads:
+        if table[:3] == b'NBT':
+            cases.check(['list'], table.hex().encode())
+            cases.check(['agree'], table.hex().encode() * 2)
+    cut = [(port, it[:length]) for port in (137, 138, 139) for it in payloads if len(it) <= LONGEST_EXAMPLE for length in range(len(it) + 1)]
+    cut = cases.rng.sample(cut, FRONTS)
+    for at in range(0, FRONTS, IN_CAPTURE):
+        cases.check(['show', '--partial'], capture_of(cut[at:at + IN_CAPTURE]))
+
+
+def likely(rng, port, payload):
+    """A payload, mostly with a flag word or a code that the standard has."""
+    changed = bytearray(payload)
+    if port == 137 and len(payload) >= 12 and rng.random() < 0.8:
+        word = rng.choice((0, 0x8000)) | rng.choice(OPERATIONS) << 11 | rng.randrange(128) << 4 | rng.choice(OUTCOMES)
+        changed[2:4] = word.to_bytes(2, 'big')
+    if port == 138 and payload[:1] == b'\x13' and len(payload) >= 11 or port == 139 and payload[:1] == b'\x83' and len(payload) >= 5:
+        changed[4 if port == 139 else 10] = rng.choice(CODES)
+    return port, bytes(changed)
+
+
+def made_by_chance(cases, inputs, count):
+    """Captures and saved tables made by chance, and payloads of which each phrase is said, until so many payloads were shown."""
+    before = cases.compared['payloads']
+    while cases.compared['payloads'] < before + count:
+        given = inputs.capture()
+        for command in ('show', 'replay', 'save'):
+            cases.check(inputs.words(command, given), given)
+        for _ in range(TABLES):
+            given = inputs.tables()
+            cases.check(inputs.words('list', given), given)
+        cases.check(inputs.words('merge', given), given)
+        cases.check(inputs.words('agree', given), given)
+        told = [likely(cases.rng, 137, ServicePacket(cases.rng, inputs.traffic.name).made()) for _ in range(50)]
+        cases.check(['show', '--brief'], capture_of([*told, *(likely(cases.rng, *inputs.payload()) for _ in range(50))]))
+
+
+def phrases(cases):
+    """Each phrase of the tables of docs/FORMATS.md is said; words in capitals stand for others. The longest are as long as it says."""
+    with open(os.path.join(ROOT, 'docs', 'FORMATS.md'), encoding='utf-8') as page:
+        part = page.read().partition('### Phrases\n')[2].partition('\n### ')[0]
+    for payload, length in zip(longest_phrases(), (LONGEST_OF_19, LONGEST)):
+        cases.check(['show', '--brief'], capture_of([(137, payload)]))
+        cases.count('' if len(cases.said[-1]) == length else f'{len(cases.said[-1])} bytes, not {length}: {cases.said[-1]}')
+    longest = max(map(len, cases.said))
+    cases.count(f'a phrase of {longest} bytes' if longest > LONGEST else '')
+    for phrase in PHRASES.findall(part):
+        pattern = re.compile(BY.sub(lambda it: '.*' if it[0].isalpha() else re.escape(it[0]), phrase))
+        cases.count('' if any(map(pattern.fullmatch, cases.said)) else f'nothing is said as {phrase}')
+
+
+def main():
+    """Runs all cases."""
+    parser = argparse.ArgumentParser()
+    parser.add_argument('--seed', type=int, default=1)
+    parser.add_argument('--payloads', type=int, default=10_000)
+    parser.add_argument('program', nargs='?', default=os.path.join(ROOT, 'crates', 'nbt', 'out', 'nbt'))
+    given = parser.parse_args()
+    if not os.access(given.program, os.X_OK):
+        parser.error(f'{given.program} is missing: `make build` makes it')
+    cases = Cases(given.program, random.Random(given.seed))
+    for words, capture in recorded(cases.program):
+        cases.check(words, capture)
+    payloads = list(example_bytes())
+    samples(cases, payloads)
+    cases.check(['show', '--brief'], capture_of([NO_NAMES]))
+    made_by_chance(cases, Inputs(cases.rng, [it for it in payloads if len(it) <= LONGEST_PAYLOAD], list(capture_lines())), given.payloads)
+    phrases(cases)
+    for kind in KINDS:
+        cases.count('' if cases.compared[kind] else f'{kind}: there was none')
+    return cases.end()
+
+
+if __name__ == '__main__':
+    sys.exit(main())

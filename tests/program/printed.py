@@ -1,0 +1,173 @@
+"""What a command line prints of an input by the model (tests/model), with `--json` and without, and how it ends: options, comments, malformed lines
+and limits, from docs/FORMATS.md. For tests/program/beside_model.py and tests/fuzz.py."""
+import json
+import re
+from dataclasses import dataclass
+
+from model.captures import LONGEST_LINE, comment_text, numbered, read_capture
+from model.limits import INPUT, KEYS, MOST_KEYS, MOST_NAMES
+from model.names import Refused, name_of_text
+from model.objects import front_of, shown
+from model.phrases import said
+from model.reports import agrees, joined, listed, listed_text, report_text, reported, save
+from model.tables import PER_SOURCE, Table
+from model.text import front_lines, lines_of
+from object_inputs import OPTIONS
+
+MOST = {'--keys': MOST_KEYS, '--per-source': MOST_KEYS, '--input-limit': (1 << 64) - 1}
+USUAL = {'--keys': KEYS, '--per-source': PER_SOURCE, '--input-limit': INPUT}
+
+
+@dataclass
+class Wanted:
+    """What is printed, a text and objects a line each, the status, and standard error; None where names are refused, for some reason."""
+
+    lines: list
+    objects: list
+    status: int = 0
+    errors: bytes = b''
+
+    def output(self, is_json=False):
+        lines = [json.dumps(it, separators=(',', ':')) for it in self.objects] if is_json else self.lines
+        return ''.join(f'{it}\n' for it in lines).encode()
+
+
+class Unknown(Exception):
+    """A command line that clap answers."""
+
+
+def wanted(words, given):
+    """What a command prints of an input. Raises Unknown where clap answers."""
+    command, (options, names) = words[0], parsed(words)
+    if command in ('merge', 'list', 'agree'):
+        return of_tables(command, options, given)
+    station = stationed(names)
+    if command == 'replay' and station is None:
+        return Wanted([], [], 1, None)
+    if '--brief' in options and '--partial' in options:
+        return Wanted([], [], 1, b'nbt: arguments\n')
+    return saved(options, given) if command == 'save' else of_capture(command, options, station, given)
+
+
+def parsed(words):
+    """The options of a command line with their values, and the words that aren't options."""
+    options, names, rest = {}, [], list(words[1:])
+    while rest:
+        word = rest.pop(0)
+        if word == '--':
+            names += rest
+            break
+        if word == '-' or not word.startswith('-'):
+            names.append(word)
+            continue
+        option, joined_by, value = word.partition('=')
+        if option not in OPTIONS[words[0]] or option in options:
+            raise Unknown(word)
+        options[option] = value_of(option, joined_by, value, rest)
+    if bool(names) != (words[0] == 'replay'):
+        raise Unknown('names')
+    return options, names
+
+
+def value_of(option, joined_by, value, rest):
+    """The value of an option, which may be the next word."""
+    if option not in MOST:
+        if joined_by:
+            raise Unknown(option)
+        return True
+    if not joined_by:
+        if not rest:
+            raise Unknown(option)
+        value = rest.pop(0)
+    if not re.fullmatch(r'\+?[0-9]+', value) or not 1 <= int(value) <= MOST[option]:
+        raise Unknown(value)
+    return int(value)
+
+
+def number_of(options, option):
+    """The number of an option, or that which stands for none."""
+    return options.get(option, USUAL[option])
+
+
+def stationed(texts):
+    """The names of a station; None where one is refused, or there are too many."""
+    try:
+        names = {name_of_text(it.encode('utf-8', 'surrogateescape')) for it in texts}
+    except Refused:
+        return None
+    return None if len(names) > MOST_NAMES else names
+
+
+def of_tables(command, options, given):
+    """What `nbt merge`, `list` and `agree` print."""
+    if len(given) > INPUT:
+        return Wanted([], [], 3, b'nbt: read\n')
+    try:
+        if command == 'agree':
+            lines = agrees(given, '--list' in options).decode().splitlines()
+            return Wanted(lines, [], int(lines != ['equal']))
+        table = joined(given, number_of(options, '--keys'), number_of(options, '--per-source'))
+    except Refused as refused:
+        return Wanted([], [], 1, f'nbt: {refused}\n'.encode())
+    keys = listed(table)
+    return Wanted([table.saved().hex()] if command == 'merge' else list(map(listed_text, keys)), keys)
+
+
+def table_of(options):
+    return Table(number_of(options, '--keys'), number_of(options, '--per-source'))
+
+
+def saved(options, given):
+    """What `nbt save` prints."""
+    _, lines, *ending = read_within(given, number_of(options, '--input-limit'))
+    table = table_of(options)
+    try:
+        save(lines, table)
+    except Refused as refused:
+        return Wanted([], [], 1, f'nbt: {refused}\n'.encode())
+    return Wanted([] if ending[0] else [table.saved().hex()], [], *ending)
+
+
+def of_capture(command, options, names, given):
+    """What `nbt show` and `nbt replay` print."""
+    finished, lines, *ending = read_within(given, number_of(options, '--input-limit'))
+    table = table_of(options)
+    answers = {it.number: told(command, table, names, it, options) for it in lines}
+    comments = {number: comment_text(line) for number, line in finished if line.startswith(b'#')}
+    texts, objects = [], []
+    for number in sorted(answers.keys() | comments.keys() if '--comments' in options else answers):
+        said_before = comments.get(number if number in comments else number - 1)
+        text, moment, members = answers.get(number, ([comments.get(number)], {}, {}))
+        texts += text
+        objects.append({'line': number} | moment | ({} if said_before is None else {'comment': said_before}) | members)
+    return Wanted(texts, objects, *ending)
+
+
+def told(command, table, names, line, options):
+    """The text of a line, its port and moment, and what is told of it, with its phrase or its front where that is asked for."""
+    number, port, payload = line.number, line.port, line.payload
+    moment = ({} if port is None else {'port': port}) | {'moment': line.moment}
+    if command == 'replay':
+        answer = reported(table, names, line)
+        return [f'{number} {report_text(answer)}'], moment, answer
+    if port is None:
+        return [f'{number} tick {line.moment}'], moment, {'kind': 'tick'}
+    first, *parts = [said(port, payload)] if '--brief' in options else lines_of(port, payload)
+    more = front_lines(port, payload) if '--partial' in options else []
+    phrase = {'brief': said(port, payload)} if '--brief' in options else {}
+    front = front_of(port, payload) if '--partial' in options else {}
+    return [f'{number} {port} {first}', *parts, *more], moment, phrase | shown(port, payload) | front
+
+
+def read_within(given, limit):
+    """The lines of an input that are answered, with their numbers, those of them that say something, the status and standard
+    error. In an input that is too long a line that isn't finished is malformed only by its length."""
+    whole, cut = given[:limit], len(given) > limit
+    finished = whole[:whole.rfind(b'\n') + 1] if cut else whole
+    lines, malformed = read_capture(finished)
+    if malformed is None and len(whole) - len(finished) > LONGEST_LINE:
+        malformed = finished.count(b'\n') + 1
+    if malformed is not None:
+        answered = [it for it in numbered(finished) if it[0] < malformed]
+        return answered, lines, 1, f'nbt: line {malformed}\n'.encode()
+    return numbered(finished), lines, *((3, b'nbt: read\n') if cut else (0, b''))

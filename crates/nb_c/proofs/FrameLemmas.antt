@@ -14,6 +14,7 @@ use Rattle.nb_c.specs.declared.refusal.Refusal.{Refusal}
 use Rattle.nb_c.specs.declared.refusal.Refusal.TheVariants.{Memory, Fault, FaultAt}
 use Rattle.nb_c.specs.Framing.{Stands, Writes, unknown_type, too_long, judged, frame, follow_the_type, unless_faulty}
 use Rattle.nb_c.specs.Outputs.{HasOne, MayLack, OrMemory, refused_status}
+use Rattle.nb_c.specs.declared.statuses.TheConstants.{NO_ROLE}
 use Rattle.nb_c.specs.Statuses.{name_refusal, session_refusal}
 
 -- a kind by its number, any other number being that of a message
@@ -55,7 +56,7 @@ header_known kind header _ is (unknown_header none) = absurd (none kind is)
 header_known kind header _ is (reserved_flags _ _ _) = refl
 header_known kind header _ is (bad_length _ _ _ _) = refl
 
-late_name : (fault : NameFault) → follow_the_type (refused_status (name_refusal fault)) ≡ true
+late_name : (fault : NameFault) → follow_the_type (refused_status (name_refusal NO_ROLE fault)) ≡ true
 late_name (names.Truncated at) = refl
 late_name (names.ReservedLabel at) = refl
 late_name (names.PointerNotAllowed at) = refl

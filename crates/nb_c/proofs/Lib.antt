@@ -25,3 +25,4 @@ pub mod StationNameLemmas
 pub mod TellLemmas
 pub mod TextLemmas
 pub mod TwoLemmas
+pub mod WordLemmas

@@ -8,12 +8,14 @@ use Rattle.nb_table.specs.Limits.{TableValue}
 use Rattle.nb_table.specs.LoadFaults.{LoadFails}
 use Rattle.nb_c.specs.declared.refusal.Refusal.{Refusal}
 use Rattle.nb_c.specs.Outputs.{HasOne, MayLack, OrMemory, none_late, of_memory}
-use Rattle.nb_c.specs.Tables.{IsLoaded, OfOne, not_read, read, first_refusal, widest}
+use Rattle.nb_c.specs.Tables.{IsLoaded, OfOne, not_read, read, widest}
+use Rattle.nb_c.specs.declared.statuses.TheConstants.{NO_ROLE}
+use Rattle.nb_c.specs.Statuses.{load_refusal}
 use Rattle.nb_c.proofs.LoadLemmas.{InputLaws, one_fault, as_memory, no_other, loaded_apart}
 
 module _ (table : List ℕ) (told_of : Contents → List ℕ) (laws : InputLaws table) where
   pub one_list : HasOne (OfOne table told_of)
-  one_list _ _ (not_read f h p) (not_read g k q) = ap (λ (x : LoadFault). Err (first_refusal x)) (one_fault table widest laws f g p q)
+  one_list _ _ (not_read f h p) (not_read g k q) = ap (λ (x : LoadFault). Err (load_refusal NO_ROLE x)) (one_fault table widest laws f g p q)
   one_list _ _ (not_read f h p) (read t is) = loaded_apart table widest laws t f h is p
   one_list _ _ (read t is) (not_read f h p) = loaded_apart table widest laws t f h is p
   one_list _ _ (read t is) (read u also) = ap (λ (x : Contents). Ok (told_of x)) (laws.one t.contents u.contents is.stands also.stands)
@@ -22,7 +24,7 @@ module _ (table : List ℕ) (told_of : Contents → List ℕ) (laws : InputLaws 
   lacks q _ (not_read fault h p) = no_other table widest laws fault h p q
   lacks q _ (read t is) = tt
 
-  pub list_failed : (fault : LoadFault) → LoadFails table widest fault → OrMemory none_late (OfOne table told_of) (Err (first_refusal fault))
+  pub list_failed : (fault : LoadFault) → LoadFails table widest fault → OrMemory none_late (OfOne table told_of) (Err (load_refusal NO_ROLE fault))
   list_failed loads.BadMagic p = not_read loads.BadMagic (λ e. absurd (cc e)) p
   list_failed loads.Truncated p = not_read loads.Truncated (λ e. absurd (cc e)) p
   list_failed (loads.NotCanonical at) p = not_read (loads.NotCanonical at) (λ e. absurd (cc e)) p

@@ -9,7 +9,7 @@ use Rattle.nb_names.specs.NameFaults.{NetbiosFaultAt}
 use Rattle.nb_names.specs.NameText.{IsText, IsFaultOf, written}
 use Rattle.nb_c.specs.declared.refusal.Refusal.{Refusal}
 use Rattle.nb_c.specs.declared.refusal.Refusal.TheVariants.{FaultAt}
-use Rattle.nb_c.specs.declared.statuses.TheConstants.{NAME_TRAILING_BYTES}
+use Rattle.nb_c.specs.declared.statuses.TheConstants.{NAME_TRAILING_BYTES, NO_ROLE}
 use Rattle.nb_c.specs.Names.{IsNoSpelling, IsRead, Tells}
 use Rattle.nb_c.specs.Outputs.{HasOne}
 use Rattle.nb_c.specs.Statuses.{name_refusal}
@@ -61,7 +61,7 @@ module _ (bytes : List ℕ) (laws : SpellingLaws bytes) where
       absurd (omega (arith, more, (laws.one (labels_of_name name) (labels_of_name other) (length bytes) next stands there).1))
 
   one_refusal : (a b : Refusal) → IsNoSpelling bytes a → IsNoSpelling bytes b → a ≡ b
-  one_refusal a b (inl (f, p, e)) (inl (g, q, d)) = e ∙ ap name_refusal (laws.one_fault f g p q) ∙ sym d
+  one_refusal a b (inl (f, p, e)) (inl (g, q, d)) = e ∙ ap (name_refusal NO_ROLE) (laws.one_fault f g p q) ∙ sym d
   one_refusal a b (inl (f, p, e)) (inr (name, next, is, there, more, d)) = absurd (laws.apart f name next p is there)
   one_refusal a b (inr (name, next, is, there, more, e)) (inl (g, q, d)) = absurd (laws.apart g name next q is there)
   one_refusal a b (inr (name, next, is, there, more, e)) (inr (other, behind, also, found, past, d)) =

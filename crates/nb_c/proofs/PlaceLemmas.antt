@@ -1,7 +1,7 @@
 -- The parts of a packet stand at the places that are answered of them.
 use Rattle.std.proofs.Common.{◌≡◌, ◌∙◌, ℕ, List, [], ◌∷◌, ◌++◌, length, refl, sym, ap, subst, arith, append_assoc, length-append}
-use Rattle.std.proofs.Math.Seq.{take-append_seam, drop-append_seam}
 use Rattle.std.specs.Int.{w16, to_be_bytes}
+use Rattle.nb_names.proofs.LabelsLemmas.{stands_at_seam}
 use Rattle.nb_names.specs.Labels.{StandsAt}
 use Rattle.nb_datagram.specs.declared.packet.Packet.TheVariants.{Direct, Error, Query}
 use Rattle.nb_datagram.specs.declared.packet.ErrorPacket.{ErrorPacket}
@@ -14,7 +14,7 @@ use Rattle.nb_c.specs.Datagrams.{fragment_places, error_places, query_places}
 stands : (whole front bytes rest : List ℕ) (at : ℕ) → whole ≡ front ++ (bytes ++ rest) → at ≡ length front → StandsAt whole at bytes
 stands whole front bytes rest at w e =
     subst (λ (p : List ℕ). StandsAt p at bytes) (sym w) (subst (λ (n : ℕ). StandsAt (front ++ (bytes ++ rest)) n bytes) (sym e)
-    (rw (drop-append_seam front (bytes ++ rest)) (take-append_seam bytes rest)))
+    (stands_at_seam front bytes rest))
 
 to_source : (h s d b r : List ℕ) → (h ++ (s ++ (d ++ b))) ++ r ≡ h ++ (s ++ ((d ++ b) ++ r))
 to_source h s d b r = simp append_assoc refl

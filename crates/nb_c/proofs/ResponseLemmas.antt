@@ -16,7 +16,7 @@ use Rattle.nb_c.proofs.NameLemmas.{TextLaws}
 use Rattle.nb_c.specs.declared.refusal.Refusal.{Refusal}
 use Rattle.nb_c.specs.declared.refusal.Refusal.TheVariants.{Memory, Fault, FaultAt}
 use Rattle.nb_c.specs.declared.responses.Answered.{Answered}
-use Rattle.nb_c.specs.declared.statuses.TheConstants.{NAME_TRAILING_BYTES}
+use Rattle.nb_c.specs.declared.statuses.TheConstants.{NAME_TRAILING_BYTES, NO_ROLE}
 use Rattle.nb_c.specs.Outputs.{HasOne, OrMemory, none_late, of_memory}
 use Rattle.nb_c.specs.Responses.{IsDomain, whole, no_name, bytes_trail, IsRdata, plain, too_long, domain, domain_data, Responds, no_name_text, named, answer_of, response_of, response_answer}
 use Rattle.nb_c.specs.Statuses.{name_refusal, text_refusal}
@@ -34,7 +34,7 @@ module _ (bytes : List ℕ) (laws : DomainLaws bytes) where
   one_domain a b (whole l there) (no_name f fails) = absurd (laws.apart f l (length bytes) fails there)
   one_domain a b (whole l there) (bytes_trail m next also more) = absurd (omega (arith, more, (laws.one l m (length bytes) next there also).1))
   one_domain a b (no_name f fails) (whole l there) = absurd (laws.apart f l (length bytes) fails there)
-  one_domain a b (no_name f fails) (no_name g fail) = ap (λ (x : NameFault). Err (name_refusal x)) (laws.one_fault f g fails fail)
+  one_domain a b (no_name f fails) (no_name g fail) = ap (λ (x : NameFault). Err (name_refusal NO_ROLE x)) (laws.one_fault f g fails fail)
   one_domain a b (no_name f fails) (bytes_trail m next also more) = absurd (laws.apart f m next fails also)
   one_domain a b (bytes_trail m next also more) (whole l there) = absurd (omega (arith, more, (laws.one l m (length bytes) next there also).1))
   one_domain a b (bytes_trail m next also more) (no_name f fails) = absurd (laws.apart f m next fails also)
@@ -54,7 +54,7 @@ module _ (bytes : List ℕ) (laws : DomainLaws bytes) where
 
   pub one_response : (answered : Answered) (text : List ℕ) → TextLaws text → HasOne (Responds answered text bytes)
   one_response answered text words a b (no_name_text f fails) (no_name_text g fail) =
-      ap (λ (x : TextFault). Err (text_refusal x)) (words.one_fault f g fails fail)
+      ap (λ (x : TextFault). Err (text_refusal NO_ROLE x)) (words.one_fault f g fails fail)
   one_response answered text words a b (no_name_text f fails) (named name rdata is there) = absurd (words.apart name f is fails)
   one_response answered text words a b (named name rdata is there) (no_name_text f fails) = absurd (words.apart name f is fails)
   one_response answered text words a b (named name rdata is there) (named other found was also) =
@@ -62,8 +62,8 @@ module _ (bytes : List ℕ) (laws : DomainLaws bytes) where
       ∙ ap (response_answer answered other) (one_rdata answered.kind rdata found there also)
 
 -- why a text is of no name is said at once
-pub text_said : (late : ℕ → Bool) (Says : Result (List ℕ) Refusal → Type 0) (fault : TextFault) → Says (Err (text_refusal fault))
-    → OrMemory late Says (Err (text_refusal fault))
+pub text_said : (late : ℕ → Bool) (Says : Result (List ℕ) Refusal → Type 0) (fault : TextFault) → Says (Err (text_refusal NO_ROLE fault))
+    → OrMemory late Says (Err (text_refusal NO_ROLE fault))
 text_said late Says (texts.BadText place) said = said
 text_said late Says texts.TooLong said = said
 
@@ -74,7 +74,7 @@ IsJudged (Err Memory) = ⊥
 IsJudged (Err (Fault status)) = ⊤
 IsJudged (Err (FaultAt status place)) = ⊤
 
-name_judged : (fault : NameFault) → IsJudged (Err (name_refusal fault))
+name_judged : (fault : NameFault) → IsJudged (Err (name_refusal NO_ROLE fault))
 name_judged (names.Truncated place) = tt
 name_judged (names.ReservedLabel place) = tt
 name_judged (names.PointerNotAllowed place) = tt

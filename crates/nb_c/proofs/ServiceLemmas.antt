@@ -9,8 +9,9 @@ use Rattle.nb_service.specs.declared.limits.TheConstants.{HEADER_LENGTH}
 use Rattle.nb_service.specs.declared.section.Section.{Section}
 use Rattle.nb_service.specs.Header.{PacketHeader, HasHeader}
 use Rattle.nb_service.specs.declared.seen.Seen.{Seen}
-use Rattle.nb_service.specs.Items.{PacketItem, asked, told, ItemAt, ItemFails, question_fails, record_fails, IsExtent, Sees}
+use Rattle.nb_service.specs.Items.{PacketItem, asked, told, ItemAt, ItemFails, IsExtent, Sees}
 use Rattle.nb_service.proofs.ItemLemmas.{seen_extent}
+use Rattle.nb_service.proofs.WalkedLemmas.{fails_counted}
 use Rattle.nb_service.specs.Packet.{ServicePacket, IsPacket, HasOutline}
 use Rattle.nb_service.specs.ServiceFaults.{PacketFails, item_count}
 use Rattle.nb_c.specs.declared.refusal.Refusal.{Refusal}
@@ -88,10 +89,6 @@ pub record ItemLaws (payload : List ℕ) : Type 0 where
   pub one_fault : (h : PacketHeader) (k at : ℕ) (f g : ServiceFault) → ItemFails payload h k at f → ItemFails payload h k at g → f ≡ g
   pub counted : (h : PacketHeader) (k at : ℕ) (a : PacketItem) (n : ℕ) → ItemAt payload h k at a n → k < item_count h
   pub extent : (at : ℕ) (a : PacketItem) (d e : Extent) → IsExtent payload at a d → IsExtent payload at a e → d.next ≡ e.next → d ≡ e
-
-fails_counted : (payload : List ℕ) (h : PacketHeader) (k at : ℕ) (f : ServiceFault) → ItemFails payload h k at f → k < item_count h
-fails_counted payload h k at f (question_fails low t) = omega (arith, low)
-fails_counted payload h k at f (record_fails late low t) = low
 
 -- RDATA begins where it ends, or before
 pub extent_fits : (payload : List ℕ) (at : ℕ) (a : PacketItem) (e : Extent) → IsExtent payload at a e → e.rdata ≤ e.next

@@ -1,6 +1,5 @@
 -- Texts of names are ASCII, so what isn't UTF-8 leaves their form.
-use Rattle.std.proofs.Common.{◌≡◌, ◌⊎◌, inl, inr, ◌||◌, ℕ, ◌<◌, ◌≤◌, ◌==◌, Bool, true, false, if◌then◌else◌, List, [], ◌∷◌, ◌++◌, length, take, sym, subst, arith}
-use Rattle.std.specs.Char.{is_ascii_graphic}
+use Rattle.std.proofs.Common.{◌≡◌, ◌⊎◌, inl, inr, ℕ, ◌<◌, ◌≤◌, List, [], ◌∷◌, ◌++◌, length, take, sym, subst, arith}
 use Rattle.std.specs.Str.{IsAscii, IsUtf8, IsValidUpTo}
 use Rattle.std.proofs.lemmas.Bool.{cases_lt}
 use Rattle.std.proofs.lemmas.Bool.Decides.{nat_tests}
@@ -8,25 +7,17 @@ use Rattle.std.proofs.lemmas.List.{take-take, length-take-le, append-nil}
 use Rattle.std.proofs.Math.Seq.{take-append_seam}
 use Rattle.std.proofs.lemmas.Str.{IsUtf8-from_ascii, IsAscii-append, IsAscii-take}
 use Rattle.std.proofs.lemmas.Str.Ascii.{IsAscii-nil, IsAscii-cons}
-use Rattle.nb_names.specs.NameText.{is_plain, IsHexDigit, Item, plain, escaped, Items, no_item, more_items, ScopeText, no_label, more_labels, IsFormed, IsFront, IsBad, IsFaultOf}
+use Rattle.nb_names.proofs.PushingLemmas.{plain_one}
+use Rattle.nb_names.specs.NameText.{IsHexDigit, Item, plain, escaped, Items, no_item, more_items, ScopeText, no_label, more_labels, IsFormed, IsFront, IsBad, IsFaultOf}
 use Rattle.nb_names.specs.declared.text_fault.TextFault.{TextFault}
 use Rattle.nb_names.specs.declared.text_fault.TextFault.TheVariants.{BadText, TooLong}
 use Rattle.nb_c.specs.Statuses.{place_of}
-
-graphic : (c : ℕ) → is_ascii_graphic c ≡ true → c < 128
-graphic c h = grind (arith, nat_tests)
-
-plain_ascii : (b : ℕ) → is_plain b ≡ true → b < 128
-plain_ascii b p = either (b == 46 || b == 60 || b == 62 || b == 92) p where
-  either : (test : Bool) → (if test then false else is_ascii_graphic b) ≡ true → b < 128
-  either true q = absurd (cc)
-  either false q = graphic b q
 
 hex_ascii : (d : ℕ) → IsHexDigit d → d < 128
 hex_ascii d h = grind (arith, nat_tests)
 
 item_ascii : (byte : ℕ) (text : List ℕ) → Item byte text → IsAscii text
-item_ascii byte _ (plain _ p) = IsAscii-cons byte [] (plain_ascii byte p) IsAscii-nil
+item_ascii byte _ (plain _ p) = plain_one byte p
 item_ascii _ _ (escaped high low h l) =
     IsAscii-cons 92 (high ∷ low ∷ []) (omega arith) (IsAscii-cons high (low ∷ []) (hex_ascii high h) (IsAscii-cons low [] (hex_ascii low l) IsAscii-nil))
 

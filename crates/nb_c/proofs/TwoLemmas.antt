@@ -8,10 +8,12 @@ use Rattle.nb_table.specs.LoadFaults.{LoadFails}
 use Rattle.nb_c.specs.declared.refusal.Refusal.{Refusal}
 use Rattle.nb_c.specs.declared.refusal.Refusal.TheVariants.{Memory, Fault, FaultAt}
 use Rattle.nb_c.specs.Outputs.{HasOne, MayLack, OrMemory, refused_status}
-use Rattle.nb_c.specs.Tables.{IsLoaded, OfTwo, first_fails, second_fails, both, first_refusal, second_refusal, follow_the_first}
+use Rattle.nb_c.specs.Tables.{IsLoaded, OfTwo, first_fails, second_fails, both, follow_the_first}
+use Rattle.nb_c.specs.declared.statuses.TheConstants.{NO_ROLE, SECOND}
+use Rattle.nb_c.specs.Statuses.{load_refusal}
 use Rattle.nb_c.proofs.LoadLemmas.{InputLaws, one_fault, as_memory, no_other, loaded_apart}
 
-second_late : (fault : LoadFault) → fault ≢ loads.NoMemory → nat_le 80 (refused_status (second_refusal fault)) ≡ true
+second_late : (fault : LoadFault) → fault ≢ loads.NoMemory → nat_le 80 (refused_status (load_refusal SECOND fault)) ≡ true
 second_late loads.BadMagic h = refl
 second_late loads.Truncated h = refl
 second_late (loads.NotCanonical at) h = refl
@@ -33,7 +35,7 @@ module _ {A : Type 0} (first second : List ℕ) (limits : Limits) (Then : Conten
     lacks q _ (both one other answer is also j) = late one.contents other.contents answer j
 
     pub first_failed : (fault : LoadFault) → LoadFails first limits fault
-        → OrMemory follow_the_first (OfTwo first second limits Then) (Err (first_refusal fault))
+        → OrMemory follow_the_first (OfTwo first second limits Then) (Err (load_refusal NO_ROLE fault))
     first_failed loads.BadMagic p = first_fails loads.BadMagic (λ e. absurd (cc e)) p
     first_failed loads.Truncated p = first_fails loads.Truncated (λ e. absurd (cc e)) p
     first_failed (loads.NotCanonical at) p = first_fails (loads.NotCanonical at) (λ e. absurd (cc e)) p
@@ -43,7 +45,7 @@ module _ {A : Type 0} (first second : List ℕ) (limits : Limits) (Then : Conten
     first_failed loads.NoMemory p = lacks p
 
     pub second_failed : (one : TableValue) (fault : LoadFault) → IsLoaded first limits one → LoadFails second limits fault
-        → OrMemory follow_the_first (OfTwo first second limits Then) (Err (second_refusal fault))
+        → OrMemory follow_the_first (OfTwo first second limits Then) (Err (load_refusal SECOND fault))
     second_failed one loads.BadMagic is p = second_fails one loads.BadMagic is (λ e. absurd (cc e)) p
     second_failed one loads.Truncated is p = second_fails one loads.Truncated is (λ e. absurd (cc e)) p
     second_failed one (loads.NotCanonical at) is p = second_fails one (loads.NotCanonical at) is (λ e. absurd (cc e)) p
@@ -64,12 +66,12 @@ module _ {A : Type 0} (first second : List ℕ) (limits : Limits) (Then : Conten
   module _ (more : InputLaws second) (one_said : (s t : Contents) → HasOne (Then s t)) where
     pub one_of_two : HasOne (OfTwo first second limits Then)
     one_of_two _ _ (first_fails f h p) (first_fails g k q) =
-        ap (λ (x : LoadFault). Err (first_refusal x)) (one_fault first limits laws f g p q)
+        ap (λ (x : LoadFault). Err (load_refusal NO_ROLE x)) (one_fault first limits laws f g p q)
     one_of_two _ _ (first_fails f h p) (second_fails one g is k q) = loaded_apart first limits laws one f h is p
     one_of_two _ _ (first_fails f h p) (both one other b is also j) = loaded_apart first limits laws one f h is p
     one_of_two _ _ (second_fails one g is k q) (first_fails f h p) = loaded_apart first limits laws one f h is p
     one_of_two _ _ (second_fails one f is h p) (second_fails _ g _ k q) =
-        ap (λ (x : LoadFault). Err (second_refusal x)) (one_fault second limits more f g p q)
+        ap (λ (x : LoadFault). Err (load_refusal SECOND x)) (one_fault second limits more f g p q)
     one_of_two _ _ (second_fails one f is h p) (both _ other b _ also j) = loaded_apart second limits more other f h also p
     one_of_two _ _ (both one other a is also j) (first_fails f h p) = loaded_apart first limits laws one f h is p
     one_of_two _ _ (both one other a is also j) (second_fails _ f _ h p) = loaded_apart second limits more other f h also p

@@ -19,7 +19,9 @@ use Rattle.nb_c.specs.declared.refusal.Refusal.{Refusal}
 use Rattle.nb_c.specs.declared.refusal.Refusal.TheVariants.{Memory}
 use Rattle.nb_c.specs.Outputs.{Answers, Lent}
 use Rattle.nb_c.specs.Stations.{table_refusal}
-use Rattle.nb_c.specs.Tables.{first_refusal, IsLoaded}
+use Rattle.nb_c.specs.declared.statuses.TheConstants.{NO_ROLE}
+use Rattle.nb_c.specs.Statuses.{load_refusal}
+use Rattle.nb_c.specs.Tables.{IsLoaded}
 
 -- what is written of a datagram: its key as in saved tables, MSG_TYPE, both spellings, how many bytes its data has, and
 -- these
@@ -54,7 +56,7 @@ pub data Absorbed (m : MemberValue) (moment : ℕ) (table : List ℕ) (room : �
   read : (other : TableValue) (answer : Result (List ℕ) Refusal) → IsLoaded table (limits_of m.settings) other
       → Joined m moment other.contents room after answer → Absorbed m moment table room after answer
   not_read : (fault : LoadFault) → LoadFails table (limits_of m.settings) fault → after ≡ m
-      → Absorbed m moment table room after (Err (first_refusal fault))
+      → Absorbed m moment table room after (Err (load_refusal NO_ROLE fault))
 
 -- AbsorbsInto m moment table after old new status: what the call does to the member m, and to what its caller lends
 abbrev pub AbsorbsInto : MemberValue → ℕ → List ℕ → MemberValue → Lent → Lent → ℕ → Type 0

@@ -16,9 +16,9 @@ use Rattle.nb_datagram.specs.Pieces.{pieces}
 use Rattle.nb_c.specs.declared.cutting.Sent.{Sent}
 use Rattle.nb_c.specs.declared.refusal.Refusal.{Refusal}
 use Rattle.nb_c.specs.declared.refusal.Refusal.TheVariants.{Fault}
-use Rattle.nb_c.specs.declared.statuses.TheConstants.{UNKNOWN_TYPE, LONG_DATA, ZERO_PIECE}
+use Rattle.nb_c.specs.declared.statuses.TheConstants.{UNKNOWN_TYPE, LONG_DATA, ZERO_PIECE, SOURCE_TEXT, DESTINATION_TEXT}
 use Rattle.nb_c.specs.Names.{IsRead}
-use Rattle.nb_c.specs.Statuses.{source_text_refusal, destination_text_refusal}
+use Rattle.nb_c.specs.Statuses.{text_refusal}
 
 -- the kind of datagram with this MSG_TYPE: hexadecimal 10, 11 and 12
 abbrev pub kind_with : ℕ → Option Kind
@@ -63,8 +63,8 @@ cut_answer d most =
 -- texts of the names are read so
 abbrev pub cut_kind : Option Kind → Sent → Result NetbiosName TextFault → Result NetbiosName TextFault → List ℕ → Result (List ℕ) Refusal
 cut_kind None sent source destination contents = Err (Fault UNKNOWN_TYPE)
-cut_kind (Some kind) sent (Err fault) destination contents = Err (source_text_refusal fault)
-cut_kind (Some kind) sent (Ok source) (Err fault) contents = Err (destination_text_refusal fault)
+cut_kind (Some kind) sent (Err fault) destination contents = Err (text_refusal SOURCE_TEXT fault)
+cut_kind (Some kind) sent (Ok source) (Err fault) contents = Err (text_refusal DESTINATION_TEXT fault)
 cut_kind (Some kind) sent (Ok source) (Ok destination) contents =
     cut_answer (record { key = key_of sent; kind = kind; source = source; destination = destination; bytes = contents }) sent.most
 

@@ -10,7 +10,7 @@ use Rattle.nb_datagram.specs.declared.packet.QueryKind.TheVariants.{Request, Pos
 use Rattle.nb_datagram.specs.Packet.{packet_bytes}
 use Rattle.nb_c.specs.declared.refusal.Refusal.{Refusal}
 use Rattle.nb_c.specs.declared.refusal.Refusal.TheVariants.{Fault}
-use Rattle.nb_c.specs.declared.statuses.TheConstants.{UNKNOWN_TYPE}
+use Rattle.nb_c.specs.declared.statuses.TheConstants.{UNKNOWN_TYPE, NO_ROLE}
 use Rattle.nb_c.specs.Names.{IsRead}
 use Rattle.nb_c.specs.Statuses.{text_refusal}
 
@@ -26,7 +26,7 @@ query_with type =
 -- query_kind kind key read: what is answered where the type is of this kind, or of none, and where the name's text is read so
 abbrev pub query_kind : Option QueryKind → Key → Result NetbiosName TextFault → Result (List ℕ) Refusal
 query_kind None key read = Err (Fault UNKNOWN_TYPE)
-query_kind (Some kind) key (Err fault) = Err (text_refusal fault)
+query_kind (Some kind) key (Err fault) = Err (text_refusal NO_ROLE fault)
 query_kind (Some kind) key (Ok name) =
     Ok (packet_bytes (Query (record { kind = kind; flags = 2; key = key; destination = name })))
 

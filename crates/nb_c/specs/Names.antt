@@ -11,7 +11,7 @@ use Rattle.nb_names.specs.NameFaults.{NetbiosFaultAt}
 use Rattle.nb_names.specs.NameText.{IsText, IsFaultOf, written}
 use Rattle.nb_c.specs.declared.refusal.Refusal.{Refusal}
 use Rattle.nb_c.specs.declared.refusal.Refusal.TheVariants.{FaultAt}
-use Rattle.nb_c.specs.declared.statuses.TheConstants.{NAME_TRAILING_BYTES}
+use Rattle.nb_c.specs.declared.statuses.TheConstants.{NAME_TRAILING_BYTES, NO_ROLE}
 use Rattle.nb_c.specs.Statuses.{text_refusal, name_refusal}
 
 -- IsRead text read: the text is of this name, or has this fault
@@ -22,7 +22,7 @@ IsRead text (Err fault) = IsFaultOf text fault
 -- what is answered where a text is read so: the name's spelling, or the fault
 abbrev pub spelling_answer : Result NetbiosName TextFault → Result (List ℕ) Refusal
 spelling_answer (Ok name) = Ok (spelling (labels_of_name name))
-spelling_answer (Err fault) = Err (text_refusal fault)
+spelling_answer (Err fault) = Err (text_refusal NO_ROLE fault)
 
 -- Spells text answer: this is answered of the text
 abbrev pub Spells : List ℕ → Result (List ℕ) Refusal → Type 0
@@ -31,7 +31,7 @@ Spells text answer = (read : Result NetbiosName TextFault) × IsRead text read �
 -- why the bytes aren't one name: it can't be read, or bytes follow it
 abbrev pub IsNoSpelling : List ℕ → Refusal → Type 0
 IsNoSpelling bytes refusal =
-    ((fault : NameFault) × NetbiosFaultAt bytes Refused 0 fault × (refusal ≡ name_refusal fault))
+    ((fault : NameFault) × NetbiosFaultAt bytes Refused 0 fault × (refusal ≡ name_refusal NO_ROLE fault))
     ⊎ ((name : NetbiosName) × (next : ℕ) × IsName name × NameAt bytes Refused 0 (labels_of_name name) next
     × (next < length bytes) × (refusal ≡ FaultAt NAME_TRAILING_BYTES next))
 

@@ -11,7 +11,7 @@ use Rattle.nb_service.specs.Views.{entry_bytes}
 use Rattle.nb_c.specs.declared.refusal.Refusal.{Refusal}
 use Rattle.nb_c.specs.declared.refusal.Refusal.TheVariants.{Fault}
 use Rattle.nb_c.specs.declared.service.Asked.{Asked}
-use Rattle.nb_c.specs.declared.statuses.TheConstants.{UNKNOWN_REQUEST}
+use Rattle.nb_c.specs.declared.statuses.TheConstants.{UNKNOWN_REQUEST, NO_ROLE}
 use Rattle.nb_c.specs.Names.{IsRead}
 use Rattle.nb_c.specs.Statuses.{text_refusal}
 
@@ -31,7 +31,7 @@ requested asked name entry =
 -- named_answer asked read: what is answered where the name's text is read so
 abbrev pub named_answer : Asked → Result NetbiosName TextFault → Result (List ℕ) Refusal
 named_answer asked (Ok name) = Ok (packet_bytes (requested asked name (entry_bytes (entry_of asked))))
-named_answer asked (Err fault) = Err (text_refusal fault)
+named_answer asked (Err fault) = Err (text_refusal NO_ROLE fault)
 
 -- the same, where no request has a number over 4
 abbrev pub request_answer : Asked → Result NetbiosName TextFault → Result (List ℕ) Refusal

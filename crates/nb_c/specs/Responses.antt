@@ -18,14 +18,14 @@ use Rattle.nb_service.specs.Responses.{one_answer}
 use Rattle.nb_c.specs.declared.refusal.Refusal.{Refusal}
 use Rattle.nb_c.specs.declared.refusal.Refusal.TheVariants.{Fault, FaultAt}
 use Rattle.nb_c.specs.declared.responses.Answered.{Answered}
-use Rattle.nb_c.specs.declared.statuses.TheConstants.{LONG_DATA, NAME_TRAILING_BYTES}
+use Rattle.nb_c.specs.declared.statuses.TheConstants.{LONG_DATA, NAME_TRAILING_BYTES, NO_ROLE}
 use Rattle.nb_c.specs.Statuses.{text_refusal, name_refusal}
 
 -- IsDomain bytes read: the bytes are the spelling of a domain name with these labels, or why they aren't: no name can be
 -- read, or bytes follow it
 pub data IsDomain (bytes : List ℕ) : Result (List (List ℕ)) Refusal → Type 0 where
   whole : (labels : List (List ℕ)) → NameAt bytes Refused 0 labels (length bytes) → IsDomain bytes (Ok labels)
-  no_name : (fault : NameFault) → NameFaultAt bytes Refused 0 fault → IsDomain bytes (Err (name_refusal fault))
+  no_name : (fault : NameFault) → NameFaultAt bytes Refused 0 fault → IsDomain bytes (Err (name_refusal NO_ROLE fault))
   bytes_trail : (labels : List (List ℕ)) (next : ℕ) → NameAt bytes Refused 0 labels next → next < length bytes
       → IsDomain bytes (Err (FaultAt NAME_TRAILING_BYTES next))
 
@@ -55,6 +55,6 @@ response_answer answered name (Err refusal) = Err refusal
 
 -- Responds answered text bytes answer: this is answered where the name has this text, and RDATA these bytes
 pub data Responds (answered : Answered) (text bytes : List ℕ) : Result (List ℕ) Refusal → Type 0 where
-  no_name_text : (fault : TextFault) → IsFaultOf text fault → Responds answered text bytes (Err (text_refusal fault))
+  no_name_text : (fault : TextFault) → IsFaultOf text fault → Responds answered text bytes (Err (text_refusal NO_ROLE fault))
   named : (name : NetbiosName) (rdata : Result ResourceData Refusal) → IsText name text → IsRdata answered.kind bytes rdata
       → Responds answered text bytes (response_answer answered name rdata)

@@ -13,29 +13,9 @@ use Rattle.nb_table.specs.Saved.{saved}
 use Rattle.nb_member.specs.Listing.{listing}
 use Rattle.nb_member.specs.ObjectLines.{listed_objects}
 use Rattle.nb_c.specs.declared.refusal.Refusal.{Refusal}
-use Rattle.nb_c.specs.declared.refusal.Refusal.TheVariants.{Memory, Fault, FaultAt}
 use Rattle.nb_c.specs.declared.statuses.TheConstants as statuses
 use Rattle.nb_c.specs.Stations.{table_refusal}
-
--- why the first of two saved tables isn't read
-abbrev pub first_refusal : LoadFault → Refusal
-first_refusal loads.BadMagic = Fault statuses.TABLE_BAD_MAGIC
-first_refusal loads.Truncated = Fault statuses.TABLE_TRUNCATED
-first_refusal (loads.NotCanonical at) = FaultAt statuses.TABLE_NOT_CANONICAL at
-first_refusal loads.TooLong = Fault statuses.TABLE_LONG
-first_refusal loads.FullSource = Fault statuses.TABLE_FULL_SOURCE
-first_refusal loads.Full = Fault statuses.TABLE_FULL
-first_refusal loads.NoMemory = Memory
-
--- why the second isn't
-abbrev pub second_refusal : LoadFault → Refusal
-second_refusal loads.BadMagic = Fault statuses.SECOND_BAD_MAGIC
-second_refusal loads.Truncated = Fault statuses.SECOND_TRUNCATED
-second_refusal (loads.NotCanonical at) = FaultAt statuses.SECOND_NOT_CANONICAL at
-second_refusal loads.TooLong = Fault statuses.SECOND_LONG
-second_refusal loads.FullSource = Fault statuses.SECOND_FULL_SOURCE
-second_refusal loads.Full = Fault statuses.SECOND_FULL
-second_refusal loads.NoMemory = Memory
+use Rattle.nb_c.specs.Statuses.{load_refusal}
 
 -- IsLoaded input limits t: the table t stands in the input, and has and keeps these limits
 pub record IsLoaded (input : List ℕ) (limits : Limits) (t : TableValue) : Type 0 where
@@ -54,9 +34,9 @@ Joins l s t (Err refusal) =
 -- under these limits, and then what is said of both
 pub data OfTwo {A : Type 0} (first second : List ℕ) (limits : Limits) (Then : Contents → Contents → Result A Refusal → Type 0) : Result A Refusal → Type 0 where
   first_fails : (fault : LoadFault) → fault ≢ loads.NoMemory → LoadFails first limits fault
-      → OfTwo first second limits Then (Err (first_refusal fault))
+      → OfTwo first second limits Then (Err (load_refusal statuses.NO_ROLE fault))
   second_fails : (one : TableValue) (fault : LoadFault) → IsLoaded first limits one → fault ≢ loads.NoMemory
-      → LoadFails second limits fault → OfTwo first second limits Then (Err (second_refusal fault))
+      → LoadFails second limits fault → OfTwo first second limits Then (Err (load_refusal statuses.SECOND fault))
   both : (one other : TableValue) (answer : Result A Refusal) → IsLoaded first limits one → IsLoaded second limits other
       → Then one.contents other.contents answer → OfTwo first second limits Then answer
 
@@ -75,7 +55,7 @@ widest = record { keys = 4294967295; per_source = 4294967295; longest = 65535 }
 -- OfOne table told answer: this is answered of a saved table: it is read, then what is told of what it holds
 pub data OfOne (table : List ℕ) (told : Contents → List ℕ) : Result (List ℕ) Refusal → Type 0 where
   not_read : (fault : LoadFault) → fault ≢ loads.NoMemory → LoadFails table widest fault
-      → OfOne table told (Err (first_refusal fault))
+      → OfOne table told (Err (load_refusal statuses.NO_ROLE fault))
   read : (t : TableValue) → IsLoaded table widest t → OfOne table told (Ok (told t.contents))
 
 -- Lists table answer: this is answered of the lines of a saved table's keys

@@ -1,159 +1,95 @@
 -- The words of statuses (our choice).
-use Rattle.std.specs.Prelude.{◌==◌, ◌/◌, ℕ, List, Option, Some, None, Result, Ok, Err, codes, if◌then◌else◌}
+use Rattle.std.specs.Prelude.{◌==◌, ◌+◌, ℕ, List, [], ◌∷◌, ◌++◌, map, Option, Some, None, Result, Ok, Err, codes, option_map}
+use Rattle.std.specs.List.{find}
 use Rattle.nb_c.specs.declared.refusal.Refusal.{Refusal}
 use Rattle.nb_c.specs.declared.refusal.Refusal.TheVariants.{Fault}
-use Rattle.nb_c.specs.declared.statuses.TheConstants.{DONE, NO_ROOM, NO_MEMORY, BAD_TEXT, LONG_TEXT, SOURCE_BAD_TEXT, SOURCE_LONG_TEXT, DESTINATION_BAD_TEXT, DESTINATION_LONG_TEXT, NAME_TRUNCATED, NAME_RESERVED_LABEL, NAME_POINTER, NAME_LONG, NAME_NOT_NETBIOS, NAME_TRAILING_BYTES, NAME_BAD_POINTER, SOURCE_TRUNCATED, SOURCE_RESERVED_LABEL, SOURCE_POINTER, SOURCE_LONG, SOURCE_NOT_NETBIOS, SOURCE_BAD_POINTER, DESTINATION_TRUNCATED, DESTINATION_RESERVED_LABEL, DESTINATION_POINTER, DESTINATION_LONG, DESTINATION_NOT_NETBIOS, DESTINATION_BAD_POINTER, TRUNCATED, UNKNOWN_TYPE, MORE, RESERVED_FLAGS, BAD_LENGTH, TRAILING_BYTES, NAME_RDATA, NO_ITEM, OTHER_RDATA, NO_PART, UNKNOWN_REQUEST, ZERO_PIECE, LONG_DATA, TABLE_BAD_MAGIC, TABLE_TRUNCATED, TABLE_NOT_CANONICAL, TABLE_LONG, TABLE_FULL_SOURCE, TABLE_FULL, SECOND_BAD_MAGIC, SECOND_TRUNCATED, SECOND_NOT_CANONICAL, SECOND_LONG, SECOND_FULL_SOURCE, SECOND_FULL, MISPLACED_FIRST, LONG, FULL_SOURCE, FULL, NAME_PRESENT, TOO_MANY_NAMES, NO_STATION, OTHER_TYPE, BAD_LINE, UNKNOWN_STATUS}
+use Rattle.nb_c.specs.declared.statuses.TheConstants as statuses
 
--- the words of a status of what isn't about an input
-abbrev pub outcome_word : ℕ → Option (List ℕ)
-outcome_word status =
-    if status == DONE then Some (codes "done")
-    else if status == NO_ROOM then Some (codes "no room")
-    else if status == NO_MEMORY then Some (codes "memory")
-    else if status == UNKNOWN_STATUS then Some (codes "unknown status")
-    else None
+-- the statuses of what isn't about an input
+abbrev pub outcomes : List (ℕ × List ℕ)
+outcomes =
+    (statuses.DONE, codes "done") ∷ (statuses.NO_ROOM, codes "no room") ∷ (statuses.NO_MEMORY, codes "memory") ∷ []
 
--- the words of a status on a text
-abbrev pub text_word : ℕ → Option (List ℕ)
-text_word status =
-    if status == BAD_TEXT then Some (codes "bad text")
-    else if status == LONG_TEXT then Some (codes "text too long")
-    else if status == SOURCE_BAD_TEXT then Some (codes "source: bad text")
-    else if status == SOURCE_LONG_TEXT then Some (codes "source: text too long")
-    else if status == DESTINATION_BAD_TEXT then Some (codes "destination: bad text")
-    else if status == DESTINATION_LONG_TEXT then Some (codes "destination: text too long")
-    else None
+-- the faults of a text
+abbrev pub text_faults : List (ℕ × List ℕ)
+text_faults = (statuses.BAD_TEXT, codes "bad text") ∷ (statuses.LONG_TEXT, codes "text too long") ∷ []
 
--- the words of a status on a name that is read
-abbrev pub name_word : ℕ → Option (List ℕ)
-name_word status =
-    if status == NAME_TRUNCATED then Some (codes "name: truncated")
-    else if status == NAME_RESERVED_LABEL then Some (codes "name: reserved label")
-    else if status == NAME_POINTER then Some (codes "name: pointer not allowed")
-    else if status == NAME_LONG then Some (codes "name: too long")
-    else if status == NAME_NOT_NETBIOS then Some (codes "name: not netbios")
-    else if status == NAME_TRAILING_BYTES then Some (codes "name: trailing bytes")
-    else if status == NAME_BAD_POINTER then Some (codes "name: bad pointer")
-    else None
+-- the faults of a name that is read
+abbrev pub name_faults : List (ℕ × List ℕ)
+name_faults =
+    (statuses.NAME_TRUNCATED, codes "truncated") ∷ (statuses.NAME_RESERVED_LABEL, codes "reserved label")
+    ∷ (statuses.NAME_POINTER, codes "pointer not allowed") ∷ (statuses.NAME_LONG, codes "too long")
+    ∷ (statuses.NAME_NOT_NETBIOS, codes "not netbios") ∷ (statuses.NAME_BAD_POINTER, codes "bad pointer") ∷ []
 
--- the words of a status on a source's name that is read
-abbrev pub source_word : ℕ → Option (List ℕ)
-source_word status =
-    if status == SOURCE_TRUNCATED then Some (codes "source name: truncated")
-    else if status == SOURCE_RESERVED_LABEL then Some (codes "source name: reserved label")
-    else if status == SOURCE_POINTER then Some (codes "source name: pointer not allowed")
-    else if status == SOURCE_LONG then Some (codes "source name: too long")
-    else if status == SOURCE_NOT_NETBIOS then Some (codes "source name: not netbios")
-    else if status == SOURCE_BAD_POINTER then Some (codes "source name: bad pointer")
-    else None
+-- the faults of a saved table
+abbrev pub table_faults : List (ℕ × List ℕ)
+table_faults =
+    (statuses.TABLE_BAD_MAGIC, codes "bad magic") ∷ (statuses.TABLE_TRUNCATED, codes "truncated")
+    ∷ (statuses.TABLE_NOT_CANONICAL, codes "not canonical") ∷ (statuses.TABLE_LONG, codes "too long")
+    ∷ (statuses.TABLE_FULL_SOURCE, codes "full source") ∷ (statuses.TABLE_FULL, codes "full") ∷ []
 
--- the words of a status on a destination's name that is read
-abbrev pub destination_word : ℕ → Option (List ℕ)
-destination_word status =
-    if status == DESTINATION_TRUNCATED then Some (codes "destination name: truncated")
-    else if status == DESTINATION_RESERVED_LABEL then Some (codes "destination name: reserved label")
-    else if status == DESTINATION_POINTER then Some (codes "destination name: pointer not allowed")
-    else if status == DESTINATION_LONG then Some (codes "destination name: too long")
-    else if status == DESTINATION_NOT_NETBIOS then Some (codes "destination name: not netbios")
-    else if status == DESTINATION_BAD_POINTER then Some (codes "destination name: bad pointer")
-    else None
+-- the statuses of a packet
+abbrev pub packet_faults : List (ℕ × List ℕ)
+packet_faults =
+    (statuses.TRUNCATED, codes "truncated") ∷ (statuses.UNKNOWN_TYPE, codes "unknown type")
+    ∷ (statuses.MORE, codes "more bytes needed") ∷ (statuses.RESERVED_FLAGS, codes "reserved flags")
+    ∷ (statuses.BAD_LENGTH, codes "bad length") ∷ (statuses.TRAILING_BYTES, codes "trailing bytes")
+    ∷ (statuses.NAME_RDATA, codes "name rdata") ∷ (statuses.NO_ITEM, codes "no item")
+    ∷ (statuses.OTHER_RDATA, codes "other rdata") ∷ (statuses.NO_PART, codes "no part") ∷ []
 
--- the words of a status on a packet
-abbrev pub packet_word : ℕ → Option (List ℕ)
-packet_word status =
-    if status == TRUNCATED then Some (codes "truncated")
-    else if status == UNKNOWN_TYPE then Some (codes "unknown type")
-    else if status == MORE then Some (codes "more bytes needed")
-    else if status == RESERVED_FLAGS then Some (codes "reserved flags")
-    else if status == BAD_LENGTH then Some (codes "bad length")
-    else if status == TRAILING_BYTES then Some (codes "trailing bytes")
-    else if status == NAME_RDATA then Some (codes "name rdata")
-    else if status == NO_ITEM then Some (codes "no item")
-    else if status == OTHER_RDATA then Some (codes "other rdata")
-    else if status == NO_PART then Some (codes "no part")
-    else None
+-- the statuses of what is asked to be written
+abbrev pub request_faults : List (ℕ × List ℕ)
+request_faults =
+    (statuses.UNKNOWN_REQUEST, codes "unknown request") ∷ (statuses.ZERO_PIECE, codes "zero piece")
+    ∷ (statuses.LONG_DATA, codes "data too long") ∷ []
 
--- the words of a status on what is asked to be written
-abbrev pub request_word : ℕ → Option (List ℕ)
-request_word status =
-    if status == UNKNOWN_REQUEST then Some (codes "unknown request")
-    else if status == ZERO_PIECE then Some (codes "zero piece")
-    else if status == LONG_DATA then Some (codes "data too long")
-    else None
+-- the statuses of a table that takes in no more
+abbrev pub joining_faults : List (ℕ × List ℕ)
+joining_faults =
+    (statuses.MISPLACED_FIRST, codes "misplaced first") ∷ (statuses.LONG, codes "too long")
+    ∷ (statuses.FULL_SOURCE, codes "full source") ∷ (statuses.FULL, codes "full") ∷ []
 
--- the words of a status on a saved table
-abbrev pub table_word : ℕ → Option (List ℕ)
-table_word status =
-    if status == TABLE_BAD_MAGIC then Some (codes "table: bad magic")
-    else if status == TABLE_TRUNCATED then Some (codes "table: truncated")
-    else if status == TABLE_NOT_CANONICAL then Some (codes "table: not canonical")
-    else if status == TABLE_LONG then Some (codes "table: too long")
-    else if status == TABLE_FULL_SOURCE then Some (codes "table: full source")
-    else if status == TABLE_FULL then Some (codes "table: full")
-    else None
+-- the statuses of a station and its names, of a part of a packet, of a line of a capture and of a number that is no status
+abbrev pub other_faults : List (ℕ × List ℕ)
+other_faults =
+    (statuses.NAME_PRESENT, codes "name: present") ∷ (statuses.TOO_MANY_NAMES, codes "too many names")
+    ∷ (statuses.NO_STATION, codes "no station") ∷ (statuses.OTHER_TYPE, codes "other type")
+    ∷ (statuses.BAD_LINE, codes "bad line") ∷ (statuses.UNKNOWN_STATUS, codes "unknown status") ∷ []
 
--- the words of a status on the second of two saved tables
-abbrev pub second_word : ℕ → Option (List ℕ)
-second_word status =
-    if status == SECOND_BAD_MAGIC then Some (codes "second table: bad magic")
-    else if status == SECOND_TRUNCATED then Some (codes "second table: truncated")
-    else if status == SECOND_NOT_CANONICAL then Some (codes "second table: not canonical")
-    else if status == SECOND_LONG then Some (codes "second table: too long")
-    else if status == SECOND_FULL_SOURCE then Some (codes "second table: full source")
-    else if status == SECOND_FULL then Some (codes "second table: full")
-    else None
+-- in_role role words faults: the faults in this role, its number added to theirs, and its words before theirs
+abbrev pub in_role : ℕ → List ℕ → List (ℕ × List ℕ) → List (ℕ × List ℕ)
+in_role role words faults = map (λ fault. (role + fault.0, words ++ fault.1)) faults
 
--- the words of a status on a table that takes in no more
-abbrev pub joining_word : ℕ → Option (List ℕ)
-joining_word status =
-    if status == MISPLACED_FIRST then Some (codes "misplaced first")
-    else if status == LONG then Some (codes "too long")
-    else if status == FULL_SOURCE then Some (codes "full source")
-    else if status == FULL then Some (codes "full")
-    else None
+-- each status and its words
+abbrev pub status_words : List (ℕ × List ℕ)
+status_words =
+    outcomes
+    ++ text_faults
+    ++ in_role statuses.SOURCE_TEXT (codes "source: ") text_faults
+    ++ in_role statuses.DESTINATION_TEXT (codes "destination: ") text_faults
+    ++ in_role statuses.NO_ROLE (codes "name: ") name_faults
+    ++ (statuses.NAME_TRAILING_BYTES, codes "name: trailing bytes") ∷ []
+    ++ in_role statuses.SOURCE (codes "source name: ") name_faults
+    ++ in_role statuses.DESTINATION (codes "destination name: ") name_faults
+    ++ packet_faults
+    ++ request_faults
+    ++ in_role statuses.NO_ROLE (codes "table: ") table_faults
+    ++ in_role statuses.SECOND (codes "second table: ") table_faults
+    ++ joining_faults
+    ++ other_faults
 
--- the words of a status on a station and its names
-abbrev pub station_word : ℕ → Option (List ℕ)
-station_word status =
-    if status == NAME_PRESENT then Some (codes "name: present")
-    else if status == TOO_MANY_NAMES then Some (codes "too many names")
-    else if status == NO_STATION then Some (codes "no station")
-    else None
+-- the words beside a number, in the first row that has it
+abbrev pub word_beside : List (ℕ × List ℕ) → ℕ → Option (List ℕ)
+word_beside rows number = option_map (λ row. row.1) (find (λ row. row.0 == number) rows)
 
--- the words of a status on a part of a packet
-abbrev pub part_word : ℕ → Option (List ℕ)
-part_word status = if status == OTHER_TYPE then Some (codes "other type") else None
-
--- the words of a status on a line of a capture
-abbrev pub line_word : ℕ → Option (List ℕ)
-line_word status = if status == BAD_LINE then Some (codes "bad line") else None
-
--- the words of a status that isn't about what is read
-abbrev pub later_word : ℕ → Option (List ℕ)
-later_word status =
-    if status / 10 == 6 then request_word status
-    else if status / 10 == 7 then table_word status
-    else if status / 10 == 8 then second_word status
-    else if status / 10 == 9 then joining_word status
-    else if status / 10 == 10 then station_word status
-    else if status / 10 == 11 then part_word status
-    else if status / 10 == 12 then line_word status
-    else outcome_word status
-
--- the words of a status, if it is one; the numbers of a matter have one number of tens
-abbrev pub status_word : ℕ → Option (List ℕ)
-status_word status =
-    if status / 10 == 1 then text_word status
-    else if status / 10 == 2 then name_word status
-    else if status / 10 == 3 then source_word status
-    else if status / 10 == 4 then destination_word status
-    else if status / 10 == 5 then packet_word status
-    else later_word status
+-- the words of a status, if it is one
+unfoldable pub status_word : ℕ → Option (List ℕ)
+status_word = word_beside status_words
 
 -- what is answered of a status
 abbrev pub status_answer_of : Option (List ℕ) → Result (List ℕ) Refusal
 status_answer_of (Some words) = Ok words
-status_answer_of None = Err (Fault UNKNOWN_STATUS)
+status_answer_of None = Err (Fault statuses.UNKNOWN_STATUS)
 
 -- what is answered to a question for its words
 abbrev pub status_answer : ℕ → Result (List ℕ) Refusal

@@ -10,8 +10,8 @@ ghost use Rattle.nb_table.specs.Saved.{key_bytes};
 use crate::handle::{NbtStation, put_back, taken};
 use crate::loading::loaded;
 use crate::output::{answer_of, write_answer};
-use crate::refusal::{Refusal, first_refusal, table_refusal};
-use crate::statuses::NO_STATION;
+use crate::refusal::{Refusal, load_refusal, table_refusal};
+use crate::statuses::{NO_ROLE, NO_STATION};
 use nb_datagram::{Datagram, Datagrams, Key};
 use nb_member::Member;
 use nb_member::laws::a_preview_is_what_is_handed_over;
@@ -87,7 +87,7 @@ fn absorb_saved(
         settings.per_source,
         settings.longest,
     ) {
-        Err(fault) => Err(first_refusal(fault)),
+        Err(fault) => Err(load_refusal(NO_ROLE, fault)),
         Ok(other) => join(alloc, member, moment, &other, room),
     }
 }

@@ -6,8 +6,8 @@ ghost use Rattle.nb_c.specs.Outputs.{Does, HasOne, OrMemory, none_late};
 ghost use Rattle.nb_datagram.specs.declared.limits.TheConstants.{MAX_LENGTH};
 
 use crate::output::{answer_of, write_answer};
-use crate::refusal::{Refusal, destination_text_refusal, source_text_refusal};
-use crate::statuses::{LONG_DATA, UNKNOWN_TYPE, ZERO_PIECE};
+use crate::refusal::{Refusal, text_refusal};
+use crate::statuses::{DESTINATION_TEXT, LONG_DATA, SOURCE_TEXT, UNKNOWN_TYPE, ZERO_PIECE};
 use crate::texts::name_of_text;
 use nb_datagram::limits::{DIRECT_HEADER_LENGTH, MAX_LENGTH};
 use nb_datagram::{Datagram, Fragment, Key, Kind, Packet, Pieces, cut, encode};
@@ -111,9 +111,9 @@ fn packets(
     match kind_with(sent.packet_type) {
         None => Err(Refusal::Fault(UNKNOWN_TYPE)),
         Some(kind) => match source {
-            Err(fault) => Err(source_text_refusal(fault)),
+            Err(fault) => Err(text_refusal(SOURCE_TEXT, fault)),
             Ok(source) => match destination {
-                Err(fault) => Err(destination_text_refusal(fault)),
+                Err(fault) => Err(text_refusal(DESTINATION_TEXT, fault)),
                 Ok(destination) => cut_data(alloc, sent, kind, source, destination, contents),
             },
         },

@@ -9,7 +9,7 @@ ghost use Rattle.nb_datagram.specs.Packet.{packet_bytes};
 use crate::cutting::key_from;
 use crate::output::{answer_of, write_answer, write_bytes};
 use crate::refusal::{Refusal, text_refusal};
-use crate::statuses::UNKNOWN_TYPE;
+use crate::statuses::{NO_ROLE, UNKNOWN_TYPE};
 use crate::texts::name_of_text;
 use nb_datagram::{ErrorPacket, Key, Packet, QueryKind, QueryPacket, encode};
 use nb_names::text_laws::{one_name, one_text_fault};
@@ -96,7 +96,7 @@ fn query_read(
         None => Err(Refusal::Fault(UNKNOWN_TYPE)),
         Some(kind) => match read {
             Ok(name) => answer_of(query_bytes(alloc, kind, key, name)),
-            Err(fault) => Err(text_refusal(fault)),
+            Err(fault) => Err(text_refusal(NO_ROLE, fault)),
         },
     }
 }

@@ -9,8 +9,9 @@ ghost use Rattle.nb_c.specs.Tables.{follow_the_first};
 use crate::laws::a_comparison_has_one_answer;
 use crate::loading::loaded;
 use crate::output::fill;
-use crate::refusal::{Refusal, first_refusal, second_refusal};
+use crate::refusal::{Refusal, load_refusal};
 use crate::stations::LONGEST;
+use crate::statuses::{NO_ROLE, SECOND};
 use nb_datagram::Key;
 use nb_table::Table;
 use nb_table::laws::{an_input_is_read_as_one_table, saved_bytes_have_one_reading};
@@ -58,9 +59,9 @@ fn compared(alloc: Global, first: &[u8], second: &[u8]) -> Result<NbtDifference,
     an_input_is_read_as_one_table();
     saved_bytes_have_one_reading();
     match loaded(alloc, first, u32::MAX, u32::MAX, LONGEST) {
-        Err(fault) => Err(first_refusal(fault)),
+        Err(fault) => Err(load_refusal(NO_ROLE, fault)),
         Ok(one) => match loaded(alloc, second, u32::MAX, u32::MAX, LONGEST) {
-            Err(fault) => Err(second_refusal(fault)),
+            Err(fault) => Err(load_refusal(SECOND, fault)),
             Ok(other) => Ok(difference_of(least_difference(&one, &other))),
         },
     }

@@ -36,12 +36,11 @@ ghost use Rattle.nb_c.specs.declared.differing.NbtDifference.{NbtDifference};
 ghost use Rattle.nb_c.specs.Differing.{Compares};
 ghost use Rattle.nb_c.specs.Datagrams.{fragment_places, error_places, query_places};
 ghost use Rattle.nb_c.specs.Fronts.{front_places};
-ghost use Rattle.nb_c.specs.Tables.{Merges, OfOne, first_refusal, second_refusal};
-ghost use Rattle.nb_c.specs.Outputs.{refused_status};
+ghost use Rattle.nb_c.specs.Tables.{Merges, OfOne};
 ghost use Rattle.nb_c.specs.Requests.{named_answer, request_answer, requested};
 ghost use Rattle.nb_c.specs.Services.{section_number};
-ghost use Rattle.nb_c.specs.Stations.{AreNames, place_in, table_refusal, texts_in};
-ghost use Rattle.nb_c.specs.Statuses.{text_refusal, source_text_refusal, destination_text_refusal, name_refusal, datagram_refusal, service_refusal, session_refusal, line_refusal};
+ghost use Rattle.nb_c.specs.Stations.{AreNames, table_refusal, texts_in};
+ghost use Rattle.nb_c.specs.Statuses.{text_refusal, name_refusal, load_refusal, datagram_refusal, service_refusal, session_refusal, line_refusal};
 ghost use Rattle.nb_c.specs.declared.refusal.Refusal.{Refusal};
 ghost use Rattle.nb_c.specs.declared.refusal.Refusal.TheVariants.{Memory, Fault, FaultAt};
 ghost use Rattle.nb_c.specs.declared.service.Asked.{Asked};
@@ -50,7 +49,7 @@ ghost use Rattle.nb_table.specs.declared.fault.TableFault.TheVariants as joins;
 ghost use Rattle.nb_entries.specs.declared.load_fault.LoadFault.TheVariants as loads;
 ghost use Rattle.nb_table.specs.Contents.{Contents};
 ghost use Rattle.nb_table.specs.Limits.{Limits};
-ghost use Rattle.nb_c.specs.declared.statuses.TheConstants.{DONE, NO_ROOM, NO_MEMORY, BAD_TEXT, LONG_TEXT, SOURCE_BAD_TEXT, SOURCE_LONG_TEXT, DESTINATION_BAD_TEXT, DESTINATION_LONG_TEXT, NAME_TRUNCATED, NAME_RESERVED_LABEL, NAME_POINTER, NAME_LONG, NAME_NOT_NETBIOS, NAME_TRAILING_BYTES, NAME_BAD_POINTER, SOURCE_TRUNCATED, SOURCE_RESERVED_LABEL, SOURCE_POINTER, SOURCE_LONG, SOURCE_NOT_NETBIOS, SOURCE_BAD_POINTER, DESTINATION_TRUNCATED, DESTINATION_RESERVED_LABEL, DESTINATION_POINTER, DESTINATION_LONG, DESTINATION_NOT_NETBIOS, DESTINATION_BAD_POINTER, TRUNCATED, UNKNOWN_TYPE, MORE, RESERVED_FLAGS, BAD_LENGTH, TRAILING_BYTES, NAME_RDATA, NO_ITEM, OTHER_RDATA, NO_PART, UNKNOWN_REQUEST, ZERO_PIECE, LONG_DATA, TABLE_BAD_MAGIC, TABLE_TRUNCATED, TABLE_NOT_CANONICAL, TABLE_LONG, TABLE_FULL_SOURCE, TABLE_FULL, SECOND_BAD_MAGIC, SECOND_TRUNCATED, SECOND_NOT_CANONICAL, SECOND_LONG, SECOND_FULL_SOURCE, SECOND_FULL, MISPLACED_FIRST, LONG, FULL_SOURCE, FULL, NAME_PRESENT, TOO_MANY_NAMES, NO_STATION, OTHER_TYPE, BAD_LINE, UNKNOWN_STATUS};
+ghost use Rattle.nb_c.specs.declared.statuses.TheConstants.{DONE, NO_ROOM, NO_MEMORY, NO_ROLE, SOURCE_TEXT, DESTINATION_TEXT, SOURCE, DESTINATION, SECOND, BAD_TEXT, LONG_TEXT, SOURCE_BAD_TEXT, SOURCE_LONG_TEXT, DESTINATION_BAD_TEXT, DESTINATION_LONG_TEXT, NAME_TRUNCATED, NAME_RESERVED_LABEL, NAME_POINTER, NAME_LONG, NAME_NOT_NETBIOS, NAME_TRAILING_BYTES, NAME_BAD_POINTER, SOURCE_TRUNCATED, SOURCE_RESERVED_LABEL, SOURCE_POINTER, SOURCE_LONG, SOURCE_NOT_NETBIOS, SOURCE_BAD_POINTER, DESTINATION_TRUNCATED, DESTINATION_RESERVED_LABEL, DESTINATION_POINTER, DESTINATION_LONG, DESTINATION_NOT_NETBIOS, DESTINATION_BAD_POINTER, TRUNCATED, UNKNOWN_TYPE, MORE, RESERVED_FLAGS, BAD_LENGTH, TRAILING_BYTES, NAME_RDATA, NO_ITEM, OTHER_RDATA, NO_PART, UNKNOWN_REQUEST, ZERO_PIECE, LONG_DATA, TABLE_BAD_MAGIC, TABLE_TRUNCATED, TABLE_NOT_CANONICAL, TABLE_LONG, TABLE_FULL_SOURCE, TABLE_FULL, SECOND_BAD_MAGIC, SECOND_TRUNCATED, SECOND_NOT_CANONICAL, SECOND_LONG, SECOND_FULL_SOURCE, SECOND_FULL, MISPLACED_FIRST, LONG, FULL_SOURCE, FULL, NAME_PRESENT, TOO_MANY_NAMES, NO_STATION, OTHER_TYPE, BAD_LINE, UNKNOWN_STATUS};
 
 use nb_names::text_laws::{one_name, one_text_fault};
 use nb_table::laws::{an_input_is_read_as_one_table, saved_bytes_have_one_reading};
@@ -59,6 +58,8 @@ use nb_table::laws::{an_input_is_read_as_one_table, saved_bytes_have_one_reading
 /// room for a payload, and of each section of an item.
 pub fn numbers()
     ensures outcomes { (DONE ≡ 0) × (NO_ROOM ≡ 1) × (NO_MEMORY ≡ 2) }
+    ensures roles { (NO_ROLE ≡ 0) × (SOURCE_TEXT ≡ 2) × (DESTINATION_TEXT ≡ 4) × (SOURCE ≡ 10)
+        × (DESTINATION ≡ 20) × (SECOND ≡ 10) }
     ensures texts { (BAD_TEXT ≡ 10) × (LONG_TEXT ≡ 11) × (SOURCE_BAD_TEXT ≡ 12)
         × (SOURCE_LONG_TEXT ≡ 13) × (DESTINATION_BAD_TEXT ≡ 14) × (DESTINATION_LONG_TEXT ≡ 15) }
     ensures names { (NAME_TRUNCATED ≡ 20) × (NAME_RESERVED_LABEL ≡ 21) × (NAME_POINTER ≡ 22)
@@ -127,30 +128,23 @@ pub fn a_line_in_numbers()
 {}
 
 /// Each fault has a status of its own, and its place if it has one. Some share theirs: the unknown
-/// types of ports 138 and 139, and payloads of ports 137 and 138 that end too early. The faults of
-/// a source's name have those of a name and 10, of a destination's 20, and of the second table
-/// those of the first and 10.
+/// types of ports 138 and 139, and payloads of ports 137 and 138 that end too early. In a role
+/// another number is added: in a datagram 10 for a source's name and 20 for a destination's.
 pub fn each_fault_has_its_status()
-    ensures texts { (place : ℕ) → (text_refusal (texts.BadText place) ≡ FaultAt 10 place)
-        × (text_refusal texts.TooLong ≡ Fault 11)
-        × (source_text_refusal (texts.BadText place) ≡ FaultAt 12 place)
-        × (source_text_refusal texts.TooLong ≡ Fault 13)
-        × (destination_text_refusal (texts.BadText place) ≡ FaultAt 14 place)
-        × (destination_text_refusal texts.TooLong ≡ Fault 15) }
-    ensures names { (place : ℕ) → (name_refusal (names.Truncated place) ≡ FaultAt 20 place)
-        × (name_refusal (names.ReservedLabel place) ≡ FaultAt 21 place)
-        × (name_refusal (names.PointerNotAllowed place) ≡ FaultAt 22 place)
-        × (name_refusal (names.TooLong place) ≡ FaultAt 23 place)
-        × (name_refusal (names.NotNetbios place) ≡ FaultAt 24 place)
-        × (name_refusal (names.BadPointer place) ≡ FaultAt 26 place) }
+    ensures texts { (role place : ℕ) →
+        (text_refusal role (texts.BadText place) ≡ FaultAt (role + 10) place)
+        × (text_refusal role texts.TooLong ≡ Fault (role + 11)) }
+    ensures names { (role place : ℕ) →
+        (name_refusal role (names.Truncated place) ≡ FaultAt (role + 20) place)
+        × (name_refusal role (names.ReservedLabel place) ≡ FaultAt (role + 21) place)
+        × (name_refusal role (names.PointerNotAllowed place) ≡ FaultAt (role + 22) place)
+        × (name_refusal role (names.TooLong place) ≡ FaultAt (role + 23) place)
+        × (name_refusal role (names.NotNetbios place) ≡ FaultAt (role + 24) place)
+        × (name_refusal role (names.BadPointer place) ≡ FaultAt (role + 26) place) }
     ensures sources { (fault : NameFault) →
-        (refused_status (datagram_refusal (SourceName fault))
-        ≡ refused_status (name_refusal fault) + 10)
-        × (place_in (datagram_refusal (SourceName fault)) ≡ place_in (name_refusal fault)) }
+        datagram_refusal (SourceName fault) ≡ name_refusal 10 fault }
     ensures destinations { (fault : NameFault) →
-        (refused_status (datagram_refusal (DestinationName fault))
-        ≡ refused_status (name_refusal fault) + 20)
-        × (place_in (datagram_refusal (DestinationName fault)) ≡ place_in (name_refusal fault)) }
+        datagram_refusal (DestinationName fault) ≡ name_refusal 20 fault }
     ensures datagrams { (place : ℕ) →
         (datagram_refusal (datagrams.Truncated place) ≡ FaultAt 50 place)
         × (datagram_refusal datagrams.UnknownType ≡ Fault 51) }
@@ -159,22 +153,19 @@ pub fn each_fault_has_its_status()
         × (session_refusal sessions.BadLength ≡ Fault 54)
         × (session_refusal (sessions.TrailingBytes place) ≡ FaultAt 55 place) }
     ensures called { (fault : NameFault) →
-        session_refusal (sessions.Name fault) ≡ name_refusal fault }
+        session_refusal (sessions.Name fault) ≡ name_refusal 0 fault }
     ensures services { (place : ℕ) → (service_refusal (services.Truncated place) ≡ FaultAt 50 place)
         × (service_refusal (services.NameRdata place) ≡ FaultAt 56 place)
         × (service_refusal services.NoMemory ≡ Memory) }
     ensures about { (fault : NameFault) →
-        service_refusal (services.Name fault) ≡ name_refusal fault }
-    ensures tables { (place : ℕ) → (first_refusal loads.BadMagic ≡ Fault 70)
-        × (first_refusal loads.Truncated ≡ Fault 71)
-        × (first_refusal (loads.NotCanonical place) ≡ FaultAt 72 place)
-        × (first_refusal loads.TooLong ≡ Fault 73) × (first_refusal loads.FullSource ≡ Fault 74)
-        × (first_refusal loads.Full ≡ Fault 75) × (first_refusal loads.NoMemory ≡ Memory) }
-    ensures seconds { (place : ℕ) → (second_refusal loads.BadMagic ≡ Fault 80)
-        × (second_refusal loads.Truncated ≡ Fault 81)
-        × (second_refusal (loads.NotCanonical place) ≡ FaultAt 82 place)
-        × (second_refusal loads.TooLong ≡ Fault 83) × (second_refusal loads.FullSource ≡ Fault 84)
-        × (second_refusal loads.Full ≡ Fault 85) × (second_refusal loads.NoMemory ≡ Memory) }
+        service_refusal (services.Name fault) ≡ name_refusal 0 fault }
+    ensures tables { (role place : ℕ) → (load_refusal role loads.BadMagic ≡ Fault (role + 70))
+        × (load_refusal role loads.Truncated ≡ Fault (role + 71))
+        × (load_refusal role (loads.NotCanonical place) ≡ FaultAt (role + 72) place)
+        × (load_refusal role loads.TooLong ≡ Fault (role + 73))
+        × (load_refusal role loads.FullSource ≡ Fault (role + 74))
+        × (load_refusal role loads.Full ≡ Fault (role + 75))
+        × (load_refusal role loads.NoMemory ≡ Memory) }
     ensures joins { (key : Key) → (table_refusal joins.MisplacedFirst ≡ Fault 90)
         × (table_refusal joins.TooLong ≡ Fault 91)
         × (table_refusal (joins.FullSource key) ≡ Fault 92)

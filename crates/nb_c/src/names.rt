@@ -6,7 +6,7 @@ ghost use Rattle.nb_c.specs.Outputs.{Does, HasOne, OrMemory, none_late};
 
 use crate::output::{answer_of, write_answer};
 use crate::refusal::{Refusal, name_refusal, text_refusal};
-use crate::statuses::NAME_TRAILING_BYTES;
+use crate::statuses::{NAME_TRAILING_BYTES, NO_ROLE};
 use crate::texts::name_of_text;
 use nb_names::laws::{labels_tell_the_name, one_netbios_fault, one_reading};
 use nb_names::text_laws::{one_name, one_text_fault};
@@ -66,7 +66,7 @@ fn spelling_read(alloc: Global, read: Result<Name, TextFault>) -> Result<Bytes, 
 {
     match read {
         Ok(name) => answer_of(write_domain(alloc, &name.to_domain())),
-        Err(fault) => Err(text_refusal(fault)),
+        Err(fault) => Err(text_refusal(NO_ROLE, fault)),
     }
 }
 
@@ -86,7 +86,7 @@ fn text_of(alloc: Global, spelling: &[u8]) -> Result<Bytes, Refusal>
             }
             answer_of(text_bytes(alloc, &name))
         }
-        Err(fault) => Err(name_refusal(fault)),
+        Err(fault) => Err(name_refusal(NO_ROLE, fault)),
     }
 }
 

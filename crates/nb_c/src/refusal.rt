@@ -1,20 +1,15 @@
 //! Why a call does nothing.
-ghost use Rattle.std.specs.Prelude.{◌≡◌};
-ghost use Rattle.nb_c.specs.Statuses.{text_refusal, source_text_refusal, destination_text_refusal, name_refusal, source_refusal, destination_refusal, datagram_refusal, service_refusal, session_refusal, line_refusal};
+ghost use Rattle.std.specs.Prelude.{◌≡◌, ◌≤◌};
+ghost use Rattle.nb_c.specs.Statuses.{text_refusal, name_refusal, load_refusal, datagram_refusal, service_refusal, session_refusal, line_refusal};
 ghost use Rattle.nb_c.specs.Outputs.{refused_status};
 ghost use Rattle.nb_c.specs.Stations.{table_refusal};
-ghost use Rattle.nb_c.specs.Tables.{first_refusal, second_refusal};
 
 use crate::statuses::{
-    BAD_LENGTH, BAD_LINE, BAD_TEXT, DESTINATION_BAD_POINTER, DESTINATION_BAD_TEXT,
-    DESTINATION_LONG, DESTINATION_LONG_TEXT, DESTINATION_NOT_NETBIOS, DESTINATION_POINTER,
-    DESTINATION_RESERVED_LABEL, DESTINATION_TRUNCATED, FULL, FULL_SOURCE, LONG, LONG_TEXT,
-    MISPLACED_FIRST, NAME_BAD_POINTER, NAME_LONG, NAME_NOT_NETBIOS, NAME_POINTER, NAME_RDATA,
-    NAME_RESERVED_LABEL, NAME_TRUNCATED, NO_MEMORY, RESERVED_FLAGS, SECOND_BAD_MAGIC, SECOND_FULL,
-    SECOND_FULL_SOURCE, SECOND_LONG, SECOND_NOT_CANONICAL, SECOND_TRUNCATED, SOURCE_BAD_POINTER,
-    SOURCE_BAD_TEXT, SOURCE_LONG, SOURCE_LONG_TEXT, SOURCE_NOT_NETBIOS, SOURCE_POINTER,
-    SOURCE_RESERVED_LABEL, SOURCE_TRUNCATED, TABLE_BAD_MAGIC, TABLE_FULL, TABLE_FULL_SOURCE,
-    TABLE_LONG, TABLE_NOT_CANONICAL, TABLE_TRUNCATED, TRAILING_BYTES, TRUNCATED, UNKNOWN_TYPE,
+    BAD_LENGTH, BAD_LINE, BAD_TEXT, DESTINATION, DESTINATION_TEXT, FULL, FULL_SOURCE, LONG,
+    LONG_TEXT, MISPLACED_FIRST, NAME_BAD_POINTER, NAME_LONG, NAME_NOT_NETBIOS, NAME_POINTER,
+    NAME_RDATA, NAME_RESERVED_LABEL, NAME_TRUNCATED, NO_MEMORY, NO_ROLE, RESERVED_FLAGS, SECOND,
+    SOURCE, TABLE_BAD_MAGIC, TABLE_FULL, TABLE_FULL_SOURCE, TABLE_LONG, TABLE_NOT_CANONICAL,
+    TABLE_TRUNCATED, TRAILING_BYTES, TRUNCATED, UNKNOWN_TYPE,
 };
 use nb_datagram::DatagramFault;
 use nb_member::LineFault;
@@ -34,75 +29,45 @@ pub enum Refusal {
     FaultAt(u32, usize),
 }
 
-/// Why a text is of no name.
-pub(crate) fn text_refusal(fault: TextFault) -> Refusal
-    ensures { result ≡ text_refusal fault }
+/// Why a text is of no name, in this role.
+pub(crate) fn text_refusal(role: u32, fault: TextFault) -> Refusal
+    requires { role ≤ DESTINATION_TEXT }
+    ensures { result ≡ text_refusal role fault }
 {
     match fault {
-        TextFault::BadText(place) => Refusal::FaultAt(BAD_TEXT, place),
-        TextFault::TooLong => Refusal::Fault(LONG_TEXT),
+        TextFault::BadText(place) => Refusal::FaultAt(role + BAD_TEXT, place),
+        TextFault::TooLong => Refusal::Fault(role + LONG_TEXT),
     }
 }
 
-/// Why the source's text is of no name.
-pub(crate) fn source_text_refusal(fault: TextFault) -> Refusal
-    ensures { result ≡ source_text_refusal fault }
+/// Why no name stands where one is read, in this role.
+pub(crate) fn name_refusal(role: u32, fault: NameFault) -> Refusal
+    requires { role ≤ DESTINATION }
+    ensures { result ≡ name_refusal role fault }
 {
     match fault {
-        TextFault::BadText(place) => Refusal::FaultAt(SOURCE_BAD_TEXT, place),
-        TextFault::TooLong => Refusal::Fault(SOURCE_LONG_TEXT),
+        NameFault::Truncated(place) => Refusal::FaultAt(role + NAME_TRUNCATED, place),
+        NameFault::ReservedLabel(place) => Refusal::FaultAt(role + NAME_RESERVED_LABEL, place),
+        NameFault::PointerNotAllowed(place) => Refusal::FaultAt(role + NAME_POINTER, place),
+        NameFault::BadPointer(place) => Refusal::FaultAt(role + NAME_BAD_POINTER, place),
+        NameFault::TooLong(place) => Refusal::FaultAt(role + NAME_LONG, place),
+        NameFault::NotNetbios(place) => Refusal::FaultAt(role + NAME_NOT_NETBIOS, place),
     }
 }
 
-/// Why the destination's text is of no name.
-pub(crate) fn destination_text_refusal(fault: TextFault) -> Refusal
-    ensures { result ≡ destination_text_refusal fault }
+/// Why a saved table isn't read, in this role.
+pub(crate) fn load_refusal(role: u32, fault: LoadFault) -> Refusal
+    requires { role ≤ SECOND }
+    ensures { result ≡ load_refusal role fault }
 {
     match fault {
-        TextFault::BadText(place) => Refusal::FaultAt(DESTINATION_BAD_TEXT, place),
-        TextFault::TooLong => Refusal::Fault(DESTINATION_LONG_TEXT),
-    }
-}
-
-/// Why no name stands where one is read.
-pub(crate) fn name_refusal(fault: NameFault) -> Refusal
-    ensures { result ≡ name_refusal fault }
-{
-    match fault {
-        NameFault::Truncated(place) => Refusal::FaultAt(NAME_TRUNCATED, place),
-        NameFault::ReservedLabel(place) => Refusal::FaultAt(NAME_RESERVED_LABEL, place),
-        NameFault::PointerNotAllowed(place) => Refusal::FaultAt(NAME_POINTER, place),
-        NameFault::BadPointer(place) => Refusal::FaultAt(NAME_BAD_POINTER, place),
-        NameFault::TooLong(place) => Refusal::FaultAt(NAME_LONG, place),
-        NameFault::NotNetbios(place) => Refusal::FaultAt(NAME_NOT_NETBIOS, place),
-    }
-}
-
-/// Why no name stands where the source's is read.
-fn source_refusal(fault: NameFault) -> Refusal
-    ensures { result ≡ source_refusal fault }
-{
-    match fault {
-        NameFault::Truncated(place) => Refusal::FaultAt(SOURCE_TRUNCATED, place),
-        NameFault::ReservedLabel(place) => Refusal::FaultAt(SOURCE_RESERVED_LABEL, place),
-        NameFault::PointerNotAllowed(place) => Refusal::FaultAt(SOURCE_POINTER, place),
-        NameFault::BadPointer(place) => Refusal::FaultAt(SOURCE_BAD_POINTER, place),
-        NameFault::TooLong(place) => Refusal::FaultAt(SOURCE_LONG, place),
-        NameFault::NotNetbios(place) => Refusal::FaultAt(SOURCE_NOT_NETBIOS, place),
-    }
-}
-
-/// Why no name stands where the destination's is read.
-fn destination_refusal(fault: NameFault) -> Refusal
-    ensures { result ≡ destination_refusal fault }
-{
-    match fault {
-        NameFault::Truncated(place) => Refusal::FaultAt(DESTINATION_TRUNCATED, place),
-        NameFault::ReservedLabel(place) => Refusal::FaultAt(DESTINATION_RESERVED_LABEL, place),
-        NameFault::PointerNotAllowed(place) => Refusal::FaultAt(DESTINATION_POINTER, place),
-        NameFault::BadPointer(place) => Refusal::FaultAt(DESTINATION_BAD_POINTER, place),
-        NameFault::TooLong(place) => Refusal::FaultAt(DESTINATION_LONG, place),
-        NameFault::NotNetbios(place) => Refusal::FaultAt(DESTINATION_NOT_NETBIOS, place),
+        LoadFault::BadMagic => Refusal::Fault(role + TABLE_BAD_MAGIC),
+        LoadFault::Truncated => Refusal::Fault(role + TABLE_TRUNCATED),
+        LoadFault::NotCanonical(at) => Refusal::FaultAt(role + TABLE_NOT_CANONICAL, at),
+        LoadFault::TooLong => Refusal::Fault(role + TABLE_LONG),
+        LoadFault::FullSource => Refusal::Fault(role + TABLE_FULL_SOURCE),
+        LoadFault::Full => Refusal::Fault(role + TABLE_FULL),
+        LoadFault::NoMemory => Refusal::Memory,
     }
 }
 
@@ -113,8 +78,8 @@ pub(crate) fn datagram_refusal(fault: DatagramFault) -> Refusal
     match fault {
         DatagramFault::Truncated(place) => Refusal::FaultAt(TRUNCATED, place),
         DatagramFault::UnknownType => Refusal::Fault(UNKNOWN_TYPE),
-        DatagramFault::SourceName(fault) => source_refusal(fault),
-        DatagramFault::DestinationName(fault) => destination_refusal(fault),
+        DatagramFault::SourceName(fault) => name_refusal(SOURCE, fault),
+        DatagramFault::DestinationName(fault) => name_refusal(DESTINATION, fault),
     }
 }
 
@@ -126,7 +91,7 @@ pub(crate) fn session_refusal(fault: SessionFault) -> Refusal
         SessionFault::UnknownType => Refusal::Fault(UNKNOWN_TYPE),
         SessionFault::ReservedFlags => Refusal::Fault(RESERVED_FLAGS),
         SessionFault::BadLength => Refusal::Fault(BAD_LENGTH),
-        SessionFault::Name(fault) => name_refusal(fault),
+        SessionFault::Name(fault) => name_refusal(NO_ROLE, fault),
         SessionFault::TrailingBytes(place) => Refusal::FaultAt(TRAILING_BYTES, place),
     }
 }
@@ -137,7 +102,7 @@ pub(crate) fn service_refusal(fault: ServiceFault) -> Refusal
 {
     match fault {
         ServiceFault::Truncated(place) => Refusal::FaultAt(TRUNCATED, place),
-        ServiceFault::Name(fault) => name_refusal(fault),
+        ServiceFault::Name(fault) => name_refusal(NO_ROLE, fault),
         ServiceFault::NameRdata(place) => Refusal::FaultAt(NAME_RDATA, place),
         ServiceFault::NoMemory => Refusal::Memory,
     }
@@ -174,35 +139,5 @@ pub(crate) fn status_of(refusal: Refusal) -> u32
         Refusal::Memory => NO_MEMORY,
         Refusal::Fault(status) => status,
         Refusal::FaultAt(status, _) => status,
-    }
-}
-
-/// Why the first of two saved tables isn't read.
-pub(crate) fn first_refusal(fault: LoadFault) -> Refusal
-    ensures { result ≡ first_refusal fault }
-{
-    match fault {
-        LoadFault::BadMagic => Refusal::Fault(TABLE_BAD_MAGIC),
-        LoadFault::Truncated => Refusal::Fault(TABLE_TRUNCATED),
-        LoadFault::NotCanonical(at) => Refusal::FaultAt(TABLE_NOT_CANONICAL, at),
-        LoadFault::TooLong => Refusal::Fault(TABLE_LONG),
-        LoadFault::FullSource => Refusal::Fault(TABLE_FULL_SOURCE),
-        LoadFault::Full => Refusal::Fault(TABLE_FULL),
-        LoadFault::NoMemory => Refusal::Memory,
-    }
-}
-
-/// Why the second isn't read.
-pub(crate) fn second_refusal(fault: LoadFault) -> Refusal
-    ensures { result ≡ second_refusal fault }
-{
-    match fault {
-        LoadFault::BadMagic => Refusal::Fault(SECOND_BAD_MAGIC),
-        LoadFault::Truncated => Refusal::Fault(SECOND_TRUNCATED),
-        LoadFault::NotCanonical(at) => Refusal::FaultAt(SECOND_NOT_CANONICAL, at),
-        LoadFault::TooLong => Refusal::Fault(SECOND_LONG),
-        LoadFault::FullSource => Refusal::Fault(SECOND_FULL_SOURCE),
-        LoadFault::Full => Refusal::Fault(SECOND_FULL),
-        LoadFault::NoMemory => Refusal::Memory,
     }
 }

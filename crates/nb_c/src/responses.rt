@@ -7,7 +7,7 @@ ghost use Rattle.nb_service.specs.Record.{ResourceData};
 use crate::output::{answer_of, write_answer};
 use crate::refusal::{Refusal, name_refusal, text_refusal};
 use crate::service::bytes_if_made;
-use crate::statuses::{LONG_DATA, NAME_TRAILING_BYTES};
+use crate::statuses::{LONG_DATA, NAME_TRAILING_BYTES, NO_ROLE};
 use crate::texts::name_of_text;
 use nb_names::laws::{one_fault, one_reading};
 use nb_names::text_laws::{one_name, one_text_fault};
@@ -75,7 +75,7 @@ fn answer(alloc: Global, answered: Answered, text: &[u8], contents: &[u8]) -> Re
     one_fault();
     match name_of_text(text) {
         Ok(name) => named_response(alloc, answered, &name, contents),
-        Err(fault) => Err(text_refusal(fault)),
+        Err(fault) => Err(text_refusal(NO_ROLE, fault)),
     }
 }
 
@@ -125,7 +125,7 @@ fn domain_of(bytes: &[u8]) -> Result<DomainName, Refusal>
             }
             Ok(domain)
         }
-        Err(fault) => Err(name_refusal(fault)),
+        Err(fault) => Err(name_refusal(NO_ROLE, fault)),
     }
 }
 

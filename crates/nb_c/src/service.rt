@@ -8,7 +8,7 @@ ghost use Rattle.nb_service.specs.Views.{entry_bytes};
 
 use crate::output::{answer_of, write_answer};
 use crate::refusal::{Refusal, text_refusal};
-use crate::statuses::UNKNOWN_REQUEST;
+use crate::statuses::{NO_ROLE, UNKNOWN_REQUEST};
 use crate::texts::name_of_text;
 use nb_names::text_laws::{one_name, one_text_fault};
 use nb_names::{Bytes, Name, NoMemory, TextFault};
@@ -102,7 +102,7 @@ fn request_read(
     }
     match read {
         Ok(name) => answer_of(bytes_of(alloc, asked, &name)),
-        Err(fault) => Err(text_refusal(fault)),
+        Err(fault) => Err(text_refusal(NO_ROLE, fault)),
     }
 }
 

@@ -8,7 +8,7 @@ ghost use Rattle.nb_c.specs.ServiceParts.{ReadsAddress, ReadsDomain, ReadsNode, 
 
 use crate::output::{fill, put, refuse};
 use crate::refusal::{Refusal, name_refusal};
-use crate::statuses::{NAME_RDATA, NO_PART, OTHER_RDATA, TRUNCATED};
+use crate::statuses::{NAME_RDATA, NO_PART, NO_ROLE, OTHER_RDATA, TRUNCATED};
 use nb_names::laws::{one_fault, one_reading};
 use nb_names::limits::NAME_LENGTH;
 use nb_names::{DomainName, NameReader, Pointers};
@@ -207,7 +207,7 @@ pub(crate) fn domain_by(
             }
             Ok(domain)
         }
-        Err(fault) => Err(name_refusal(fault)),
+        Err(fault) => Err(name_refusal(NO_ROLE, fault)),
     }
 }
 

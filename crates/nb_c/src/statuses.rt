@@ -1,4 +1,25 @@
 //! The numbers that calls answer. Each stands for one thing, in all versions, and has its words.
+//!
+//! Where a text, a name or a saved table has a role, as a source's name, the number is that of the
+//! fault of one without a role, and that of the role.
+
+/// No role: a text, a name or a saved table that is the only one of its call, or the first.
+pub const NO_ROLE: u32 = 0;
+
+/// The role of a source's text.
+pub const SOURCE_TEXT: u32 = 2;
+
+/// The role of a destination's text.
+pub const DESTINATION_TEXT: u32 = 4;
+
+/// The role of a source's name.
+pub const SOURCE: u32 = 10;
+
+/// The role of a destination's name.
+pub const DESTINATION: u32 = 20;
+
+/// The role of the second of two saved tables.
+pub const SECOND: u32 = 10;
 
 /// Done.
 pub const DONE: u32 = 0;
@@ -16,16 +37,16 @@ pub const BAD_TEXT: u32 = 10;
 pub const LONG_TEXT: u32 = 11;
 
 /// Source: bad text.
-pub const SOURCE_BAD_TEXT: u32 = 12;
+pub const SOURCE_BAD_TEXT: u32 = SOURCE_TEXT + BAD_TEXT;
 
 /// Source: text too long.
-pub const SOURCE_LONG_TEXT: u32 = 13;
+pub const SOURCE_LONG_TEXT: u32 = SOURCE_TEXT + LONG_TEXT;
 
 /// Destination: bad text.
-pub const DESTINATION_BAD_TEXT: u32 = 14;
+pub const DESTINATION_BAD_TEXT: u32 = DESTINATION_TEXT + BAD_TEXT;
 
 /// Destination: text too long.
-pub const DESTINATION_LONG_TEXT: u32 = 15;
+pub const DESTINATION_LONG_TEXT: u32 = DESTINATION_TEXT + LONG_TEXT;
 
 /// Name: truncated.
 pub const NAME_TRUNCATED: u32 = 20;
@@ -49,40 +70,40 @@ pub const NAME_TRAILING_BYTES: u32 = 25;
 pub const NAME_BAD_POINTER: u32 = 26;
 
 /// Source name: truncated.
-pub const SOURCE_TRUNCATED: u32 = 30;
+pub const SOURCE_TRUNCATED: u32 = SOURCE + NAME_TRUNCATED;
 
 /// Source name: reserved label.
-pub const SOURCE_RESERVED_LABEL: u32 = 31;
+pub const SOURCE_RESERVED_LABEL: u32 = SOURCE + NAME_RESERVED_LABEL;
 
 /// Source name: pointer not allowed.
-pub const SOURCE_POINTER: u32 = 32;
+pub const SOURCE_POINTER: u32 = SOURCE + NAME_POINTER;
 
 /// Source name: too long.
-pub const SOURCE_LONG: u32 = 33;
+pub const SOURCE_LONG: u32 = SOURCE + NAME_LONG;
 
 /// Source name: not netbios.
-pub const SOURCE_NOT_NETBIOS: u32 = 34;
+pub const SOURCE_NOT_NETBIOS: u32 = SOURCE + NAME_NOT_NETBIOS;
 
 /// Source name: bad pointer.
-pub const SOURCE_BAD_POINTER: u32 = 36;
+pub const SOURCE_BAD_POINTER: u32 = SOURCE + NAME_BAD_POINTER;
 
 /// Destination name: truncated.
-pub const DESTINATION_TRUNCATED: u32 = 40;
+pub const DESTINATION_TRUNCATED: u32 = DESTINATION + NAME_TRUNCATED;
 
 /// Destination name: reserved label.
-pub const DESTINATION_RESERVED_LABEL: u32 = 41;
+pub const DESTINATION_RESERVED_LABEL: u32 = DESTINATION + NAME_RESERVED_LABEL;
 
 /// Destination name: pointer not allowed.
-pub const DESTINATION_POINTER: u32 = 42;
+pub const DESTINATION_POINTER: u32 = DESTINATION + NAME_POINTER;
 
 /// Destination name: too long.
-pub const DESTINATION_LONG: u32 = 43;
+pub const DESTINATION_LONG: u32 = DESTINATION + NAME_LONG;
 
 /// Destination name: not netbios.
-pub const DESTINATION_NOT_NETBIOS: u32 = 44;
+pub const DESTINATION_NOT_NETBIOS: u32 = DESTINATION + NAME_NOT_NETBIOS;
 
 /// Destination name: bad pointer.
-pub const DESTINATION_BAD_POINTER: u32 = 46;
+pub const DESTINATION_BAD_POINTER: u32 = DESTINATION + NAME_BAD_POINTER;
 
 /// Truncated.
 pub const TRUNCATED: u32 = 50;
@@ -142,22 +163,22 @@ pub const TABLE_FULL_SOURCE: u32 = 74;
 pub const TABLE_FULL: u32 = 75;
 
 /// Second table: bad magic.
-pub const SECOND_BAD_MAGIC: u32 = 80;
+pub const SECOND_BAD_MAGIC: u32 = SECOND + TABLE_BAD_MAGIC;
 
 /// Second table: truncated.
-pub const SECOND_TRUNCATED: u32 = 81;
+pub const SECOND_TRUNCATED: u32 = SECOND + TABLE_TRUNCATED;
 
 /// Second table: not canonical.
-pub const SECOND_NOT_CANONICAL: u32 = 82;
+pub const SECOND_NOT_CANONICAL: u32 = SECOND + TABLE_NOT_CANONICAL;
 
 /// Second table: too long.
-pub const SECOND_LONG: u32 = 83;
+pub const SECOND_LONG: u32 = SECOND + TABLE_LONG;
 
 /// Second table: full source.
-pub const SECOND_FULL_SOURCE: u32 = 84;
+pub const SECOND_FULL_SOURCE: u32 = SECOND + TABLE_FULL_SOURCE;
 
 /// Second table: full.
-pub const SECOND_FULL: u32 = 85;
+pub const SECOND_FULL: u32 = SECOND + TABLE_FULL;
 
 /// Misplaced first.
 pub const MISPLACED_FIRST: u32 = 90;
@@ -188,3 +209,73 @@ pub const BAD_LINE: u32 = 120;
 
 /// Unknown status.
 pub const UNKNOWN_STATUS: u32 = 255;
+
+/// Each status, and its words. In a role they begin with the words of the role.
+pub(crate) const WORDS: [(u32, &str); 63] = [
+    (DONE, "done"),
+    (NO_ROOM, "no room"),
+    (NO_MEMORY, "memory"),
+    (BAD_TEXT, "bad text"),
+    (LONG_TEXT, "text too long"),
+    (SOURCE_BAD_TEXT, "source: bad text"),
+    (SOURCE_LONG_TEXT, "source: text too long"),
+    (DESTINATION_BAD_TEXT, "destination: bad text"),
+    (DESTINATION_LONG_TEXT, "destination: text too long"),
+    (NAME_TRUNCATED, "name: truncated"),
+    (NAME_RESERVED_LABEL, "name: reserved label"),
+    (NAME_POINTER, "name: pointer not allowed"),
+    (NAME_LONG, "name: too long"),
+    (NAME_NOT_NETBIOS, "name: not netbios"),
+    (NAME_BAD_POINTER, "name: bad pointer"),
+    (NAME_TRAILING_BYTES, "name: trailing bytes"),
+    (SOURCE_TRUNCATED, "source name: truncated"),
+    (SOURCE_RESERVED_LABEL, "source name: reserved label"),
+    (SOURCE_POINTER, "source name: pointer not allowed"),
+    (SOURCE_LONG, "source name: too long"),
+    (SOURCE_NOT_NETBIOS, "source name: not netbios"),
+    (SOURCE_BAD_POINTER, "source name: bad pointer"),
+    (DESTINATION_TRUNCATED, "destination name: truncated"),
+    (
+        DESTINATION_RESERVED_LABEL,
+        "destination name: reserved label",
+    ),
+    (DESTINATION_POINTER, "destination name: pointer not allowed"),
+    (DESTINATION_LONG, "destination name: too long"),
+    (DESTINATION_NOT_NETBIOS, "destination name: not netbios"),
+    (DESTINATION_BAD_POINTER, "destination name: bad pointer"),
+    (TRUNCATED, "truncated"),
+    (UNKNOWN_TYPE, "unknown type"),
+    (MORE, "more bytes needed"),
+    (RESERVED_FLAGS, "reserved flags"),
+    (BAD_LENGTH, "bad length"),
+    (TRAILING_BYTES, "trailing bytes"),
+    (NAME_RDATA, "name rdata"),
+    (NO_ITEM, "no item"),
+    (OTHER_RDATA, "other rdata"),
+    (NO_PART, "no part"),
+    (UNKNOWN_REQUEST, "unknown request"),
+    (ZERO_PIECE, "zero piece"),
+    (LONG_DATA, "data too long"),
+    (TABLE_BAD_MAGIC, "table: bad magic"),
+    (TABLE_TRUNCATED, "table: truncated"),
+    (TABLE_NOT_CANONICAL, "table: not canonical"),
+    (TABLE_LONG, "table: too long"),
+    (TABLE_FULL_SOURCE, "table: full source"),
+    (TABLE_FULL, "table: full"),
+    (SECOND_BAD_MAGIC, "second table: bad magic"),
+    (SECOND_TRUNCATED, "second table: truncated"),
+    (SECOND_NOT_CANONICAL, "second table: not canonical"),
+    (SECOND_LONG, "second table: too long"),
+    (SECOND_FULL_SOURCE, "second table: full source"),
+    (SECOND_FULL, "second table: full"),
+    (MISPLACED_FIRST, "misplaced first"),
+    (LONG, "too long"),
+    (FULL_SOURCE, "full source"),
+    (FULL, "full"),
+    (NAME_PRESENT, "name: present"),
+    (TOO_MANY_NAMES, "too many names"),
+    (NO_STATION, "no station"),
+    (OTHER_TYPE, "other type"),
+    (BAD_LINE, "bad line"),
+    (UNKNOWN_STATUS, "unknown status"),
+];

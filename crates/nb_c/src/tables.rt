@@ -8,8 +8,9 @@ ghost use Rattle.nb_member.specs.ObjectLines.{listed_objects};
 use crate::laws::{a_merge_has_one_answer, a_table_has_one_list};
 use crate::loading::loaded;
 use crate::output::{answer_of, write_answer};
-use crate::refusal::{Refusal, first_refusal, second_refusal, table_refusal};
+use crate::refusal::{Refusal, load_refusal, table_refusal};
 use crate::stations::LONGEST;
+use crate::statuses::{NO_ROLE, SECOND};
 use nb_member::{list_keys, list_objects};
 use nb_names::{Bytes, NoMemory};
 use nb_table::Table;
@@ -67,9 +68,9 @@ fn merged(
     an_input_is_read_as_one_table();
     saved_bytes_have_one_reading();
     match loaded(alloc, first, keys, per_source, LONGEST) {
-        Err(fault) => Err(first_refusal(fault)),
+        Err(fault) => Err(load_refusal(NO_ROLE, fault)),
         Ok(mut table) => match loaded(alloc, second, keys, per_source, LONGEST) {
-            Err(fault) => Err(second_refusal(fault)),
+            Err(fault) => Err(load_refusal(SECOND, fault)),
             Ok(other) => joined(&mut table, other),
         },
     }
@@ -114,7 +115,7 @@ fn listed(alloc: Global, table: &[u8]) -> Result<Bytes, Refusal>
     an_input_is_read_as_one_table();
     saved_bytes_have_one_reading();
     match loaded(alloc, table, u32::MAX, u32::MAX, LONGEST) {
-        Err(fault) => Err(first_refusal(fault)),
+        Err(fault) => Err(load_refusal(NO_ROLE, fault)),
         Ok(table) => answer_of(lines_of(alloc, &table)),
     }
 }
@@ -155,7 +156,7 @@ fn told(alloc: Global, table: &[u8]) -> Result<Bytes, Refusal>
     an_input_is_read_as_one_table();
     saved_bytes_have_one_reading();
     match loaded(alloc, table, u32::MAX, u32::MAX, LONGEST) {
-        Err(fault) => Err(first_refusal(fault)),
+        Err(fault) => Err(load_refusal(NO_ROLE, fault)),
         Ok(table) => answer_of(objects_of(alloc, &table)),
     }
 }

@@ -8,7 +8,7 @@ use Rattle.nb_c.proofs.absorbing.absorb_saved.Goals as goal
 
 pub returns-in-Err : goal.returns-in-Err
 returns-in-Err c =
-    rw c.first_refusal.ensures (not_read _ (subst (λ (s : Settings). LoadFails c.args.table.now (limits_of s) c.in-Err.fault)
+    rw c.load_refusal.ensures (not_read _ (subst (λ (s : Settings). LoadFails c.args.table.now (limits_of s) c.in-Err.fault)
     c.settings-settings.ensures c.in-Err.ensures.fault) refl)
 
 pub returns-in-Ok : goal.returns-in-Ok

@@ -2,22 +2,23 @@ use Rattle.std.proofs.Common.{◌∙◌, sym, subst}
 use Rattle.nb_names.specs.declared.pointers.Pointers.TheVariants.{Followed}
 use Rattle.nb_names.specs.Labels.{NameAt}
 use Rattle.nb_service.specs.ServiceFaults.{domain_name, domain_end}
-use Rattle.nb_c.proofs.DomainLemmas.{DomainLaws, domain_read, domain_refused, ends_elsewhere, ends_there}
+use Rattle.nb_service.proofs.ItemLemmas.{name_laws}
+use Rattle.nb_c.proofs.DomainLemmas.{domain_read, domain_refused, ends_elsewhere, ends_there}
 use Rattle.nb_c.proofs.service_parts.domain_by.Goals as goal
 
 pub returns-then-ne : goal.returns-then-ne
 returns-then-ne c =
-    let laws : DomainLaws c.args.names.now c.args.place = record { one = c.one_reading.ensures.one _ _ _; apart = c.one_fault.ensures.alone _ _ _; one_fault = c.one_fault.ensures.one _ _ _ } in
+    let laws = name_laws c.one_reading.ensures.one c.one_fault.ensures.alone c.one_fault.ensures.one c.args.names.now in
     let elsewhere = ends_elsewhere _ _ _ _ c.checked_sub.ensures (sym c.ne.ensures ∙ c.if-ne.true) in
     domain_refused _ _ _ laws _ (domain_end _ _ c.in-Ok.ensures.found elsewhere)
 
 pub returns-else-ne : goal.returns-else-ne
 returns-else-ne c =
-    let laws : DomainLaws c.args.names.now c.args.place = record { one = c.one_reading.ensures.one _ _ _; apart = c.one_fault.ensures.alone _ _ _; one_fault = c.one_fault.ensures.one _ _ _ } in
+    let laws = name_laws c.one_reading.ensures.one c.one_fault.ensures.alone c.one_fault.ensures.one c.args.names.now in
     let there = ends_there _ _ _ _ c.checked_sub.ensures (sym c.ne.ensures ∙ c.if-ne.false) in
     domain_read _ _ _ laws _ (subst (λ n. NameAt c.args.names.now Followed c.args.place c.in-Ok.domain n) there c.in-Ok.ensures.found)
 
 pub returns-in-Err : goal.returns-in-Err
 returns-in-Err c =
-    let laws : DomainLaws c.args.names.now c.args.place = record { one = c.one_reading.ensures.one _ _ _; apart = c.one_fault.ensures.alone _ _ _; one_fault = c.one_fault.ensures.one _ _ _ } in
+    let laws = name_laws c.one_reading.ensures.one c.one_fault.ensures.alone c.one_fault.ensures.one c.args.names.now in
     rw c.name_refusal.ensures (domain_refused _ _ _ laws _ (domain_name _ c.in-Err.ensures.fault))

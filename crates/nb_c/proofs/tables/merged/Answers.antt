@@ -6,12 +6,12 @@ use Rattle.nb_c.proofs.tables.merged.Goals as goal
 pub returns-in-Err : goal.returns-in-Err
 returns-in-Err c =
     let laws : InputLaws c.args.first.now = record { one = c.an_input_is_read_as_one_table.ensures _; one_reading = c.saved_bytes_have_one_reading.ensures _ } in
-    rw c.first_refusal.ensures (first_failed _ _ _ _ laws (late_join _) _ c.in-Err.ensures.fault)
+    rw c.load_refusal.ensures (first_failed _ _ _ _ laws (late_join _) _ c.in-Err.ensures.fault)
 
 pub returns-in-Err-loaded : goal.returns-in-Err-loaded
 returns-in-Err-loaded c =
     let laws : InputLaws c.args.first.now = record { one = c.an_input_is_read_as_one_table.ensures _; one_reading = c.saved_bytes_have_one_reading.ensures _ } in
-    rw c.second_refusal.ensures (second_failed _ _ _ _ laws (late_join _) _ _ c.in-Ok.ensures.found c.in-Err-loaded.ensures.fault)
+    rw c.load_refusal-in-Err-loaded.ensures (second_failed _ _ _ _ laws (late_join _) _ _ c.in-Ok.ensures.found c.in-Err-loaded.ensures.fault)
 
 pub returns : goal.returns
 returns c =

@@ -3,7 +3,7 @@ import re
 
 from .header import TOP
 
-CONSTANT = re.compile(r'const (\w+)(?:: \w+)? = (\w+);')
+CONSTANT = re.compile(r'const (\w+)(?:: \w+)? = (\w+(?: \+ \w+)*);')
 WORD = re.compile(r'([0-9 |]+) => Some\("(\w+)"\)')
 KEYS = re.compile(r'number\(alloc, "keys", "N", help, (\w+)\)\.default_value\("(\w+)"\)')
 # By enumeration the files with its constants. Those that have other names there stand below.
@@ -27,7 +27,11 @@ def text_of(path):
 
 
 def constants(path):
-    return {name: int(digits, 0) for name, digits in CONSTANT.findall(text_of(path))}
+    """The constants of a file that are numbers, or sums of such and of constants before them."""
+    found = {}
+    for name, parts in CONSTANT.findall(text_of(path)):
+        found[name] = sum(found[it] if it in found else int(it, 0) for it in parts.split(' + '))
+    return found
 
 
 def words():

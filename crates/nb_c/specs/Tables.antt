@@ -13,7 +13,6 @@ use Rattle.nb_table.specs.Saved.{saved}
 use Rattle.nb_member.specs.Listing.{listing}
 use Rattle.nb_member.specs.ObjectLines.{listed_objects}
 use Rattle.nb_c.specs.declared.refusal.Refusal.{Refusal}
-use Rattle.nb_c.specs.declared.refusal.Refusal.TheVariants.{Memory, Fault, FaultAt}
 use Rattle.nb_c.specs.declared.statuses.TheConstants as statuses
 use Rattle.nb_c.specs.Stations.{table_refusal}
 use Rattle.nb_c.specs.Statuses.{load_refusal}

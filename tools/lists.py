@@ -16,7 +16,6 @@ from making.header import TOP, Header
 
 BEGIN, END = '// ---- tools/lists.py --write makes what follows of include/nbt.h.', '// ---- Up to here.'
 MADE = {'bindings/python/nbt/header.py': python.python_file, 'bindings/rust/src/header.rs': rust.rust_file}
-KEPT = {'tools/nbt_pcap/header.py': tools.tools_file}
 # What stands in other files, by what stands around it.
 OF_TABLES = ((r'(How many keys the table holds at most, 1 to )\d+(\.\nWithout it they are )\d+', '{MOST_KEYS}', '{KEYS}'),
              (r'(How many keys of one source address the table holds at most, 1 to )\d+', '{MOST_KEYS}'))
@@ -49,8 +48,7 @@ def write_made(header):
 def kept():
     """Each file that is kept, as it should be."""
     header = Header()
-    for name, maker in KEPT.items():
-        yield TOP / name, maker(header)
+    yield TOP / 'tools/nbt_pcap/header.py', tools.tools_file(header)
     for name, maker in PARTS.items():
         yield TOP / name, with_part((TOP / name).read_text(encoding='utf-8'), maker(header))
     for name, patterns in WITHIN.items():

@@ -7,6 +7,7 @@ ORDER = {ast.Lt: '<', ast.LtE: '<=', ast.Gt: '>', ast.GtE: '>=', ast.Is: '===', 
 # Methods that JavaScript has by another name, and those that python.js has as functions.
 RENAMED = {'append': 'push', 'startswith': 'startsWith', 'endswith': 'endsWith'}
 METHODS = {'clear', 'extend', 'get', 'hex', 'insert', 'isdigit', 'items', 'partition', 'pop', 'removeprefix', 'rpartition', 'setdefault', 'strip', 'values'}
+AS_OTHERS = {'bool': 'is', 'iter': 'list', 'tuple': 'list'}
 BUILT_IN = {'all', 'any', 'bool', 'bytearray', 'int', 'iter', 'len', 'list', 'max', 'min', 'next', 'sorted', 'str', 'sum', 'tuple', 'zip'}
 
 
@@ -43,8 +44,6 @@ class Expressions:
         return self.of(node) if isinstance(node, ast.Compare) else self.helper('is', self.of(node))
 
     def of_constant(self, node):
-        if node.value is None:
-            return 'null'
         return json.dumps(node.value)
 
     def of_name(self, node):
@@ -68,7 +67,7 @@ class Expressions:
         if name == 'dict':
             return f"Object.fromEntries({', '.join(words)})"
         if name in BUILT_IN:
-            return self.helper(name, *words)
+            return self.helper(AS_OTHERS.get(name, name), *words)
         return f"{'new ' * name[0].isupper()}{name}({', '.join(words)})"
 
     def method(self, function, words):
@@ -173,7 +172,6 @@ class Expressions:
         return f"`{''.join(parts)}`"
 
     def of_yield(self, node):
-        return f'yield {self.of(node.value)}'
+        return f"yield{'*' * isinstance(node, ast.YieldFrom)} {self.of(node.value)}"
 
-    def of_yieldfrom(self, node):
-        return f'yield* {self.of(node.value)}'
+    of_yieldfrom = of_yield

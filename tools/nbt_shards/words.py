@@ -7,13 +7,14 @@ from nbt_pcap.header import INPUT, MOST_LINE
 from .ending import Stopped
 from .groups import MOST_GROUPS
 
+ABOUT = 'Makes the saved table of captures of any size: cuts them, saves each shard, and merges the tables in a tree.'
 # How pcap files of both byte orders begin, with microseconds and nanoseconds, and pcapng files.
 PCAPS = (b'\xd4\xc3\xb2\xa1', b'\xa1\xb2\xc3\xd4', b'\x4d\x3c\xb2\xa1', b'\xa1\xb2\x3c\x4d', b'\n\r\r\n')
 
 
-def parser(name, about):
+def parser(name, epilog):
     """The words that both engines take."""
-    words = argparse.ArgumentParser(prog=name, description=about)
+    words = argparse.ArgumentParser(prog=name, description=ABOUT, epilog=epilog)
     words.add_argument('captures', metavar='CAPTURE', nargs='+', help='captures, as `nbt save` reads them')
     words.add_argument('out', metavar='OUT', help='the file for the saved table; it appears when all is done')
     words.add_argument('--force', action='store_true', help='replace OUT, if it is a saved table')

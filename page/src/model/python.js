@@ -53,7 +53,6 @@ const isDict = (it) => it instanceof Dict;
 
 export const len = (it) => it.length ?? it.size;
 export const is = (it) => (Array.isArray(it) || isDict(it) ? len(it) > 0 : Boolean(it));
-export const bool = is;
 export const or = (one, other) => (is(one) ? one : other());
 export const and = (one, other) => (is(one) ? other() : one);
 export const any = (items) => items.some(is);
@@ -68,8 +67,6 @@ export function list(it) {
     return it[Symbol.iterator] ? Array.from(it) : Object.keys(it);
 }
 
-export const tuple = list;
-export const iter = list;
 export const next = (items) => items[0];
 export const items = (it) => (isDict(it) ? it.items() : Object.entries(it));
 export const values = (it) => (isDict(it) ? it.values() : Object.values(it));

@@ -43,23 +43,22 @@ export class Seen {
         if (ends) this.summed.left_out(ends, time);
     }
 
-    /** The parts of the summary, by the words that choose their tables. */
-    parts() {
-        const [names, conflicts, stations, queries, sessions] = this.summed.parts;
-        return { names, conflicts, stations, queries, sessions, malformed: this.summed.faults };
+    /** What is made of each part of the summary, by the words that choose its table.
+     * @param {(part: {rows: Function, others: Function}) => unknown} make */
+    ofParts(make) {
+        const [names, conflicts, stations, queries, sessions] = this.summed.parts.map(make);
+        return { names, conflicts, stations, queries, sessions, malformed: make(this.summed.faults) };
     }
 
     /** The tables. */
     tables() {
-        const rows = Object.entries(this.parts()).map(([key, part]) => [key, part.rows(asItIs)]);
         const left = Array.from(this.leftOut, ([reason, frames]) => ({ reason, frames })).sort((one, other) => other.frames - one.frames);
-        return { ...Object.fromEntries(rows), 'left-out': left, unread: this.unread.rows() };
+        return { ...this.ofParts((part) => part.rows(asItIs)), 'left-out': left, unread: this.unread.rows() };
     }
 
     /** Of each table how many packets were more than are kept. */
     notKept() {
-        const others = Object.entries(this.parts()).map(([key, part]) => [key, part.others()]);
-        return { ...Object.fromEntries(others), unread: this.unread.room.others };
+        return { ...this.ofParts((part) => part.others()), unread: this.unread.room.others };
     }
 }
 

@@ -76,18 +76,12 @@ export class NamesView {
      * @returns {Node | string} */
     cell(title, row, column) {
         const value = row[column];
-        const text = shownAs(title, row, column, (time) => this.time(time));
+        const text = shownAs(title, row, column, (time) => since(time, this.app.tap?.first ?? null));
         if (column === 'frames' && Array.isArray(value)) return this.frames(value);
         if (column === 'answered' && value !== null) return this.link(text.replace('frame', this.app.unit), { frame: value, filter: '' });
         if (column === 'frame') return this.link(text, { frame: Number(value), filter: '' });
         if (column === 'reason') return this.link(text, { filter: row.frames === undefined ? 'malformed' : 'left-out' });
         return FILTERS.includes(column) && text !== '-' ? this.link(text, { filter: text }) : text;
-    }
-
-    /** @param {bigint | null} time */
-    time(time) {
-        if (time === null || time === undefined) return '-';
-        return since(time, this.app.tap?.first ?? null);
     }
 
     /** A link to the packets.

@@ -69,8 +69,7 @@ const answers = {
 
     /** @param {{tap: number}} asked */
     close({ tap }) {
-        const reading = readings.get(tap);
-        if (reading) reading.isStopped = true;
+        answers.stop({ tap });
         taps.delete(tap);
         readings.delete(tap);
         return {};

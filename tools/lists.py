@@ -3,14 +3,14 @@
 Python, its structures and calls; of tools/nbt_look/vocabulary.py the words of the summary, for the page.
 
 Usage: tools/lists.py --write writes the files anew, the marked parts of others, and what stands within further ones, as limits in manual pages.
---check says which differ from that, and which numbers of nbt.h aren't those of the crates' sources; its last line is 'N passed, M failed', a
-case for each file and each number.
+--check says which differ from that, which numbers of nbt.h aren't those of the crates' sources, and where the words that `nbt build` takes aren't
+those of crates/nbt/src/forms.rt; its last line is 'N passed, M failed', a case for each file, each number and each packet of a place.
 """
 import re
 import sys
 
 sys.dont_write_bytecode = True
-from making import crates, javascript, page, python, rust, tools
+from making import crates, grammar, javascript, page, python, rust, tools
 from making.header import TOP, Header
 
 BEGIN, END = '// ---- tools/lists.py --write makes what follows of include/nbt.h.', '// ---- Up to here.'
@@ -68,6 +68,10 @@ def check():
         cases += 1
         if number != wanted:
             faults.append(f'{name}: nbt.h has {number}, the crates have {wanted}')
+    for place, found, words in grammar.compared():
+        cases += 1
+        if found != words:
+            faults.append(f'{place}: {found}, and {grammar.FORMS} has {words}')
     return faults, cases
 
 

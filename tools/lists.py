@@ -4,14 +4,14 @@ Python, its structures and calls; of modules of the tools those of the page.
 
 Usage: tools/lists.py --made writes what isn't kept in the repository: what makes the library or the page begins with it. --write writes that, and
 anew the file that is kept, the marked parts of others, and what stands within further ones, as limits in manual pages. --check says which of the
-latter differ from that, and which numbers of nbt.h aren't those of the crates' sources; its last line is 'N passed, M failed', a case for each
-file and each number.
+latter differ from that, which numbers of nbt.h aren't those of the crates' sources, and where the words that `nbt build` takes aren't those of
+crates/nbt/src/forms.rt; its last line is 'N passed, M failed', a case for each file, each number and each packet of a place.
 """
 import re
 import sys
 
 sys.dont_write_bytecode = True
-from making import crates, javascript, python, rust, scripts, tools
+from making import crates, grammar, javascript, python, rust, scripts, tools
 from making.header import TOP, Header
 
 BEGIN, END = '// ---- tools/lists.py --write makes what follows of include/nbt.h.', '// ---- Up to here.'
@@ -72,6 +72,10 @@ def check():
         cases += 1
         if number != wanted:
             faults.append(f'{name}: nbt.h has {number}, the crates have {wanted}')
+    for place, found, words in grammar.compared():
+        cases += 1
+        if found != words:
+            faults.append(f'{place}: {found}, and {grammar.FORMS} has {words}')
     return faults, cases
 
 

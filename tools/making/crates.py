@@ -4,12 +4,11 @@ import re
 from .header import TOP
 
 CONSTANT = re.compile(r'const (\w+)(?:: \w+)? = (\w+(?: \+ \w+)*);')
-WORD = re.compile(r'([0-9 |]+) => Some\("(\w+)"\)')
 KEYS = re.compile(r'number\(alloc, "keys", "N", help, (\w+)\)\.default_value\("(\w+)"\)')
 # By enumeration the files with its constants. Those that have other names there stand below.
 FILES = {'status': 'nb_c/src/statuses.rt', 'line_kind': 'nb_c/src/captures.rt', 'outcome': 'nb_c/src/taken.rt', 'record_type': 'nb_service/src/kinds.rt',
          'datagram_flag': 'nb_datagram/src/limits.rt', 'datagram_type': 'nb_datagram/src/limits.rt', 'word': 'nb_service/src/flags.rt',
-         'name_flag': 'nb_service/src/flags.rt'}
+         'name_flag': 'nb_service/src/flags.rt', 'operation': 'nb_text/src/codes.rt', 'result_code': 'nb_text/src/codes.rt'}
 NAMES = {'UNIQUE': 'DIRECT_UNIQUE', 'GROUP': 'DIRECT_GROUP', 'ERROR': 'ERROR_TYPE', 'FIND': 'QUERY_REQUEST', 'FOUND': 'POSITIVE_RESPONSE',
          'MISSING': 'NEGATIVE_RESPONSE'}
 # Those that are arms of a `match`, whose default has the other.
@@ -34,11 +33,6 @@ def constants(path):
     return found
 
 
-def words():
-    """The numbers of operations and results, by their words."""
-    return {word: [int(it) for it in numbers.split('|')] for numbers, word in WORD.findall(text_of('nb_text/src/words.rt'))}
-
-
 def numbers(header):
     """A name of nbt.h, its number, and that which the crates have; of one that they have nowhere None."""
     for enum, path in FILES.items():
@@ -46,11 +40,6 @@ def numbers(header):
         for each in header.enums[enum]:
             if each.name not in ('R', 'OPCODE', 'NM_FLAGS', 'RCODE', 'ONT'):
                 yield f'{enum} {each.name}', each.number, found.get(NAMES.get(each.name, each.name))
-    told = words()
-    for enum in 'operation', 'result_code':
-        for each in header.enums[enum]:
-            word = each.name if each.name.endswith('_ERR') else each.name.removeprefix('OTHER_').lower()
-            yield f'{enum} {each.name}', each.number, each.number if each.number in told.get(word, ()) else None
     for enum, (path, pattern) in ARMS.items():
         found = {it['name'].upper(): int(it['number'], 0) for it in re.finditer(pattern, text_of(path))}
         for each in header.enums[enum]:

@@ -15,11 +15,12 @@ use Rattle.nb_datagram.specs.Header.{IsKey, header_bytes, error_type, query_type
 use Rattle.nb_datagram.specs.Kind.{type_of}
 use Rattle.nb_datagram.specs.Packet.{Packet, QueryPacket, IsPacket, Fits, FitsDirect, packet_bytes, direct_bytes, name_bytes}
 use Rattle.nb_datagram.specs.Texts.{kind_text}
+use Rattle.nb_text.specs.Fields.{IsWord}
 use Rattle.nb_text.specs.Lines.{used_text}
 use Rattle.nb_text.specs.Words.{query_word}
 use Rattle.nb_text.specs.DatagramText.{flags_text, parts_text, datagram_text}
 use Rattle.nb_text.proofs.MidLemmas.{bytes-split, spelled_name}
-use Rattle.nb_text.proofs.ShownLines.{kind_word, query_is_word}
+use Rattle.nb_text.proofs.FieldLemmas.{literal}
 use Rattle.nb_text.proofs.FieldTells.{IsByteKey, number_tells, code_tells, data_tells, key_tells, name_tells}
 use Rattle.nb_text.proofs.TellLemmas.{Tells, space, seen_tells, both_tell, field_then, after_tells, differ, differ_tells, turned, tells_then}
 
@@ -40,6 +41,16 @@ flags_tell flags bits key other a b =
     field_then (codes " flags=") (code_tells flags bits a.0 b.0) (after_tells (codes " key=") (key_tells key other a.1 b.1)) space space
 
 -- ---- the words
+
+pub kind_word : (kind : Kind) → IsWord (kind_text kind)
+kind_word Unique = literal (codes "unique") refl
+kind_word Group = literal (codes "group") refl
+kind_word Broadcast = literal (codes "broadcast") refl
+
+pub query_is_word : (kind : QueryKind) → IsWord (query_word kind)
+query_is_word Request = literal (codes "find") refl
+query_is_word Positive = literal (codes "found") refl
+query_is_word Negative = literal (codes "missing") refl
 
 kind_same : (a b : Kind) → kind_text a ≡ kind_text b → a ≡ b
 kind_same Unique Unique e = refl
@@ -173,7 +184,7 @@ packet_tells (Error e) (Query x) a b = turned (query_or_error x.kind _ e _)
 packet_tells (Direct f) (Query x) a b = kind_or_query f.kind x.kind _ _ _
 packet_tells (Query x) (Direct f) a b = turned (kind_or_query f.kind x.kind _ _ _)
 
-stands : (payload : List ℕ) (packet : Packet) (used : ℕ) → AreBytes payload → IsPacket payload packet used → IsBytePacket packet
+pub stands : (payload : List ℕ) (packet : Packet) (used : ℕ) → AreBytes payload → IsPacket payload packet used → IsBytePacket packet
 stands payload packet used a is = packet_stands packet is.fits (bytes-split (packet_bytes packet) is.rest (subst AreBytes is.whole a)).0
 
 pub datagram_tells : (payload other : List ℕ) (packet same : Packet) (used after shown again : ℕ) → AreBytes payload → AreBytes other

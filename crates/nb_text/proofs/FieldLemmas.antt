@@ -1,22 +1,18 @@
 -- Fields are words: characters that can be seen, and one at least.
-use Rattle.std.proofs.Common.{◌≡◌, ◌==◌, ◌||◌, ◌&&◌, ℕ, zero, suc, ◌+◌, ◌-◌, ◌*◌, ◌/◌, ◌%◌, ◌<◌, ◌≤◌, ◌^◌, nat_lt, nat_le, Bool, true, false, if◌then◌else◌, List, [], ◌∷◌, ◌++◌, length, slice_index, Some, None, refl, sym, subst, arith, codes}
+use Rattle.std.proofs.Common.{◌≡◌, ◌==◌, ◌||◌, ◌&&◌, ℕ, zero, suc, ◌+◌, ◌-◌, ◌*◌, ◌/◌, ◌%◌, ◌<◌, ◌≤◌, nat_lt, nat_le, Bool, true, false, if◌then◌else◌, List, [], ◌∷◌, ◌++◌, length, take, slice_index, Some, None, refl, arith, codes}
 use Rattle.std.specs.List.{AllByRecursion, flat_map, list_all}
-use Rattle.std.specs.Char.{digit_char, digit_value, is_ascii_graphic}
-use Rattle.std.specs.Fmt.{decimal}
+use Rattle.std.specs.Char.{digit_char, is_ascii_graphic}
+use Rattle.std.specs.Fmt.{decimal, digits, digit_glyph, digits_onto}
 use Rattle.std.specs.Int.{w16, to_be_bytes}
-use Rattle.std.specs.Str.Parse.{AllDigits}
 use Rattle.std.proofs.lemmas.Bool.{and_parts}
 use Rattle.std.proofs.lemmas.Bool.Decides.{nat_tests}
-use Rattle.std.proofs.lemmas.Fmt.{decimal_is_IsNumeral}
 use Rattle.std.proofs.lemmas.List.{length-append}
 use Rattle.nb_names.specs.Addresses.{address_text}
 use Rattle.nb_names.specs.DomainName.{spelling, IsLabel, IsDomain, AreBytes, AreByteLabels}
 use Rattle.nb_names.specs.Hexadecimal.{data_text, digits_text, word_text}
 use Rattle.nb_names.specs.Name.{NetbiosName, IsScope, IsName, IsByteName}
-use Rattle.nb_names.specs.NameText.{is_plain, IsHexDigit, digits_of, item_of, items_of, scope_text_of, domain_written, is_letter, are_letters, bytes_of_letters, either_written, labels_written, Item, plain, escaped, Items, no_item, more_items, ScopeText, no_label, more_labels, IsText, written}
-use Rattle.nb_names.proofs.WrittenLemmas.{written-text}
+use Rattle.nb_names.specs.NameText.{is_plain, digits_of, item_of, items_of, scope_text_of, kept_before, trimmed, domain_written, is_letter, are_letters, bytes_of_letters, either_written, labels_written, written}
 use Rattle.nb_datagram.specs.declared.key.Key.{Key}
-use Rattle.nb_datagram.specs.Header.{IsKey}
 use Rattle.nb_datagram.specs.Texts.{key_text}
 use Rattle.nb_text.specs.Fields.{IsVisible, IsWord}
 use Rattle.nb_telling.specs.Sets.{added_names, joined}
@@ -43,6 +39,17 @@ all_flat {A} P Q f (x ∷ xs) h each = all-append Q (f x) (flat_map f xs) (each 
 
 pub seen-append : (xs ys : List ℕ) → IsSeen xs → IsSeen ys → IsSeen (xs ++ ys)
 seen-append xs ys a b = all-append IsVisible xs ys a b
+
+pub bytes-take : (n : ℕ) (xs : List ℕ) → AreBytes xs → AreBytes (take n xs)
+bytes-take zero xs a = tt
+bytes-take (suc n) [] a = tt
+bytes-take (suc n) (x ∷ xs) a = (a.0, bytes-take n xs a.1)
+
+-- a byte, or zero past the end
+pub byte_at : (bytes : List ℕ) (i : ℕ) → AreBytes bytes → slice_index bytes i < 256
+byte_at [] i h = omega arith
+byte_at (b ∷ bytes) zero h = h.0
+byte_at (b ∷ bytes) (suc i) h = byte_at bytes i h.1
 
 some-append : (xs ys : List ℕ) → 0 < length ys → 0 < length (xs ++ ys)
 some-append xs ys some = omega (arith, some, length-append xs ys)
@@ -82,12 +89,6 @@ plain_seen b p = either (b == 46 || b == 60 || b == 62 || b == 92) p where
   either true q = absurd (cc)
   either false q = graphic b q
 
-hex_seen : (d : ℕ) → IsHexDigit d → IsVisible d
-hex_seen d h =
-    let low : 33 ≤ d = grind (arith, nat_tests) in
-    let high : d ≤ 126 = grind (arith, nat_tests) in
-    (low, high)
-
 digit_seen : (half : ℕ) → half < 16 → IsVisible (digit_char half)
 digit_seen half h =
     let low : 33 ≤ digit_char half = grind (arith, nat_tests) in
@@ -100,7 +101,36 @@ digits_seen b h =
     let low : b % 16 < 16 = omega arith in
     (digit_seen (b / 16) high, (digit_seen (b % 16) low, tt))
 
--- ---- data and numbers
+-- ---- numbers, however long
+
+glyph_seen : (d : ℕ) → d < 10 → IsVisible (digit_glyph false d)
+glyph_seen d h =
+    let low : 33 ≤ digit_glyph false d = grind (arith, nat_tests) in
+    let high : digit_glyph false d ≤ 126 = grind (arith, nat_tests) in
+    (low, high)
+
+-- a digit in front
+digit_more : (n : ℕ) (acc : List ℕ) → IsSeen acc → IsWord (digit_glyph false (n % 10) ∷ acc)
+digit_more n acc h = (omega arith, (glyph_seen (n % 10) (omega arith), h))
+
+onto_more : (k n : ℕ) (acc : List ℕ) → IsSeen acc → IsWord (digits_onto k 10 false (n / 10) (digit_glyph false (n % 10) ∷ acc))
+    → IsWord (digits_onto (suc k) 10 false n acc)
+onto_more k n acc h rest = either (n / 10 == 0) where
+  either : (test : Bool)
+      → IsWord (if test then digit_glyph false (n % 10) ∷ acc else digits_onto k 10 false (n / 10) (digit_glyph false (n % 10) ∷ acc))
+  either true = digit_more n acc h
+  either false = rest
+
+onto_word : (k n : ℕ) (acc : List ℕ) → IsWord acc → IsWord (digits_onto k 10 false n acc)
+onto_word zero n acc h = h
+onto_word (suc k) n acc h =
+    onto_more k n acc h.1 (onto_word k (n / 10) (digit_glyph false (n % 10) ∷ acc) (digit_more n acc h.1))
+
+pub number_word : (n : ℕ) → IsWord (decimal n)
+unfolding digits
+number_word n = onto_more 63 n [] tt (onto_word 63 (n / 10) (digit_glyph false (n % 10) ∷ []) (digit_more n [] tt))
+
+-- ---- data
 
 pub data_seen : (bytes : List ℕ) → AreBytes bytes → IsSeen (digits_text bytes)
 data_seen bytes h = all_flat (λ (b : ℕ). b < 256) IsVisible digits_of bytes h digits_seen
@@ -117,57 +147,7 @@ word_seen n =
     let low : n % 256 < 256 = omega arith in
     data_seen (to_be_bytes w16 n) (high, (low, tt))
 
-decimal_digits : (ds : List ℕ) → AllDigits 10 ds → IsSeen ds
-decimal_digits [] h = tt
-decimal_digits (d ∷ ds) h =
-    let small : digit_value d < 10 = h.0 in
-    let hex : digit_value d < 16 = omega (arith, small) in
-    (hex_seen d hex, decimal_digits ds h.1)
-
-pub decimal_word : (n : ℕ) → n < 2 ^ 64 → IsWord (decimal n)
-decimal_word n h =
-    let numeral = (decimal_is_IsNumeral n h).0 in
-    (numeral.0, decimal_digits (decimal n) numeral.1)
-
 -- ---- names
-
-item_seen : (b : ℕ) (item : List ℕ) → Item b item → IsSeen item
-item_seen _ _ (plain byte p) = (plain_seen byte p, tt)
-item_seen _ _ (escaped high low h l) = (graphic 92 refl, (hex_seen high h, (hex_seen low l, tt)))
-
-items_seen : (bytes text : List ℕ) → Items bytes text → IsSeen text
-items_seen _ _ no_item = tt
-items_seen _ _ (more_items b bytes item items one rest) = seen-append item items (item_seen b item one) (items_seen bytes items rest)
-
-scope_seen : (labels : List (List ℕ)) (text : List ℕ) → ScopeText labels text → IsSeen text
-scope_seen _ _ no_label = tt
-scope_seen _ _ (more_labels label labels items text some row rest) =
-    (graphic 46 refl, seen-append items text (items_seen label items row) (scope_seen labels text rest))
-
--- a name's text is a word, in whichever form
-pub text_word : (name : NetbiosName) (text : List ℕ) → IsText name text → IsWord text
-text_word name text is =
-    subst IsWord (sym is.form.whole)
-    (some-append is.form.items (60 ∷ is.form.high ∷ is.form.low ∷ 62 ∷ is.form.behind) some, seen-append is.form.items _ front rest) where
-      some : 0 < length (60 ∷ is.form.high ∷ is.form.low ∷ 62 ∷ is.form.behind)
-      some = omega arith
-
-      front : IsSeen is.form.items
-      front = items_seen is.parts.front is.form.items is.form.front
-
-      rest : IsSeen (60 ∷ is.form.high ∷ is.form.low ∷ 62 ∷ is.form.behind)
-      rest = (
-        graphic 60 refl,
-        (
-          hex_seen is.form.high is.form.high_digit,
-          (hex_seen is.form.low is.form.low_digit, (graphic 62 refl, scope_seen is.parts.scope is.form.behind is.form.scope)),
-        ),
-      )
-
-pub name_word : (name : NetbiosName) → IsByteName name → IsWord (written name)
-name_word name h = text_word name (written name) (written-text name h.0 h.1)
-
--- ---- domain names
 
 byte_seen : (b : ℕ) → b < 256 → IsSeen (item_of b)
 byte_seen b h = either (is_plain b) refl where
@@ -191,6 +171,32 @@ some_items (b ∷ label) some = some-front (item_of b) (items_of label) (some_it
 labels_seen : (labels : List (List ℕ)) → AreByteLabels labels → IsSeen (scope_text_of labels)
 labels_seen labels h =
     all_flat AreBytes IsVisible (λ (label : List ℕ). 46 ∷ items_of label) labels h (λ label bytes. (graphic 46 refl, bytes_seen label bytes))
+
+bytes-kept : (b : ℕ) (kept : List ℕ) → b < 256 → AreBytes kept → AreBytes (kept_before b kept)
+bytes-kept b (k ∷ kept) h a = (h, a)
+bytes-kept b [] h a = either (b == 32) where
+  either : (test : Bool) → AreBytes (if test then [] else b ∷ [])
+  either true = tt
+  either false = (h, tt)
+
+bytes-trimmed : (bytes : List ℕ) → AreBytes bytes → AreBytes (trimmed bytes)
+bytes-trimmed [] a = tt
+bytes-trimmed (b ∷ bytes) a = bytes-kept b (trimmed bytes) a.0 (bytes-trimmed bytes a.1)
+
+-- a name of bytes
+pub written_word : (name : NetbiosName) → AreBytes name.bytes → AreByteLabels name.scope → IsWord (written name)
+written_word name a scope =
+    let front = items_of (trimmed (take 15 name.bytes)) in
+    let last = 60 ∷ digits_of (slice_index name.bytes 15) in
+    let kept = bytes_seen (trimmed (take 15 name.bytes)) (bytes-trimmed (take 15 name.bytes) (bytes-take 15 name.bytes a)) in
+    let code = digits_seen (slice_index name.bytes 15) (byte_at name.bytes 15 a) in
+    let seen = seen-append (front ++ last) (62 ∷ []) (seen-append front last kept (graphic 60 refl, code)) (graphic 62 refl, tt) in (
+      some-front ((front ++ last) ++ 62 ∷ []) (scope_text_of name.scope) (some-append (front ++ last) (62 ∷ []) (omega arith)),
+      seen-append ((front ++ last) ++ 62 ∷ []) (scope_text_of name.scope) seen (labels_seen name.scope scope),
+    )
+
+pub name_word : (name : NetbiosName) → IsByteName name → IsWord (written name)
+name_word name h = written_word name h.0.each h.1
 
 pub domain_word : (labels : List (List ℕ)) → AllByRecursion IsLabel labels → AreByteLabels labels → IsWord (domain_written labels)
 domain_word [] each bytes = literal (46 ∷ []) refl
@@ -253,40 +259,23 @@ labels_word (first ∷ scope) domain bytes = either (are_letters first) refl whe
 
 -- ---- keys
 
-pub at_small : (bytes : List ℕ) (i : ℕ) → i < length bytes → AreBytes bytes → slice_index bytes i < 256
-at_small [] i low h = absurd (omega arith)
-at_small (b ∷ bytes) zero low h = h.0
-at_small (b ∷ bytes) (suc i) low h = at_small bytes i (omega arith) h.1
+-- a word, a character, and more of them
+marked : (mark : ℕ) (xs ys : List ℕ) → is_ascii_graphic mark ≡ true → IsWord xs → IsWord ys → IsWord (xs ++ mark ∷ ys)
+marked mark xs ys h a b = (some-front xs (mark ∷ ys) a.0, seen-append xs (mark ∷ ys) a.1 (graphic mark h, b.1))
 
-part_word : (ip : List ℕ) (i : ℕ) → i < length ip → AreBytes ip → IsWord (decimal (slice_index ip i))
-part_word ip i low h =
-    let small : slice_index ip i < 256 = at_small ip i low h in
-    let fits : slice_index ip i < 2 ^ 64 = omega (arith, small) in
-    decimal_word (slice_index ip i) fits
+pub address_word : (ip : List ℕ) → IsWord (address_text ip)
+address_word ip =
+    let part : (i : ℕ) → IsWord (decimal (slice_index ip i)) = λ i. number_word (slice_index ip i) in
+    let d = decimal (slice_index ip 3) in
+    let cd = decimal (slice_index ip 2) ++ 46 ∷ d in
+    let bcd = decimal (slice_index ip 1) ++ 46 ∷ cd in
+    marked 46 (decimal (slice_index ip 0)) bcd refl (part 0)
+    (marked 46 (decimal (slice_index ip 1)) cd refl (part 1) (marked 46 (decimal (slice_index ip 2)) d refl (part 2) (part 3)))
 
-pub address_word : (ip : List ℕ) → length ip ≡ 4 → AreBytes ip → IsWord (address_text ip)
-address_word ip four h =
-    let a = part_word ip 0 (omega (arith, four)) h in
-    let b = part_word ip 1 (omega (arith, four)) h in
-    let c = part_word ip 2 (omega (arith, four)) h in
-    let d = part_word ip 3 (omega (arith, four)) h in
-    let dot = graphic 46 refl in
-    let cd = seen-append (decimal (slice_index ip 2)) (46 ∷ decimal (slice_index ip 3)) c.1 (dot, d.1) in
-    let bcd = seen-append (decimal (slice_index ip 1)) (46 ∷ (decimal (slice_index ip 2) ++ 46 ∷ decimal (slice_index ip 3))) b.1 (dot, cd) in (
-      some-front (decimal (slice_index ip 0)) _ a.0,
-      seen-append (decimal (slice_index ip 0)) _ a.1 (dot, bcd),
-    )
-
-pub key_word : (key : Key) → IsKey key → AreBytes key.ip → IsWord (key_text key)
-key_word key is h =
-    let address = address_word key.ip is.ip h in
-    let port = is.port in
-    let fits : key.port < 2 ^ 64 = omega (arith, port) in
-    let number = decimal_word key.port fits in
-    let id = seen-append (decimal key.port) (47 ∷ word_text key.id) number.1 (graphic 47 refl, word_seen key.id) in (
-      some-front (address_text key.ip) (58 ∷ (decimal key.port ++ 47 ∷ word_text key.id)) address.0,
-      seen-append (address_text key.ip) (58 ∷ (decimal key.port ++ 47 ∷ word_text key.id)) address.1 (graphic 58 refl, id),
-    )
+pub key_word : (key : Key) → IsWord (key_text key)
+key_word key =
+    marked 58 (address_text key.ip) (decimal key.port ++ 47 ∷ word_text key.id) refl (address_word key.ip)
+    (marked 47 (decimal key.port) (word_text key.id) refl (number_word key.port) (omega arith, word_seen key.id))
 
 -- ---- sets of flags
 

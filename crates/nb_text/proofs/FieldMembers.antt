@@ -21,7 +21,7 @@ use Rattle.nb_session.specs.declared.parsing.Parsed.TheVariants.{Whole, More, Re
 use Rattle.nb_telling.specs.Fields.{Field, FieldKey, Text, Number, Digits, Set, LineEnds}
 use Rattle.nb_telling.specs.Members.{AreMembers, AreParts, IsMember, nothing, member, list, both, no_part, part, parts}
 use Rattle.nb_text.specs.DatagramFields as datagrams
-use Rattle.nb_text.specs.Keys.{op_key, flags_key, rcode_key, name_key, ttl_key, ont_key, address_key, set_key, unit_key, key_key, offset_key, source_key, destination_key}
+use Rattle.nb_text.specs.Keys.{key_named, name_key, unit_key}
 use Rattle.nb_text.specs.LineFields.{used_fields, refused_fields, list_fields}
 use Rattle.nb_text.specs.ServiceFields.{word_field, named_field, named_fields, header_fields, question_fields, rdata_field, entry_fields, node_name_fields, unit_fields, status_fields, view_fields, record_fields, lists_fields, service_fields}
 use Rattle.nb_text.specs.SessionFields as sessions
@@ -87,8 +87,8 @@ named_member key (Some word) n = tt
 
 header_members : {depth : ℕ} (header : PacketHeader) (used : ℕ) → AreMembers depth (header_fields header used)
 header_members header used =
-    let operation = named_member op_key (operation_word (opcode_of header.word)) (opcode_of header.word) in
-    let outcome = named_member rcode_key (rcode_word (rcode_of header.word)) (rcode_of header.word) in
+    let operation = named_member (key_named "op") (operation_word (opcode_of header.word)) (opcode_of header.word) in
+    let outcome = named_member (key_named "rcode") (rcode_word (rcode_of header.word)) (rcode_of header.word) in
     all_members (header_fields header used)
     (tt, (tt, (operation, (tt, (outcome, (tt, (tt, (tt, (tt, (tt, (tt, tt)))))))))))
 
@@ -99,14 +99,14 @@ question_part question =
 
 entry_part : {depth : ℕ} (entry : AddressEntry) → AreParts depth (entry_fields entry)
 entry_part entry =
-    let members = word_field flags_key entry.flags ∷ Number ont_key (ont_of entry.flags)
-    ∷ Text address_key (address_text entry.address) ∷ LineEnds ∷ [] in
+    let members = word_field (key_named "flags") entry.flags ∷ Number (key_named "ont") (ont_of entry.flags)
+    ∷ Text (key_named "address") (address_text entry.address) ∷ LineEnds ∷ [] in
     part (codes "    entry") members (all_members members (tt, (tt, (tt, (tt, tt)))))
 
 node_name_part : {depth : ℕ} (name : NodeName) → AreParts depth (node_name_fields name)
 node_name_part name =
-    let members = Text name_key (written (record { bytes = name.bytes; scope = [] })) ∷ word_field flags_key name.flags
-    ∷ Number ont_key (ont_of name.flags) ∷ Set set_key (names_set name_flags name.flags) ∷ LineEnds ∷ [] in
+    let members = Text name_key (written (record { bytes = name.bytes; scope = [] })) ∷ word_field (key_named "flags") name.flags
+    ∷ Number (key_named "ont") (ont_of name.flags) ∷ Set (key_named "set") (names_set name_flags name.flags) ∷ LineEnds ∷ [] in
     part (codes "    name") members (all_members members (tt, (tt, (tt, (tt, (tt, tt))))))
 
 unit_members : {depth : ℕ} (statistics : List ℕ) → AreMembers depth (unit_fields statistics)
@@ -135,7 +135,7 @@ rdata_member (of_domain labels) = tt
 
 record_part : (lead : List ℕ) (entry : ResourceRecord) → AreParts 1 (record_fields lead entry)
 record_part lead entry =
-    let line = named_fields entry.name entry.kind entry.class ++ Number ttl_key entry.ttl ∷ rdata_field entry.rdata ∷ LineEnds ∷ [] in
+    let line = named_fields entry.name entry.kind entry.class ++ Number (key_named "ttl") entry.ttl ∷ rdata_field entry.rdata ∷ LineEnds ∷ [] in
     part lead (line ++ view_fields entry)
     (both line (view_fields entry) (all_members line (tt, (tt, (tt, (tt, (rdata_member entry.rdata, (tt, tt))))))) (view_members entry))
 
@@ -161,8 +161,8 @@ fields_members payload _ _ (session port parsed a b h) = session_members parsed
 
 front_header_members : {depth : ℕ} (header : PacketHeader) → AreMembers depth (names_header_fields header)
 front_header_members header =
-    let operation = named_member op_key (operation_word (opcode_of header.word)) (opcode_of header.word) in
-    let outcome = named_member rcode_key (rcode_word (rcode_of header.word)) (rcode_of header.word) in
+    let operation = named_member (key_named "op") (operation_word (opcode_of header.word)) (opcode_of header.word) in
+    let outcome = named_member (key_named "rcode") (rcode_word (rcode_of header.word)) (rcode_of header.word) in
     all_members (names_header_fields header)
     (tt, (tt, (tt, (operation, (tt, (outcome, (tt, (tt, (tt, (tt, (tt, tt)))))))))))
 
@@ -177,15 +177,15 @@ name_members key (Some name) = member (Text key (written name)) tt
 fragment_members : {depth : ℕ} (fragment : Option FragmentFront) → AreMembers depth (fragment_front_fields fragment)
 fragment_members None = nothing
 fragment_members (Some front) =
-    both (Number offset_key front.offset ∷ []) (standing_name source_key front.source ++ standing_name destination_key front.destination)
-    (member (Number offset_key front.offset) tt)
-    (both (standing_name source_key front.source) (standing_name destination_key front.destination)
-    (name_members source_key front.source) (name_members destination_key front.destination))
+    both (Number (key_named "offset") front.offset ∷ []) (standing_name (key_named "source") front.source ++ standing_name (key_named "destination") front.destination)
+    (member (Number (key_named "offset") front.offset) tt)
+    (both (standing_name (key_named "source") front.source) (standing_name (key_named "destination") front.destination)
+    (name_members (key_named "source") front.source) (name_members (key_named "destination") front.destination))
 
 datagram_front_members : {depth : ℕ} (front : Front) → AreMembers depth (datagram_front_fields front)
 datagram_front_members front =
-    let first : List Field = indent ∷ type_field (datagram_word front.message_type) front.message_type ∷ Digits flags_key (front.flags ∷ [])
-    ∷ Text key_key (key_text front.key) ∷ [] in
+    let first : List Field = indent ∷ type_field (datagram_word front.message_type) front.message_type ∷ Digits (key_named "flags") (front.flags ∷ [])
+    ∷ Text (key_named "key") (key_text front.key) ∷ [] in
     both first (fragment_front_fields front.fragment ++ LineEnds ∷ [])
     (all_members first (tt, (type_member (datagram_word front.message_type) front.message_type, (tt, (tt, tt)))))
     (both (fragment_front_fields front.fragment) (LineEnds ∷ []) (fragment_members front.fragment) (member LineEnds tt))

@@ -16,8 +16,7 @@ use Rattle.nb_names.proofs.WrittenLemmas.{written-text}
 use Rattle.nb_datagram.specs.declared.key.Key.{Key}
 use Rattle.nb_datagram.specs.Header.{IsKey}
 use Rattle.nb_datagram.specs.Texts.{key_text}
-use Rattle.nb_text.proofs.FieldLemmas.{at_small, data_word, name_word, address_word, key_word}
-use Rattle.nb_text.proofs.MidLemmas.{number_word}
+use Rattle.nb_text.proofs.FieldLemmas.{byte_at, data_word, name_word, number_word, address_word, key_word}
 use Rattle.nb_text.proofs.TellLemmas.{cut, Tells, seen_tells}
 
 -- ---- numbers
@@ -109,10 +108,9 @@ four_bytes (a ∷ b ∷ c ∷ d ∷ e ∷ rest) h = absurd (omega (arith, h))
 abbrev pub IsAddress : List ℕ → Type 0
 IsAddress ip = (length ip ≡ 4) × AreBytes ip
 
-part_small : (ip : List ℕ) (i : ℕ) → i < 4 → IsAddress ip → slice_index ip i < 2 ^ 64
-part_small ip i low h =
-    let long = h.0 in
-    let small = at_small ip i (omega (arith, low, long)) h.1 in
+part_small : (ip : List ℕ) (i : ℕ) → IsAddress ip → slice_index ip i < 2 ^ 64
+part_small ip i h =
+    let small = byte_at ip i h.1 in
     omega (arith, small)
 
 -- the text of an address, and then more
@@ -129,10 +127,10 @@ address_then : (c : ℕ) (xs ys r s : List ℕ) → ¬ IsDigit c → IsAddress x
 address_then c xs ys r s not a b e =
     let dot : ¬ IsDigit 46 = λ h. omega (arith, h) in
     let whole = sym (address_and xs (c ∷ r)) ∙ e ∙ address_and ys (c ∷ s) in
-    let one = number_then 46 (slice_index xs 0) (slice_index ys 0) _ _ dot (part_small xs 0 (omega arith) a) (part_small ys 0 (omega arith) b) whole in
-    let two = number_then 46 (slice_index xs 1) (slice_index ys 1) _ _ dot (part_small xs 1 (omega arith) a) (part_small ys 1 (omega arith) b) one.1 in
-    let three = number_then 46 (slice_index xs 2) (slice_index ys 2) _ _ dot (part_small xs 2 (omega arith) a) (part_small ys 2 (omega arith) b) two.1 in
-    let four = number_then c (slice_index xs 3) (slice_index ys 3) r s not (part_small xs 3 (omega arith) a) (part_small ys 3 (omega arith) b) three.1 in
+    let one = number_then 46 (slice_index xs 0) (slice_index ys 0) _ _ dot (part_small xs 0 a) (part_small ys 0 b) whole in
+    let two = number_then 46 (slice_index xs 1) (slice_index ys 1) _ _ dot (part_small xs 1 a) (part_small ys 1 b) one.1 in
+    let three = number_then 46 (slice_index xs 2) (slice_index ys 2) _ _ dot (part_small xs 2 a) (part_small ys 2 b) two.1 in
+    let four = number_then c (slice_index xs 3) (slice_index ys 3) r s not (part_small xs 3 a) (part_small ys 3 b) three.1 in
     let here = four_bytes xs a.0 in
     let there = four_bytes ys b.0 in
     (cc (here, there, one.0, two.0, three.0, four.0), four.1)
@@ -144,7 +142,7 @@ address_same xs ys a b e =
 
 pub address_tells : (xs ys : List ℕ) → IsAddress xs → IsAddress ys → Tells (address_text xs) (address_text ys) (xs ≡ ys)
 address_tells xs ys a b =
-    seen_tells (address_text xs) (address_text ys) (address_word xs a.0 a.1).1 (address_word ys b.0 b.1).1 (address_same xs ys a b)
+    seen_tells (address_text xs) (address_text ys) (address_word xs).1 (address_word ys).1 (address_same xs ys a b)
 
 -- a key that stands in bytes
 abbrev pub IsByteKey : Key → Type 0
@@ -163,7 +161,7 @@ key_same k l a b e =
 
 pub key_tells : (k l : Key) → IsByteKey k → IsByteKey l → Tells (key_text k) (key_text l) (k ≡ l)
 key_tells k l a b =
-    seen_tells (key_text k) (key_text l) (key_word k a.0 a.1).1 (key_word l b.0 b.1).1 (key_same k l a b)
+    seen_tells (key_text k) (key_text l) (key_word k).1 (key_word l).1 (key_same k l a b)
 
 -- ---- names
 

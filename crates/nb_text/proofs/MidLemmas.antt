@@ -1,26 +1,20 @@
 -- What stands in bytes is bytes. Pieces of lines: what may stand amid a line, and where lines end.
-use Rattle.std.proofs.Common.{ℕ, zero, suc, ◌≤◌, List, [], ◌∷◌, ◌++◌, length, take, drop, subst, arith, ◌≡◌, ◌==◌, ◌/◌, ◌%◌, ◌<◌, Bool, true, false, if◌then◌else◌, Option, Some, None, refl, sym, ap, ◌∙◌, append_assoc, codes}
+use Rattle.std.proofs.Common.{ℕ, zero, suc, List, [], ◌∷◌, ◌++◌, length, drop, subst, arith, ◌≡◌, ◌<◌, Bool, true, false, if◌then◌else◌, Option, Some, None, refl, sym, ap, ◌∙◌, append_assoc, codes}
 use Rattle.std.specs.List.{AllByRecursion, flat_map, list_all}
 use Rattle.nb_names.specs.declared.pointers.Pointers.{Pointers}
-use Rattle.nb_names.specs.DomainName.{spelling, AreBytes, AreByteLabels, IsLabel, IsDomain}
-use Rattle.nb_names.specs.Labels.{StandsAt, LabelsAt, ends, goes_on, leads_to, NameAt}
+use Rattle.nb_names.specs.DomainName.{spelling, AreBytes, AreByteLabels}
+use Rattle.nb_names.specs.Labels.{StandsAt, LabelsAt, ends, goes_on, leads_to}
 use Rattle.nb_names.specs.Name.{NetbiosName, IsName, IsByteName, labels_of_name}
 use Rattle.nb_names.proofs.SpellingLemmas.{AreByteLabels-spelled}
-use Rattle.std.specs.Fmt.{decimal, digits, digit_glyph, digits_onto}
+use Rattle.std.specs.Fmt.{decimal}
 use Rattle.std.proofs.lemmas.Bool.{and_parts}
-use Rattle.std.proofs.lemmas.Bool.Decides.{nat_tests}
 use Rattle.std.proofs.lemmas.List.{length-append}
-use Rattle.nb_text.specs.Fields.{IsVisible, IsWord, last, more, IsPart, two, four, AreLines}
+use Rattle.nb_text.specs.Fields.{IsWord, last, more, IsPart, two, four, AreLines}
 use Rattle.nb_text.specs.Lines.{line_end, used_text, refused_text}
-use Rattle.nb_text.proofs.FieldLemmas.{IsSeen, all-append, all-split, seen-append, is_literal, literal}
+use Rattle.nb_text.proofs.FieldLemmas.{IsSeen, all-append, all-split, bytes-take, seen-append, is_literal, literal, number_word}
 
 pub bytes-split : (xs ys : List ℕ) → AreBytes (xs ++ ys) → AreBytes xs × AreBytes ys
 bytes-split xs ys a = all-split (λ (b : ℕ). b < 256) xs ys a
-
-pub bytes-take : (n : ℕ) (xs : List ℕ) → AreBytes xs → AreBytes (take n xs)
-bytes-take zero xs a = tt
-bytes-take (suc n) [] a = tt
-bytes-take (suc n) (x ∷ xs) a = (a.0, bytes-take n xs a.1)
 
 pub bytes-drop : (n : ℕ) (xs : List ℕ) → AreBytes xs → AreBytes (drop n xs)
 bytes-drop zero xs a = a
@@ -31,7 +25,7 @@ pub bytes-stand : (packet bytes : List ℕ) (at : ℕ) → AreBytes packet → S
 bytes-stand packet bytes at a stands =
     subst AreBytes stands (bytes-take (length bytes) (drop at packet) (bytes-drop at packet a))
 
--- the labels that stand in bytes are of bytes, and a domain name's
+-- the labels that stand in bytes are of bytes
 pub labels_bytes : (packet : List ℕ) (pointers : Pointers) (start at : ℕ) (labels : List (List ℕ)) (next : ℕ) → AreBytes packet
     → LabelsAt packet pointers start at labels next → AreByteLabels labels
 labels_bytes packet pointers start at _ next a (ends stands) = tt
@@ -40,67 +34,9 @@ labels_bytes packet pointers start at _ next a (goes_on label labels is stands s
 labels_bytes packet pointers start at labels next a (leads_to target behind followed there below rest) =
     labels_bytes packet pointers target target labels behind a rest
 
-labels_each : (packet : List ℕ) (pointers : Pointers) (start at : ℕ) (labels : List (List ℕ)) (next : ℕ)
-    → LabelsAt packet pointers start at labels next → AllByRecursion IsLabel labels
-labels_each packet pointers start at _ next (ends stands) = tt
-labels_each packet pointers start at _ next (goes_on label labels is stands short rest) =
-    (is, labels_each packet pointers start _ labels next rest)
-labels_each packet pointers start at labels next (leads_to target behind followed there below rest) =
-    labels_each packet pointers target target labels behind rest
-
-labels_short : (packet : List ℕ) (pointers : Pointers) (start at : ℕ) (labels : List (List ℕ)) (next : ℕ)
-    → LabelsAt packet pointers start at labels next → length (spelling labels) ≤ 255
-labels_short packet pointers start at _ next (ends stands) = omega arith
-labels_short packet pointers start at _ next (goes_on label labels is stands short rest) = short
-labels_short packet pointers start at labels next (leads_to target behind followed there below rest) =
-    labels_short packet pointers target target labels behind rest
-
-pub name_domain : (packet : List ℕ) (pointers : Pointers) (at : ℕ) (labels : List (List ℕ)) (next : ℕ)
-    → NameAt packet pointers at labels next → IsDomain labels
-name_domain packet pointers at labels next n =
-    record { each = labels_each packet pointers at at labels next n; short = labels_short packet pointers at at labels next n }
-
 -- a name whose spelling is of bytes
 pub spelled_name : (name : NetbiosName) → IsName name → AreBytes (spelling (labels_of_name name)) → IsByteName name
 spelled_name name is a = (is, (AreByteLabels-spelled (labels_of_name name) a).1)
-
--- ---- numbers, however long
-
-glyph_seen : (d : ℕ) → d < 10 → IsVisible (digit_glyph false d)
-glyph_seen d h =
-    let low : 33 ≤ digit_glyph false d = grind (arith, nat_tests) in
-    let high : digit_glyph false d ≤ 126 = grind (arith, nat_tests) in
-    (low, high)
-
-onto_seen : (k n : ℕ) (acc : List ℕ) → IsSeen acc → IsSeen (digits_onto k 10 false n acc)
-onto_seen zero n acc h = h
-onto_seen (suc k) n acc h = either (n / 10 == 0) (onto_seen k (n / 10) (digit_glyph false (n % 10) ∷ acc) glyph) where
-  glyph : IsSeen (digit_glyph false (n % 10) ∷ acc)
-  glyph = (glyph_seen (n % 10) (omega arith), h)
-
-  either : (test : Bool) → IsSeen (digits_onto k 10 false (n / 10) (digit_glyph false (n % 10) ∷ acc))
-      → IsSeen (if test then digit_glyph false (n % 10) ∷ acc else digits_onto k 10 false (n / 10) (digit_glyph false (n % 10) ∷ acc))
-  either true rest = glyph
-  either false rest = rest
-
-onto_some : (k n : ℕ) (acc : List ℕ) → 0 < length acc → 0 < length (digits_onto k 10 false n acc)
-onto_some zero n acc h = h
-onto_some (suc k) n acc h = either (n / 10 == 0) (onto_some k (n / 10) (digit_glyph false (n % 10) ∷ acc) (omega arith)) where
-  either : (test : Bool) → 0 < length (digits_onto k 10 false (n / 10) (digit_glyph false (n % 10) ∷ acc))
-      → 0 < length (if test then digit_glyph false (n % 10) ∷ acc else digits_onto k 10 false (n / 10) (digit_glyph false (n % 10) ∷ acc))
-  either true rest = omega arith
-  either false rest = rest
-
-first_some : (k n : ℕ) → 0 < length (digits_onto (suc k) 10 false n [])
-first_some k n = either (n / 10 == 0) (onto_some k (n / 10) (digit_glyph false (n % 10) ∷ []) (omega arith)) where
-  either : (test : Bool) → 0 < length (digits_onto k 10 false (n / 10) (digit_glyph false (n % 10) ∷ []))
-      → 0 < length (if test then digit_glyph false (n % 10) ∷ [] else digits_onto k 10 false (n / 10) (digit_glyph false (n % 10) ∷ []))
-  either true rest = omega arith
-  either false rest = rest
-
-pub number_word : (n : ℕ) → IsWord (decimal n)
-unfolding digits
-number_word n = (first_some 63 n, onto_seen 64 n [] tt)
 
 -- ---- amid a line
 
@@ -209,6 +145,10 @@ pub parts_each : {A : Type 0} (P : A → Type 0) (f : A → List ℕ) (xs : List
     → AreParts (flat_map f xs)
 parts_each {A} P f [] h each = no_parts
 parts_each {A} P f (x ∷ xs) h each = parts_both (each x h.0) (parts_each P f xs h.1 each)
+
+pub parts_all : {A : Type 0} (f : A → List ℕ) (xs : List A) → ((x : A) → AreParts (f x)) → AreParts (flat_map f xs)
+parts_all {A} f [] each = no_parts
+parts_all {A} f (x ∷ xs) each = parts_both (each x) (parts_all f xs each)
 
 -- a line, then lines of parts
 pub lines_then : {text after : List ℕ} → AreLines text → AreParts after → AreLines (text ++ after)

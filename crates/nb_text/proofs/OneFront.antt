@@ -1,5 +1,5 @@
 -- What still stands at the front of a payload is one list of fields.
-use Rattle.std.proofs.Common.{◌≡◌, ◌≢◌, ◌⊎◌, inl, inr, ℕ, ◌<◌, ◌≤◌, List, [], ◌∷◌, ◌++◌, length, map, None, refl, sym, ap, ap₂, ◌∙◌, arith}
+use Rattle.std.proofs.Common.{◌≡◌, inl, inr, ℕ, ◌<◌, ◌≤◌, List, [], ◌∷◌, ◌++◌, length, map, None, refl, sym, ap, ap₂, ◌∙◌, arith}
 use Rattle.nb_service.specs.declared.fault.ServiceFault.{ServiceFault}
 use Rattle.nb_service.specs.Header.{PacketHeader, HasHeader}
 use Rattle.nb_service.specs.declared.question.Question.{Question}
@@ -24,7 +24,7 @@ use Rattle.nb_text.specs.FrontFields.{names_header_fields, names_front_fields, d
 use Rattle.nb_text.specs.ServiceFields.{lists_fields}
 use Rattle.nb_text.specs.TellsFront as fronts
 use Rattle.nb_text.specs.TellsFront.{FrontOf, TellsFront}
-use Rattle.nb_text.proofs.ShownLemmas.{OneFor, one_told}
+use Rattle.nb_text.proofs.ShownLemmas.{ByPort, OneFor, one_by_port, one_told}
 
 -- ---- items
 
@@ -77,12 +77,10 @@ data SessionFront (payload : List ℕ) : List Field → Type 0 where
   session_part : (parsed : Parsed) (header : Header) → Parses payload parsed → taken_by parsed ≡ None → sessions.HasHeader payload header
       → SessionFront payload (session_front_fields header)
 
-abbrev ByPort : List ℕ → ℕ → List Field → Type 0
-ByPort payload port more =
-    ((port ≡ 137) × NamesFront payload more)
-    ⊎ (((port ≡ 138) × DatagramFront payload more) ⊎ ((port ≢ 137) × (port ≢ 138) × SessionFront payload more))
+abbrev FrontBy : List ℕ → ℕ → List Field → Type 0
+FrontBy payload = ByPort (NamesFront payload) (DatagramFront payload) (SessionFront payload)
 
-by_port : (payload : List ℕ) (port : ℕ) (more : List Field) → FrontOf payload port more → ByPort payload port more
+by_port : (payload : List ℕ) (port : ℕ) (more : List Field) → FrontOf payload port more → FrontBy payload port more
 by_port payload _ _ (fronts.names packet used h) = inl (refl, names_whole packet used h)
 by_port payload _ _ (fronts.no_names_header fault fails low) = inl (refl, names_short low)
 by_port payload _ _ (fronts.names_front fault header part next fails h) = inl (refl, names_part fault header part next fails h)
@@ -150,36 +148,10 @@ module _ (payload : List ℕ) (laws : FrontLaws payload) where
   one_session _ _ (session_part parsed header g none there) (session_part other again h void stands) =
       ap session_front_fields (laws.one_header header again there stands)
 
-  one_by_port : (port : ℕ) (x y : List Field) → ByPort payload port x → ByPort payload port y → x ≡ y
-  one_by_port port x y a b = elim a [
-    | inl p ↦ elim b [
-      | inl q ↦ one_names x y p.1 q.1
-      | inr r ↦ elim r [
-        | inl q ↦ let here = p.0 in let there = q.0 in absurd (omega (arith, here, there))
-        | inr q ↦ absurd (q.0 p.0)
-      ]
-    ]
-    | inr s ↦ elim s [
-      | inl p ↦ elim b [
-        | inl q ↦ let here = p.0 in let there = q.0 in absurd (omega (arith, here, there))
-        | inr r ↦ elim r [
-          | inl q ↦ one_datagram x y p.1 q.1
-          | inr q ↦ absurd (q.1 p.0)
-        ]
-      ]
-      | inr p ↦ elim b [
-        | inl q ↦ absurd (p.0 q.0)
-        | inr r ↦ elim r [
-          | inl q ↦ absurd (p.1 q.0)
-          | inr q ↦ one_session x y p.2 q.2
-        ]
-      ]
-    ]
-  ]
-
   pub one_told_front : (port : ℕ) (fields others : List Field) → OneFor payload → TellsFront payload port fields → TellsFront payload port others
       → fields ≡ others
   one_told_front port fields others for a b =
       let first = one_told payload port a.told b.told for a.tells b.tells in
-      let more = one_by_port port a.more b.more (by_port payload port a.more a.stands) (by_port payload port b.more b.stands) in
+      let more = one_by_port (NamesFront payload) (DatagramFront payload) (SessionFront payload) one_names one_datagram one_session port
+      a.more b.more (by_port payload port a.more a.stands) (by_port payload port b.more b.stands) in
       a.are ∙ ap₂ (λ (x y : List Field). x ++ y) first more ∙ sym b.are

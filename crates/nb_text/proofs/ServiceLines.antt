@@ -1,50 +1,40 @@
--- The text of a packet of port 137 is a line of words, and then lines of parts; numbers without a word.
-use Rattle.std.proofs.Common.{◌≡◌, ◌==◌, ℕ, zero, suc, ◌+◌, ◌*◌, ◌/◌, ◌%◌, ◌≤◌, nat_lt, nat_le, Bool, true, false, if◌then◌else◌, List, [], ◌∷◌, ◌++◌, length, take, drop, Option, Some, None, refl, arith, codes}
-use Rattle.std.specs.List.{AllByRecursion, flat_map}
-use Rattle.std.proofs.lemmas.List.{length-drop, length-take-le}
+-- The text of a packet of port 137 is a line of words, and then lines of parts.
+use Rattle.std.proofs.Common.{◌≡◌, ◌==◌, ℕ, zero, suc, ◌+◌, ◌*◌, ◌/◌, ◌<◌, ◌^◌, nat_lt, nat_le, Bool, true, false, if◌then◌else◌, List, [], ◌∷◌, ◌++◌, length, take, drop, Option, Some, None, refl, arith, codes}
+use Rattle.std.specs.List.{AllByRecursion, flat_map, list_all}
+use Rattle.std.proofs.lemmas.Bool.{and_parts}
 use Rattle.nb_names.specs.Addresses.{address_text}
 use Rattle.nb_names.specs.DomainName.{AreBytes, AreByteLabels, IsDomain}
 use Rattle.nb_names.specs.Hexadecimal.{data_text, digits_text, word_text}
 use Rattle.nb_names.specs.Labels.{NameAt}
-use Rattle.nb_names.specs.Name.{NetbiosName, IsByteName}
+use Rattle.nb_names.specs.Name.{NetbiosName}
 use Rattle.nb_names.specs.NameText.{labels_written, written}
 use Rattle.nb_names.specs.declared.pointers.Pointers.TheVariants.{Followed}
+use Rattle.nb_names.proofs.LabelsLemmas.{IsDomain-read}
 use Rattle.nb_service.specs.declared.address_entry.AddressEntry.{AddressEntry}
-use Rattle.nb_service.specs.declared.kinds.TheConstants.{NB, NBSTAT}
+use Rattle.nb_service.specs.declared.kinds.TheConstants.{NBSTAT}
 use Rattle.nb_service.specs.declared.node_name.NodeName.{NodeName}
 use Rattle.nb_service.specs.declared.question.Question.{Question}
 use Rattle.nb_service.specs.Flags.{opcode_of, rcode_of, ont_of}
 use Rattle.nb_service.specs.Header.{PacketHeader}
 use Rattle.nb_service.specs.Packet.{ServicePacket, header_of, IsPacket, QuestionAt, RecordAt, RdataAt, bytes_there, domain_there, Row, none, more}
 use Rattle.nb_service.specs.Record.{ResourceData, of_bytes, of_domain, ResourceRecord}
-use Rattle.nb_service.specs.Views.{StatusParts, pieces, entry_of, entries_of_data, entries_in, node_name_of, status_of_size, status_of_data, status_in, no_status}
+use Rattle.nb_service.specs.Views.{StatusParts, pieces, entries_in, node_name_of, status_of_size, status_of_data, status_in, no_status}
+use Rattle.nb_service.proofs.SectionLemmas.{sections}
 use Rattle.nb_text.specs.Fields.{IsWord, AreLines}
 use Rattle.nb_text.specs.Lines.{line_end}
-use Rattle.nb_text.specs.Words.{operation_word, rcode_word, named_text, packet_flags, name_flags, set_text}
+use Rattle.nb_text.specs.Words.{word_of, operations, results, operation_word, rcode_word, named_text, packet_flags, name_flags, set_text}
 use Rattle.nb_text.specs.ServiceText.{state_text, counts_text, header_line, type_text, question_line, rdata_text, record_line, entry_line, node_name_line, unit_line, status_lines, record_lines, service_text}
-use Rattle.nb_text.proofs.FieldLemmas.{IsSeen, all-split, word_seen, is_literal, literal, data_seen, data_word, name_word, labels_word, address_word, packet_set_word, name_set_word}
-use Rattle.nb_text.proofs.MidLemmas.{IsMid, mid_then, mid_both, mid_seen, mid_word, mid_field, number_field, number_word, used_ends, ends_here, AreParts, no_parts, parts_both, parts_each, part_two, part_four, lines_then, IsNamed, chosen, bytes-take, bytes-drop, bytes-stand, labels_bytes, name_domain}
-use Rattle.std.proofs.lemmas.Bool.Decides.{nat_tests}
+use Rattle.nb_text.proofs.FieldLemmas.{IsSeen, bytes-take, number_word, word_seen, is_literal, literal, data_seen, data_word, written_word, labels_word, address_word, packet_set_word, name_set_word}
+use Rattle.nb_text.proofs.MidLemmas.{IsMid, mid_then, mid_both, mid_seen, mid_word, mid_field, number_field, used_ends, ends_here, AreParts, no_parts, parts_both, parts_each, parts_all, part_two, part_four, lines_then, IsNamed, chosen, bytes-drop, bytes-stand, labels_bytes}
 
 -- ---- the header
 
-operation_named : (n : ℕ) → IsNamed (operation_word n)
-operation_named n =
-    chosen (n == 0) _ _ (literal (codes "query") refl)
-    (chosen (n == 5) _ _ (literal (codes "registration") refl)
-    (chosen (n == 6) _ _ (literal (codes "release") refl)
-    (chosen (n == 7) _ _ (literal (codes "wack") refl)
-    (chosen (n == 8) _ _ (literal (codes "refresh") refl) (chosen (n == 9) _ None (literal (codes "refresh") refl) tt)))))
-
-rcode_named : (n : ℕ) → IsNamed (rcode_word n)
-rcode_named n =
-    chosen (n == 0) _ _ (literal (codes "ok") refl)
-    (chosen (n == 1) _ _ (literal (codes "FMT_ERR") refl)
-    (chosen (n == 2) _ _ (literal (codes "SRV_ERR") refl)
-    (chosen (n == 3) _ _ (literal (codes "NAM_ERR") refl)
-    (chosen (n == 4) _ _ (literal (codes "IMP_ERR") refl)
-    (chosen (n == 5) _ _ (literal (codes "RFS_ERR") refl)
-    (chosen (n == 6) _ _ (literal (codes "ACT_ERR") refl) (chosen (n == 7) _ None (literal (codes "CFT_ERR") refl) tt)))))))
+-- the words of a table are written out
+word_named : (table : List (ℕ × List ℕ)) (n : ℕ) → list_all (λ (row : ℕ × List ℕ). is_literal row.1) table ≡ true → IsNamed (word_of table n)
+word_named [] n h = tt
+word_named (row ∷ rows) n h =
+    let parts = and_parts (is_literal row.1) (list_all (λ (each : ℕ × List ℕ). is_literal each.1) rows) h in
+    chosen (n == row.0) (Some row.1) (word_of rows n) (literal row.1 parts.0) (word_named rows n parts.1)
 
 named_seen : (name : Option (List ℕ)) (n : ℕ) → IsNamed name → IsSeen (named_text name n)
 named_seen (Some word) n h = h.1
@@ -55,9 +45,9 @@ named_field cs name n h named = mid_field cs (named_text name n) h (named_seen n
 
 state_mid : (word : ℕ) → IsMid (state_text word)
 state_mid word =
-    mid_both (named_field (codes "op=") (operation_word (opcode_of word)) (opcode_of word) refl (operation_named (opcode_of word)))
+    mid_both (named_field (codes "op=") (operation_word (opcode_of word)) (opcode_of word) refl (word_named operations (opcode_of word) refl))
     (mid_both (mid_field (codes "flags=") (set_text packet_flags word) refl (packet_set_word word).1)
-    (named_field (codes "rcode=") (rcode_word (rcode_of word)) (rcode_of word) refl (rcode_named (rcode_of word))))
+    (named_field (codes "rcode=") (rcode_word (rcode_of word)) (rcode_of word) refl (word_named results (rcode_of word) refl)))
 
 counts_mid : (header : PacketHeader) → IsMid (counts_text header)
 counts_mid header =
@@ -85,9 +75,15 @@ label_word labels h = labels_word labels h.0 h.1
 type_mid : (kind class : ℕ) → IsMid (type_text kind class)
 type_mid kind class = mid_both (digits_field (codes "type=") kind refl) (digits_field (codes "class=") class refl)
 
-question_parts : (question : Question) → AreLabels question.name → AreParts (question_line question)
+-- a question that stands in bytes, with its numbers
+pub record IsShownQuestion (question : Question) : Type 0 where
+  pub name : AreLabels question.name
+  pub kind : question.kind < 2 ^ 16
+  pub class : question.class < 2 ^ 16
+
+question_parts : (question : Question) → IsShownQuestion question → AreParts (question_line question)
 question_parts question h =
-    part_two ((mid_then (mid_word (labels_written question.name) (label_word question.name h))
+    part_two ((mid_then (mid_word (labels_written question.name) (label_word question.name h.name))
     (mid_then (type_mid question.kind question.class) ends_here)).lines (codes "question") (literal (codes "question") refl))
 
 -- RDATA that stands in bytes
@@ -99,12 +95,15 @@ rdata_mid : (rdata : ResourceData) → IsByteData rdata → IsMid (rdata_text rd
 rdata_mid (of_bytes bytes) h = mid_field (codes "data=") (data_text bytes) refl (data_word bytes h).1
 rdata_mid (of_domain labels) h = mid_field (codes "domain=") (labels_written labels) refl (label_word labels h).1
 
--- a record that stands in bytes
-pub record IsByteRecord (entry : ResourceRecord) : Type 0 where
+-- a record that stands in bytes, with its numbers
+pub record IsShownRecord (entry : ResourceRecord) : Type 0 where
   pub name : AreLabels entry.name
+  pub kind : entry.kind < 2 ^ 16
+  pub class : entry.class < 2 ^ 16
+  pub ttl : entry.ttl < 2 ^ 32
   pub rdata : IsByteData entry.rdata
 
-record_parts : (section : List ℕ) (entry : ResourceRecord) → IsWord section → IsByteRecord entry → AreParts (record_line section entry)
+record_parts : (section : List ℕ) (entry : ResourceRecord) → IsWord section → IsShownRecord entry → AreParts (record_line section entry)
 record_parts section entry is h =
     part_two ((mid_then (mid_word (labels_written entry.name) (label_word entry.name h.name))
     (mid_then (type_mid entry.kind entry.class)
@@ -112,32 +111,19 @@ record_parts section entry is h =
 
 -- ---- parts of RDATA
 
-abbrev pub IsByteEntry : AddressEntry → Type 0
-IsByteEntry entry = (length entry.address ≡ 4) × AreBytes entry.address
-
-entry_parts : (entry : AddressEntry) → IsByteEntry entry → AreParts (entry_line entry)
-entry_parts entry h =
+entry_parts : (entry : AddressEntry) → AreParts (entry_line entry)
+entry_parts entry =
     part_four ((mid_then (digits_field (codes "flags=") entry.flags refl) (mid_then (number_field (codes "ont=") (ont_of entry.flags) refl)
-    (mid_then (mid_field (codes "address=") (address_text entry.address) refl (address_word entry.address h.0 h.1).1) ends_here))).lines
+    (mid_then (mid_field (codes "address=") (address_text entry.address) refl (address_word entry.address).1) ends_here))).lines
     (codes "entry") (literal (codes "entry") refl))
 
 abbrev pub IsByteNode : NodeName → Type 0
-IsByteNode name = (length name.bytes ≡ 16) × AreBytes name.bytes
-
-plain_name : (bytes : List ℕ) → length bytes ≡ 16 → AreBytes bytes → IsByteName (record { bytes = bytes; scope = [] })
-plain_name bytes long a = (
-  record {
-    sixteen = long;
-    each = a;
-    scope = record { domain = record { each = tt; short = omega arith }; short = omega arith };
-  },
-  tt,
-)
+IsByteNode name = AreBytes name.bytes
 
 node_parts : (name : NodeName) → IsByteNode name → AreParts (node_name_line name)
 node_parts name h =
     let plain : NetbiosName = record { bytes = name.bytes; scope = [] } in
-    part_four ((mid_then (mid_word (written plain) (name_word plain (plain_name name.bytes h.0 h.1)))
+    part_four ((mid_then (mid_word (written plain) (written_word plain h tt))
     (mid_then (digits_field (codes "flags=") name.flags refl) (mid_then (number_field (codes "ont=") (ont_of name.flags) refl)
     (mid_then (mid_field (codes "set=") (set_text name_flags name.flags) refl (name_set_word name.flags).1) ends_here)))).lines
     (codes "name") (literal (codes "name") refl))
@@ -161,38 +147,10 @@ status_parts status h =
 
 -- ---- the views of RDATA are of bytes
 
-entries_each : (count : ℕ) (bytes : List ℕ) → 6 * count ≤ length bytes → AreBytes bytes
-    → AllByRecursion IsByteEntry (pieces 6 entry_of count bytes)
-entries_each zero bytes long a = tt
-entries_each (suc count) bytes long a =
-    let six : length (take 6 bytes) ≡ 6 = length-take-le 6 bytes (omega (arith, long)) in
-    let size = length-drop 2 (take 6 bytes) in
-    let left = length-drop 6 bytes in
-    let four : length (drop 2 (take 6 bytes)) ≡ 4 = omega (arith, six, size) in (
-      (four, bytes-drop 2 (take 6 bytes) (bytes-take 6 bytes a)),
-      entries_each count (drop 6 bytes) (omega (arith, long, left)) (bytes-drop 6 bytes a),
-    )
-
-nodes_each : (count : ℕ) (bytes : List ℕ) → 18 * count ≤ length bytes → AreBytes bytes
-    → AllByRecursion IsByteNode (pieces 18 node_name_of count bytes)
-nodes_each zero bytes long a = tt
-nodes_each (suc count) bytes long a =
-    let piece : length (take 18 bytes) ≡ 18 = length-take-le 18 bytes (omega (arith, long)) in
-    let left = length-drop 18 bytes in
-    let sixteen : length (take 16 (take 18 bytes)) ≡ 16 = length-take-le 16 (take 18 bytes) (omega (arith, piece)) in (
-      (sixteen, bytes-take 16 (take 18 bytes) (bytes-take 18 bytes a)),
-      nodes_each count (drop 18 bytes) (omega (arith, long, left)) (bytes-drop 18 bytes a),
-    )
-
-chosen_entries : (test : Bool) (entries : List AddressEntry) → AllByRecursion IsByteEntry entries
-    → AllByRecursion IsByteEntry (if test then entries else [])
-chosen_entries true entries h = h
-chosen_entries false entries h = tt
-
-data_entries : (rdata : ResourceData) → IsByteData rdata → AllByRecursion IsByteEntry (entries_of_data rdata)
-data_entries (of_bytes bytes) a =
-    chosen_entries (length bytes % 6 == 0) _ (entries_each (length bytes / 6) bytes (omega arith) a)
-data_entries (of_domain labels) h = tt
+nodes_each : (count : ℕ) (bytes : List ℕ) → AreBytes bytes → AllByRecursion IsByteNode (pieces 18 node_name_of count bytes)
+nodes_each zero bytes a = tt
+nodes_each (suc count) bytes a =
+    (bytes-take 16 (take 18 bytes) (bytes-take 18 bytes a), nodes_each count (drop 18 bytes) (bytes-drop 18 bytes a))
 
 chosen_status : (test : Bool) (status : StatusParts) → IsByteStatus status → IsByteStatus (if test then status else no_status)
 chosen_status true status h = h
@@ -201,7 +159,7 @@ chosen_status false status h = record { names = tt; statistics = tt }
 size_status : (size : ℕ) (rest : List ℕ) → AreBytes rest → IsByteStatus (status_of_size size rest)
 size_status size rest a =
     chosen_status (nat_le size (length rest)) _ (record {
-      names = nodes_each (length (take size rest) / 18) (take size rest) (omega arith) (bytes-take size rest a);
+      names = nodes_each (length (take size rest) / 18) (take size rest) (bytes-take size rest a);
       statistics = bytes-drop size rest a;
     })
 
@@ -210,71 +168,99 @@ data_status (of_bytes []) a = record { names = tt; statistics = tt }
 data_status (of_bytes (count ∷ rest)) a = size_status (18 * count) rest a.1
 data_status (of_domain labels) h = record { names = tt; statistics = tt }
 
-each_parts : (section : List ℕ) → IsWord section → (entry : ResourceRecord) → IsByteRecord entry → AreParts (record_lines section entry)
+each_parts : (section : List ℕ) → IsWord section → (entry : ResourceRecord) → IsShownRecord entry → AreParts (record_lines section entry)
 each_parts section is entry h =
-    parts_both (record_parts section entry is h) (parts_both
-    (parts_each IsByteEntry entry_line (entries_in entry)
-    (chosen_entries (entry.kind == NB) (entries_of_data entry.rdata) (data_entries entry.rdata h.rdata)) entry_parts)
+    parts_both (record_parts section entry is h) (parts_both (parts_all entry_line (entries_in entry) entry_parts)
     (status_parts (status_in entry) (chosen_status (entry.kind == NBSTAT) (status_of_data entry.rdata) (data_status entry.rdata h.rdata))))
 
-section_parts : (section : List ℕ) (entries : List ResourceRecord) → IsWord section → AllByRecursion IsByteRecord entries
+section_parts : (section : List ℕ) (entries : List ResourceRecord) → IsWord section → AllByRecursion IsShownRecord entries
     → AreParts (flat_map (record_lines section) entries)
-section_parts section entries is h = parts_each IsByteRecord (record_lines section) entries h (each_parts section is)
+section_parts section entries is h = parts_each IsShownRecord (record_lines section) entries h (each_parts section is)
 
 -- ---- what stands in bytes
 
-abbrev pub IsByteQuestion : Question → Type 0
-IsByteQuestion question = AreLabels question.name
-
 -- labels that stand there are of bytes, and a domain name's
-pub labels_stand : (payload : List ℕ) (at : ℕ) (labels : List (List ℕ)) (next : ℕ) → AreBytes payload
+labels_stand : (payload : List ℕ) (at : ℕ) (labels : List (List ℕ)) (next : ℕ) → AreBytes payload
     → NameAt payload Followed at labels next → AreLabels labels
 labels_stand payload at labels next a name =
-    (name_domain payload Followed at labels next name, labels_bytes payload Followed at at labels next a name)
+    (IsDomain-read payload Followed at at labels next name, labels_bytes payload Followed at at labels next a name)
 
 questions_stand : (payload : List ℕ) (at : ℕ) (questions : List Question) (next : ℕ) → AreBytes payload
-    → Row (QuestionAt payload) at questions next → AllByRecursion IsByteQuestion questions
+    → Row (QuestionAt payload) at questions next → AllByRecursion IsShownQuestion questions
 questions_stand payload at _ next a none = tt
-questions_stand payload at _ next a (more between question questions one rest) =
-    (labels_stand payload at question.name one.after a one.name, questions_stand payload between questions next a rest)
+questions_stand payload at _ next a (more between question questions one rest) = (
+  record { name = labels_stand payload at question.name one.after a one.name; kind = one.kind.fits; class = one.class.fits },
+  questions_stand payload between questions next a rest,
+)
 
 rdata_stands : (payload : List ℕ) (at size kind : ℕ) (rdata : ResourceData) → AreBytes payload → RdataAt payload at size kind rdata
     → IsByteData rdata
 rdata_stands payload at size kind _ a (bytes_there bytes other long stands) = bytes-stand payload bytes at a stands
 rdata_stands payload at size kind _ a (domain_there labels is name) = labels_stand payload at labels (at + size) a name
 
-pub record_stands : (payload : List ℕ) (at : ℕ) (entry : ResourceRecord) (next : ℕ) → AreBytes payload → RecordAt payload at entry next
-    → IsByteRecord entry
+record_stands : (payload : List ℕ) (at : ℕ) (entry : ResourceRecord) (next : ℕ) → AreBytes payload → RecordAt payload at entry next
+    → IsShownRecord entry
 record_stands payload at entry next a one = record {
   name = labels_stand payload at entry.name one.after a one.name;
+  kind = one.kind.fits;
+  class = one.class.fits;
+  ttl = one.ttl.fits;
   rdata = rdata_stands payload (one.after + 10) one.size entry.kind entry.rdata a one.rdata;
 }
 
 records_stand : (payload : List ℕ) (at : ℕ) (entries : List ResourceRecord) (next : ℕ) → AreBytes payload
-    → Row (RecordAt payload) at entries next → AllByRecursion IsByteRecord entries
+    → Row (RecordAt payload) at entries next → AllByRecursion IsShownRecord entries
 records_stand payload at _ next a none = tt
 records_stand payload at _ next a (more between entry entries one rest) =
     (record_stands payload at entry between a one, records_stand payload between entries next a rest)
+
+-- a packet whose header has room for it
+pub record IsCounted (p : ServicePacket) : Type 0 where
+  pub id : p.id < 2 ^ 16
+  pub word : p.word < 2 ^ 16
+  pub questions : length p.questions < 2 ^ 64
+  pub answers : length p.answers < 2 ^ 64
+  pub authorities : length p.authorities < 2 ^ 64
+  pub additional : length p.additional < 2 ^ 64
+
+-- a packet that stands in bytes
+pub record IsShownPacket (p : ServicePacket) : Type 0 where
+  pub counted : IsCounted p
+  pub questions : AllByRecursion IsShownQuestion p.questions
+  pub answers : AllByRecursion IsShownRecord p.answers
+  pub authorities : AllByRecursion IsShownRecord p.authorities
+  pub additional : AllByRecursion IsShownRecord p.additional
+
+pub packet_stands : (payload : List ℕ) (packet : ServicePacket) (used : ℕ) → AreBytes payload → IsPacket payload packet used → IsShownPacket packet
+packet_stands payload packet used a is =
+    let at = sections payload packet used is in
+    let questions = is.header.questions.fits in
+    let answers = is.header.answers.fits in
+    let authorities = is.header.authorities.fits in
+    let additional = is.header.additional.fits in
+    record {
+      counted = record {
+        id = is.header.id.fits;
+        word = is.header.word.fits;
+        questions = omega (arith, questions);
+        answers = omega (arith, answers);
+        authorities = omega (arith, authorities);
+        additional = omega (arith, additional);
+      };
+      questions = questions_stand payload _ packet.questions at.answers a at.first;
+      answers = records_stand payload at.answers packet.answers at.authorities a at.second;
+      authorities = records_stand payload at.authorities packet.authorities at.additional a at.third;
+      additional = records_stand payload at.additional packet.additional used a at.last;
+    }
 
 -- ---- the packet
 
 pub service_lines : (payload : List ℕ) (packet : ServicePacket) (used : ℕ) → AreBytes payload → IsPacket payload packet used
     → AreLines (service_text packet used)
 service_lines payload packet used a is =
-    let all = records_stand payload is.after (packet.answers ++ (packet.authorities ++ packet.additional)) used a is.records in
-    let one = all-split IsByteRecord packet.answers (packet.authorities ++ packet.additional) all in
-    let two = all-split IsByteRecord packet.authorities packet.additional one.1 in
+    let h = packet_stands payload packet used a is in
     lines_then (header_lines (header_of packet) used)
-    (parts_both (parts_each IsByteQuestion question_line packet.questions (questions_stand payload _ packet.questions is.after a is.questions) question_parts)
-    (parts_both (section_parts (codes "answer") packet.answers (literal (codes "answer") refl) one.0)
-    (parts_both (section_parts (codes "authority") packet.authorities (literal (codes "authority") refl) two.0)
-    (section_parts (codes "additional") packet.additional (literal (codes "additional") refl) two.1))))
-
-pub no_operation : (n : ℕ) → 1 ≤ n → n ≤ 4 → operation_word n ≡ None
-no_operation n low high = grind (arith, nat_tests)
-
-pub past_operation : (n : ℕ) → 10 ≤ n → operation_word n ≡ None
-past_operation n low = grind (arith, nat_tests)
-
-pub past_result : (n : ℕ) → 8 ≤ n → rcode_word n ≡ None
-past_result n low = grind (arith, nat_tests)
+    (parts_both (parts_each IsShownQuestion question_line packet.questions h.questions question_parts)
+    (parts_both (section_parts (codes "answer") packet.answers (literal (codes "answer") refl) h.answers)
+    (parts_both (section_parts (codes "authority") packet.authorities (literal (codes "authority") refl) h.authorities)
+    (section_parts (codes "additional") packet.additional (literal (codes "additional") refl) h.additional))))

@@ -5,16 +5,15 @@ use Rattle.std.specs.Fmt.{decimal}
 use Rattle.nb_names.specs.DomainName.{AreBytes}
 use Rattle.nb_names.specs.Hexadecimal.{digits_text}
 use Rattle.nb_service.specs.declared.question.Question.{Question}
-use Rattle.nb_service.specs.Packet.{ServicePacket, header_of, IsPacket, QuestionAt, RecordAt, Row, none, more}
+use Rattle.nb_service.specs.Packet.{ServicePacket, header_of, IsPacket}
 use Rattle.nb_service.specs.Record.{ResourceData, of_bytes, of_domain, ResourceRecord}
 use Rattle.nb_service.specs.Views.{entries_in, status_in}
-use Rattle.nb_service.proofs.SectionLemmas.{sections}
 use Rattle.nb_text.specs.Lines.{line_end, used_text}
 use Rattle.nb_text.specs.ServiceText.{state_text, counts_text, header_line, type_text, question_line, rdata_text, record_line, entry_line, node_name_line, unit_line, status_lines, record_lines, service_text}
-use Rattle.nb_text.proofs.MidLemmas.{number_word}
+use Rattle.nb_text.proofs.FieldLemmas.{number_word}
 use Rattle.nb_text.proofs.FieldTells.{number_tells, word_tells, data_tells}
 use Rattle.nb_text.proofs.LabelTells.{labels_tell}
-use Rattle.nb_text.proofs.ServiceLines.{AreLabels, IsByteData, IsByteRecord, labels_stand, record_stands}
+use Rattle.nb_text.proofs.ServiceLines.{IsByteData, IsCounted, IsShownQuestion, IsShownRecord, IsShownPacket, packet_stands}
 use Rattle.nb_text.proofs.TellLemmas.{EndsField, ends_both, ends_each, Tells, space, feed, tells_whole, seen_tells, both_tell, field_then, after_tells, same_tells, differ_tells, tells_then, each_tells}
 
 -- ---- the header
@@ -34,15 +33,6 @@ pub record Counts (p q : ServicePacket) : Type 0 where
   pub answers : length p.answers ≡ length q.answers
   pub authorities : length p.authorities ≡ length q.authorities
   pub additional : length p.additional ≡ length q.additional
-
--- a packet whose header has room for it
-pub record IsCounted (p : ServicePacket) : Type 0 where
-  pub id : p.id < 2 ^ 16
-  pub word : p.word < 2 ^ 16
-  pub questions : length p.questions < 2 ^ 64
-  pub answers : length p.answers < 2 ^ 64
-  pub authorities : length p.authorities < 2 ^ 64
-  pub additional : length p.additional < 2 ^ 64
 
 counts_tell : (p q : ServicePacket) → IsCounted p → IsCounted q → Tells (counts_text (header_of p)) (counts_text (header_of q)) (Counts p q)
 counts_tell p q a b =
@@ -69,12 +59,6 @@ header_tells p q m n a b =
 
 -- ---- questions
 
--- a question that stands in bytes, with its numbers
-pub record IsShownQuestion (question : Question) : Type 0 where
-  pub name : AreLabels question.name
-  pub kind : question.kind < 2 ^ 16
-  pub class : question.class < 2 ^ 16
-
 type_tells : (kind class other another : ℕ) → kind < 2 ^ 16 → class < 2 ^ 16 → other < 2 ^ 16 → another < 2 ^ 16
     → Tells (type_text kind class) (type_text other another) ((kind ≡ other) × (class ≡ another))
 type_tells kind class other another a b p q =
@@ -87,13 +71,6 @@ question_tells x y a b =
     (λ h. λ i. record { name = h.0 i; kind = h.1.0.0 i; class = h.1.0.1 i })
 
 -- ---- records
-
--- a record that stands in bytes, with its numbers
-pub record IsShownRecord (entry : ResourceRecord) : Type 0 where
-  pub bytes : IsByteRecord entry
-  pub kind : entry.kind < 2 ^ 16
-  pub class : entry.class < 2 ^ 16
-  pub ttl : entry.ttl < 2 ^ 32
 
 rdata_tells : (x y : ResourceData) → IsByteData x → IsByteData y → Tells (rdata_text x) (rdata_text y) (x ≡ y)
 rdata_tells (of_bytes xs) (of_bytes ys) a b = tells_then (after_tells (codes " data=") (data_tells xs ys a b)) (ap of_bytes)
@@ -110,10 +87,10 @@ record_tells : (section : List ℕ) (x y : ResourceRecord) → IsShownRecord x �
 record_tells section x y a b =
     let low = a.ttl in
     let small = b.ttl in
-    let rdata = both_tell (rdata_tells x.rdata y.rdata a.bytes.rdata b.bytes.rdata) (λ _. end_tells) feed feed in
+    let rdata = both_tell (rdata_tells x.rdata y.rdata a.rdata b.rdata) (λ _. end_tells) feed feed in
     let ttl = field_then (codes " ttl=") (number_tells x.ttl y.ttl (omega (arith, low)) (omega (arith, small))) rdata (rdata_space x.rdata) (rdata_space y.rdata) in
     let types = both_tell (type_tells x.kind x.class y.kind y.class a.kind a.class b.kind b.class) (λ _. ttl) space space in
-    let name = field_then (codes " ") (labels_tell x.name y.name a.bytes.name b.bytes.name) types space space in
+    let name = field_then (codes " ") (labels_tell x.name y.name a.name b.name) types space space in
     tells_then (after_tells (codes "  ") (after_tells section name))
     (λ h. λ i. record { name = h.0 i; kind = h.1.0.0 i; class = h.1.0.1 i; ttl = h.1.1.0 i; rdata = h.1.1.1.0 i })
 
@@ -167,54 +144,6 @@ questions_space p = ends_both _ _ (section_space (codes "answer") p.answers) (an
 
 header_space : (p : ServicePacket) → EndsField (after_header p)
 header_space p = ends_both _ _ (ends_each question_line p.questions (λ _. space)) (questions_space p)
-
--- ---- what stands in bytes
-
-questions_stand : (payload : List ℕ) (at : ℕ) (questions : List Question) (next : ℕ) → AreBytes payload
-    → Row (QuestionAt payload) at questions next → AllByRecursion IsShownQuestion questions
-questions_stand payload at _ next a none = tt
-questions_stand payload at _ next a (more between question questions one rest) = (
-  record { name = labels_stand payload at question.name one.after a one.name; kind = one.kind.fits; class = one.class.fits },
-  questions_stand payload between questions next a rest,
-)
-
-records_stand : (payload : List ℕ) (at : ℕ) (entries : List ResourceRecord) (next : ℕ) → AreBytes payload
-    → Row (RecordAt payload) at entries next → AllByRecursion IsShownRecord entries
-records_stand payload at _ next a none = tt
-records_stand payload at _ next a (more between entry entries one rest) = (
-  record { bytes = record_stands payload at entry between a one; kind = one.kind.fits; class = one.class.fits; ttl = one.ttl.fits },
-  records_stand payload between entries next a rest,
-)
-
--- a packet that stands in bytes
-pub record IsShownPacket (p : ServicePacket) : Type 0 where
-  pub counted : IsCounted p
-  pub questions : AllByRecursion IsShownQuestion p.questions
-  pub answers : AllByRecursion IsShownRecord p.answers
-  pub authorities : AllByRecursion IsShownRecord p.authorities
-  pub additional : AllByRecursion IsShownRecord p.additional
-
-packet_stands : (payload : List ℕ) (packet : ServicePacket) (used : ℕ) → AreBytes payload → IsPacket payload packet used → IsShownPacket packet
-packet_stands payload packet used a is =
-    let at = sections payload packet used is in
-    let questions = is.header.questions.fits in
-    let answers = is.header.answers.fits in
-    let authorities = is.header.authorities.fits in
-    let additional = is.header.additional.fits in
-    record {
-      counted = record {
-        id = is.header.id.fits;
-        word = is.header.word.fits;
-        questions = omega (arith, questions);
-        answers = omega (arith, answers);
-        authorities = omega (arith, authorities);
-        additional = omega (arith, additional);
-      };
-      questions = questions_stand payload _ packet.questions at.answers a at.first;
-      answers = records_stand payload at.answers packet.answers at.authorities a at.second;
-      authorities = records_stand payload at.authorities packet.authorities at.additional a at.third;
-      additional = records_stand payload at.additional packet.additional used a at.last;
-    }
 
 -- ---- the packet
 

@@ -10,7 +10,8 @@ use Rattle.nb_session.specs.Packet.{Packet, IsFormed, IsPacket, body_of, kind_of
 use Rattle.nb_session.specs.Parsing.{Parses, whole}
 use Rattle.nb_text.specs.Lines.{used_text}
 use Rattle.nb_text.specs.SessionText.{parts_text, session_text}
-use Rattle.nb_text.proofs.MidLemmas.{bytes-split, bytes-take, spelled_name}
+use Rattle.nb_text.proofs.MidLemmas.{bytes-split, spelled_name}
+use Rattle.nb_text.proofs.FieldLemmas.{bytes-take}
 use Rattle.nb_text.proofs.FieldTells.{number_tells, code_tells, data_tells, address_tells, name_tells}
 use Rattle.nb_text.proofs.TellLemmas.{Tells, space, field_then, after_tells, same_tells, differ_tells, tells_then}
 
@@ -60,7 +61,7 @@ packet_tells x y p q a b = differ_tells (parts_text x) (parts_text y) (λ r s. r
 packet_stands : (payload : List ℕ) (packet : Packet) (used : ℕ) → Parses payload (Whole packet used) → IsPacket packet (take used payload)
 packet_stands payload packet used (whole v n fits is) = is
 
-body_stands : (payload : List ℕ) (packet : Packet) (used : ℕ) → AreBytes payload → IsPacket packet (take used payload) → AreBytes (body_of packet)
+pub body_stands : (payload : List ℕ) (packet : Packet) (used : ℕ) → AreBytes payload → IsPacket packet (take used payload) → AreBytes (body_of packet)
 body_stands payload packet used a is =
     (bytes-split (header_bytes (kind_of packet) (length (body_of packet))) (body_of packet) (subst AreBytes is.exact (bytes-take used payload a))).1
 

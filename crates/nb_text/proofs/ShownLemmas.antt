@@ -52,10 +52,13 @@ OfDatagram made payload = Either (datagrams.IsPacket payload) (datagram_faults.P
 abbrev OfSession : {B : Type 0} → Made B → List ℕ → B → Type 0
 OfSession made payload b = (parsed : Parsed) × Parses payload parsed × (b ≡ made.of_session parsed)
 
-abbrev ByPort : {B : Type 0} → Made B → List ℕ → ℕ → B → Type 0
-ByPort made payload port b =
-    ((port ≡ 137) × OfNames made payload b)
-    ⊎ (((port ≡ 138) × OfDatagram made payload b) ⊎ ((port ≢ 137) × (port ≢ 138) × OfSession made payload b))
+-- ByPort Names Datagram Session port b: for the port, one of these holds of it
+abbrev pub ByPort : {B : Type 0} → (B → Type 0) → (B → Type 0) → (B → Type 0) → ℕ → B → Type 0
+ByPort Names Datagram Session port b =
+    ((port ≡ 137) × Names b) ⊎ (((port ≡ 138) × Datagram b) ⊎ ((port ≢ 137) × (port ≢ 138) × Session b))
+
+abbrev MadeFor : {B : Type 0} → Made B → List ℕ → ℕ → B → Type 0
+MadeFor made payload = ByPort (OfNames made payload) (OfDatagram made payload) (OfSession made payload)
 
 -- OneFor payload: the laws that a payload's text stands on
 pub record OneFor (payload : List ℕ) : Type 0 where
@@ -86,33 +89,43 @@ one_either Stands Fails whole refused same alone same_fault one other x y = elim
   ]
 ]
 
-one_by_port : {B : Type 0} (made : Made B) (payload : List ℕ) (port : ℕ) (one other : B) → OneFor payload → ByPort made payload port one
-    → ByPort made payload port other → one ≡ other
-one_by_port made payload port one other laws a b = elim a [
-  | inl x ↦ elim b [
-    | inl y ↦ one_either (service.IsPacket payload) (service_faults.PacketFails payload) made.of_names made.of_no_names laws.one_name laws.name_alone laws.name_fault one other x.1 y.1
-    | inr z ↦ elim z [
-      | inl y ↦ let here = x.0 in let there = y.0 in absurd (omega (arith, here, there))
-      | inr y ↦ absurd (y.0 x.0)
+-- what holds for a port holds of one, where each does
+pub one_by_port : {B : Type 0} (Names Datagram Session : B → Type 0) → ((x y : B) → Names x → Names y → x ≡ y)
+    → ((x y : B) → Datagram x → Datagram y → x ≡ y) → ((x y : B) → Session x → Session y → x ≡ y) → (port : ℕ) (x y : B)
+    → ByPort Names Datagram Session port x → ByPort Names Datagram Session port y → x ≡ y
+one_by_port Names Datagram Session same_names same_datagram same_session port x y a b = elim a [
+  | inl p ↦ elim b [
+    | inl q ↦ same_names x y p.1 q.1
+    | inr r ↦ elim r [
+      | inl q ↦ let here = p.0 in let there = q.0 in absurd (omega (arith, here, there))
+      | inr q ↦ absurd (q.0 p.0)
     ]
   ]
-  | inr w ↦ elim w [
-    | inl x ↦ elim b [
-      | inl y ↦ let here = x.0 in let there = y.0 in absurd (omega (arith, here, there))
-      | inr z ↦ elim z [
-        | inl y ↦ one_either (datagrams.IsPacket payload) (datagram_faults.PacketFails payload) made.of_datagram made.of_no_datagram laws.one_datagram laws.datagram_alone laws.datagram_fault one other x.1 y.1
-        | inr y ↦ absurd (y.1 x.0)
+  | inr s ↦ elim s [
+    | inl p ↦ elim b [
+      | inl q ↦ let here = p.0 in let there = q.0 in absurd (omega (arith, here, there))
+      | inr r ↦ elim r [
+        | inl q ↦ same_datagram x y p.1 q.1
+        | inr q ↦ absurd (q.1 p.0)
       ]
     ]
-    | inr x ↦ elim b [
-      | inl y ↦ absurd (x.0 y.0)
-      | inr z ↦ elim z [
-        | inl y ↦ absurd (x.1 y.0)
-        | inr y ↦ x.2.2 ∙ ap made.of_session (laws.one_parsed x.2.0 y.2.0 x.2.1 y.2.1) ∙ sym y.2.2
+    | inr p ↦ elim b [
+      | inl q ↦ absurd (p.0 q.0)
+      | inr r ↦ elim r [
+        | inl q ↦ absurd (p.1 q.0)
+        | inr q ↦ same_session x y p.2 q.2
       ]
     ]
   ]
 ]
+
+one_made : {B : Type 0} (made : Made B) (payload : List ℕ) (port : ℕ) (one other : B) → OneFor payload → MadeFor made payload port one
+    → MadeFor made payload port other → one ≡ other
+one_made made payload port one other laws =
+    one_by_port (OfNames made payload) (OfDatagram made payload) (OfSession made payload)
+    (one_either (service.IsPacket payload) (service_faults.PacketFails payload) made.of_names made.of_no_names laws.one_name laws.name_alone laws.name_fault)
+    (one_either (datagrams.IsPacket payload) (datagram_faults.PacketFails payload) made.of_datagram made.of_no_datagram laws.one_datagram laws.datagram_alone laws.datagram_fault)
+    (λ x y p q. p.2 ∙ ap made.of_session (laws.one_parsed p.0 q.0 p.1 q.1) ∙ sym q.2) port one other
 
 -- ---- one text
 
@@ -125,7 +138,7 @@ texts = record {
   of_session = session_text;
 }
 
-text_by_port : (payload : List ℕ) (port : ℕ) (text : List ℕ) → Shown payload port text → ByPort texts payload port text
+text_by_port : (payload : List ℕ) (port : ℕ) (text : List ℕ) → Shown payload port text → MadeFor texts payload port text
 text_by_port payload _ _ (names packet used h) = inl (refl, inl (packet, used, h, refl))
 text_by_port payload _ _ (no_names fault h) = inl (refl, inr (fault, h, refl))
 text_by_port payload _ _ (datagram packet used h) = inr (inl (refl, inl (packet, used, h, refl)))
@@ -135,7 +148,7 @@ text_by_port payload _ _ (session port parsed a b h) = inr (inr (a, b, (parsed, 
 pub one_shown : (payload : List ℕ) (port : ℕ) (text other : List ℕ) → OneFor payload → Shown payload port text → Shown payload port other
     → text ≡ other
 one_shown payload port text other laws a b =
-    one_by_port texts payload port text other laws (text_by_port payload port text a) (text_by_port payload port other b)
+    one_made texts payload port text other laws (text_by_port payload port text a) (text_by_port payload port other b)
 
 -- ---- one list of fields
 
@@ -148,7 +161,7 @@ lists = record {
   of_session = session_fields;
 }
 
-fields_by_port : (payload : List ℕ) (port : ℕ) (fields : List Field) → Tells payload port fields → ByPort lists payload port fields
+fields_by_port : (payload : List ℕ) (port : ℕ) (fields : List Field) → Tells payload port fields → MadeFor lists payload port fields
 fields_by_port payload _ _ (tells.names packet used h) = inl (refl, inl (packet, used, h, refl))
 fields_by_port payload _ _ (tells.no_names fault h) = inl (refl, inr (fault, h, refl))
 fields_by_port payload _ _ (tells.datagram packet used h) = inr (inl (refl, inl (packet, used, h, refl)))
@@ -158,7 +171,7 @@ fields_by_port payload _ _ (tells.session port parsed a b h) = inr (inr (a, b, (
 pub one_told : (payload : List ℕ) (port : ℕ) (fields others : List Field) → OneFor payload → Tells payload port fields → Tells payload port others
     → fields ≡ others
 one_told payload port fields others laws a b =
-    one_by_port lists payload port fields others laws (fields_by_port payload port fields a) (fields_by_port payload port others b)
+    one_made lists payload port fields others laws (fields_by_port payload port fields a) (fields_by_port payload port others b)
 
 -- ---- one phrase
 
@@ -171,7 +184,7 @@ phrases payload = record {
   of_session = λ parsed. phrase (parsed_said parsed (length payload));
 }
 
-phrase_by_port : (payload : List ℕ) (port : ℕ) (text : List ℕ) → IsSaid payload port text → ByPort (phrases payload) payload port text
+phrase_by_port : (payload : List ℕ) (port : ℕ) (text : List ℕ) → IsSaid payload port text → MadeFor (phrases payload) payload port text
 phrase_by_port payload _ _ (says.names packet used h) = inl (refl, inl (packet, used, h, refl))
 phrase_by_port payload _ _ (says.no_names fault h) = inl (refl, inr (fault, h, refl))
 phrase_by_port payload _ _ (says.datagram packet used h) = inr (inl (refl, inl (packet, used, h, refl)))
@@ -181,9 +194,20 @@ phrase_by_port payload _ _ (says.session port parsed a b h) = inr (inr (a, b, (p
 pub one_said : (payload : List ℕ) (port : ℕ) (text other : List ℕ) → OneFor payload → IsSaid payload port text → IsSaid payload port other
     → text ≡ other
 one_said payload port text other laws a b =
-    one_by_port (phrases payload) payload port text other laws (phrase_by_port payload port text a) (phrase_by_port payload port other b)
+    one_made (phrases payload) payload port text other laws (phrase_by_port payload port text a) (phrase_by_port payload port other b)
 
 -- ---- some text
+
+-- something for each port
+some_for : {B : Type 0} (Is : ℕ → B → Type 0) (port : ℕ) → ((b : B) × Is 137 b) → ((b : B) × Is 138 b)
+    → (port ≢ 137 → port ≢ 138 → ((b : B) × Is port b)) → ((b : B) × Is port b)
+some_for {B} Is port of_names of_datagram of_session = elim (cases_eq port 137) [
+  | inl e ↦ subst (λ (q : ℕ). ((b : B) × Is q b)) (sym e) of_names
+  | inr other ↦ elim (cases_eq port 138) [
+    | inl e ↦ subst (λ (q : ℕ). ((b : B) × Is q b)) (sym e) of_datagram
+    | inr another ↦ of_session other another
+  ]
+]
 
 pub some_shown : (payload : List ℕ) (port : ℕ)
     → ((packet : service.ServicePacket) × (used : ℕ) × service.IsPacket payload packet used) ⊎ ((fault : ServiceFault) × service_faults.PacketFails payload fault)
@@ -191,22 +215,13 @@ pub some_shown : (payload : List ℕ) (port : ℕ)
     → (parsed : Parsed) × Parses payload parsed
     → (text : List ℕ) × Shown payload port text
 some_shown payload port n d s =
-    elim (cases_eq port 137) [
-      | inl e ↦ elim n [
-        | inl p ↦ (service_text p.0 p.1, subst (λ (q : ℕ). Shown payload q (service_text p.0 p.1)) (sym e) (names p.0 p.1 p.2))
-        | inr f ↦ (
-          refused_text (service_fault_text f.0),
-          subst (λ (q : ℕ). Shown payload q (refused_text (service_fault_text f.0))) (sym e) (no_names f.0 f.1),
-        )
-      ]
-      | inr a ↦ elim (cases_eq port 138) [
-        | inl e ↦ elim d [
-          | inl p ↦ (datagram_text p.0 p.1, subst (λ (q : ℕ). Shown payload q (datagram_text p.0 p.1)) (sym e) (datagram p.0 p.1 p.2))
-          | inr f ↦ (
-            refused_text (datagram_fault_text f.0),
-            subst (λ (q : ℕ). Shown payload q (refused_text (datagram_fault_text f.0))) (sym e) (no_datagram f.0 f.1),
-          )
-        ]
-        | inr b ↦ (session_text s.0, session port s.0 a b s.1)
-      ]
-    ]
+    some_for (Shown payload) port
+    (elim n [
+      | inl p ↦ (service_text p.0 p.1, names p.0 p.1 p.2)
+      | inr f ↦ (refused_text (service_fault_text f.0), no_names f.0 f.1)
+    ])
+    (elim d [
+      | inl p ↦ (datagram_text p.0 p.1, datagram p.0 p.1 p.2)
+      | inr f ↦ (refused_text (datagram_fault_text f.0), no_datagram f.0 f.1)
+    ])
+    (λ a b. (session_text s.0, session port s.0 a b s.1))

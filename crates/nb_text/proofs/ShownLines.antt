@@ -1,51 +1,43 @@
 -- Every text is lines of words.
-use Rattle.std.proofs.Common.{◌≡◌, ℕ, true, List, [], ◌∷◌, ◌++◌, refl, codes, subst, length}
+use Rattle.std.proofs.Common.{◌≡◌, ℕ, ◌<◌, true, List, [], ◌∷◌, ◌++◌, refl, codes, length}
 use Rattle.std.specs.Fmt.{decimal}
 use Rattle.std.specs.List.{flat_map, list_all}
+use Rattle.nb_names.specs.Addresses.{address_text}
+use Rattle.nb_names.specs.DomainName.{AreBytes, spelling}
 use Rattle.nb_names.specs.FaultTexts.{name_fault_text}
+use Rattle.nb_names.specs.Hexadecimal.{data_text}
+use Rattle.nb_names.specs.Name.{NetbiosName, IsByteName, labels_of_name}
+use Rattle.nb_names.specs.NameText.{digits_of, written}
 use Rattle.nb_names.specs.declared.fault.NameFault.{NameFault}
 use Rattle.nb_names.specs.declared.fault.NameFault.TheVariants as name_faults
 use Rattle.nb_service.specs.FaultTexts.{service_fault_text}
 use Rattle.nb_service.specs.declared.fault.ServiceFault.{ServiceFault}
 use Rattle.nb_service.specs.declared.fault.ServiceFault.TheVariants as service
 use Rattle.nb_datagram.specs.FaultTexts.{datagram_fault_text}
+use Rattle.nb_datagram.specs.Packet.{Packet}
+use Rattle.nb_datagram.specs.Texts.{key_text, kind_text}
 use Rattle.nb_datagram.specs.declared.fault.DatagramFault.{DatagramFault}
 use Rattle.nb_datagram.specs.declared.fault.DatagramFault.TheVariants as datagrams
+use Rattle.nb_datagram.specs.declared.key.Key.{Key}
+use Rattle.nb_datagram.specs.declared.packet.Packet.TheVariants.{Direct, Error, Query}
 use Rattle.nb_session.specs.FaultTexts.{session_fault_text}
+use Rattle.nb_session.specs.Packet.{Packet as SessionPacket, IsFormed, body_of}
+use Rattle.nb_session.specs.Parsing.{Parsed, Parses, header_lacks, header_fails, body_lacks, body_fails, whole}
 use Rattle.nb_session.specs.declared.fault.SessionFault.{SessionFault}
 use Rattle.nb_session.specs.declared.fault.SessionFault.TheVariants as session_faults
-use Rattle.nb_text.proofs.MidLemmas.{IsMid, mid_both, mid_word, mid_words, number_word, mid_field, number_field, used_line, mid_seen, line_of, refused_line, bytes-split, spelled_name, bytes-take}
-use Rattle.std.specs.Int.{w16, to_be_bytes}
-use Rattle.nb_names.specs.DomainName.{AreBytes, spelling}
-use Rattle.nb_names.specs.Hexadecimal.{data_text}
-use Rattle.nb_names.specs.NameText.{digits_of, written}
-use Rattle.nb_datagram.specs.declared.key.Key.{Key}
-use Rattle.nb_datagram.specs.declared.kind.Kind.{Kind}
-use Rattle.nb_datagram.specs.declared.kind.Kind.TheVariants.{Unique, Group, Broadcast}
-use Rattle.nb_datagram.specs.declared.packet.ErrorPacket.{ErrorPacket}
-use Rattle.nb_datagram.specs.declared.packet.QueryKind.{QueryKind}
-use Rattle.nb_datagram.specs.declared.packet.QueryKind.TheVariants.{Request, Positive, Negative}
-use Rattle.nb_datagram.specs.declared.packet.Packet.TheVariants.{Direct, Error, Query}
-use Rattle.nb_datagram.specs.Fragment.{FragmentParts, named_length}
-use Rattle.nb_datagram.specs.Header.{IsKey, header_bytes, error_type, query_type}
-use Rattle.nb_datagram.specs.Kind.{type_of}
-use Rattle.nb_datagram.specs.Packet.{Packet, QueryPacket, IsPacket, Fits, FitsDirect, packet_bytes, direct_bytes, name_bytes}
-use Rattle.nb_datagram.specs.Texts.{key_text, kind_text}
-use Rattle.nb_text.specs.Fields.{IsWord, AreLines}
-use Rattle.nb_text.specs.Words.{query_word}
-use Rattle.nb_text.specs.DatagramText.{flags_text, datagram_text}
-use Rattle.nb_text.proofs.FieldLemmas.{is_literal, literal, digits_seen, data_word, name_word, key_word, address_word}
-use Rattle.nb_names.specs.Addresses.{address_text}
-use Rattle.nb_names.specs.Name.{labels_of_name}
 use Rattle.nb_session.specs.declared.packet.Packet.TheVariants as sessions
 use Rattle.nb_session.specs.declared.parsing.Parsed.TheVariants.{Whole, More}
-use Rattle.nb_session.specs.Header as session_headers
-use Rattle.nb_session.specs.Packet.{Packet as SessionPacket, IsFormed, body_of, kind_of}
-use Rattle.nb_session.specs.Parsing.{Parsed, Parses, header_lacks, header_fails, body_lacks, body_fails, whole}
+use Rattle.nb_text.specs.DatagramText.{flags_text, datagram_text}
+use Rattle.nb_text.specs.Fields.{AreLines}
 use Rattle.nb_text.specs.SessionText.{session_text}
 use Rattle.nb_text.specs.Shown as shown
 use Rattle.nb_text.specs.Shown.{Shown}
+use Rattle.nb_text.specs.Words.{query_word}
+use Rattle.nb_text.proofs.DatagramTells.{IsBytePacket, kind_word, query_is_word, stands}
+use Rattle.nb_text.proofs.FieldLemmas.{is_literal, literal, digits_seen, data_word, name_word, number_word, key_word, address_word}
+use Rattle.nb_text.proofs.MidLemmas.{IsMid, mid_both, mid_word, mid_words, mid_field, number_field, used_line, mid_seen, line_of, refused_line, bytes-split, spelled_name}
 use Rattle.nb_text.proofs.ServiceLines.{service_lines}
+use Rattle.nb_text.proofs.SessionTells.{body_stands}
 
 -- words, and then a number
 placed : (words : List (List ℕ)) (at : ℕ) → list_all is_literal words ≡ true → IsMid (flat_map (λ word. 32 ∷ word) words ++ 32 ∷ decimal at)
@@ -84,60 +76,26 @@ session_mid (session_faults.Name fault) = named (codes "name:" ∷ []) fault ref
 session_mid (session_faults.TrailingBytes at) = placed (codes "trailing" ∷ codes "bytes" ∷ []) at refl
 
 -- the flags and the key of a header of bytes
-header_mid : (type flags : ℕ) (key : Key) → IsKey key → AreBytes (header_bytes type flags key) → IsMid (flags_text flags key)
-header_mid type flags key is a =
-    let behind = (bytes-split (to_be_bytes w16 key.id) (key.ip ++ to_be_bytes w16 key.port) a.1.1).1 in
-    let ip = (bytes-split key.ip (to_be_bytes w16 key.port) behind).0 in
-    mid_both (mid_field (codes "flags=") (digits_of flags) refl (digits_seen flags a.1.0))
-    (mid_field (codes "key=") (key_text key) refl (key_word key is ip).1)
+header_mid : (flags : ℕ) (key : Key) → flags < 256 → IsMid (flags_text flags key)
+header_mid flags key h =
+    mid_both (mid_field (codes "flags=") (digits_of flags) refl (digits_seen flags h)) (mid_field (codes "key=") (key_text key) refl (key_word key).1)
 
-pub kind_word : (kind : Kind) → IsWord (kind_text kind)
-kind_word Unique = literal (codes "unique") refl
-kind_word Group = literal (codes "group") refl
-kind_word Broadcast = literal (codes "broadcast") refl
+-- a name, after what it is called
+name_field : (cs : List ℕ) (name : NetbiosName) → is_literal cs ≡ true → IsByteName name → IsMid (32 ∷ (cs ++ written name))
+name_field cs name h is = mid_field cs (written name) h (name_word name is).1
 
-pub query_is_word : (kind : QueryKind) → IsWord (query_word kind)
-query_is_word Request = literal (codes "find") refl
-query_is_word Positive = literal (codes "found") refl
-query_is_word Negative = literal (codes "missing") refl
-
-fragment_line : (f : FragmentParts) (used : ℕ) → FitsDirect f → AreBytes (packet_bytes (Direct f)) → AreLines (datagram_text (Direct f) used)
-fragment_line f used fits a =
-    let parts = bytes-split (header_bytes (type_of f.kind) f.flags f.key) (direct_bytes f) a in
-    let size = to_be_bytes w16 (named_length f.source f.destination f.bytes) in
-    let one = (bytes-split size (to_be_bytes w16 f.offset ++ (name_bytes f.source ++ (name_bytes f.destination ++ f.bytes))) parts.1).1 in
-    let two = (bytes-split (to_be_bytes w16 f.offset) (name_bytes f.source ++ (name_bytes f.destination ++ f.bytes)) one).1 in
-    let names = bytes-split (name_bytes f.source) (name_bytes f.destination ++ f.bytes) two in
-    let rest = bytes-split (name_bytes f.destination) f.bytes names.1 in
+datagram_line : (packet : Packet) (used : ℕ) → IsBytePacket packet → AreLines (datagram_text packet used)
+datagram_line (Direct f) used h =
     used_line (kind_text f.kind) used (kind_word f.kind)
-    (mid_both (header_mid (type_of f.kind) f.flags f.key fits.key parts.0)
-    (mid_both (number_field (codes "offset=") f.offset refl)
-    (mid_both (mid_field (codes "source=") (written f.source) refl (name_word f.source (spelled_name f.source fits.source names.0)).1)
-    (mid_both (mid_field (codes "destination=") (written f.destination) refl (name_word f.destination (spelled_name f.destination fits.destination rest.0)).1)
-    (mid_field (codes "data=") (data_text f.bytes) refl (data_word f.bytes rest.1).1)))))
-
-error_line : (e : ErrorPacket) (used : ℕ) → IsKey e.key → AreBytes (packet_bytes (Error e)) → AreLines (datagram_text (Error e) used)
-error_line e used is a =
-    let parts = bytes-split (header_bytes error_type e.flags e.key) (e.code ∷ []) a in
+    (mid_both (header_mid f.flags f.key h.header.0) (mid_both (number_field (codes "offset=") f.offset refl)
+    (mid_both (name_field (codes "source=") f.source refl h.source) (mid_both (name_field (codes "destination=") f.destination refl h.destination)
+    (mid_field (codes "data=") (data_text f.bytes) refl (data_word f.bytes h.bytes).1)))))
+datagram_line (Error e) used h =
     used_line (codes "error") used (literal (codes "error") refl)
-    (mid_both (header_mid error_type e.flags e.key is parts.0) (mid_field (codes "code=") (digits_of e.code) refl (digits_seen e.code parts.1.0)))
-
-query_line : (q : QueryPacket) (used : ℕ) → Fits (Query q) → AreBytes (packet_bytes (Query q)) → AreLines (datagram_text (Query q) used)
-query_line q used fits a =
-    let parts = bytes-split (header_bytes (query_type q.kind) q.flags q.key) (name_bytes q.destination) a in
+    (mid_both (header_mid e.flags e.key h.0.0) (mid_field (codes "code=") (digits_of e.code) refl (digits_seen e.code h.1)))
+datagram_line (Query q) used h =
     used_line (query_word q.kind) used (query_is_word q.kind)
-    (mid_both (header_mid (query_type q.kind) q.flags q.key fits.0 parts.0)
-    (mid_field (codes "destination=") (written q.destination) refl (name_word q.destination (spelled_name q.destination fits.1 parts.1)).1))
-
-datagram_line : (packet : Packet) (used : ℕ) → Fits packet → AreBytes (packet_bytes packet) → AreLines (datagram_text packet used)
-datagram_line (Direct f) used fits a = fragment_line f used fits a
-datagram_line (Error e) used fits a = error_line e used fits a
-datagram_line (Query q) used fits a = query_line q used fits a
-
-pub datagram_lines : (payload : List ℕ) (packet : Packet) (used : ℕ) → AreBytes payload → IsPacket payload packet used
-    → AreLines (datagram_text packet used)
-datagram_lines payload packet used a is =
-    datagram_line packet used is.fits (bytes-split (packet_bytes packet) is.rest (subst AreBytes is.whole a)).0
+    (mid_both (header_mid q.flags q.key h.0.0) (name_field (codes "destination=") q.destination refl h.1))
 
 session_line : (packet : SessionPacket) (used : ℕ) → IsFormed packet → AreBytes (body_of packet) → AreLines (session_text (Whole packet used))
 session_line (sessions.Message bytes) used formed a =
@@ -146,16 +104,15 @@ session_line (sessions.Message bytes) used formed a =
 session_line (sessions.Request called calling) used formed a =
     let names = bytes-split (spelling (labels_of_name called)) (spelling (labels_of_name calling)) a in
     used_line (codes "request") used (literal (codes "request") refl)
-    (mid_both (mid_field (codes "called=") (written called) refl (name_word called (spelled_name called formed.0 names.0)).1)
-    (mid_field (codes "calling=") (written calling) refl (name_word calling (spelled_name calling formed.1 names.1)).1))
+    (mid_both (name_field (codes "called=") called refl (spelled_name called formed.0 names.0))
+    (name_field (codes "calling=") calling refl (spelled_name calling formed.1 names.1)))
 session_line sessions.Positive used formed a = used_line (codes "positive") used (literal (codes "positive") refl) (mid_seen [] tt)
 session_line (sessions.Negative code) used formed a =
     used_line (codes "negative") used (literal (codes "negative") refl)
     (mid_field (codes "code=") (digits_of code) refl (digits_seen code a.0))
 session_line (sessions.Retarget address port) used formed a =
     used_line (codes "retarget") used (literal (codes "retarget") refl)
-    (mid_both (mid_field (codes "address=") (address_text address) refl (address_word address formed.0 (bytes-split address (to_be_bytes w16 port) a).0).1)
-    (number_field (codes "port=") port refl))
+    (mid_both (mid_field (codes "address=") (address_text address) refl (address_word address).1) (number_field (codes "port=") port refl))
 session_line sessions.Keepalive used formed a = used_line (codes "keepalive") used (literal (codes "keepalive") refl) (mid_seen [] tt)
 
 more_line : (needed : ℕ) → AreLines (session_text (More needed))
@@ -166,13 +123,11 @@ session_lines payload _ a (header_lacks short) = more_line _
 session_lines payload _ a (header_fails header fault has fails) = refused_line (session_fault_text fault) (session_mid fault)
 session_lines payload _ a (body_lacks header kind has good short) = more_line _
 session_lines payload _ a (body_fails header fault has good enough fails) = refused_line (session_fault_text fault) (session_mid fault)
-session_lines payload _ a (whole packet used within is) =
-    let all = subst AreBytes is.exact (bytes-take used payload a) in
-    session_line packet used is.formed (bytes-split (session_headers.header_bytes (kind_of packet) (length (body_of packet))) (body_of packet) all).1
+session_lines payload _ a (whole packet used within is) = session_line packet used is.formed (body_stands payload packet used a is)
 
 pub shown_lines : (payload : List ℕ) (port : ℕ) (text : List ℕ) → AreBytes payload → Shown payload port text → AreLines text
 shown_lines payload _ _ a (shown.names packet used is) = service_lines payload packet used a is
 shown_lines payload _ _ a (shown.no_names fault fails) = refused_line (service_fault_text fault) (service_mid fault)
-shown_lines payload _ _ a (shown.datagram packet used is) = datagram_lines payload packet used a is
+shown_lines payload _ _ a (shown.datagram packet used is) = datagram_line packet used (stands payload packet used a is)
 shown_lines payload _ _ a (shown.no_datagram fault fails) = refused_line (datagram_fault_text fault) (datagram_mid fault)
 shown_lines payload _ _ a (shown.session port parsed other another parses) = session_lines payload parsed a parses

@@ -12,7 +12,7 @@ use Rattle.nb_service.specs.Packet.{ServicePacket}
 use Rattle.nb_session.specs.declared.header.Header.{Header}
 use Rattle.nb_session.specs.Header.{body_length}
 use Rattle.nb_telling.specs.Fields.{Field, FieldKey, Text, Number, Digits, Words, LineEnds}
-use Rattle.nb_text.specs.Keys.{kind_key, flags_key, id_key, word_key, packet_type_key, key_key, offset_key, source_key, destination_key, length_key}
+use Rattle.nb_text.specs.Keys.{key_named, kind_key, id_key, packet_type_key}
 use Rattle.nb_text.specs.ServiceFields.{word_field, state_fields, count_fields, lists_fields}
 use Rattle.nb_text.specs.Words.{datagram_word, session_word}
 
@@ -25,7 +25,7 @@ indent = Words (codes "  ")
 -- the header of a name service packet
 abbrev pub names_header_fields : PacketHeader → List Field
 names_header_fields header =
-    indent ∷ word_field id_key header.id ∷ word_field word_key header.word
+    indent ∷ word_field id_key header.id ∷ word_field (key_named "word") header.word
     ∷ (state_fields header.word ++ (count_fields header ++ LineEnds ∷ []))
 
 -- names_front_fields header part: the header, and the questions and records of `part`, which stand whole
@@ -48,17 +48,17 @@ standing_name key (Some name) = Text key (written name) ∷ []
 abbrev pub fragment_front_fields : Option FragmentFront → List Field
 fragment_front_fields None = []
 fragment_front_fields (Some front) =
-    Number offset_key front.offset
-    ∷ (standing_name source_key front.source ++ standing_name destination_key front.destination)
+    Number (key_named "offset") front.offset
+    ∷ (standing_name (key_named "source") front.source ++ standing_name (key_named "destination") front.destination)
 
 -- the header of a datagram service packet, and the names that stand whole
 abbrev pub datagram_front_fields : Front → List Field
 datagram_front_fields front =
-    indent ∷ type_field (datagram_word front.message_type) front.message_type ∷ Digits flags_key (front.flags ∷ [])
-    ∷ Text key_key (key_text front.key) ∷ (fragment_front_fields front.fragment ++ LineEnds ∷ [])
+    indent ∷ type_field (datagram_word front.message_type) front.message_type ∷ Digits (key_named "flags") (front.flags ∷ [])
+    ∷ Text (key_named "key") (key_text front.key) ∷ (fragment_front_fields front.fragment ++ LineEnds ∷ [])
 
 -- the header of a session packet
 abbrev pub session_front_fields : Header → List Field
 session_front_fields header =
-    indent ∷ type_field (session_word header.packet_type) header.packet_type ∷ Number length_key (body_length header)
+    indent ∷ type_field (session_word header.packet_type) header.packet_type ∷ Number (key_named "length") (body_length header)
     ∷ LineEnds ∷ []

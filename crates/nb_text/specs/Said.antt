@@ -23,6 +23,7 @@ use Rattle.nb_datagram.specs.declared.kind.Kind.TheVariants.{Unique, Group, Broa
 use Rattle.nb_datagram.specs.declared.packet.QueryKind.{QueryKind}
 use Rattle.nb_datagram.specs.declared.packet.QueryKind.TheVariants as queries
 use Rattle.nb_datagram.specs.declared.packet.Packet.TheVariants.{Direct, Error, Query}
+use Rattle.nb_datagram.specs.declared.error_codes.TheConstants.{DESTINATION_NAME_NOT_PRESENT, INVALID_SOURCE_NAME_FORMAT, INVALID_DESTINATION_NAME_FORMAT}
 use Rattle.nb_datagram.specs.FaultTexts.{datagram_fault_place, datagram_fault_subject, datagram_fault_words}
 use Rattle.nb_datagram.specs.Fragment.{FragmentParts, has_more}
 use Rattle.nb_datagram.specs.Packet.{Packet as DatagramPacket}
@@ -118,9 +119,9 @@ fragment_said f =
 -- what an error says (4.4.3)
 abbrev pub error_words : ℕ → List ℕ
 error_words code =
-    if code == 130 then codes "no such destination name"
-    else if code == 131 then codes "source name of a wrong form"
-    else if code == 132 then codes "destination name of a wrong form"
+    if code == DESTINATION_NAME_NOT_PRESENT then codes "no such destination name"
+    else if code == INVALID_SOURCE_NAME_FORMAT then codes "source name of a wrong form"
+    else if code == INVALID_DESTINATION_NAME_FORMAT then codes "destination name of a wrong form"
     else codes "unknown code"
 
 -- a question whether datagrams are relayed, and its answers (4.4.4)

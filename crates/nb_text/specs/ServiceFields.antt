@@ -15,7 +15,7 @@ use Rattle.nb_service.specs.Packet.{ServicePacket, header_of}
 use Rattle.nb_service.specs.Record.{ResourceData, of_bytes, of_domain, ResourceRecord, record_of}
 use Rattle.nb_service.specs.Views.{StatusParts, entries_in, status_in}
 use Rattle.nb_telling.specs.Fields.{Field, FieldKey, Text, Number, Digits, Data, Set, Part, PartEnds, LineEnds}
-use Rattle.nb_text.specs.Keys.{id_key, word_key, op_key, flags_key, rcode_key, qd_key, an_key, ns_key, ar_key, name_key, type_key, class_key, ttl_key, data_key, domain_key, ont_key, address_key, set_key, unit_key}
+use Rattle.nb_text.specs.Keys.{key_named, id_key, name_key, unit_key}
 use Rattle.nb_text.specs.LineFields.{used_fields, list_fields}
 use Rattle.nb_text.specs.Words.{operation_word, rcode_word, names_set, packet_flags, name_flags}
 
@@ -33,20 +33,20 @@ named_field key None n = Number key n
 -- what the flag word says
 abbrev pub state_fields : ℕ → List Field
 state_fields word =
-    named_field op_key (operation_word (opcode_of word)) (opcode_of word)
-    ∷ Set flags_key (names_set packet_flags word)
-    ∷ named_field rcode_key (rcode_word (rcode_of word)) (rcode_of word) ∷ []
+    named_field (key_named "op") (operation_word (opcode_of word)) (opcode_of word)
+    ∷ Set (key_named "flags") (names_set packet_flags word)
+    ∷ named_field (key_named "rcode") (rcode_word (rcode_of word)) (rcode_of word) ∷ []
 
 -- how many questions, answers, authorities and additional records there are
 abbrev pub count_fields : PacketHeader → List Field
 count_fields header =
-    Number qd_key header.questions ∷ Number an_key header.answers ∷ Number ns_key header.authorities
-    ∷ Number ar_key header.additional ∷ []
+    Number (key_named "qd") header.questions ∷ Number (key_named "an") header.answers ∷ Number (key_named "ns") header.authorities
+    ∷ Number (key_named "ar") header.additional ∷ []
 
 -- header_fields header used: of a packet that takes up so many bytes
 abbrev pub header_fields : PacketHeader → ℕ → List Field
 header_fields header used =
-    word_field id_key header.id ∷ word_field word_key header.word
+    word_field id_key header.id ∷ word_field (key_named "word") header.word
     ∷ (state_fields header.word ++ (count_fields header ++ used_fields used))
 
 -- ---- questions and records
@@ -54,7 +54,7 @@ header_fields header used =
 -- named_fields labels kind class: what questions and records have
 abbrev pub named_fields : List (List ℕ) → ℕ → ℕ → List Field
 named_fields labels kind class =
-    Text name_key (labels_written labels) ∷ word_field type_key kind ∷ word_field class_key class ∷ []
+    Text name_key (labels_written labels) ∷ word_field (key_named "type") kind ∷ word_field (key_named "class") class ∷ []
 
 -- a question
 abbrev pub question_fields : Question → List Field
@@ -63,21 +63,21 @@ question_fields question =
 
 -- RDATA: its bytes, or the name in a record of kind NS
 abbrev pub rdata_field : ResourceData → Field
-rdata_field (of_bytes bytes) = Data data_key bytes
-rdata_field (of_domain labels) = Text domain_key (labels_written labels)
+rdata_field (of_bytes bytes) = Data (key_named "data") bytes
+rdata_field (of_domain labels) = Text (key_named "domain") (labels_written labels)
 
 -- an address entry
 abbrev pub entry_fields : AddressEntry → List Field
 entry_fields entry =
-    Part (codes "    entry") ∷ word_field flags_key entry.flags ∷ Number ont_key (ont_of entry.flags)
-    ∷ Text address_key (address_text entry.address) ∷ LineEnds ∷ PartEnds ∷ []
+    Part (codes "    entry") ∷ word_field (key_named "flags") entry.flags ∷ Number (key_named "ont") (ont_of entry.flags)
+    ∷ Text (key_named "address") (address_text entry.address) ∷ LineEnds ∷ PartEnds ∷ []
 
 -- one of a node's names, which has no scope
 abbrev pub node_name_fields : NodeName → List Field
 node_name_fields name =
     Part (codes "    name") ∷ Text name_key (written (record { bytes = name.bytes; scope = [] }))
-    ∷ word_field flags_key name.flags ∷ Number ont_key (ont_of name.flags)
-    ∷ Set set_key (names_set name_flags name.flags) ∷ LineEnds ∷ PartEnds ∷ []
+    ∷ word_field (key_named "flags") name.flags ∷ Number (key_named "ont") (ont_of name.flags)
+    ∷ Set (key_named "set") (names_set name_flags name.flags) ∷ LineEnds ∷ PartEnds ∷ []
 
 -- the unit that a node's statistics begin with, where there are as many bytes
 abbrev pub unit_fields : List ℕ → List Field
@@ -103,7 +103,7 @@ data_fields kind bytes = view_fields (record_of [] kind 0 0 (of_bytes bytes))
 abbrev pub record_fields : List ℕ → ResourceRecord → List Field
 record_fields lead entry =
     Part lead ∷ (named_fields entry.name entry.kind entry.class
-    ++ Number ttl_key entry.ttl ∷ rdata_field entry.rdata ∷ LineEnds ∷ (view_fields entry ++ PartEnds ∷ []))
+    ++ Number (key_named "ttl") entry.ttl ∷ rdata_field entry.rdata ∷ LineEnds ∷ (view_fields entry ++ PartEnds ∷ []))
 
 -- ---- the packet
 

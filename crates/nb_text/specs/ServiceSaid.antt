@@ -1,5 +1,5 @@
 -- What is said of a packet of port 137 (our choice): the packets are those of RFC 1002 section 4.2.
-use Rattle.std.specs.Prelude.{◌≡◌, ⊤, ℕ, nat_lt, ◌-◌, ◌^◌, ◌==◌, min, Bool, false, List, [], ◌∷◌, ◌++◌, length, map, take, codes, Option, Some, None, if◌then◌else◌}
+use Rattle.std.specs.Prelude.{◌≡◌, ⊤, ℕ, nat_lt, ◌-◌, ◌==◌, min, Bool, false, List, [], ◌∷◌, ◌++◌, length, map, take, codes, Option, Some, None, if◌then◌else◌}
 use Rattle.std.specs.Fmt.{decimal}
 use Rattle.std.specs.List.{flat_map}
 use Rattle.nb_names.specs.Addresses.{address_text}
@@ -15,7 +15,8 @@ use Rattle.nb_service.specs.declared.node_name.NodeName.{NodeName}
 use Rattle.nb_service.specs.declared.question.Question.{Question}
 use Rattle.nb_service.specs.declared.seen.Seen.{Seen}
 use Rattle.nb_service.specs.FaultTexts.{service_fault_place, service_fault_subject, service_fault_words}
-use Rattle.nb_service.specs.Flags.{opcode_of, rcode_of}
+use Rattle.nb_service.specs.declared.flags.TheConstants.NodeFlags.{G}
+use Rattle.nb_service.specs.Flags.{node_bits, opcode_of, rcode_of}
 use Rattle.nb_service.specs.Packet.{ServicePacket, records_of}
 use Rattle.nb_service.specs.Record.{ResourceData, of_bytes, of_domain, ResourceRecord}
 use Rattle.nb_service.specs.Views.{entries_of_data, status_of_data}
@@ -25,6 +26,8 @@ use Rattle.nb_text.specs.declared.brief.told.Few.{Few}
 use Rattle.nb_text.specs.declared.brief.told.Listed.{Listed}
 use Rattle.nb_text.specs.declared.brief.told.Listed.TheVariants as items
 use Rattle.nb_text.specs.declared.brief.told.Told.{Told}
+use Rattle.nb_text.specs.declared.brief.told.TheConstants.{MOST_LISTED}
+use Rattle.nb_text.specs.declared.codes.TheConstants.{FMT_ERR, SRV_ERR, NAM_ERR, IMP_ERR, RFS_ERR, ACT_ERR, CFT_ERR}
 use Rattle.nb_text.specs.Forms.{form_of, is_type}
 use Rattle.nb_text.specs.Said.{commas, counts_in, refused_said}
 use Rattle.nb_text.specs.Words.{is_set}
@@ -114,7 +117,7 @@ server_in (of_domain labels) = labels ∷ []
 
 -- how many of what is listed stand in a phrase
 abbrev pub most_listed : ℕ
-most_listed = 4
+most_listed = MOST_LISTED
 
 -- the first of what is listed, and how many there are, up to the largest number
 abbrev pub few : List Listed → Few
@@ -159,7 +162,7 @@ names_said listed =
 -- whether the name is a group's: G of the first flags (4.2.13, 4.2.18), the highest bit
 abbrev pub is_group : Option ℕ → Bool
 is_group None = false
-is_group (Some flags) = is_set flags (2 ^ 15)
+is_group (Some flags) = is_set flags (node_bits G)
 
 -- for how long
 abbrev pub time_said : Option ℕ → List (List ℕ)
@@ -179,13 +182,13 @@ server_said (Some labels) = labels_written labels
 -- what RCODE says (4.2.6, 4.2.11, 4.2.14)
 abbrev pub reason_words : ℕ → List ℕ
 reason_words rcode =
-    if rcode == 1 then codes "wrong form (FMT_ERR)"
-    else if rcode == 2 then codes "server failure (SRV_ERR)"
-    else if rcode == 3 then codes "no such name (NAM_ERR)"
-    else if rcode == 4 then codes "not supported (IMP_ERR)"
-    else if rcode == 5 then codes "refused by policy (RFS_ERR)"
-    else if rcode == 6 then codes "owned by another node (ACT_ERR)"
-    else if rcode == 7 then codes "in conflict (CFT_ERR)"
+    if rcode == FMT_ERR then codes "wrong form (FMT_ERR)"
+    else if rcode == SRV_ERR then codes "server failure (SRV_ERR)"
+    else if rcode == NAM_ERR then codes "no such name (NAM_ERR)"
+    else if rcode == IMP_ERR then codes "not supported (IMP_ERR)"
+    else if rcode == RFS_ERR then codes "refused by policy (RFS_ERR)"
+    else if rcode == ACT_ERR then codes "owned by another node (ACT_ERR)"
+    else if rcode == CFT_ERR then codes "in conflict (CFT_ERR)"
     else codes "unknown error"
 
 -- held_said group one told: the addresses, after what is said of a group or of one node

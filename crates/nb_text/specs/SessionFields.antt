@@ -1,27 +1,29 @@
 -- The fields of a session packet, port 139 (our choice).
-use Rattle.std.specs.Prelude.{List, [], ◌∷◌, ◌++◌, length, codes}
+use Rattle.std.specs.Prelude.{List, [], ◌∷◌, ◌++◌, length}
 use Rattle.nb_names.specs.Addresses.{address_text}
 use Rattle.nb_names.specs.NameText.{written}
 use Rattle.nb_session.specs.Packet.{Packet}
 use Rattle.nb_session.specs.declared.packet.Packet.TheVariants.{Message, Request, Positive, Negative, Retarget, Keepalive}
+use Rattle.nb_session.specs.declared.kind.Kind.TheVariants as kinds
 use Rattle.nb_session.specs.Parsing.{Parsed}
 use Rattle.nb_session.specs.declared.parsing.Parsed.TheVariants.{Whole, More, Refused}
 use Rattle.nb_session.specs.FaultTexts.{session_fault_place, session_fault_text}
 use Rattle.nb_telling.specs.Fields.{Field, Text, Number, Digits, Data, LineEnds}
-use Rattle.nb_text.specs.Keys.{kind_key, length_key, data_key, called_key, calling_key, code_key, address_key, to_port_key, more_key}
+use Rattle.nb_text.specs.Keys.{key_named, kind_key, to_port_key, more_key}
 use Rattle.nb_text.specs.LineFields.{used_fields, refused_fields}
+use Rattle.nb_text.specs.Words.{session_kind_word}
 
 -- what a packet is, and its parts
 abbrev pub parts_fields : Packet → List Field
 parts_fields (Message bytes) =
-    Text kind_key (codes "message") ∷ Number length_key (length bytes) ∷ Data data_key bytes ∷ []
+    Text kind_key (session_kind_word kinds.Message) ∷ Number (key_named "length") (length bytes) ∷ Data (key_named "data") bytes ∷ []
 parts_fields (Request called calling) =
-    Text kind_key (codes "request") ∷ Text called_key (written called) ∷ Text calling_key (written calling) ∷ []
-parts_fields Positive = Text kind_key (codes "positive") ∷ []
-parts_fields (Negative code) = Text kind_key (codes "negative") ∷ Digits code_key (code ∷ []) ∷ []
+    Text kind_key (session_kind_word kinds.Request) ∷ Text (key_named "called") (written called) ∷ Text (key_named "calling") (written calling) ∷ []
+parts_fields Positive = Text kind_key (session_kind_word kinds.Positive) ∷ []
+parts_fields (Negative code) = Text kind_key (session_kind_word kinds.Negative) ∷ Digits (key_named "code") (code ∷ []) ∷ []
 parts_fields (Retarget address port) =
-    Text kind_key (codes "retarget") ∷ Text address_key (address_text address) ∷ Number to_port_key port ∷ []
-parts_fields Keepalive = Text kind_key (codes "keepalive") ∷ []
+    Text kind_key (session_kind_word kinds.Retarget) ∷ Text (key_named "address") (address_text address) ∷ Number to_port_key port ∷ []
+parts_fields Keepalive = Text kind_key (session_kind_word kinds.Keepalive) ∷ []
 
 -- what stands at the front of a payload: a packet, a front of one that lacks so many bytes, or neither
 abbrev pub session_fields : Parsed → List Field

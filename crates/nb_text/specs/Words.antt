@@ -1,38 +1,48 @@
 -- The words for what stands in packets as numbers (our choice; the names are those of RFC 1002 sections 4.2.1.1, 4.2.6,
 -- 4.2.11, 4.2.14 and 4.2.18). Bits are numbered as in Flags of nb_service.
-use Rattle.std.specs.Prelude.{ℕ, ◌==◌, ◌^◌, Bool, not, List, [], ◌∷◌, codes, Option, Some, None, bit_and, if◌then◌else◌}
+use Rattle.std.specs.Prelude.{ℕ, ◌==◌, Bool, not, List, [], ◌∷◌, codes, Option, Some, None, bit_and, if◌then◌else◌}
 use Rattle.std.specs.Fmt.{decimal}
+use Rattle.nb_service.specs.declared.flags.TheConstants.NmFlags.{AA, TC, RD, RA, B}
+use Rattle.nb_service.specs.declared.flags.TheConstants.NodeFlags.{G, DRG, CNF, ACT, PRM}
+use Rattle.nb_service.specs.Flags.{nm_bits, node_bits}
+use Rattle.nb_session.specs.declared.kind.Kind.{Kind as SessionKind}
+use Rattle.nb_session.specs.declared.kind.Kind.TheVariants as sessions
+use Rattle.nb_session.specs.Header as session_types
 use Rattle.nb_datagram.specs.declared.kind.Kind.TheVariants.{Unique, Group, Broadcast}
 use Rattle.nb_datagram.specs.declared.packet.QueryKind.{QueryKind}
 use Rattle.nb_datagram.specs.declared.packet.QueryKind.TheVariants.{Request, Positive, Negative}
+use Rattle.nb_datagram.specs.Header.{error_type, query_type}
+use Rattle.nb_datagram.specs.Kind.{type_of}
 use Rattle.nb_datagram.specs.Texts.{kind_text}
 use Rattle.nb_telling.specs.Sets.{joined}
+use Rattle.nb_text.specs.declared.codes.TheConstants.{QUERY, REGISTRATION, RELEASE, WACK, OTHER_REFRESH, REFRESH, OK, FMT_ERR, SRV_ERR, NAM_ERR, IMP_ERR, RFS_ERR, ACT_ERR, CFT_ERR}
 
 -- ---- numbers that have names
 
+-- word_of table n: the word of a number, where the table has one
+abbrev pub word_of : List (ℕ × List ℕ) → ℕ → Option (List ℕ)
+word_of [] n = None
+word_of (row ∷ rows) n = if n == row.0 then Some row.1 else word_of rows n
+
+-- the names of operations
+abbrev pub operations : List (ℕ × List ℕ)
+operations =
+    (QUERY, codes "query") ∷ (REGISTRATION, codes "registration") ∷ (RELEASE, codes "release") ∷ (WACK, codes "wack")
+    ∷ (REFRESH, codes "refresh") ∷ (OTHER_REFRESH, codes "refresh") ∷ []
+
 -- the name of an operation, OPCODE; that 8 is a refresh too is our choice
 abbrev pub operation_word : ℕ → Option (List ℕ)
-operation_word n =
-    if n == 0 then Some (codes "query")
-    else if n == 5 then Some (codes "registration")
-    else if n == 6 then Some (codes "release")
-    else if n == 7 then Some (codes "wack")
-    else if n == 8 then Some (codes "refresh")
-    else if n == 9 then Some (codes "refresh")
-    else None
+operation_word = word_of operations
+
+-- the names of results
+abbrev pub results : List (ℕ × List ℕ)
+results =
+    (OK, codes "ok") ∷ (FMT_ERR, codes "FMT_ERR") ∷ (SRV_ERR, codes "SRV_ERR") ∷ (NAM_ERR, codes "NAM_ERR")
+    ∷ (IMP_ERR, codes "IMP_ERR") ∷ (RFS_ERR, codes "RFS_ERR") ∷ (ACT_ERR, codes "ACT_ERR") ∷ (CFT_ERR, codes "CFT_ERR") ∷ []
 
 -- the name of a result, RCODE
 abbrev pub rcode_word : ℕ → Option (List ℕ)
-rcode_word n =
-    if n == 0 then Some (codes "ok")
-    else if n == 1 then Some (codes "FMT_ERR")
-    else if n == 2 then Some (codes "SRV_ERR")
-    else if n == 3 then Some (codes "NAM_ERR")
-    else if n == 4 then Some (codes "IMP_ERR")
-    else if n == 5 then Some (codes "RFS_ERR")
-    else if n == 6 then Some (codes "ACT_ERR")
-    else if n == 7 then Some (codes "CFT_ERR")
-    else None
+rcode_word = word_of results
 
 -- a number by its name, or in decimal where it has none
 abbrev pub named_text : Option (List ℕ) → ℕ → List ℕ
@@ -47,26 +57,29 @@ query_word Negative = codes "missing"
 
 -- the word for packets of port 138 of a MSG_TYPE
 abbrev pub datagram_word : ℕ → Option (List ℕ)
-datagram_word type =
-    if type == 16 then Some (kind_text Unique)
-    else if type == 17 then Some (kind_text Group)
-    else if type == 18 then Some (kind_text Broadcast)
-    else if type == 19 then Some (codes "error")
-    else if type == 20 then Some (query_word Request)
-    else if type == 21 then Some (query_word Positive)
-    else if type == 22 then Some (query_word Negative)
-    else None
+datagram_word =
+    word_of ((type_of Unique, kind_text Unique) ∷ (type_of Group, kind_text Group) ∷ (type_of Broadcast, kind_text Broadcast)
+    ∷ (error_type, codes "error") ∷ (query_type Request, query_word Request) ∷ (query_type Positive, query_word Positive)
+    ∷ (query_type Negative, query_word Negative) ∷ [])
+
+-- the word for packets of port 139 of a kind
+abbrev pub session_kind_word : SessionKind → List ℕ
+session_kind_word sessions.Message = codes "message"
+session_kind_word sessions.Request = codes "request"
+session_kind_word sessions.Positive = codes "positive"
+session_kind_word sessions.Negative = codes "negative"
+session_kind_word sessions.Retarget = codes "retarget"
+session_kind_word sessions.Keepalive = codes "keepalive"
+
+-- the type of a kind of packets of port 139, and its word
+abbrev pub session_row : SessionKind → ℕ × List ℕ
+session_row kind = (session_types.type_of kind, session_kind_word kind)
 
 -- the word for packets of port 139 of a TYPE
 abbrev pub session_word : ℕ → Option (List ℕ)
-session_word type =
-    if type == 0 then Some (codes "message")
-    else if type == 129 then Some (codes "request")
-    else if type == 130 then Some (codes "positive")
-    else if type == 131 then Some (codes "negative")
-    else if type == 132 then Some (codes "retarget")
-    else if type == 133 then Some (codes "keepalive")
-    else None
+session_word =
+    word_of (session_row sessions.Message ∷ session_row sessions.Request ∷ session_row sessions.Positive
+    ∷ session_row sessions.Negative ∷ session_row sessions.Retarget ∷ session_row sessions.Keepalive ∷ [])
 
 -- ---- sets of flags
 
@@ -82,14 +95,14 @@ flag name bit = record { name = name; bit = bit }
 -- those of a packet of port 137, in the order in which they are shown
 abbrev pub packet_flags : List Flag
 packet_flags =
-    flag (codes "AA") (2 ^ 10) ∷ flag (codes "TC") (2 ^ 9) ∷ flag (codes "RD") (2 ^ 8) ∷ flag (codes "RA") (2 ^ 7)
-    ∷ flag (codes "B") (2 ^ 4) ∷ []
+    flag (codes "AA") (nm_bits AA) ∷ flag (codes "TC") (nm_bits TC) ∷ flag (codes "RD") (nm_bits RD)
+    ∷ flag (codes "RA") (nm_bits RA) ∷ flag (codes "B") (nm_bits B) ∷ []
 
 -- those of a name of a node status
 abbrev pub name_flags : List Flag
 name_flags =
-    flag (codes "G") (2 ^ 15) ∷ flag (codes "DRG") (2 ^ 12) ∷ flag (codes "CNF") (2 ^ 11) ∷ flag (codes "ACT") (2 ^ 10)
-    ∷ flag (codes "PRM") (2 ^ 9) ∷ []
+    flag (codes "G") (node_bits G) ∷ flag (codes "DRG") (node_bits DRG) ∷ flag (codes "CNF") (node_bits CNF)
+    ∷ flag (codes "ACT") (node_bits ACT) ∷ flag (codes "PRM") (node_bits PRM) ∷ []
 
 -- whether the flag with this bit is set in a word
 abbrev pub is_set : ℕ → ℕ → Bool

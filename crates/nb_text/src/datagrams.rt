@@ -6,16 +6,14 @@ ghost use Rattle.nb_datagram.specs.Texts.{kind_text};
 ghost use Rattle.nb_telling.specs.Fields.{Number, Text};
 ghost use Rattle.nb_telling.specs.Telling.{Grows};
 ghost use Rattle.nb_text.specs.DatagramFields.{begin_fields, datagram_fields, error_fields, fragment_fields, parts_fields, query_fields};
-ghost use Rattle.nb_text.specs.Keys.{destination_key, offset_key, source_key};
+ghost use Rattle.nb_text.specs.Keys.{key_named};
 ghost use Rattle.nb_text.specs.Tells.{IsTold};
-ghost use Rattle.nb_text.specs.Words.{query_word};
 
+use crate::codes::{ERROR, query_name};
 use crate::faults::tell_refusal;
 use crate::keys::{CODE, DATA, DESTINATION, FLAGS, KEY, OFFSET, SOURCE};
 use crate::words::{tell_byte, tell_kind, tell_number, tell_used};
-use nb_datagram::{
-    ErrorPacket, Key, LentFragment, LentPacket, LentQuery, QueryKind, decode_lent, kind_name,
-};
+use nb_datagram::{ErrorPacket, Key, LentFragment, LentPacket, LentQuery, decode_lent, kind_name};
 use nb_names::NoMemory;
 use nb_telling::Sink;
 
@@ -80,7 +78,7 @@ fn tell_fragment<S: Sink>(fragment: &LentFragment<'_>, sink: &mut S) -> Result<(
 fn tell_fragment_header<S: Sink>(fragment: &LentFragment<'_>, sink: &mut S) -> Result<(), NoMemory>
     ensures told { OnOk result (S.seen sink.new ≡ fold S.after (S.seen sink.old)
         (begin_fields (kind_text fragment.now.kind) fragment.now.flags fragment.now.key
-        ++ Number offset_key fragment.now.offset ∷ [])) }
+        ++ Number (key_named "offset") fragment.now.offset ∷ [])) }
     ensures front { Grows S.is_front (S.seen sink.old) (S.seen sink.new) }
 {
     tell_begin(
@@ -95,8 +93,8 @@ fn tell_fragment_header<S: Sink>(fragment: &LentFragment<'_>, sink: &mut S) -> R
 /// Tells who sends a fragment, and to whom.
 fn tell_ends<S: Sink>(fragment: &LentFragment<'_>, sink: &mut S) -> Result<(), NoMemory>
     ensures told { OnOk result (S.seen sink.new ≡ fold S.after (S.seen sink.old)
-        (Text source_key (written fragment.now.source)
-        ∷ Text destination_key (written fragment.now.destination) ∷ [])) }
+        (Text (key_named "source") (written fragment.now.source)
+        ∷ Text (key_named "destination") (written fragment.now.destination) ∷ [])) }
     ensures front { Grows S.is_front (S.seen sink.old) (S.seen sink.new) }
 {
     sink.shown(SOURCE, fragment.source())?;
@@ -109,7 +107,7 @@ fn tell_error<S: Sink>(error: ErrorPacket, sink: &mut S) -> Result<(), NoMemory>
         (S.seen sink.new ≡ fold S.after (S.seen sink.old) (error_fields error)) }
     ensures front { Grows S.is_front (S.seen sink.old) (S.seen sink.new) }
 {
-    tell_begin("error", error.flags, error.key, sink)?;
+    tell_begin(ERROR, error.flags, error.key, sink)?;
     tell_byte(CODE, error.code, sink)
 }
 
@@ -121,15 +119,4 @@ fn tell_query<S: Sink>(query: &LentQuery<'_>, sink: &mut S) -> Result<(), NoMemo
 {
     tell_begin(query_name(query.kind), query.flags, query.key, sink)?;
     sink.shown(DESTINATION, &query.destination)
-}
-
-/// The word for a query packet.
-fn query_name(kind: QueryKind) -> &'static str
-    ensures { result.now ≡ query_word kind }
-{
-    match kind {
-        QueryKind::Request => "find",
-        QueryKind::Positive => "found",
-        QueryKind::Negative => "missing",
-    }
 }

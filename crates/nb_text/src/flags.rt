@@ -1,10 +1,10 @@
 //! The flags that are set in words.
 
-ghost use Rattle.std.specs.Prelude.{◌≡◌, ◌==◌, not};
+ghost use Rattle.std.specs.Prelude.{◌≡◌};
 ghost use Rattle.nb_telling.specs.Sets.{names_of};
-ghost use Rattle.nb_text.specs.Words.{name_flags, names_set, packet_flags};
+ghost use Rattle.nb_text.specs.Words.{is_set, name_flags, names_set, packet_flags};
 
-use bitflags::Flags;
+use bitflags::{Flag as Named, Flags};
 use nb_service::{NmFlags, NodeFlags};
 use nb_telling::Flag;
 
@@ -13,12 +13,24 @@ pub fn packet_flags_of(word: u16) -> [Flag; 5]
     ensures { names_of result ≡ names_set packet_flags word }
 {
     [
-        flag_of("AA", word & NmFlags::AA.bits()),
-        flag_of("TC", word & NmFlags::TC.bits()),
-        flag_of("RD", word & NmFlags::RD.bits()),
-        flag_of("RA", word & NmFlags::RA.bits()),
-        flag_of("B", word & NmFlags::B.bits()),
+        packet_flag(&NmFlags::FLAGS[0], word),
+        packet_flag(&NmFlags::FLAGS[1], word),
+        packet_flag(&NmFlags::FLAGS[2], word),
+        packet_flag(&NmFlags::FLAGS[3], word),
+        packet_flag(&NmFlags::FLAGS[4], word),
     ]
+}
+
+/// A flag of packets, and whether it is set in a word.
+#[inline(always)]
+fn packet_flag(flag: &Named<NmFlags>, word: u16) -> Flag
+    ensures named { result.name.now ≡ flag.now.name.now }
+    ensures set { result.is_set ≡ is_set word flag.now.value.0 }
+{
+    Flag {
+        name: flag.name(),
+        is_set: word & flag.value().bits() != 0,
+    }
 }
 
 /// The flags of a node's name, and which of them are set in its word.
@@ -26,21 +38,22 @@ pub fn name_flags_of(word: u16) -> [Flag; 5]
     ensures { names_of result ≡ names_set name_flags word }
 {
     [
-        flag_of("G", word & NodeFlags::G.bits()),
-        flag_of("DRG", word & NodeFlags::DRG.bits()),
-        flag_of("CNF", word & NodeFlags::CNF.bits()),
-        flag_of("ACT", word & NodeFlags::ACT.bits()),
-        flag_of("PRM", word & NodeFlags::PRM.bits()),
+        name_flag(&NodeFlags::FLAGS[0], word),
+        name_flag(&NodeFlags::FLAGS[1], word),
+        name_flag(&NodeFlags::FLAGS[2], word),
+        name_flag(&NodeFlags::FLAGS[3], word),
+        name_flag(&NodeFlags::FLAGS[4], word),
     ]
 }
 
-/// A flag with this name, which is set where a bit is.
-fn flag_of(name: &'static str, bits: u16) -> Flag
-    ensures named { result.name.now ≡ name.now }
-    ensures set { result.is_set ≡ not (bits == 0) }
+/// A flag of nodes' names, and whether it is set in a word.
+#[inline(always)]
+fn name_flag(flag: &Named<NodeFlags>, word: u16) -> Flag
+    ensures named { result.name.now ≡ flag.now.name.now }
+    ensures set { result.is_set ≡ is_set word flag.now.value.0 }
 {
     Flag {
-        name,
-        is_set: bits != 0,
+        name: flag.name(),
+        is_set: word & flag.value().bits() != 0,
     }
 }

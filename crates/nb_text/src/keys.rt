@@ -2,8 +2,15 @@
 
 use nb_telling::FieldKey;
 
-/// A key: its name, and what stands before its value in text.
+/// A key: its name, and what stands before its value in text, which is the name as in ` ttl=` where
+/// nothing else is said.
 macro_rules! field_key {
+    ($name:literal) => {
+        FieldKey {
+            name: $name,
+            lead: concat!(" ", $name, "="),
+        }
+    };
     ($name:literal, $lead:literal) => {
         FieldKey {
             name: $name,
@@ -25,61 +32,61 @@ pub const MORE: FieldKey = field_key!("more", "more ");
 pub const REFUSED: FieldKey = field_key!("refused", "refused ");
 
 /// How many bytes of the payload a packet takes up.
-pub const USED: FieldKey = field_key!("used", " used=");
+pub const USED: FieldKey = field_key!("used");
 
 /// The identifier of a packet of port 137.
 pub const ID: FieldKey = field_key!("id", "id=");
 
 /// Its flag word.
-pub const WORD: FieldKey = field_key!("word", " word=");
+pub const WORD: FieldKey = field_key!("word");
 
 /// The operation, OPCODE.
-pub const OP: FieldKey = field_key!("op", " op=");
+pub const OP: FieldKey = field_key!("op");
 
 /// Flags: a set, or a word of them.
-pub const FLAGS: FieldKey = field_key!("flags", " flags=");
+pub const FLAGS: FieldKey = field_key!("flags");
 
 /// The result, RCODE.
-pub const RCODE: FieldKey = field_key!("rcode", " rcode=");
+pub const RCODE: FieldKey = field_key!("rcode");
 
 /// How many questions there are.
-pub const QD: FieldKey = field_key!("qd", " qd=");
+pub const QD: FieldKey = field_key!("qd");
 
 /// How many answers there are.
-pub const AN: FieldKey = field_key!("an", " an=");
+pub const AN: FieldKey = field_key!("an");
 
 /// How many authorities there are.
-pub const NS: FieldKey = field_key!("ns", " ns=");
+pub const NS: FieldKey = field_key!("ns");
 
 /// How many additional records there are.
-pub const AR: FieldKey = field_key!("ar", " ar=");
+pub const AR: FieldKey = field_key!("ar");
 
 /// The name of a question, a record or a node.
 pub const NAME: FieldKey = field_key!("name", " ");
 
 /// A type.
-pub const TYPE: FieldKey = field_key!("type", " type=");
+pub const TYPE: FieldKey = field_key!("type");
 
 /// A class.
-pub const CLASS: FieldKey = field_key!("class", " class=");
+pub const CLASS: FieldKey = field_key!("class");
 
 /// How long a record holds, in seconds.
-pub const TTL: FieldKey = field_key!("ttl", " ttl=");
+pub const TTL: FieldKey = field_key!("ttl");
 
 /// Bytes.
-pub const DATA: FieldKey = field_key!("data", " data=");
+pub const DATA: FieldKey = field_key!("data");
 
 /// The domain name in the RDATA of kind NS.
-pub const DOMAIN: FieldKey = field_key!("domain", " domain=");
+pub const DOMAIN: FieldKey = field_key!("domain");
 
 /// The type of an owner, ONT.
-pub const ONT: FieldKey = field_key!("ont", " ont=");
+pub const ONT: FieldKey = field_key!("ont");
 
 /// An address.
-pub const ADDRESS: FieldKey = field_key!("address", " address=");
+pub const ADDRESS: FieldKey = field_key!("address");
 
 /// The flags that are set of a node's name.
-pub const SET: FieldKey = field_key!("set", " set=");
+pub const SET: FieldKey = field_key!("set");
 
 /// A node's unit.
 pub const UNIT: FieldKey = field_key!("unit", "    unit=");
@@ -88,28 +95,28 @@ pub const UNIT: FieldKey = field_key!("unit", "    unit=");
 pub const PACKET_TYPE: FieldKey = field_key!("type", "type=");
 
 /// The key of a datagram.
-pub const KEY: FieldKey = field_key!("key", " key=");
+pub const KEY: FieldKey = field_key!("key");
 
 /// The offset of a fragment.
-pub const OFFSET: FieldKey = field_key!("offset", " offset=");
+pub const OFFSET: FieldKey = field_key!("offset");
 
 /// Who sends.
-pub const SOURCE: FieldKey = field_key!("source", " source=");
+pub const SOURCE: FieldKey = field_key!("source");
 
 /// Who is sent to.
-pub const DESTINATION: FieldKey = field_key!("destination", " destination=");
+pub const DESTINATION: FieldKey = field_key!("destination");
 
 /// The code of an error or a refusal.
-pub const CODE: FieldKey = field_key!("code", " code=");
+pub const CODE: FieldKey = field_key!("code");
 
 /// The length of a message.
-pub const LENGTH: FieldKey = field_key!("length", " length=");
+pub const LENGTH: FieldKey = field_key!("length");
 
 /// Who is called.
-pub const CALLED: FieldKey = field_key!("called", " called=");
+pub const CALLED: FieldKey = field_key!("called");
 
 /// Who calls.
-pub const CALLING: FieldKey = field_key!("calling", " calling=");
+pub const CALLING: FieldKey = field_key!("calling");
 
 /// The port to which a session is retargeted.
 pub const TO_PORT: FieldKey = field_key!("to_port", " port=");

@@ -47,6 +47,7 @@ mod fronts;
 mod listed;
 mod phrases;
 mod responses;
+mod texts;
 
 pub use endings::{codes_in_words, redirects_in_words, refusals_in_words, relays_in_words};
 pub use first_names::names_in_words;
@@ -57,6 +58,7 @@ use nb_service::laws as names;
 use nb_session::laws as sessions;
 pub use phrases::{datagrams_in_words, requests_in_words, sessions_in_words};
 pub use responses::{answers_in_words, outcomes_in_words};
+pub use texts::{lines_of_datagrams, lines_of_names, lines_of_sessions};
 
 /// A payload has one text for a port.
 pub fn one_text()

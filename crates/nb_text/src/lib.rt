@@ -2,6 +2,7 @@
 #![tactic(auto)]
 
 mod brief;
+mod codes;
 mod datagrams;
 mod faults;
 mod flags;

@@ -5,17 +5,18 @@ ghost use Rattle.nb_service.specs.Header.{PacketHeader, header_value};
 ghost use Rattle.nb_service.specs.Walks.{Walks};
 ghost use Rattle.nb_telling.specs.Telling.{Grows};
 ghost use Rattle.nb_text.specs.FrontFields.{names_header_fields};
-ghost use Rattle.nb_text.specs.Keys.{id_key, op_key, rcode_key, word_key};
+ghost use Rattle.nb_text.specs.Keys.{key_named, id_key};
 ghost use Rattle.nb_text.specs.ServiceFields.{count_fields, header_fields, lists_fields, named_field, state_fields, word_field};
 ghost use Rattle.nb_text.specs.TellsFront.{ServiceTold};
 ghost use Rattle.nb_text.specs.Words.{operation_word, rcode_word};
 
+use crate::codes::{operation_name, rcode_name};
 use crate::faults::tell_refusal;
 use crate::flags::packet_flags_of;
 use crate::keys::{AN, AR, FLAGS, ID, NS, OP, QD, RCODE, WORD};
 use crate::questions::tell_questions;
 use crate::records::tell_section;
-use crate::words::{operation_name, rcode_name, tell_named, tell_number, tell_used, tell_word};
+use crate::words::{tell_named, tell_number, tell_used, tell_word};
 use nb_names::limits::POINTED_OFFSETS;
 use nb_names::{NameReader, NoMemory};
 use nb_service::limits::{HEADER_LENGTH, SHORT_PACKET};
@@ -159,7 +160,7 @@ fn tell_header<S: Sink>(header: &Header, used: usize, sink: &mut S) -> Result<()
 /// Tells the identifier, the flag word and what that says.
 fn tell_words<S: Sink>(header: &Header, sink: &mut S) -> Result<(), NoMemory>
     ensures told { OnOk result (S.seen sink.new ≡ fold S.after (S.seen sink.old)
-        (word_field id_key header.now.id ∷ word_field word_key header.now.word
+        (word_field id_key header.now.id ∷ word_field (key_named "word") header.now.word
         ∷ state_fields header.now.word)) }
     ensures front { Grows S.is_front (S.seen sink.old) (S.seen sink.new) }
 {
@@ -182,7 +183,7 @@ fn tell_state<S: Sink>(word: u16, sink: &mut S) -> Result<(), NoMemory>
 /// Tells an operation, by its name where it has one.
 fn tell_operation<S: Sink>(operation: u8, sink: &mut S) -> Result<(), NoMemory>
     ensures told { OnOk result (S.seen sink.new ≡ S.after (S.seen sink.old)
-        (named_field op_key (operation_word operation) operation)) }
+        (named_field (key_named "op") (operation_word operation) operation)) }
     ensures front { Grows S.is_front (S.seen sink.old) (S.seen sink.new) }
 {
     tell_named(OP, operation_name(operation), operation, sink)
@@ -191,7 +192,7 @@ fn tell_operation<S: Sink>(operation: u8, sink: &mut S) -> Result<(), NoMemory>
 /// Tells an outcome, by its name where it has one.
 fn tell_outcome<S: Sink>(outcome: u8, sink: &mut S) -> Result<(), NoMemory>
     ensures told { OnOk result (S.seen sink.new ≡ S.after (S.seen sink.old)
-        (named_field rcode_key (rcode_word outcome) outcome)) }
+        (named_field (key_named "rcode") (rcode_word outcome) outcome)) }
     ensures front { Grows S.is_front (S.seen sink.old) (S.seen sink.new) }
 {
     tell_named(RCODE, rcode_name(outcome), outcome, sink)

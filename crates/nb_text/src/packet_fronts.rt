@@ -9,10 +9,11 @@ ghost use Rattle.nb_session.specs.Parsing.{Parsed as ParsedValue, Parses, taken_
 ghost use Rattle.nb_telling.specs.Fields.{Digits, Field, Text};
 ghost use Rattle.nb_telling.specs.Telling.{Grows, key_of};
 ghost use Rattle.nb_text.specs.FrontFields.{datagram_front_fields, fragment_front_fields, session_front_fields, standing_name, type_field};
-ghost use Rattle.nb_text.specs.Keys.{flags_key, key_key};
+ghost use Rattle.nb_text.specs.Keys.{key_named};
 ghost use Rattle.nb_text.specs.TellsFront.{FrontOf};
 ghost use Rattle.nb_text.specs.Words.{datagram_word, session_word};
 
+use crate::codes::{datagram_name, session_name};
 use crate::keys::{DESTINATION, FLAGS, KEY, LENGTH, OFFSET, PACKET_TYPE, SOURCE};
 use crate::words::{tell_byte, tell_kind, tell_number};
 use nb_datagram::{FragmentFront, Front, decode_lent, read_front};
@@ -62,7 +63,8 @@ fn tell_datagram_line<S: Sink>(front: &Front<'_>, sink: &mut S) -> Result<(), No
 fn tell_datagram_header<S: Sink>(front: &Front<'_>, sink: &mut S) -> Result<(), NoMemory>
     ensures told { OnOk result (S.seen sink.new ≡ fold S.after (S.seen sink.old)
         (type_field (datagram_word front.now.message_type) front.now.message_type
-        ∷ Digits flags_key (front.now.flags ∷ []) ∷ Text key_key (key_text front.now.key) ∷ [])) }
+        ∷ Digits (key_named "flags") (front.now.flags ∷ [])
+        ∷ Text (key_named "key") (key_text front.now.key) ∷ [])) }
     ensures front { Grows S.is_front (S.seen sink.old) (S.seen sink.new) }
 {
     tell_type(datagram_name(front.message_type), front.message_type, sink)?;
@@ -166,36 +168,5 @@ fn tell_type<S: Sink>(
     match word {
         Some(word) => tell_kind(word, sink),
         None => tell_byte(PACKET_TYPE, packet_type, sink),
-    }
-}
-
-/// The word for packets of port 138 of a MSG_TYPE.
-fn datagram_name(message_type: u8) -> Option<&'static str>
-    ensures { option_map (λ name. name.now) result ≡ datagram_word message_type }
-{
-    match message_type {
-        0x10 => Some("unique"),
-        0x11 => Some("group"),
-        0x12 => Some("broadcast"),
-        0x13 => Some("error"),
-        0x14 => Some("find"),
-        0x15 => Some("found"),
-        0x16 => Some("missing"),
-        _ => None,
-    }
-}
-
-/// The word for packets of port 139 of a TYPE.
-fn session_name(packet_type: u8) -> Option<&'static str>
-    ensures { option_map (λ name. name.now) result ≡ session_word packet_type }
-{
-    match packet_type {
-        0x00 => Some("message"),
-        0x81 => Some("request"),
-        0x82 => Some("positive"),
-        0x83 => Some("negative"),
-        0x84 => Some("retarget"),
-        0x85 => Some("keepalive"),
-        _ => None,
     }
 }

@@ -10,7 +10,7 @@ ghost use Rattle.nb_service.specs.Record.{ResourceRecord, of_bytes};
 ghost use Rattle.nb_service.specs.Views.{entries_of_data};
 ghost use Rattle.nb_telling.specs.Fields.{Data, LineEnds, Text};
 ghost use Rattle.nb_telling.specs.Telling.{Grows};
-ghost use Rattle.nb_text.specs.Keys.{data_key, domain_key};
+ghost use Rattle.nb_text.specs.Keys.{key_named};
 ghost use Rattle.nb_text.specs.LineFields.{list_fields};
 ghost use Rattle.nb_text.specs.ServiceFields.{data_fields, entry_fields, rdata_field, record_fields, view_fields};
 
@@ -130,7 +130,7 @@ fn tell_rdata<S: Sink>(
 /// Tells RDATA that is a domain name.
 fn tell_domain<S: Sink>(domain: &DomainName, sink: &mut S) -> Result<(), NoMemory>
     ensures told { OnOk result (S.seen sink.new ≡ fold S.after (S.seen sink.old)
-        (Text domain_key (labels_written domain.now) ∷ LineEnds ∷ [])) }
+        (Text (key_named "domain") (labels_written domain.now) ∷ LineEnds ∷ [])) }
     ensures front { Grows S.is_front (S.seen sink.old) (S.seen sink.new) }
 {
     sink.shown(DOMAIN, domain)?;
@@ -140,7 +140,7 @@ fn tell_domain<S: Sink>(domain: &DomainName, sink: &mut S) -> Result<(), NoMemor
 /// Tells RDATA of bytes, and what it says where the kind is NB or NBSTAT.
 fn tell_bytes<S: Sink>(kind: u16, bytes: &[u8], sink: &mut S) -> Result<(), NoMemory>
     ensures told { OnOk result (S.seen sink.new ≡ fold S.after (S.seen sink.old)
-        (Data data_key bytes.now ∷ LineEnds ∷ data_fields kind bytes.now)) }
+        (Data (key_named "data") bytes.now ∷ LineEnds ∷ data_fields kind bytes.now)) }
     ensures front { Grows S.is_front (S.seen sink.old) (S.seen sink.new) }
 {
     sink.data(DATA, bytes)?;

@@ -6,6 +6,7 @@ ghost use Rattle.nb_text.specs.LineFields.{used_fields};
 ghost use Rattle.nb_text.specs.SessionFields.{parts_fields, session_fields};
 ghost use Rattle.nb_text.specs.Tells.{IsTold};
 
+use crate::codes::{KEEPALIVE, MESSAGE, NEGATIVE, POSITIVE, REQUEST, RETARGET};
 use crate::faults::tell_refusal;
 use crate::keys::{ADDRESS, CALLED, CALLING, CODE, DATA, LENGTH, MORE, TO_PORT};
 use crate::words::{tell_byte, tell_kind, tell_number, tell_used};
@@ -64,10 +65,10 @@ fn tell_parts<S: Sink>(packet: &LentPacket<'_>, sink: &mut S) -> Result<(), NoMe
     match packet {
         Packet::Message(message) => tell_message(message.bytes(), sink),
         Packet::Request { called, calling } => tell_request(called, calling, sink),
-        Packet::Positive => tell_kind("positive", sink),
+        Packet::Positive => tell_kind(POSITIVE, sink),
         Packet::Negative(code) => tell_negative(*code, sink),
         Packet::Retarget { address, port } => tell_retarget(*address, *port, sink),
-        Packet::Keepalive => tell_kind("keepalive", sink),
+        Packet::Keepalive => tell_kind(KEEPALIVE, sink),
     }
 }
 
@@ -77,7 +78,7 @@ fn tell_message<S: Sink>(bytes: &[u8], sink: &mut S) -> Result<(), NoMemory>
         ≡ fold S.after (S.seen sink.old) (parts_fields (Packet.Message bytes.now))) }
     ensures front { Grows S.is_front (S.seen sink.old) (S.seen sink.new) }
 {
-    tell_kind("message", sink)?;
+    tell_kind(MESSAGE, sink)?;
     sink.number(LENGTH, bytes.len() as u64)?;
     sink.data(DATA, bytes)
 }
@@ -92,7 +93,7 @@ fn tell_request<S: Sink>(
         ≡ fold S.after (S.seen sink.old) (parts_fields (Packet.Request called.now calling.now))) }
     ensures front { Grows S.is_front (S.seen sink.old) (S.seen sink.new) }
 {
-    tell_kind("request", sink)?;
+    tell_kind(REQUEST, sink)?;
     sink.shown(CALLED, called)?;
     sink.shown(CALLING, calling)
 }
@@ -103,7 +104,7 @@ fn tell_negative<S: Sink>(code: u8, sink: &mut S) -> Result<(), NoMemory>
         ≡ fold S.after (S.seen sink.old) (parts_fields (Packet.Negative code))) }
     ensures front { Grows S.is_front (S.seen sink.old) (S.seen sink.new) }
 {
-    tell_kind("negative", sink)?;
+    tell_kind(NEGATIVE, sink)?;
     tell_byte(CODE, code, sink)
 }
 
@@ -113,7 +114,7 @@ fn tell_retarget<S: Sink>(address: [u8; 4], port: u16, sink: &mut S) -> Result<(
         ≡ fold S.after (S.seen sink.old) (parts_fields (Packet.Retarget address port))) }
     ensures front { Grows S.is_front (S.seen sink.old) (S.seen sink.new) }
 {
-    tell_kind("retarget", sink)?;
+    tell_kind(RETARGET, sink)?;
     sink.shown(ADDRESS, &address)?;
     tell_number(TO_PORT, port, sink)
 }

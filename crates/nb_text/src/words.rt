@@ -4,46 +4,14 @@ ghost use Rattle.std.specs.Prelude.{◌≡◌, ◌∷◌, [], OnOk, fold, option
 ghost use Rattle.nb_service.specs.Flags.{ont_of};
 ghost use Rattle.nb_telling.specs.Fields.{Digits, LineEnds, Number, PartEnds, Text};
 ghost use Rattle.nb_telling.specs.Telling.{Grows, key_of};
-ghost use Rattle.nb_text.specs.Keys.{flags_key, kind_key, ont_key};
+ghost use Rattle.nb_text.specs.Keys.{key_named, kind_key};
 ghost use Rattle.nb_text.specs.LineFields.{used_fields};
 ghost use Rattle.nb_text.specs.ServiceFields.{named_field, word_field};
-ghost use Rattle.nb_text.specs.Words.{operation_word, rcode_word};
 
 use crate::keys::{FLAGS, KIND, ONT, USED};
 use nb_names::NoMemory;
 use nb_service::ont;
 use nb_telling::{FieldKey, Sink};
-
-/// The name of an operation (RFC 1002 section 4.2.1.1; that 8 is a refresh too is our choice).
-pub fn operation_name(opcode: u8) -> Option<&'static str>
-    ensures { option_map (λ name. name.now) result ≡ operation_word opcode }
-{
-    match opcode {
-        0 => Some("query"),
-        5 => Some("registration"),
-        6 => Some("release"),
-        7 => Some("wack"),
-        8 | 9 => Some("refresh"),
-        _ => None,
-    }
-}
-
-/// The name of a result.
-pub fn rcode_name(rcode: u8) -> Option<&'static str>
-    ensures { option_map (λ name. name.now) result ≡ rcode_word rcode }
-{
-    match rcode {
-        0 => Some("ok"),
-        1 => Some("FMT_ERR"),
-        2 => Some("SRV_ERR"),
-        3 => Some("NAM_ERR"),
-        4 => Some("IMP_ERR"),
-        5 => Some("RFS_ERR"),
-        6 => Some("ACT_ERR"),
-        7 => Some("CFT_ERR"),
-        _ => None,
-    }
-}
 
 /// Tells a number by its name, where it has one.
 #[inline(always)]
@@ -107,7 +75,7 @@ pub fn tell_byte<S: Sink>(key: FieldKey, byte: u8, sink: &mut S) -> Result<(), N
 #[inline(always)]
 pub fn tell_owner<S: Sink>(flags: u16, sink: &mut S) -> Result<(), NoMemory>
     ensures told { OnOk result (S.seen sink.new ≡ fold S.after (S.seen sink.old)
-        (word_field flags_key flags ∷ Number ont_key (ont_of flags) ∷ [])) }
+        (word_field (key_named "flags") flags ∷ Number (key_named "ont") (ont_of flags) ∷ [])) }
     ensures front { Grows S.is_front (S.seen sink.old) (S.seen sink.new) }
 {
     tell_word(FLAGS, flags, sink)?;

@@ -8,6 +8,9 @@ ghost use Rattle.nb_text.specs.SaysPacket.{AddsPhrase};
 use crate::brief::pieces::{
     counts_in, push_bytes, push_coded, push_count, push_follow, push_refused, push_text,
 };
+use nb_datagram::error_codes::{
+    DESTINATION_NAME_NOT_PRESENT, INVALID_DESTINATION_NAME_FORMAT, INVALID_SOURCE_NAME_FORMAT,
+};
 use nb_datagram::{DatagramFault, Kind, LentFragment, LentPacket, QueryKind, decode_lent};
 use nb_names::{NoMemory, push_lent_name};
 
@@ -91,9 +94,9 @@ fn error_words(code: u8) -> &'static str
     ensures { result.now ≡ error_words code }
 {
     match code {
-        0x82 => "no such destination name",
-        0x83 => "source name of a wrong form",
-        0x84 => "destination name of a wrong form",
+        DESTINATION_NAME_NOT_PRESENT => "no such destination name",
+        INVALID_SOURCE_NAME_FORMAT => "source name of a wrong form",
+        INVALID_DESTINATION_NAME_FORMAT => "destination name of a wrong form",
         _ => "unknown code",
     }
 }

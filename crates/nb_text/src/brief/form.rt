@@ -8,6 +8,10 @@ ghost use Rattle.nb_text.specs.Words.{is_set};
 
 use crate::brief::pieces::{push_count, push_each, push_text};
 use crate::brief::told::{Few, MOST_LISTED, Told};
+use crate::codes::{
+    ACT_ERR, CFT_ERR, FMT_ERR, IMP_ERR, MULTI_HOMED, NAM_ERR, OK, OTHER_REFRESH, QUERY, REFRESH,
+    REGISTRATION, RELEASE, RFS_ERR, SRV_ERR, WACK,
+};
 use bitflags::Flags;
 use nb_names::{DomainName, NoMemory, push_decimal, push_digits, push_domain};
 use nb_service::kinds::{NBSTAT, NS};
@@ -61,13 +65,13 @@ fn request_form(word: u16, kind: Option<u16>) -> (&'static str, Ending)
     ensures { says result.0.now result.1 ≡ request_form word kind }
 {
     match opcode(word) {
-        0 if kind == Some(NBSTAT) => ("asks for the node status of ", Ending::Nothing),
-        0 => ("asks for ", Ending::Nothing),
-        5 if has(word, NmFlags::RD) => ("claims ", Ending::Claim),
-        5 => ("overwrites ", Ending::Claim),
-        6 => ("releases ", Ending::Holder),
-        8 | 9 => ("refreshes ", Ending::Claim),
-        15 => ("claims as one of several addresses ", Ending::Claim),
+        QUERY if kind == Some(NBSTAT) => ("asks for the node status of ", Ending::Nothing),
+        QUERY => ("asks for ", Ending::Nothing),
+        REGISTRATION if has(word, NmFlags::RD) => ("claims ", Ending::Claim),
+        REGISTRATION => ("overwrites ", Ending::Claim),
+        RELEASE => ("releases ", Ending::Holder),
+        REFRESH | OTHER_REFRESH => ("refreshes ", Ending::Claim),
+        MULTI_HOMED => ("claims as one of several addresses ", Ending::Claim),
         _ => ("makes another request about ", Ending::Operation),
     }
 }
@@ -76,20 +80,20 @@ fn request_form(word: u16, kind: Option<u16>) -> (&'static str, Ending)
 fn response_form(word: u16, kind: Option<u16>) -> (&'static str, Ending)
     ensures { says result.0.now result.1 ≡ response_form word kind }
 {
-    let good = rcode(word) == 0;
+    let good = rcode(word) == OK;
     let asks = has(word, NmFlags::RD) && !has(word, NmFlags::RA);
     match opcode(word) {
-        0 if !good => ("answers: ", Ending::NotFound),
-        0 if kind == Some(NBSTAT) => ("answers: ", Ending::Status),
-        0 if kind == Some(NS) => ("answers: ", Ending::Server),
-        0 => ("answers: ", Ending::Found),
-        5 if rcode(word) == 7 => ("conflict about ", Ending::Nothing),
-        5 if good && asks => ("asks to challenge ", Ending::Place),
-        6 if good => ("grants the release of ", Ending::Nothing),
-        6 => ("refuses the release of ", Ending::Reason),
-        7 => ("asks to wait for ", Ending::Time),
-        5 | 8 | 9 | 15 if good => ("grants ", Ending::Claim),
-        5 | 8 | 9 | 15 => ("refuses ", Ending::Reason),
+        QUERY if !good => ("answers: ", Ending::NotFound),
+        QUERY if kind == Some(NBSTAT) => ("answers: ", Ending::Status),
+        QUERY if kind == Some(NS) => ("answers: ", Ending::Server),
+        QUERY => ("answers: ", Ending::Found),
+        REGISTRATION if rcode(word) == CFT_ERR => ("conflict about ", Ending::Nothing),
+        REGISTRATION if good && asks => ("asks to challenge ", Ending::Place),
+        RELEASE if good => ("grants the release of ", Ending::Nothing),
+        RELEASE => ("refuses the release of ", Ending::Reason),
+        WACK => ("asks to wait for ", Ending::Time),
+        REGISTRATION | REFRESH | OTHER_REFRESH | MULTI_HOMED if good => ("grants ", Ending::Claim),
+        REGISTRATION | REFRESH | OTHER_REFRESH | MULTI_HOMED => ("refuses ", Ending::Reason),
         _ => ("makes another response about ", Ending::Operation),
     }
 }
@@ -232,13 +236,13 @@ fn reason_words(rcode: u8) -> &'static str
     ensures { result.now ≡ reason_words rcode }
 {
     match rcode {
-        1 => "wrong form (FMT_ERR)",
-        2 => "server failure (SRV_ERR)",
-        3 => "no such name (NAM_ERR)",
-        4 => "not supported (IMP_ERR)",
-        5 => "refused by policy (RFS_ERR)",
-        6 => "owned by another node (ACT_ERR)",
-        7 => "in conflict (CFT_ERR)",
+        FMT_ERR => "wrong form (FMT_ERR)",
+        SRV_ERR => "server failure (SRV_ERR)",
+        NAM_ERR => "no such name (NAM_ERR)",
+        IMP_ERR => "not supported (IMP_ERR)",
+        RFS_ERR => "refused by policy (RFS_ERR)",
+        ACT_ERR => "owned by another node (ACT_ERR)",
+        CFT_ERR => "in conflict (CFT_ERR)",
         _ => "unknown error",
     }
 }

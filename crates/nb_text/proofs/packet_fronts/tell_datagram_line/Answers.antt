@@ -4,7 +4,7 @@ use Rattle.nb_datagram.specs.Texts.{key_text}
 use Rattle.nb_telling.specs.Fields.{Digits, LineEnds, Text}
 use Rattle.nb_telling.proofs.FoldLemmas.{told_both}
 use Rattle.nb_text.specs.FrontFields.{fragment_front_fields, indent, type_field}
-use Rattle.nb_text.specs.Keys.{flags_key, key_key}
+use Rattle.nb_text.specs.Keys.{key_named}
 use Rattle.nb_text.specs.Words.{datagram_word}
 use Rattle.nb_text.proofs.packet_fronts.tell_datagram_line.Goals as goal
 
@@ -12,7 +12,7 @@ pub returns-clause-told : goal.returns-clause-told
 returns-clause-told g c =
     let after = g.S.Sink.after in
     let front = c.args.front.now in
-    let header = type_field (datagram_word front.message_type) front.message_type ∷ Digits flags_key (front.flags ∷ []) ∷ Text key_key (key_text front.key) ∷ [] in
+    let header = type_field (datagram_word front.message_type) front.message_type ∷ Digits (key_named "flags") (front.flags ∷ []) ∷ Text (key_named "key") (key_text front.key) ∷ [] in
     let parts = fragment_front_fields front.fragment in
     on_ok_weaker c.line_ends.result
     (λ told. told ∙ ap (λ s. after s LineEnds)

@@ -3,7 +3,7 @@ use Rattle.std.proofs.lemmas.Result.{on_ok_weaker}
 use Rattle.nb_names.specs.Addresses.{address_text}
 use Rattle.nb_service.specs.Flags.{ont_of}
 use Rattle.nb_telling.specs.Fields.{LineEnds, Number, PartEnds, Text}
-use Rattle.nb_text.specs.Keys.{address_key, flags_key, ont_key}
+use Rattle.nb_text.specs.Keys.{key_named}
 use Rattle.nb_text.specs.ServiceFields.{word_field}
 use Rattle.nb_text.proofs.records.tell_entry.Goals as goal
 
@@ -13,7 +13,7 @@ returns-clause-told g c =
     let entry = c.args.entry in
     on_ok_weaker c.end_part.result
     (λ told. told ∙ ap (λ s. fold after s (LineEnds ∷ PartEnds ∷ []))
-    (c.in_ok-shown.ensures.told ∙ ap (λ s. after s (Text address_key (address_text entry.address)))
+    (c.in_ok-shown.ensures.told ∙ ap (λ s. after s (Text (key_named "address") (address_text entry.address)))
     (c.in_ok-tell_owner.ensures.told
-    ∙ ap (λ s. fold after s (word_field flags_key entry.flags ∷ Number ont_key (ont_of entry.flags) ∷ [])) c.in_ok-part.ensures.told)))
+    ∙ ap (λ s. fold after s (word_field (key_named "flags") entry.flags ∷ Number (key_named "ont") (ont_of entry.flags) ∷ [])) c.in_ok-part.ensures.told)))
     c.end_part.ensures.told

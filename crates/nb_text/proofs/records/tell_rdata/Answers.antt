@@ -5,17 +5,17 @@ use Rattle.nb_service.specs.declared.fields.Fields.{Fields}
 use Rattle.nb_service.specs.declared.kinds.TheConstants.{NS}
 use Rattle.nb_service.specs.Record.{ResourceRecord, of_bytes, of_domain}
 use Rattle.nb_telling.specs.Fields.{Data, LineEnds, Text}
-use Rattle.nb_text.specs.Keys.{data_key, domain_key}
+use Rattle.nb_text.specs.Keys.{key_named}
 use Rattle.nb_text.specs.ServiceFields.{data_fields, rdata_field, view_fields}
 use Rattle.nb_text.proofs.HeardLemmas.{is_ns}
 use Rattle.nb_text.proofs.records.tell_rdata.Goals as goal
 
 bytes_same : (e : ResourceRecord) (kind : ℕ) (bytes : List ℕ) → kind ≡ e.kind → of_bytes bytes ≡ e.rdata →
-    Data data_key bytes ∷ LineEnds ∷ data_fields kind bytes ≡ rdata_field e.rdata ∷ LineEnds ∷ view_fields e
+    Data (key_named "data") bytes ∷ LineEnds ∷ data_fields kind bytes ≡ rdata_field e.rdata ∷ LineEnds ∷ view_fields e
 bytes_same e kind bytes k d = rw (← k, ← d) refl
 
 domain_same : (e : ResourceRecord) (labels : List (List ℕ)) → e.kind ≡ NS → of_domain labels ≡ e.rdata →
-    Text domain_key (labels_written labels) ∷ LineEnds ∷ [] ≡ rdata_field e.rdata ∷ LineEnds ∷ view_fields e
+    Text (key_named "domain") (labels_written labels) ∷ LineEnds ∷ [] ≡ rdata_field e.rdata ∷ LineEnds ∷ view_fields e
 domain_same e labels k d = rw (k, ← d) refl
 
 pub returns-in-Bytes-clause-told : goal.returns-in-Bytes-clause-told

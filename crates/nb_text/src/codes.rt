@@ -1,0 +1,145 @@
+//! The numbers of operations and results, and the words for these and for kinds of packets.
+
+ghost use Rattle.std.specs.Prelude.{◌≡◌, option_map};
+ghost use Rattle.nb_text.specs.Words.{datagram_word, operation_word, query_word, rcode_word, session_word};
+
+use nb_datagram::{Kind, QueryKind, kind_name};
+
+/// OPCODE of a query (RFC 1002 section 4.2.1.1).
+pub const QUERY: u8 = 0;
+
+/// OPCODE of a registration.
+pub const REGISTRATION: u8 = 5;
+
+/// OPCODE of a release.
+pub const RELEASE: u8 = 6;
+
+/// OPCODE of a response that another one follows.
+pub const WACK: u8 = 7;
+
+/// OPCODE of a refresh; that 8 is one too is our choice.
+pub const REFRESH: u8 = 8;
+
+/// The other OPCODE of a refresh.
+pub const OTHER_REFRESH: u8 = 9;
+
+/// OPCODE of the registration of a host of several addresses, which is our choice.
+pub const MULTI_HOMED: u8 = 15;
+
+/// RCODE of what was done.
+pub const OK: u8 = 0;
+
+/// RCODE of a request of a wrong form (RFC 1002 sections 4.2.6, 4.2.11 and 4.2.14).
+pub const FMT_ERR: u8 = 1;
+
+/// RCODE of a name server that failed.
+pub const SRV_ERR: u8 = 2;
+
+/// RCODE of a name that isn't known.
+pub const NAM_ERR: u8 = 3;
+
+/// RCODE of a request that isn't supported.
+pub const IMP_ERR: u8 = 4;
+
+/// RCODE of a refusal by policy.
+pub const RFS_ERR: u8 = 5;
+
+/// RCODE of a name that another node owns.
+pub const ACT_ERR: u8 = 6;
+
+/// RCODE of a name in conflict.
+pub const CFT_ERR: u8 = 7;
+
+/// The name of an operation (RFC 1002 section 4.2.1.1).
+pub fn operation_name(opcode: u8) -> Option<&'static str>
+    ensures { option_map (λ name. name.now) result ≡ operation_word opcode }
+{
+    match opcode {
+        QUERY => Some("query"),
+        REGISTRATION => Some("registration"),
+        RELEASE => Some("release"),
+        WACK => Some("wack"),
+        REFRESH | OTHER_REFRESH => Some("refresh"),
+        _ => None,
+    }
+}
+
+/// The name of a result.
+pub fn rcode_name(rcode: u8) -> Option<&'static str>
+    ensures { option_map (λ name. name.now) result ≡ rcode_word rcode }
+{
+    match rcode {
+        OK => Some("ok"),
+        FMT_ERR => Some("FMT_ERR"),
+        SRV_ERR => Some("SRV_ERR"),
+        NAM_ERR => Some("NAM_ERR"),
+        IMP_ERR => Some("IMP_ERR"),
+        RFS_ERR => Some("RFS_ERR"),
+        ACT_ERR => Some("ACT_ERR"),
+        CFT_ERR => Some("CFT_ERR"),
+        _ => None,
+    }
+}
+
+/// The word for a query packet of port 138.
+pub fn query_name(kind: QueryKind) -> &'static str
+    ensures { result.now ≡ query_word kind }
+{
+    match kind {
+        QueryKind::Request => "find",
+        QueryKind::Positive => "found",
+        QueryKind::Negative => "missing",
+    }
+}
+
+/// The word for an error packet of port 138.
+pub const ERROR: &str = "error";
+
+/// The word for packets of port 138 of a MSG_TYPE.
+pub fn datagram_name(message_type: u8) -> Option<&'static str>
+    ensures { option_map (λ name. name.now) result ≡ datagram_word message_type }
+{
+    match message_type {
+        0x10 => Some(kind_name(Kind::Unique)),
+        0x11 => Some(kind_name(Kind::Group)),
+        0x12 => Some(kind_name(Kind::Broadcast)),
+        0x13 => Some(ERROR),
+        0x14 => Some(query_name(QueryKind::Request)),
+        0x15 => Some(query_name(QueryKind::Positive)),
+        0x16 => Some(query_name(QueryKind::Negative)),
+        _ => None,
+    }
+}
+
+/// The word for a message of port 139.
+pub const MESSAGE: &str = "message";
+
+/// The word for a session request of port 139.
+pub const REQUEST: &str = "request";
+
+/// The word for a positive response of port 139.
+pub const POSITIVE: &str = "positive";
+
+/// The word for a negative response of port 139.
+pub const NEGATIVE: &str = "negative";
+
+/// The word for a retarget response of port 139.
+pub const RETARGET: &str = "retarget";
+
+/// The word for a session keep alive of port 139.
+pub const KEEPALIVE: &str = "keepalive";
+
+/// The word for packets of port 139 of a TYPE.
+pub fn session_name(packet_type: u8) -> Option<&'static str>
+    ensures { option_map (λ name. name.now) result ≡ session_word packet_type }
+{
+    match packet_type {
+        0x00 => Some(MESSAGE),
+        0x81 => Some(REQUEST),
+        0x82 => Some(POSITIVE),
+        0x83 => Some(NEGATIVE),
+        0x84 => Some(RETARGET),
+        0x85 => Some(KEEPALIVE),
+        _ => None,
+    }
+}

@@ -22,7 +22,7 @@ CORPUS = os.path.join(TOP, 'tests', 'library', 'corpus.txt')
 MOST_BYTES, LINE = 2_000_000, 8_000
 CLANGS = [os.environ.get('FUZZ_CLANG'), 'clang-22', 'clang-19', 'clang-16', 'clang']
 WRAPPED = '-Wl,--wrap=malloc,--wrap=realloc,--wrap=free'
-PROGRAM = [f'{TOP}/tests/library/{name}.c' for name in ('payloads', 'harness', 'samples', 'memory')]
+PROGRAM = [*(f'{TOP}/tests/library/{name}.c' for name in ('payloads', 'harness', 'cases', 'memory')), f'-DCASES="{TOP}/tests/library/cases.txt"']
 LIMITS = ['-max_len=4000', '-timeout=20', '-rss_limit_mb=1500']
 REACHED = re.compile(r'^(?:UN)?COVERED_FUNC: hits: \d+ edges: (\d+)/(\d+) (\S+)', re.M)
 

@@ -200,8 +200,9 @@ limits() {
     $CC "${strict[@]}" -o "$room/bounds" "$here/library/bounds.c" "${rows[@]}" "$built/libnbt.a" >"$room/log" 2>&1
     count $? "tests/library/bounds.c: $(head -n 1 "$room/log")"
     { "$here/captures/payloads.py" --seed 5 library 500; "$here/captures/payloads.py" worst 6; } | sed 's/ / 0 /' \
-        | ended "$room/bounds" >"$room/output" 2>"$room/errors" && grep -q '^text: nbt_brief: 1633 of ' "$room/output"
-    count $? "the stack and the texts of calls: $(cat "$room/errors" <(grep nbt_brief "$room/output") | head -n 1)"
+        | ended "$room/bounds" >"$room/output" 2>"$room/errors" && grep -q '^text: nbt_brief: 1633 of ' "$room/output" \
+        && [ "$(grep -cE '^(text: nbt_name_text|bytes: nbt_capture_line): ([0-9]+) of \2$' "$room/output")" -eq 2 ]
+    count $? "the stack and the texts of calls: $(cat "$room/errors" <(grep nbt_ "$room/output") | head -n 4 | tr '\n' ' ')"
     sed -n 's/: [0-9]* of 65536$//p' "$room/output" | sort | same "$(calls | sed 's/^nbt_//' | grep -vx station_free)" 'the stack of each call is measured'
     for each in create free list save take tick absorb; do
         short_of_memory "station_$each"
@@ -209,29 +210,16 @@ limits() {
     processors
 }
 
-# said LINES: what a slow model reads in payloads.
-said() {
-    PYTHONPATH=$here ended python3 -m model.values <"$1" >"$1.wanted"
-    [ $? -eq 0 ] && [ "$(grep -cE '^[0-9]+ 13[789] ' "$1.wanted")" -eq "$(wc -l <"$1")" ]
-    count $? "what tests/model/values.py reads in $(wc -l <"$1") payloads"
-}
-
-# reads LINES NAME COMMAND..: a caller of the library reads the same there.
-reads() {
-    "${@:3}" <"$1" >"$room/output" 2>"$room/errors"
-    count $? "$2: $(tail -n 1 "$room/errors")"
-    cmp -s "$1.wanted" "$room/output"
-    count $? "$2 reads what tests/model/values.py does: $(diff "$1.wanted" "$room/output" | head -c 300)"
-}
-
 # in_python FILE [WORD]..: a program that uses the package, over the shared object.
 in_python() {
     NBT_LIBRARY=$built/libnbt.so.0 PYTHONDONTWRITEBYTECODE=1 PYTHONPATH=$top/bindings/python ended python3 "$@"
 }
 
-# What payloads say, as values, and what stands of those that are refused.
+# What payloads say, as values, and what stands of those that are refused: those that are made by chance, and those of the corpus.
 values() {
+    [ -f "$room/plain" ] || compiled plain
     "$here/captures/payloads.py" --seed 11 values "$values" >"$room/values"
+    tr ' ' '\n' <"$here/library/corpus.txt" | "$room/plain" print | sed -n 's/^\(13[789]\) 0 /\1 /p' >>"$room/values"
     said "$room/values"
     [ "$(grep -c '^[0-9]* 137 whole$' "$room/values.wanted")" -ge 4000 ] && [ "$(grep -c '^[0-9]* 137 refused ' "$room/values.wanted")" -ge 15000 ]
     count $? 'at least 19,000 payloads of port 137, of which some stand and many are refused'
@@ -372,7 +360,7 @@ export CARGO_INCREMENTAL=0 CARGO_PROFILE_DEV_DEBUG=0
 # minutes, for beside other work serde alone takes two.
 in_rust() {
     (
-        cd "$room/rust" || exit
+        cd "$room/bindings/rust" || exit
         export PKG_CONFIG_PATH=$room/root/lib/pkgconfig LD_LIBRARY_PATH=$room/root/lib CARGO_TARGET_DIR=$room/target
         "$timeout" -k 5 600 cargo "$@"
     ) >"$room/log" 2>&1
@@ -393,7 +381,8 @@ in_rust_too() {
 # Programs that don't ask for the feature serde need no registry.
 rust() {
     local each
-    mkdir "$room/rust" && cp -R "$top"/bindings/rust/{Cargo.toml,build.rs,rustfmt.toml,src,examples,tests} "$room/rust"
+    mkdir -p "$room/bindings/rust" && cp -R "$top"/bindings/rust/{Cargo.toml,build.rs,rustfmt.toml,src,examples,tests} "$room/bindings/rust"
+    ln -s "$here" "$room/tests"
     in_rust test "${debian[@]}" --features serde
     passed=$((passed + $(awk '/^test result: ok/ { sum += $4 } END { print sum + 0 }' "$room/log")))
     in_rust_too fmt --check
@@ -424,9 +413,9 @@ rust() {
 released() {
     local each
     mkdir "$room/released"
-    printf '[package]\nname = "released"\nversion = "0.1.0"\nedition = "2021"\n\n[dependencies]\nnbt.path = "%s"\n' "$room/rust" \
+    printf '[package]\nname = "released"\nversion = "0.1.0"\nedition = "2021"\n\n[dependencies]\nnbt.path = "%s"\n' "$room/bindings/rust" \
         >"$room/released/Cargo.toml"
-    for each in "$room"/rust/examples/*.rs; do
+    for each in "$room"/bindings/rust/examples/*.rs; do
         [[ $each == */as_json.rs ]] || printf '\n[[bin]]\nname = "%s"\npath = "%s"\n' "$(basename "$each" .rs)" "$each"
     done >>"$room/released/Cargo.toml"
 }

@@ -162,6 +162,9 @@ javascript() {
     ended "${node[@]}" --expose-gc "$top/bindings/javascript/tests/nbt.test.mjs" "$out" "$top/include/nbt.h" >"$room/log" 2>&1
     count $? "bindings/javascript/tests: $(grep -m 3 -E "^not ok|^ +error:" "$room/log" | tr '\n' ' ')"
     passed=$((passed + $(grep -c '^ok ' "$room/log")))
+    "$here/captures/payloads.py" --seed 14 values 9000 >"$room/values"
+    said "$room/values"
+    reads "$room/values" tests/library/values.mjs ended "${node[@]}" "$here/library/targets.mjs" "$out" values
     mkdir -p "$room/user/node_modules/nbt"
     cp "$out/nbt.mjs" "$out/nbt.wasm" "$top/bindings/javascript/package.json" "$room/user/node_modules/nbt"
     block js "$top/bindings/javascript/README.md" >"$room/user/first.mjs"

@@ -8,7 +8,7 @@
 #include <sys/mman.h>
 #include <ucontext.h>
 
-enum { PAINT = 0x5a, STACK = 1 << 20, PAGE = 4096, LINE_PAYLOAD = 131097, KEYS = 2000 };
+enum { PAINT = 0x5a, STACK = 1 << 20, PAGE = 4096, KEYS = 2000 };
 
 /* ---- the stack of a call */
 
@@ -74,11 +74,31 @@ static void measured(const char *name, size_t value, size_t bound) {
     }
 }
 
-/* A call, whose stack is measured; its bytes stand in `text` then. */
+/* How long the text of a call is at most: so many bytes, and so many for each byte of its input. */
+static const struct text {
+    enum call of;
+    const char *name;
+    size_t least, each;
+} texts[] = {
+    {OF_status_text, "text: nbt_status_text", 64, 0},
+    {OF_name_text, "text: nbt_name_text", NBT_NAME_ROOM, 0},
+    {OF_show, "text: nbt_show", 64, 131},
+    {OF_json, "text: nbt_json", 128, 174},
+    {OF_brief, "text: nbt_brief", NBT_BRIEF_ROOM, 0},
+    {OF_capture_line, "bytes: nbt_capture_line", NBT_LINE_ROOM, 0},
+    {OF_table_list, "text: nbt_table_list", 0, 4},
+    {OF_table_json, "text: nbt_table_json", 0, 6},
+};
+
+/* A call, whose stack is measured, and its text; its bytes stand in `text` then. */
 static void called_with(enum call of, struct asked with) {
+    size_t i;
     called = of;
     asked = with;
     measured(rows[of].name, depth(), NBT_STACK);
+    for (i = 0; status == NBT_DONE && i < COUNT(texts); i++)
+        if (texts[i].of == of)
+            measured(texts[i].name, used, texts[i].least + texts[i].each * with.in[0].length);
     if (of == OF_station_create)
         nbt_station_free(*asked.station);
 }
@@ -99,17 +119,8 @@ static void given(uint16_t port, const uint8_t *bytes, size_t length) {
         if (of == OF_show || of == OF_json || of == OF_brief)
             with.n[0] = port;
         called_with(of, with);
-        if (of == OF_show)
-            measured(port == 137 ? "text: nbt_show, port 137" : "text: nbt_show", used, 64 + 131 * length);
-        if (of == OF_json)
-            measured(port == 137 ? "text: nbt_json, port 137" : "text: nbt_json", used, 128 + 174 * length);
-        if (of == OF_brief)
-            measured("text: nbt_brief", used, NBT_BRIEF_ROOM);
     }
 }
-
-static uint8_t longest_text[NBT_NAME_ROOM];
-static size_t longest;
 
 /* The first records of a payload of port 137, and the parts of their RDATA. */
 static void items(const uint8_t *bytes, size_t length) {
@@ -122,10 +133,6 @@ static void items(const uint8_t *bytes, size_t length) {
             return;
         struct nbt_service_item it = *item;
         WITH(name_text, .in = {{it.name, it.name_length}});
-        if (status == NBT_DONE)
-            measured("text: nbt_name_text", used, NBT_NAME_ROOM);
-        if (status == NBT_DONE && used > longest && used <= NBT_NAME_ROOM)
-            memcpy(longest_text, text, longest = used);
         WITH(service_address, .in = {{bytes + it.data, it.data_length}}, .n = {it.type});
         WITH(service_node, .in = {{bytes + it.data, it.data_length}}, .n = {it.type});
         WITH(service_unit, .in = {{bytes + it.data, it.data_length}}, .n = {it.type});
@@ -134,44 +141,10 @@ static void items(const uint8_t *bytes, size_t length) {
     }
 }
 
-/* The calls that are given the text of a name, with the longest of those that were met, which has to be as long as may be. */
-static void names(void) {
-    struct bytes it = {longest_text, NBT_NAME_ROOM};
-    if (longest != NBT_NAME_ROOM)
-        exit(3);
-    WITH(name_spell, .in = {it});
-    WITH(service_request, .in = {it}, .n = {NBT_REGISTRATION, 1, true, 1, 1, 1});
-    WITH(service_response, .in = {it, BYTES("\7NETBIOS\3COM")}, .n = {1, 0x8000, 2, 1});
-    WITH(datagram_write, .in = {it, it, {stack, 65000}}, .n = {0x10, 1, 1, 138, 1000});
-    WITH(datagram_query, .in = {it}, .n = {0x14, 1, 1, 138});
-}
-
-/* The longest line, whose payload is the longest. */
-static void longest_line(void) {
-    static uint8_t digits[2 * LINE_PAYLOAD + 6];
-    memset(digits, '5', sizeof digits);
-    memcpy(digits, "137 0 ", 6);
-    WITH(capture_line, .in = {{digits, sizeof digits}});
-    measured("bytes: nbt_capture_line", used, NBT_LINE_ROOM);
-    if (used != NBT_LINE_ROOM)
-        exit(3);
-}
-
-static void status_texts(void) {
-    uint32_t number;
-    for (number = 0; number < 256; number++) {
-        WITH(status_text, .n = {number});
-        if (status == NBT_DONE)
-            measured("text: nbt_status_text", used, 64);
-    }
-}
-
 /* How long the lines and the objects of a table are, and the calls that are given it. */
 static void lines(struct bytes table) {
     WITH(table_list, .in = {table});
-    measured("text: nbt_table_list", used, 4 * table.length);
     WITH(table_json, .in = {table});
-    measured("text: nbt_table_json", used, 6 * table.length);
     WITH(table_differ, .in = {table, table});
     WITH(table_merge, .in = {table, table}, .n = {UINT32_MAX, UINT32_MAX});
 }
@@ -192,9 +165,10 @@ static void spoilt_keys(void) {
 /* The station that took all payloads: its table, taken in by another one twice. */
 static void tables(void) {
     static struct nbt_station made;
+    struct nbt_station *open_station = station_named("OPEN");
     struct bytes table;
-    WITH(station_list, .station = &open_station);
-    WITH(station_save, .station = &open_station);
+    WITH(station_list, .station = open_station);
+    WITH(station_save, .station = open_station);
     table = keep(text, used);
     CALL(station_create, .station = &made, .in = {BYTES("FRED<20> JOE<00>")}, .n = {1, 138, UINT32_MAX, UINT32_MAX});
     WITH(station_absorb, .station = &made, .in = {table});
@@ -216,12 +190,9 @@ int main(void) {
         given(all.all[i].port, all.all[i].bytes, all.all[i].length);
         items(all.all[i].bytes, all.all[i].length);
     }
-    names();
-    status_texts();
-    longest_line();
     tables();
     spoilt_keys();
-    free_samples();
+    free_stations();
     for (i = 0; i < measure_count; i++)
         printf("%s: %zu of %zu\n", measures[i].name, measures[i].most, measures[i].bound);
     return is_passed;

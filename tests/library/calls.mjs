@@ -3,6 +3,7 @@
 // line a request says whether one call met it, whether the answers are those of the file WANTED, and whether memory stays as large. The
 // last line of standard error is how many requests there are.
 import { readFileSync, writeFileSync } from 'node:fs';
+import { bytesOf, wordsOf } from './rows.mjs';
 
 const [path, every, wanted] = process.argv.slice(2);
 const { instance } = await WebAssembly.instantiate(readFileSync(path), {});
@@ -19,7 +20,8 @@ const SPACE = 1 << 21, big = BigInt;
 const base = Number(nbt.heap_take(big(5 * SPACE)));
 const [numbers, into, ...inputs] = [0, 1, 2, 3, 4].map((which) => base + which * SPACE);
 const [used, at, filled] = [numbers, numbers + 8, numbers + 1024], stationAt = (which) => numbers + 64 + 8 * which;
-let memory, view, out, number, refusals, given;
+const names = new Map();
+let memory, view, out, number, refusals;
 
 function look() {
     if (memory?.buffer === nbt.memory.buffer) return;
@@ -44,22 +46,32 @@ function sumOf(sum, start, count) {
 
 const digitsOf = (sum) => (sum >>> 0).toString(16).padStart(8, '0');
 
-// What a word of a row stands for, of what is asked, in a room.
-function values(word, asked, room) {
-    const index = Number(/\d/.exec(word)?.[0]);
-    switch (word.replace(/\(\d\)/, '')) {
-        case 'IN': return [big(inputs[index]), big(asked.inputs[index].length)];
-        case 'N': return [Number(BigInt.asIntN(32, asked.numbers[index]))];
-        case 'L': return [asked.numbers[index]];
-        case 'B': return [asked.numbers[index] === 0n ? 0 : 1];
-        case 'OUT': return [big(into), big(room), big(used)];
-        case 'FILLED': return [big(filled)];
-        case 'ONE': return [1n];
-        case 'USED': return [big(used)];
-        case 'AT': return [big(at)];
-        default: return [big(stationAt(asked.station))]; // STATION and MADE
-    }
+// What is asked, by the words of a row of calls.def, as each of them stands there.
+const isGiven = (word) => /^(IN|N|L|B|STATION|MADE)\b/.test(word);
+
+function askedOf(row, given) {
+    const asked = { inputs: [], values: new Map() }, words = row.words.filter(isGiven);
+    words.forEach((word, index) => {
+        const place = Number(/\d/.exec(word)?.[0]);
+        if (word.startsWith('IN')) {
+            asked.inputs[place] = bytesOf(given[index], names);
+            asked.values.set(word, [big(inputs[place]), big(asked.inputs[place].length)]);
+        } else if (word.startsWith('N')) {
+            asked.values.set(word, [Number(BigInt.asIntN(32, big(given[index])))]);
+        } else if (word.startsWith('L')) {
+            asked.values.set(word, [big(given[index])]);
+        } else if (word.startsWith('B')) {
+            asked.values.set(word, [given[index] === '0' ? 0 : 1]);
+        } else {
+            asked.values.set(word, [big(stationAt('ABC'.indexOf(given[index])))]);
+        }
+    });
+    return asked;
 }
+
+// The words of a call, in a room.
+const WRITTEN = { FILLED: [big(filled)], ONE: [1n], USED: [big(used)], AT: [big(at)] };
+const values = (word, asked, room) => asked.values.get(word) ?? (word === 'OUT' ? [big(into), big(room), big(used)] : WRITTEN[word]);
 
 // A call in a room, made again where memory runs out.
 function made(name, { structure, words }, asked, room) {
@@ -95,26 +107,20 @@ function answer(name, asked) {
     out.push(`${number} ${name} ${status} ${said(used)} ${said(at)} ${digitsOf(sumOf(0x811c9dc5, into, count))} ${digitsOf(sum)}\n`);
 }
 
-function inputOf(word) {
-    if (word.startsWith('#')) return given[Number(word.slice(1))];
-    given.push(Buffer.from(word.slice(1), 'hex'));
-    return given.at(-1);
-}
-
 /** What all calls answer, where a request is refused, and how many requests were made. */
 function run(lines, refused) {
-    [out, number, refusals, given] = [[], 0, 0, []];
+    [out, number, refusals] = [[], 0, 0];
     look();
     for (let which = 0; which < 3; which++) view.setBigUint64(stationAt(which), 0n, true);
     nbt.heap_refuse(big(refused));
     for (const line of lines) {
-        const [name, station, asked, ...words] = line.split(' ');
-        if (name === 'line') {
+        if (line === 'line') {
             number += 1;
-            given = [];
-        } else {
-            answer(name, { station: Number(station), numbers: asked.split(',').map(big), inputs: words.map(inputOf) });
+            names.clear();
+            continue;
         }
+        const [name, ...given] = wordsOf(line, names) ?? [];
+        if (name) answer(name, askedOf(rows.get(name), given));
     }
     for (let which = 0; which < 3; which++) nbt.nbt_station_free(view.getBigInt64(stationAt(which), true));
     return [out.join(''), Number(nbt.heap_refuse(0n))];

@@ -104,11 +104,13 @@ static int is_filled(const uint8_t *at, size_t length, int fill) {
 }
 
 static uint8_t *kept;
-static size_t kept_length;
+static size_t kept_length, held_length;
 
 size_t kept_mark(void) { return kept_length; }
 
-void release(size_t mark) { kept_length = mark; }
+void release(size_t mark) { kept_length = mark > held_length ? mark : held_length; }
+
+void hold(void) { held_length = kept_length; }
 
 struct bytes keep(const void *from, size_t length) {
     struct bytes made;

@@ -59,24 +59,31 @@ struct answer {
     const void *filled;
 };
 
-/* An input with which each call is tried, and what it has to answer: `number` is *used at NBT_DONE, else *at. */
+/* A row of cases.txt: a call, what it is given, and its answer, which is bytes where `mark` is =, and else words. A station that a row
+ * names is there once the samples are made; one that a row makes is another. */
 struct sample {
     enum call of;
-    uint32_t status;
-    size_t number;
     struct asked asked;
+    char mark;
+    struct bytes answer;
 };
 
-/* Of a call that writes any number. */
-#define ANY (SIZE_MAX - 1)
-extern const struct sample samples[];
-extern const size_t sample_count;
-
-/* The stations of samples: none, one without room for a key, one with room for one of an address, and one with room for all. The
- * samples are there once they are made. */
-extern struct nbt_station no_station, full_station, small_station, open_station;
+extern const struct sample *const samples;
+extern size_t sample_count;
+void read_samples(void);
 void make_samples(void);
-void free_samples(void);
+struct nbt_station *station_named(const char *name);
+void free_stations(void);
+
+/* What a text begins with, in the form of a row, which is then passed over: bytes, a call, and what it is given. */
+struct bytes bytes_at(const char **text);
+enum call call_at(const char **text);
+struct asked asked_at(enum call of, const char **text);
+
+/* Gives bytes a name, as `NAME = BYTES` says; finds them; and forgets all names. */
+void name_bytes(const char *text);
+struct bytes bytes_named(const char *name);
+void forget_names(void);
 
 /* Ends the program where something doesn't hold, with what was done last. */
 void expect(int holds, const char *what);
@@ -100,11 +107,12 @@ struct answer attempt(enum call of, const struct asked *asked, size_t room, int 
 struct answer answered(enum call of, const struct asked *asked);
 #define CALL(name, ...) answered(OF_##name, &(struct asked){__VA_ARGS__})
 
-/* What is kept, and let go of from a mark on: bytes, and the bytes that digits stand for. */
+/* What is kept, and let go of from a mark on: bytes, and the bytes that digits stand for. What is held is let go of never. */
 struct bytes keep(const void *from, size_t length);
 struct bytes bytes_of(const char *digits);
 size_t kept_mark(void);
 void release(size_t mark);
+void hold(void);
 
 int is_same(struct bytes first, struct bytes second);
 int has_input(enum call of, int input);

@@ -1,4 +1,4 @@
-/* A caller of the library who goes to every limit that include/nbt.h leaves: each sample of samples.c, its inputs cut at each length and
+/* A caller of the library who goes to every limit that include/nbt.h leaves: each row of cases.txt, its inputs cut at each length and
  * with each byte changed, its numbers at their least and greatest, in each room, between pages that can't be touched, and with requests
  * for memory refused. Prints which statuses each call answered, for tests/library/statuses_reached.py. Status other than 0, with the call on
  * standard error, where one does what the header doesn't say. */
@@ -28,13 +28,25 @@ static int number_count(enum call of) {
     return count;
 }
 
+/* The text of a status, and its place if it has one. */
+static struct bytes refusal(struct answer answer) {
+    static char text[128];
+    size_t length, used = 0;
+    expect(nbt_status_text(answer.status, (uint8_t *)text, sizeof text, &used) == NBT_DONE, "the text of a status");
+    length = used;
+    if (answer.at != UNSAID)
+        length += (size_t)snprintf(text + used, sizeof text - used, " %zu", answer.at);
+    return (struct bytes){(const uint8_t *)text, length};
+}
+
 static void sampled(const struct sample *it) {
     struct answer answer = tried(it->of, &it->asked);
-    size_t number = answer.status == NBT_DONE ? answer.used : answer.at;
-    int is_as_said = answer.status == it->status && (it->number == ANY || number == it->number);
+    struct bytes found = it->mark == '!' ? refusal(answer) : answer.bytes;
+    int is_as_said = (answer.status == NBT_DONE) == (it->mark != '!') && (it->mark == ':' || is_same(found, it->answer));
     if (!is_as_said)
-        fprintf(stderr, "sample %td: status %u, %zu\n", it - samples, (unsigned)answer.status, number);
-    expect(is_as_said, "what a sample has to answer");
+        fprintf(stderr, "row %td: %.*s, not %.*s\n", it - samples + 1, (int)found.length, (const char *)found.at, (int)it->answer.length,
+                (const char *)it->answer.at);
+    expect(is_as_said, "what a row of cases.txt has to answer");
 }
 
 static size_t longest(const struct asked *asked) {
@@ -101,23 +113,20 @@ static void changed(const struct sample *it, int input) {
         }
 }
 
-/* ---- what no sample says */
+/* ---- what no row says */
 
-/* Any port but 137 and 138 is taken for that of sessions. */
-static void any_port(void) {
-    static const uint16_t ports[] = {0, 136, 140, UINT16_MAX};
-    static const enum call tells[] = {OF_show, OF_json, OF_brief};
-    struct asked asked = {.in = {BYTES("\x84\0\0\6" "\x0a\0\0\5\0\x8b")}};
-    size_t i, j;
-    for (i = 0; i < COUNT(tells); i++) {
-        struct answer wanted;
-        asked.n[0] = 139;
-        wanted = answered(tells[i], &asked);
-        for (j = 0; j < COUNT(ports); j++) {
-            asked.n[0] = ports[j];
-            expect(is_same(wanted.bytes, answered(tells[i], &asked).bytes), "another port than 139");
-        }
-    }
+/* As many names as a station may have, and one more. */
+static void many_names(void) {
+    static uint8_t names[255 * 8];
+    struct nbt_station station;
+    struct answer answer;
+    size_t i;
+    for (i = 0; i < 255; i++)
+        memcpy(names + 8 * i, (uint8_t[]){'N', (uint8_t)('A' + i / 16), (uint8_t)('A' + i % 16), '<', '2', '0', '>', ' '}, 8);
+    expect(CALL(station_create, .station = &station, .in = {{names, 254 * 8 - 1}}).status == NBT_DONE, "254 names");
+    nbt_station_free(station);
+    answer = CALL(station_create, .station = &station, .in = {{names, 255 * 8 - 1}});
+    expect(answer.status == NBT_TOO_MANY_NAMES && answer.at == 254 * 8, "255 names");
 }
 
 static struct nbt_station made(uint32_t keys, uint32_t per_source) {
@@ -126,56 +135,25 @@ static struct nbt_station made(uint32_t keys, uint32_t per_source) {
     return station;
 }
 
-/* What becomes of the sample of a payload that a station takes. */
-static uint32_t outcome(struct nbt_station *station, uint64_t moment, int sample) {
-    const struct sample *it = samples;
-    struct answer answer;
-    while (it->of != OF_station_take)
-        it++;
-    answer = CALL(station_take, .station = station, .in = {it[sample].asked.in[0]}, .n = {moment});
-    return answer.status == NBT_DONE ? ((const struct nbt_taken *)answer.filled)->outcome : 1000 + answer.status;
-}
-
-static uint32_t dropped(struct nbt_station *station, uint64_t moment) {
-    return ((const struct dropped *)CALL(station_tick, .station = station, .n = {moment}).filled)->keys;
-}
-
 /* A station that is moved, and one that is given back: none stands where it was, until another one does. */
 static void moved(void) {
     struct nbt_station station = made(1, 1), other;
-    expect(outcome(&station, 0, 0) == NBT_DELIVERED, "a datagram that is handed over");
+    expect(CALL(station_take, .station = &station, .in = {bytes_named("DATAGRAM")}).status == NBT_DONE, "a datagram that is handed over");
     other = station;
     station.at = NULL;
     expect(CALL(station_save, .station = &station).status == NBT_NO_STATION, "no station where one was");
     nbt_station_free(station);
     expect(CALL(station_save, .station = &other).used == 97, "a station that was moved");
     nbt_station_free(other);
-    other = made(0, 0);
-    expect(outcome(&other, 0, 0) == 1000 + NBT_FULL_SOURCE, "room for no key");
-    nbt_station_free(other);
-}
-
-/* Moments at their least and greatest. */
-static void moments(void) {
-    struct nbt_station station = made(1, UINT32_MAX);
-    expect(outcome(&station, UINT64_MAX, 2) == NBT_KEPT && outcome(&station, UINT64_MAX, 3) == 1000 + NBT_FULL, "a key at the last moment");
-    expect(dropped(&station, 0) == 0 && dropped(&station, UINT64_MAX) == 0, "the first and the last moment");
-    nbt_station_free(station);
-    station = made(1, UINT32_MAX);
-    expect(outcome(&station, 0, 2) == NBT_KEPT && dropped(&station, 1999) == 0 && dropped(&station, 2000) == 1, "two seconds");
-    nbt_station_free(station);
 }
 
 /* Tables that stations with these limits take in, cut at each length, and one's own. */
 static void limits(void) {
     static const uint32_t keys[] = {0, 1, 2, UINT32_MAX};
-    const struct sample *merge = samples;
     size_t i, length;
-    while (merge->of != OF_table_merge)
-        merge++;
     for (i = 0; i < 16; i++) {
         struct nbt_station station = made(keys[i / 4], keys[i % 4]);
-        struct bytes table = merge->asked.in[0], other = merge->asked.in[1];
+        struct bytes table = bytes_named("TWO_KEYS"), other = bytes_named("ANOTHER_KEY");
         size_t mark = kept_mark();
         for (length = 0; length < table.length; length++, release(mark))
             CALL(station_absorb, .station = &station, .in = {{table.at, length}}, .n = {UINT64_MAX});
@@ -203,10 +181,9 @@ int main(void) {
             if (has_input(samples[i].of, input) && longest(&samples[i].asked) <= MOST_CHANGED)
                 changed(&samples[i], input);
     }
-    free_samples();
-    any_port();
+    free_stations();
+    many_names();
     moved();
-    moments();
     limits();
     expect(memory.blocks == 0, "all stations give back what they took");
     print_statuses();

@@ -1,7 +1,7 @@
-/* What has to hold of the library, whatever payloads it is given: a payload's parts stand where the standards say; what is read is written
- * again; a packet needs no byte more than `used`; a stream has the same packets however it is cut; names have one text; fragments in
- * another order come to the same table; joins are commutative, associative and idempotent; a table that is taken in is the table.
- * tests/library/harness.c judges what has to hold of every call.
+/* What has to hold of the library, whatever payloads it is given: places lie within a payload; what is read is written again; a packet
+ * needs no byte more than `used`; a stream has the same packets however it is cut; names have one text; fragments in another order come to
+ * the same table; joins are commutative, associative and idempotent; a table that is taken in is the table. tests/library/harness.c judges
+ * what has to hold of every call; what payloads say is compared with tests/model/values.py by the bindings.
  *
  * Usage: payloads [ROOMS [show|json|brief]] <LINES. A line is a port and the digits of a payload, or `empty`; printed is what `nbt show`
  * prints of it, its object or its phrase, after the line's number and the port. The text is asked for in ROOMS rooms that are too small.
@@ -69,56 +69,6 @@ static void is_packet_of_137(struct bytes it) {
 
 /* ---- port 137 */
 
-/* The addresses, the names and the unit of RDATA, where the standard says that they stand; none past the last. */
-static void parts(uint16_t type, struct bytes data) {
-    int are_addresses = type == 0x20 && data.length % 6 == 0, are_nodes = type == 0x21 && data.length > 0 && data.length - 1 >= (size_t)18 * data.at[0];
-    size_t addresses = are_addresses ? data.length / 6 : 0, nodes = are_nodes ? data.at[0] : 0, behind = 1 + 18 * nodes, i;
-    struct answer it;
-    for (i = 0; i <= addresses; i++) {
-        const struct nbt_service_address *read;
-        it = CALL(service_address, .in = {data}, .n = {type, i});
-        read = it.filled;
-        if (i < addresses)
-            expect(it.status == NBT_DONE && read->flags == number_16(data.at + 6 * i) && read->address == number_32(data.at + 6 * i + 2), "an address");
-    }
-    expect(it.status == (are_addresses ? NBT_NO_PART : NBT_OTHER_RDATA) && (!are_addresses || it.at == addresses), "no address past the last");
-    for (i = 0; i <= nodes; i++) {
-        const struct nbt_service_node *read;
-        it = CALL(service_node, .in = {data}, .n = {type, i});
-        read = it.filled;
-        if (i < nodes)
-            expect(it.status == NBT_DONE && memcmp(read->name, data.at + 1 + 18 * i, 16) == 0 && read->flags == number_16(data.at + 17 + 18 * i), "a name of a node");
-    }
-    expect(it.status == (are_nodes ? NBT_NO_PART : NBT_OTHER_RDATA) && (!are_nodes || it.at == nodes), "no name past the last");
-    it = CALL(service_unit, .in = {data}, .n = {type});
-    if (are_nodes && data.length - behind >= 6)
-        expect(it.status == NBT_DONE && memcmp(it.filled, data.at + behind, 6) == 0, "the unit");
-    else
-        expect(are_nodes ? it.status == NBT_TRUNCATED && it.at == data.length : it.status == NBT_OTHER_RDATA, "no unit");
-}
-
-/* A response with a record that was read: its header, its name, what follows it and its RDATA, with nothing between. RDATA of type NS that
- * has a pointer is refused where that stands. */
-static void answered_by(const struct nbt_service_header *front, const struct nbt_service_item *item, struct bytes data) {
-    struct bytes text = named((struct bytes){item->name, item->name_length});
-    struct answer made = CALL(service_response, .in = {text, data}, .n = {front->identifier, front->word, item->type, item->time_to_live});
-    uint8_t head[] = {front->identifier >> 8, front->identifier & 255, front->word >> 8, front->word & 255, 0, 0, 0, 1, 0, 0, 0, 0};
-    uint8_t body[] = {item->type >> 8, item->type & 255, 0, 1, item->time_to_live >> 24, item->time_to_live >> 16 & 255,
-        item->time_to_live >> 8 & 255, item->time_to_live & 255, data.length >> 8, data.length & 255};
-    const uint8_t *at = made.bytes.at;
-    size_t place = 0;
-    while (item->type == 2 && data.at[place] != 0 && data.at[place] < 0xc0)
-        place += 1 + data.at[place];
-    if (item->type == 2 && data.at[place] >= 0xc0) {
-        expect(made.status == NBT_NAME_POINTER && made.at == place, "a pointer in the name of a server");
-        return;
-    }
-    expect(made.status == NBT_DONE && made.used == 22 + item->name_length + data.length, "a response with a record that was read");
-    expect(memcmp(at, head, 12) == 0 && memcmp(at + 12, item->name, item->name_length) == 0, "the header and the name of a response");
-    expect(memcmp(at + 12 + item->name_length, body, 10) == 0, "what stands after the name of a response");
-    expect(is_same(part(made.bytes, made.used - data.length, data.length), data), "the RDATA of a response");
-}
-
 /* The name of an item, asked for as if it were RDATA: it ends there and nowhere else. */
 static void domain(struct bytes payload, size_t place, size_t end, const struct nbt_service_item *item) {
     struct answer it = CALL(service_domain, .in = {payload}, .n = {place, end - place});
@@ -172,13 +122,6 @@ static void entries(struct bytes payload, size_t room) {
     expect(nbt_service_items(payload.at, payload.length, number, place, NULL, 0, &used, &at) == NBT_DONE && used == 0, "room for no entry");
 }
 
-/* An item that a name's fault refuses: its own name has that fault, or it stands, and the fault is that of the name in its RDATA. */
-static void unnamed(struct bytes payload, size_t place, struct answer item) {
-    struct answer name = CALL(service_domain, .in = {payload}, .n = {place, SIZE_MAX});
-    if (item.status >= NBT_NAME_TRUNCATED && item.status <= NBT_NAME_BAD_POINTER)
-        expect(name.status == item.status ? name.at == item.at : name.status == NBT_NAME_RDATA && name.at == place, "the fault of a name");
-}
-
 /* The questions and records of a payload: those of the packet or, where there is none, those before its fault. */
 static void service(struct bytes payload) {
     struct answer front = CALL(service_header, .in = {payload}), whole = CALL(service_read, .in = {payload}), it;
@@ -198,13 +141,10 @@ static void service(struct bytes payload) {
         expect(item->name_length > 0 && item->name[item->name_length - 1] == 0, "the name of an item");
         expect(item->section > 0 || (item->data_length == 0 && item->time_to_live == 0), "a question");
         domain(payload, place, item->data - (item->section > 0 ? 10 : 4), item);
-        parts(item->type, part(payload, item->data, item->data_length));
-        if (item->section > 0 && item->netbios == 1)
-            answered_by(header, item, part(payload, item->data, item->data_length));
+        if (item->netbios == 1)
+            named((struct bytes){item->name, item->name_length});
         place = item->next;
     }
-    if (front.status == NBT_DONE)
-        unnamed(payload, place, it);
     if (whole.status == NBT_DONE) {
         expect(it.status == NBT_NO_ITEM && read->used == place, "the items of a packet");
         expect(total == (size_t)read->questions + read->answers + read->authorities + read->additional, "the counts of a packet");
@@ -231,59 +171,7 @@ static void rdata(struct bytes it) {
     }
 }
 
-/* A request of the bits of a number is a packet. */
-static void request(uint32_t number) {
-    struct answer made = CALL(service_request, .in = {BYTES_OF("JOE<00>.NETBIOS.COM")}, .n = {number % 5, number, number & 1, number * 77, number * 5, number * 2654435761u});
-    expect(made.status == NBT_DONE, "a request");
-    is_packet_of_137(made.bytes);
-}
-
 /* ---- port 138 */
-
-/* How many bytes the spelling of a NetBIOS name has that stands whole at a place before the end, without pointers; else 0. */
-static size_t spelled(const uint8_t *bytes, size_t place, size_t end) {
-    size_t here = place, i;
-    while (here < end && bytes[here] != 0 && bytes[here] < 64)
-        here += 1 + bytes[here];
-    if (here >= end || bytes[here] != 0 || here + 1 - place > 255 || bytes[place] != 32)
-        return 0;
-    for (i = 1; i <= 32; i++)
-        if (bytes[place + i] < 'A' || bytes[place + i] > 'P')
-            return 0;
-    return here + 1 - place;
-}
-
-/* What stands at the front of a payload, where the standard says that it stands, whether or not it begins with this packet. */
-static void front(struct bytes it, const struct nbt_datagram *read) {
-    struct answer answer = CALL(datagram_front, .in = {it});
-    const struct nbt_datagram_front *front = answer.filled;
-    int is_fragment = it.length > 0 && it.at[0] >= 0x10 && it.at[0] <= 0x12;
-    size_t source = 0, destination = 0, end;
-    if (it.length < (is_fragment ? 14 : 10)) {
-        expect(answer.status == NBT_TRUNCATED && answer.at == it.length && read == NULL, "no header of port 138");
-        return;
-    }
-    expect(answer.status == NBT_DONE && front->type == it.at[0] && front->flags == it.at[1] && front->identifier == number_16(it.at + 2), "a front");
-    expect(front->address == number_32(it.at + 4) && front->port == number_16(it.at + 8), "the address of a front");
-    expect(front->offset == (is_fragment ? number_16(it.at + 12) : 0), "the offset of a front");
-    if (is_fragment) {
-        end = 14 + number_16(it.at + 10);
-        end = end < it.length ? end : it.length;
-        source = spelled(it.at, 14, end);
-        destination = source > 0 ? spelled(it.at, 14 + source, end) : 0;
-    }
-    expect(front->source_length == source && front->source == (source > 0 ? 14 : 0), "the source of a front");
-    expect(front->destination_length == destination && front->destination == (destination > 0 ? 14 + source : 0), "the destination of a front");
-    if (source > 0)
-        named(part(it, front->source, source));
-    if (destination > 0)
-        named(part(it, front->destination, destination));
-    if (read != NULL) {
-        expect(front->type == read->type && front->flags == read->flags && front->identifier == read->identifier && front->address == read->address
-               && front->port == read->port && front->offset == read->offset, "the front of a packet");
-        expect(!is_fragment || (source == read->source_length && destination == read->destination_length), "the names of a packet");
-    }
-}
 
 /* A datagram, cut into pieces of so many bytes, is handed over whole by a station that is given them in reverse. */
 static void reassembled(struct bytes payload, const struct nbt_datagram *read, struct bytes source, struct bytes destination, uint16_t most) {
@@ -337,7 +225,6 @@ static void written(struct bytes payload, const struct nbt_datagram *it) {
 static struct answer datagram(struct bytes payload, size_t *used) {
     struct answer it = CALL(datagram_read, .in = {payload});
     const struct nbt_datagram *read = it.filled;
-    front(payload, it.status == NBT_DONE ? read : NULL);
     if (it.status != NBT_DONE) {
         expect(it.at == UNSAID || it.at <= payload.length, "the place of a fault");
         return it;
@@ -353,45 +240,9 @@ static struct answer datagram(struct bytes payload, size_t *used) {
 
 /* ---- port 139 */
 
-/* A spelling at the front of the bytes of a name, which are the payload's own, and zeros after it. */
-static int in_place(const uint8_t *name, size_t length, const uint8_t *payload) {
-    static const uint8_t zeros[255];
-    return length >= 34 && memcmp(name, payload, length) == 0 && memcmp(name + length, zeros, 255 - length) == 0;
-}
-
-/* The names of a request, and the address of a retarget, where the standard says that they stand; of another packet, and of none,
- * neither. And the header that stands at the front of any four bytes. */
-static void session_parts(struct bytes payload, struct answer whole) {
-    struct answer named = CALL(session_names, .in = {payload}), led = CALL(session_retarget, .in = {payload}), head = CALL(session_front, .in = {payload});
-    const struct nbt_session *read = whole.filled;
-    const struct nbt_session_names *names = named.filled;
-    const struct nbt_session_retarget *retarget = led.filled;
-    const struct nbt_session_front *front = head.filled;
-    const uint8_t *body = payload.at + 4;
-    int type = whole.status == NBT_DONE ? read->type : -1;
-    uint32_t none = whole.status == NBT_DONE ? NBT_OTHER_TYPE : whole.status;
-    if (type == 0x81)
-        expect(named.status == NBT_DONE && (size_t)names->called_length + names->calling_length == read->body_length
-               && in_place(names->called, names->called_length, body) && in_place(names->calling, names->calling_length, body + names->called_length), "the names of a request");
-    else
-        expect(named.status == none && named.at == whole.at, "no request");
-    if (type == 0x84)
-        expect(led.status == NBT_DONE && retarget->address == number_32(body) && retarget->port == number_16(body + 4), "where a retarget leads");
-    else
-        expect(led.status == none && led.at == whole.at, "no retarget");
-    if (payload.length < 4) {
-        expect(head.status == NBT_MORE && head.at == 4 - payload.length, "no header of port 139");
-        return;
-    }
-    expect(head.status == NBT_DONE && front->type == payload.at[0] && front->flags == payload.at[1], "a header of port 139");
-    expect(front->body_length == ((size_t)(payload.at[1] & 1) << 16 | number_16(payload.at + 2)), "the length of a body");
-    expect(type < 0 || (front->type == read->type && front->body_length == read->body_length), "the header of a packet of port 139");
-}
-
 static struct answer session(struct bytes payload, size_t *used) {
     struct answer it = CALL(session_read, .in = {payload}), made;
     const struct nbt_session *read = it.filled;
-    session_parts(payload, it);
     if (it.status != NBT_DONE)
         return it;
     *used = read->used;
@@ -418,26 +269,6 @@ static void stream(struct bytes all) {
 }
 
 /* ---- a payload */
-
-/* Its line of a capture, with its number for the moment. Without its last digit, or letter, it is none. */
-static void line(uint32_t port, struct bytes payload) {
-    static char text[2 * 131100 + 64];
-    uint32_t of_line = port == 137 || port == 138 ? port : 139;
-    size_t size = (size_t)snprintf(text, sizeof text, "%u %lu %s", (unsigned)of_line, line_number, payload.length > 0 ? "" : "empty"), i;
-    struct answer it;
-    const struct nbt_line *said;
-    if (payload.length > NBT_LINE_ROOM)
-        return;
-    for (i = 0; i < payload.length; i++) {
-        text[size++] = "0123456789abcdef"[payload.at[i] >> 4];
-        text[size++] = "0123456789ABCDEF"[payload.at[i] & 15];
-    }
-    it = CALL(capture_line, .in = {{(const uint8_t *)text, size}});
-    said = it.filled;
-    expect(it.status == NBT_DONE && is_same(it.bytes, payload), "the payload of a line");
-    expect(said->kind == NBT_PACKET && said->port == of_line && said->moment == line_number, "the numbers of a line");
-    expect(CALL(capture_line, .in = {{(const uint8_t *)text, size - 1}}).status == NBT_BAD_LINE, "half a byte");
-}
 
 /* One call of so many, of those that change no station, with its sample's numbers and these bytes for an input. */
 static void any_call(struct bytes it, size_t some) {
@@ -484,7 +315,7 @@ static void payload(uint32_t port, struct bytes it, size_t rooms, const char *pr
     }
     /* A fuzzer gives each port payloads of its own. */
     if (port == 137 || printed != NULL)
-        service(it), request((uint32_t)(it.length + line_number));
+        service(it);
     if (port == 138 || printed != NULL)
         of_138 = datagram(it, &used_138);
     if (port == 139 || printed != NULL)
@@ -492,7 +323,6 @@ static void payload(uint32_t port, struct bytes it, size_t rooms, const char *pr
     if (port == 138 || port == 139)
         same_text(port, it, text.bytes, port == 138 ? of_138 : of_139, port == 138 ? used_138 : used_139);
     rdata(it);
-    line(port, it);
     any_call(it, printed != NULL ? 1 : 4);
     if (CALL(station_create, .station = &station, .in = {it}, .n = {1, 1, 1, 1}).status == NBT_DONE)
         nbt_station_free(station);
@@ -705,6 +535,8 @@ int LLVMFuzzerTestOneInput(const uint8_t *data, size_t size);
 int LLVMFuzzerTestOneInput(const uint8_t *data, size_t size) {
     size_t mark = kept_mark(), i;
     program = "payloads";
+    if (sample_count == 0)
+        read_samples();
     trials = (struct trials){.least = size % 29, .most = size % 29 + 1};
     cut(data, size);
     for (i = 0; i < count; i++) {
@@ -750,6 +582,7 @@ int main(int words, char **word) {
     int is_corpus = strcmp(way, "corpus") == 0, is_print = strcmp(way, "print") == 0;
     unsigned long number = 0;
     program = "payloads";
+    read_samples();
     setvbuf(stdin, input, _IOFBF, sizeof input);
     setvbuf(stdout, output, _IOFBF, sizeof output);
     while (fgets(text, sizeof text, stdin) != NULL) {

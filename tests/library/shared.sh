@@ -4,7 +4,7 @@ strict=(-std=c11 -O1 -g -Wall -Wextra -Wpedantic -Werror "-I$top/include")
 sanitized=(-fsanitize=address,undefined -fno-sanitize-recover=all)
 # What the programs over the rows of tests/library/calls.def have alike.
 wrapped=(-Wl,--wrap=malloc,--wrap=realloc,--wrap=free)
-rows=("$here"/library/{harness,samples,memory}.c "${wrapped[@]}")
+rows=("$here"/library/{harness,cases,memory}.c "-DCASES=\"$here/library/cases.txt\"" "${wrapped[@]}")
 
 # same WANTED NAME: whether standard input is what is wanted.
 same() {
@@ -31,6 +31,21 @@ lines() {
     sed 's/ / 0 /' "$room/lines$2" | ended "$program" show --input-limit 4294967296 >"$room/lines$2.wanted"
     [ $? -eq 0 ] && [ "$(grep -cE '^[0-9]+ 13[789] ' "$room/lines$2.wanted")" -eq "$1" ]
     count $? "$1 payloads of tests/captures/payloads.py, and nbt show of each"
+}
+
+# said LINES: what a slow model reads in payloads.
+said() {
+    PYTHONPATH=$here ended python3 -m model.values <"$1" >"$1.wanted"
+    [ $? -eq 0 ] && [ "$(grep -cE '^[0-9]+ 13[789] ' "$1.wanted")" -eq "$(wc -l <"$1")" ]
+    count $? "what tests/model/values.py reads in $(wc -l <"$1") payloads"
+}
+
+# reads LINES NAME COMMAND..: a caller of the library reads the same there.
+reads() {
+    "${@:3}" <"$1" >"$room/output" 2>"$room/errors"
+    count $? "$2: $(tail -n 1 "$room/errors")"
+    cmp -s "$1.wanted" "$room/output"
+    count $? "$2 reads what tests/model/values.py does: $(diff "$1.wanted" "$room/output" | head -c 300)"
 }
 
 # replayed SEED: a capture, $room/capture, and as $room/replayed what `nbt replay` reports of it, but for why a payload is refused.

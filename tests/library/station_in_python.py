@@ -4,23 +4,7 @@ refused. Usage: station_in_python.py NAME.. <CAPTURE."""
 import sys
 
 import nbt
-
-
-def key(taken):
-    return f'{taken.address}:{taken.port}/{taken.identifier:04x}'
-
-
-def report(taken):
-    """The words of a payload's outcome."""
-    words = [taken.outcome.name.lower()]
-    if taken.address is not None:
-        words.append(key(taken))
-    if taken.delivery is not None:
-        it = taken.delivery
-        words += [it.type.name.lower(), it.source, it.destination, it.data.hex() or 'empty']
-    if taken.error:
-        words += ['error', taken.error.hex()]
-    return ' '.join(words)
+from values_in_python import outcome_of
 
 
 def replay(station, line):
@@ -30,7 +14,7 @@ def replay(station, line):
     if line.port != 138:
         return 'passed'
     try:
-        return report(station.take(line.moment, line.payload))
+        return outcome_of(station.take(line.moment, line.payload))
     except nbt.NbtError:
         return 'refused'
 

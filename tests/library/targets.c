@@ -3,50 +3,56 @@
  * [every WANTED] <ASKED prints what the calls answer: a line with the number, the call, its status, *used, *at, and sums of the bytes and
  * of the fields that it wrote. calls.mjs answers the same in WebAssembly.
  *
- * A line of what is asked is `line`, or a call, a station, its numbers, and inputs: digits that begin with x, or #N, the input with this
- * number of those that were written out since `line`. The last line of standard error is how many requests for memory the library made.
- * With `every` each of them is refused in turn, and a line a request says whether one call met it, and whether the answers are WANTED's. */
+ * A line of what is asked is `line`, or has the form of cases.txt: a call and what it is given, or bytes with a name, which holds until the
+ * next `line`. The last line of standard error is how many requests for memory the library made. With `every` each of them is refused in
+ * turn, and a line a request says whether one call met it, and whether the answers are WANTED's. */
 #define _GNU_SOURCE
 #include "harness.h"
 #include <stdio.h>
 #include <stdlib.h>
 
-enum { STATIONS = 3, MOST_GIVEN = 64 };
+enum { MOST_GIVEN = 64 };
 
-static struct nbt_station stations[STATIONS];
 static struct bytes given[MOST_GIVEN];
 static size_t given_count;
 
 /* ---- what is asked */
 
-static void print_input(struct bytes it) {
-    size_t i;
-    for (i = 0; i < given_count; i++)
-        if (is_same(given[i], it)) {
-            printf(" #%zu", i);
-            return;
-        }
-    printf(" x");
-    for (i = 0; i < it.length; i++)
-        printf("%02x", it.at[i]);
+static size_t number_given(struct bytes it) {
+    size_t i, j;
+    for (i = 0; i < given_count && !is_same(given[i], it); i++)
+        ;
+    if (i < given_count)
+        return i;
     expect(given_count < MOST_GIVEN, "room for inputs");
     given[given_count++] = keep(it.at, it.length);
+    printf("let I%zu = %s", i, it.length == 0 ? "''" : "");
+    for (j = 0; j < it.length; j++)
+        printf("%02x", it.at[j]);
+    printf("\n");
+    return i;
 }
 
 /* Prints what is asked, and asks it: what a station answers is asked later. */
-static struct answer ask(enum call of, struct asked asked) {
-    int i;
-    size_t station = asked.station == NULL ? 0 : (size_t)(asked.station - stations);
-    printf("%s %zu ", rows[of].name, station);
-    for (i = 0; i < NUMBERS; i++)
-        printf("%s%llu", i > 0 ? "," : "", (unsigned long long)asked.n[i]);
+static struct answer ask(enum call of, const char *station, struct asked asked) {
+    const char *word = rows[of].words + 1;
+    size_t numbers[INPUTS], i;
     for (i = 0; i < INPUTS; i++)
-        print_input(asked.in[i]);
+        numbers[i] = has_input(of, (int)i) ? number_given(asked.in[i]) : 0;
+    printf("%s", rows[of].name);
+    for (; *word != '\0'; word += strcspn(word, ", "), word += strspn(word, ", "))
+        if (*word == 'I')
+            printf(" I%zu", numbers[word[3] - '0']);
+        else if (*word == 'N' || *word == 'L' || *word == 'B')
+            printf(" %llu", (unsigned long long)asked.n[word[2] - '0']);
+        else if (*word == 'S' || *word == 'M')
+            printf(" %s", station);
     printf("\n");
+    asked.station = station_named(station);
     return answered(of, &asked);
 }
 
-#define ASK(name, ...) ask(OF_##name, (struct asked){__VA_ARGS__})
+#define ASK(name, station, ...) ask(OF_##name, station, (struct asked){__VA_ARGS__})
 
 /* The sample of a call with a number, counted round. */
 static const struct asked *sample_of(enum call of, size_t number) {
@@ -77,15 +83,15 @@ static void ask_each(uint32_t port, struct bytes payload) {
             other.in[inputs == 1 ? 0 : line_number % (size_t)inputs] = payload;
             if (of == OF_show || of == OF_json || of == OF_brief)
                 other.n[0] = port | 0xabcd0000;
-            ask((enum call)of, other);
+            ask((enum call)of, "A", other);
             asked.in[inputs - 1] = line_number % 3 == 0 ? some : asked.in[inputs - 1];
         }
         for (i = 0; line_number % 2 == 1 && i < NUMBERS; i++)
             asked.n[i] += line_number * 2654435761u >> (7 * i);
-        ask((enum call)of, asked);
+        ask((enum call)of, "A", asked);
     }
     if (payload.length > 4)
-        ASK(session_write, .in = {{payload.at + 4, payload.length - 4}}, .n = {payload.at[0]});
+        ASK(session_write, "A", .in = {{payload.at + 4, payload.length - 4}}, .n = {payload.at[0]});
 }
 
 /* The tables of a station: as it is, with a byte changed, joined with that of the line before, and taken in by another. */
@@ -93,23 +99,23 @@ static void ask_tables(struct bytes payload) {
     static uint8_t earlier_bytes[1 << 20];
     static struct bytes earlier = {earlier_bytes, 0};
     struct bytes table, changed;
-    ASK(station_take, .station = &stations[0], .in = {payload}, .n = {line_number});
-    ASK(station_tick, .station = &stations[0], .n = {line_number});
-    ASK(station_list, .station = &stations[0]);
-    table = ASK(station_save, .station = &stations[0]).bytes;
+    ASK(station_take, "A", .in = {payload}, .n = {line_number});
+    ASK(station_tick, "A", .n = {line_number});
+    ASK(station_list, "A", .n = {0});
+    table = ASK(station_save, "A", .n = {0}).bytes;
     changed = keep(table.at, table.length);
     ((uint8_t *)changed.at)[line_number % table.length] ^= (uint8_t)(1 << line_number % 8);
-    ASK(table_list, .in = {table});
-    ASK(table_json, .in = {table});
-    ASK(table_differ, .in = {table, earlier});
-    ASK(table_merge, .in = {table, earlier}, .n = {line_number % 7, 4});
-    ASK(station_absorb, .station = &stations[1], .in = {table}, .n = {line_number});
-    ASK(table_merge, .in = {earlier, changed}, .n = {100, UINT32_MAX});
-    ASK(table_list, .in = {changed});
-    ASK(table_differ, .in = {changed, table});
-    ASK(station_absorb, .station = &stations[1], .in = {changed}, .n = {line_number});
-    ASK(station_tick, .station = &stations[1], .n = {UINT64_MAX});
-    ASK(station_take, .station = &stations[2], .in = {payload});
+    ASK(table_list, "A", .in = {table});
+    ASK(table_json, "A", .in = {table});
+    ASK(table_differ, "A", .in = {table, earlier});
+    ASK(table_merge, "A", .in = {table, earlier}, .n = {line_number % 7, 4});
+    ASK(station_absorb, "B", .in = {table}, .n = {line_number});
+    ASK(table_merge, "A", .in = {earlier, changed}, .n = {100, UINT32_MAX});
+    ASK(table_list, "A", .in = {changed});
+    ASK(table_differ, "A", .in = {changed, table});
+    ASK(station_absorb, "B", .in = {changed}, .n = {line_number});
+    ASK(station_tick, "B", .n = {UINT64_MAX});
+    ASK(station_take, "C", .in = {payload});
     memcpy(earlier_bytes, table.at, table.length);
     earlier.length = table.length;
 }
@@ -121,9 +127,9 @@ static void ask_line(const char *text) {
     given_count = 0;
     printf("line\n");
     if (line_number == 1) {
-        ASK(station_create, .station = &stations[0], .in = {BYTES("FRED<20> FRED<20>")}, .n = {1, 138, 4, 4});
-        ASK(station_create, .station = &stations[0], .in = {BYTES("FRED<20> JOE<00>")}, .n = {0x0a000009, 138, 4, 4});
-        ASK(station_create, .station = &stations[1], .in = {BYTES("FRED<20>")}, .n = {0x0a000009, 138, 4, 4});
+        ASK(station_create, "A", .in = {BYTES("FRED<20> FRED<20>")}, .n = {1, 138, 4, 4});
+        ASK(station_create, "A", .in = {BYTES("FRED<20> JOE<00>")}, .n = {0x0a000009, 138, 4, 4});
+        ASK(station_create, "B", .in = {BYTES("FRED<20>")}, .n = {0x0a000009, 138, 4, 4});
     }
     ask_each(port, payload);
     ask_tables(payload);
@@ -168,43 +174,24 @@ static void answer(enum call of, const struct asked *asked) {
             (unsigned)(it.status == NBT_DONE ? sum_of_fields(rows[of].structure, it.filled) : 0));
 }
 
-static struct bytes next_input(const char **text) {
-    struct bytes it;
-    *text += strcspn(*text, "#x");
-    if (*(*text)++ == '#')
-        return given[strtoul(*text, NULL, 10)];
-    it = bytes_of(*text);
-    expect(given_count < MOST_GIVEN, "room for inputs");
-    return given[given_count++] = it;
-}
-
 static void answer_line(const char *text) {
-    size_t of = 0, name = strcspn(text, " \n");
-    struct asked asked;
-    char *end;
-    int i;
-    if (strncmp(text, "line", name) == 0) {
+    if (strncmp(text, "line\n", 5) == 0) {
         line_number++;
-        given_count = 0;
+        forget_names();
         release(0);
-        return;
+    } else if (strncmp(text, "let ", 4) == 0) {
+        name_bytes(text + 4);
+    } else {
+        enum call of = call_at(&text);
+        struct asked asked = asked_at(of, &text);
+        answer(of, &asked);
     }
-    while (of < CALLS && (strlen(rows[of].name) != name || strncmp(rows[of].name, text, name) != 0))
-        of++;
-    expect(of < CALLS, "a call of calls.def");
-    asked.station = &stations[strtoul(text + name, &end, 10)];
-    for (i = 0; i < NUMBERS; i++)
-        asked.n[i] = strtoull(end + 1, &end, 10);
-    text = end;
-    for (i = 0; i < INPUTS; i++)
-        asked.in[i] = next_input(&text);
-    answer((enum call)of, &asked);
 }
 
 /* What all calls answer where a request is refused, in memory of its own. */
 static char *run(char *lines, size_t refused) {
     char *answers, *at;
-    size_t size, i;
+    size_t size;
     out = open_memstream(&answers, &size);
     expect(out != NULL, "open_memstream");
     line_number = refusal_count = 0;
@@ -213,10 +200,7 @@ static char *run(char *lines, size_t refused) {
     for (at = lines; *at != '\0'; at += strcspn(at, "\n") + 1)
         answer_line(at);
     memory.refuse = 0;
-    for (i = 0; i < STATIONS; i++) {
-        nbt_station_free(stations[i]);
-        stations[i].at = NULL;
-    }
+    free_stations();
     fclose(out);
     return answers;
 }
@@ -253,6 +237,7 @@ int main(int words, char **word) {
     size_t all, each;
     program = "targets";
     if (words == 2) {
+        read_samples();
         for (at = lines; *at != '\0'; at += strcspn(at, "\n") + 1) {
             line_number++;
             ask_line(at);

@@ -1,12 +1,10 @@
 #!/usr/bin/env python3
-"""Prints what tests/model/values.py does, by the package for Python."""
+"""Prints what tests/model/values.py does, by the package for Python. bindings/python/tests/test_cases.py asks for it, too."""
 import sys
+from dataclasses import replace
 
 import nbt
 from nbt import SessionType
-
-sys.path.insert(1, f'{sys.path[0]}/..')
-from model.values import main
 
 
 def digits(data):
@@ -37,11 +35,23 @@ def standing(packet):
     """The lines of a packet, or of what stands of it."""
     word = packet.response << 15 | packet.op << 11 | packet.flags | packet.rcode
     yield f'header {packet.identifier:04x} {word:04x} {" ".join(map(str, packet.counts))} used {packet.used}'
+    assert packet.records == packet.answers + packet.authorities + packet.additional
     for it in packet.questions:
         yield f'0 {marked(it.name)} {it.type:04x} {it.class_number:04x}'
     for section, records in enumerate((packet.answers, packet.authorities, packet.additional), 1):
         for it in records:
             yield f'{section} {marked(it.name)} {it.type:04x} {it.class_number:04x} {it.time_to_live} {rdata(it.rdata)}'
+            if isinstance(it.name, str):
+                written_again(packet, it)
+
+
+def written_again(packet, record):
+    """A response that is written of the values of a record is read as these."""
+    payload = nbt.response(packet.identifier, record.name, record.rdata, record.time_to_live, op=packet.op, flags=packet.flags,
+                           rcode=packet.rcode, type=record.type)
+    found, numbers = nbt.ServicePacket.read(payload), (packet.identifier, packet.op, packet.flags, packet.rcode)
+    assert (found.identifier, found.op, found.flags, found.rcode, found.used) == (*numbers, len(payload))
+    assert found.answers == (replace(record, class_number=1),)
 
 
 def marked(name):
@@ -69,16 +79,20 @@ def datagram_lines(payload):
         assert error == refused
         lines = [fault(error)]
     if it:
-        lines.append(f'front {it.type:02x} {it.flags:02x} {it.address}:{it.port}/{it.identifier:04x} {it.offset} {it.source or "-"} '
-                     f'{it.destination or "-"}')
+        lines.append(f'front {header(it)}')
     return lines
 
 
 def datagram(payload):
     """The line of a packet of port 138."""
     it = nbt.Datagram.read(payload)
-    return (f'{it.type:02x} {it.flags:02x} {it.address}:{it.port}/{it.identifier:04x} {it.offset} {it.source or "-"} '
-            f'{it.destination or "-"} {digits(it.data)} used {it.used}')
+    return f'{header(it)} {digits(it.data)} used {it.used}'
+
+
+def header(it):
+    """The numbers and the names of a packet of port 138, or of its front."""
+    source, destination = ('-' if name is None else name for name in (it.source, it.destination))
+    return f'{it.type:02x} {it.flags:02x} {key(it)} {it.offset} {source} {destination}'
 
 
 def session_lines(payload):
@@ -109,4 +123,26 @@ def lines_of(port, payload):
     return {137: service, 138: datagram_lines, 139: session_lines}[port](payload)
 
 
-main(lines_of)
+def key(of):
+    """The text of the key of a datagram."""
+    return f'{of.address}:{of.port}/{of.identifier:04x}'
+
+
+def handed(it):
+    """A datagram that is handed over, in the words of `nbt replay`."""
+    return f'{key(it)} {it.type.name.lower()} {it.source} {it.destination} {digits(it.data)}'
+
+
+def outcome_of(taken, refusal=None):
+    """What became of a payload, in the same words, with those of a refusal."""
+    words = [taken.outcome.name.lower()]
+    if taken.address is not None:
+        words.append(handed(taken.delivery) if taken.delivery else key(taken))
+    words += [str(refusal)] if refusal else []
+    return ' '.join([*words, *(['error', taken.error.hex()] if taken.error else [])])
+
+
+if __name__ == '__main__':
+    sys.path.insert(1, f'{sys.path[0]}/..')
+    from model.values import main
+    main(lines_of)

@@ -6,6 +6,7 @@ import { createServer } from 'node:http';
 import { test } from 'node:test';
 import { pathToFileURL } from 'node:url';
 import vm from 'node:vm';
+import { testRows } from './cases.mjs';
 
 const [folder, header] = process.argv.slice(2);
 const { load, NbtError, Status } = await import(pathToFileURL(`${folder}/nbt.mjs`));
@@ -28,6 +29,8 @@ function refused(call) {
     assert.fail('it is done');
 }
 
+const numbers = testRows(nbt);
+
 /** The module's own calls, and its memory. */
 async function raw() {
     const { exports } = (await WebAssembly.instantiate(wasm, {})).instance;
@@ -46,185 +49,75 @@ test('a module has each call of nbt.h', async () => {
     }
 });
 
-test('each status has words', () => {
-    for (const number of Object.values(Status)) if (number !== 255) assert.match(nbt.words(number), /^[a-z]/);
-    assert.deepEqual(refused(() => nbt.words(3)), ['UNKNOWN_STATUS', null]);
-});
-
-test('names', () => {
-    for (const text of ['FRED<20>', 'JOE<00>.NETBIOS.COM', '*<00>', String.raw`a\2e\ff<1b>.x`]) assert.equal(nbt.text(nbt.spell(text)), text);
-    assert.deepEqual(refused(() => nbt.spell('FRED')), ['BAD_TEXT', 4]);
-    assert.deepEqual(refused(() => nbt.spell('\ud800')), ['BAD_TEXT', 0]);
-    assert.deepEqual(refused(() => nbt.spell('')), ['BAD_TEXT', 0]);
-    assert.deepEqual(refused(() => nbt.spell('SIXTEEN_LETTERS_<20>')), ['LONG_TEXT', null]);
-    assert.deepEqual(refused(() => nbt.text(new Uint8Array())), ['NAME_TRUNCATED', 0]);
-    assert.deepEqual(refused(() => nbt.text(Uint8Array.of(0xc0, 0))), ['NAME_POINTER', 0]);
-    assert.deepEqual(refused(() => nbt.text([...nbt.spell('FRED<20>'), 0].length && Uint8Array.of(...nbt.spell('FRED<20>'), 0))), ['NAME_TRAILING_BYTES', 34]);
-});
-
-test('show', () => {
-    assert.equal(nbt.show(139, Uint8Array.of(0x85, 0, 0, 0)), 'keepalive used=4\n');
-    assert.equal(nbt.show(138, new Uint8Array()), 'refused truncated 0\n');
-    const long = nbt.show(139, nbt.writeSession(0, new Uint8Array(131_071)));
-    assert.match(long, /^message .*used=131075\n$/s);
-    assert.ok(long.length > 262_142);
-    assert.equal(nbt.show(139, Uint8Array.of(0x85, 0, 0, 0)), 'keepalive used=4\n');
-});
-
-test('json and brief', () => {
-    const query = nbt.request('query', { identifier: 3, name: 'FRED<20>' });
-    assert.equal(nbt.brief(137, query), 'asks for FRED<20>');
-    assert.deepEqual(JSON.parse(nbt.json(139, Uint8Array.of(0x83, 0, 0, 1, 0x82))), { kind: 'negative', code: '82', used: 5 });
-    assert.deepEqual(JSON.parse(nbt.json(138, new Uint8Array())), { refused: 'truncated 0', at: 0 });
-    assert.equal(nbt.brief(138, new Uint8Array()), 'refused: truncated, at byte 0');
-    assert.equal(JSON.parse(nbt.json(137, query)).questions[0].name, 'FRED<20>');
-    const long = Uint8Array.of(0, 0, 0xff, 0xff, ...new Uint8Array(65_535));
-    assert.equal(JSON.parse(nbt.json(139, long)).data.length, 2 * 65_535);
-});
-
 test('version', () => {
     assert.equal(nbt.version(), /NBT_VERSION "(.*)"/.exec(readFileSync(header, 'utf8'))[1]);
 });
 
-test('datagrams', () => {
-    const pieces = nbt.writeDatagram(sent);
-    assert.equal(pieces.length, 3);
-    const read = nbt.readDatagram(pieces[1]);
-    assert.deepEqual(read, {
-        type: 0x11, flags: 1, identifier: 1, address: '10.0.0.5', port: 138, offset: 4, used: 86, source: 'JOE<00>', destination: 'FRED<20>',
-        data: bytes('o, F'),
-    });
-    const later = Uint8Array.of(9, 9, 9, ...pieces[1]);
-    assert.deepEqual(nbt.readDatagram(later, 3), read);
-    assert.deepEqual(nbt.readDatagram(new DataView(later.buffer, 3)), read);
-    assert.deepEqual(refused(() => nbt.readDatagram(later.subarray(0, 63), 3)), ['TRUNCATED', 60]);
-    assert.throws(() => nbt.readDatagram(later, later.length + 1), RangeError);
-    assert.deepEqual(nbt.readDatagram(hex('130000010a000005008a82')), {
-        type: 0x13, flags: 0, identifier: 1, address: '10.0.0.5', port: 138, offset: 0, used: 11, source: null, destination: null,
-        data: Uint8Array.of(0x82),
-    });
-    assert.deepEqual(refused(() => nbt.writeDatagram({ ...sent, type: 0x13 })), ['UNKNOWN_TYPE', null]);
+test('each status has a row', () => {
+    assert.deepEqual(numbers, Object.values(Status));
+});
+
+test('what an error has', () => {
+    assert.deepEqual(refused(() => nbt.readSession(hex('000000056865'))), ['MORE', 3]);
+    assert.deepEqual(refused(() => nbt.readDatagramFront(new Uint8Array(9))), ['TRUNCATED', 9]);
     assert.deepEqual(refused(() => nbt.writeDatagram({ ...sent, most: 0 })), ['ZERO_PIECE', null]);
-    assert.deepEqual(refused(() => nbt.writeDatagram({ ...sent, data: new Uint8Array(65_536) })), ['LONG_DATA', null]);
-    assert.deepEqual(refused(() => nbt.writeDatagram({ ...sent, destination: 'FRED<2' })), ['DESTINATION_BAD_TEXT', 6]);
+    assert.deepEqual(refused(() => nbt.spell('\ud800')), ['BAD_TEXT', 0]);
+    const front = nbt.readServiceFront(nbt.request('query', { identifier: 3, name: 'FRED<20>' }).subarray(0, 48));
+    assert.ok(front.fault instanceof NbtError && front.fault.status === 'TRUNCATED' && front.fault.at === 48);
 });
 
-test('fronts of datagrams', () => {
-    const whole = nbt.writeDatagram({ ...sent, most: 99 })[0], later = Uint8Array.of(9, ...whole);
-    const front = { type: 0x11, flags: 2, identifier: 1, address: '10.0.0.5', port: 138, offset: 0, source: 'JOE<00>', destination: 'FRED<20>' };
-    assert.deepEqual(nbt.readDatagramFront(later, 1), front);
-    for (let length = 0; length <= whole.length; length += 1) {
-        const cut = whole.subarray(0, length);
-        if (length < 14) assert.deepEqual(refused(() => nbt.readDatagramFront(cut)), ['TRUNCATED', length]);
-        else assert.deepEqual(nbt.readDatagramFront(cut), { ...front, source: length < 48 ? null : 'JOE<00>', destination: length < 82 ? null : 'FRED<20>' });
+test('packets from an offset on', () => {
+    const session = nbt.writeSession(0x81, Uint8Array.of(...nbt.spell('FRED<20>'), ...nbt.spell('JOE<00>'))), [datagram] = nbt.writeDatagram(sent);
+    const query = nbt.request('query', { identifier: 3, name: 'FRED<20>' });
+    for (const [call, packet] of [[nbt.readService, query], [nbt.readServiceFront, query], [nbt.readDatagram, datagram], [nbt.readDatagramFront, datagram],
+        [nbt.readSession, session], [nbt.readSessionFront, session]]) {
+        const later = Uint8Array.of(9, 9, 9, ...packet);
+        for (const given of [[later, 3], [new DataView(later.buffer, 3)], [new DataView(later.buffer, 1), 2]]) assert.deepEqual(call(...given), call(packet));
+        assert.throws(() => call(later, later.length + 1), RangeError);
+        assert.throws(() => call('0000'), TypeError);
     }
-    assert.deepEqual(nbt.readDatagramFront(hex('17030001ffffffffffff')), {
-        type: 0x17, flags: 3, identifier: 1, address: '255.255.255.255', port: 65_535, offset: 0, source: null, destination: null,
-    });
-    assert.equal(nbt.readDatagramFront(nbt.writeDatagramQuery({ type: 0x14, identifier: 1, address: 5, name: 'FRED<20>' })).destination, null);
-    assert.throws(() => nbt.readDatagramFront(whole, whole.length + 1), RangeError);
+    assert.deepEqual(refused(() => nbt.readDatagram(Uint8Array.of(9, 9, 9, ...datagram.subarray(0, 60)), 3)), ['TRUNCATED', 60]);
 });
 
-test('errors and queries', () => {
-    const from = { identifier: 7, address: '10.0.0.9' };
-    assert.deepEqual(nbt.writeDatagramError({ ...from, code: 0x82 }), hex('130200070a000009008a82'));
-    assert.deepEqual(nbt.writeDatagramError({ identifier: 0xffff, address: 0xffff_ffff, port: 0xffff, code: 0xff }), hex('1302ffffffffffffffffff'));
-    for (const odd of [{ code: 256 }, { identifier: 65_536 }, { address: '10.0.0' }, { port: -1 }, { code: undefined }]) {
-        assert.throws(() => nbt.writeDatagramError({ ...from, code: 0x82, ...odd }), RangeError);
-    }
-    for (const type of [0x14, 0x15, 0x16]) {
-        const packet = nbt.writeDatagramQuery({ ...from, type, name: 'FRED<20>.NETBIOS.COM' });
-        assert.deepEqual(packet, Uint8Array.of(type, 2, 0, 7, 10, 0, 0, 9, 0, 138, ...nbt.spell('FRED<20>.NETBIOS.COM')));
-        assert.deepEqual([nbt.readDatagram(packet).type, nbt.readDatagram(packet).destination], [type, 'FRED<20>.NETBIOS.COM']);
-    }
-    const query = { ...from, type: 0x14, name: 'FRED<20>' };
-    for (const [odd, ...wanted] of [
-        [{ type: 0x13 }, 'UNKNOWN_TYPE', null], [{ type: 0x17, name: 'FRED' }, 'UNKNOWN_TYPE', null], [{ name: 'FRED' }, 'BAD_TEXT', 4],
-        [{ name: 'SIXTEEN_LETTERS_<20>' }, 'LONG_TEXT', null],
-    ]) {
-        assert.deepEqual(refused(() => nbt.writeDatagramQuery({ ...query, ...odd })), wanted);
-    }
-    assert.throws(() => nbt.writeDatagramQuery({ ...query, name: undefined }), TypeError);
-    assert.throws(() => nbt.writeDatagramQuery({ ...query, type: 256 }), RangeError);
+test('what is left out has a usual value', () => {
+    assert.deepEqual(nbt.writeDatagram({ ...sent, most: undefined, data: new Uint8Array(513) }).length, 2);
+    assert.equal(nbt.readDatagram(nbt.writeDatagram(sent)[0]).port, 138);
+    assert.deepEqual(nbt.writeDatagramError({ identifier: 7, address: '10.0.0.9', code: 0x82 }), hex('130200070a000009008a82'));
+    assert.equal(nbt.readDatagram(nbt.writeDatagramQuery({ type: 0x14, identifier: 1, address: 5, name: 'FRED<20>' })).port, 138);
+    assert.deepEqual(nbt.writeSession(0x85), hex('85000000'));
+    const plain = { identifier: 3, name: 'FRED<20>' }, none = { broadcast: false, timeToLive: 0, flags: 0, address: 0 };
+    assert.deepEqual(nbt.request('release', plain), nbt.request('release', { ...plain, ...none }));
+    assert.deepEqual(nbt.response({ ...plain, word: 0x8503, type: 10 }), nbt.response({ ...plain, word: 0x8503, type: 10, timeToLive: 0, data: new Uint8Array() }));
+    const keys = (count) => Array.from({ length: count }, (_, i) => `0a000005008a${i.toString(16).padStart(4, '0')}00`);
+    const table = (count) => hex(`4e425432${count.toString(16).padStart(8, '0')}${keys(count).join('')}`), station = new nbt.Station([], '10.0.0.9');
+    assert.deepEqual(nbt.merge(table(65_535), table(0)), table(65_535));
+    assert.deepEqual(station.absorb(0, table(1_024)), []);
+    assert.deepEqual(refused(() => station.absorb(0, table(1_025))), ['TABLE_FULL', null]);
+    station.close();
 });
 
-test('session packets', () => {
-    const packet = nbt.writeSession(0, bytes('hello'));
-    const none = { called: null, calling: null, retarget: null };
-    assert.deepEqual(nbt.readSession(packet), { type: 0, body: bytes('hello'), used: 9, ...none });
-    const body = Uint8Array.of(...nbt.spell(String.raw`FRED<20>.a\00\2eb`), ...nbt.spell('JOE<00>'));
-    const request = nbt.writeSession(0x81, body), later = Uint8Array.of(9, ...request, 9);
-    const names = { called: String.raw`FRED<20>.a\00\2eb`, calling: 'JOE<00>' };
-    assert.deepEqual(nbt.readSession(later, 1), { ...none, type: 0x81, body, used: request.length, ...names });
-    const longest = `FRED<20>.${[63, 63, 63, 28].map((length) => 'A'.repeat(length)).join('.')}`;
-    nbt.show(139, nbt.writeSession(0, new Uint8Array(131_071)));
-    const both = nbt.readSession(nbt.writeSession(0x81, Uint8Array.of(...nbt.spell(longest), ...nbt.spell(longest))));
-    assert.deepEqual([both.used, both.called, both.calling], [514, longest, longest]);
-    for (const [digits, address, port] of [['0a000007008b', '10.0.0.7', 139], ['ffffffffffff', '255.255.255.255', 65_535]]) {
-        assert.deepEqual(nbt.readSession(nbt.writeSession(0x84, hex(digits))), { type: 0x84, body: hex(digits), used: 10, ...none, retarget: { address, port } });
+test('names of a station', () => {
+    const names = Array.from({ length: 255 }, (_, i) => `${i}<20>`);
+    for (const [given, ...wanted] of [[names, 'TOO_MANY_NAMES', names.slice(0, 254).join(' ').length + 1], [['FRED<20> JOE<00>'], 'BAD_TEXT', 8], [[''], 'BAD_TEXT', 0],
+        [['FRED<20>', ''], 'BAD_TEXT', 9]]) {
+        assert.deepEqual(refused(() => new nbt.Station(given, '10.0.0.9')), wanted);
     }
-    assert.deepEqual(nbt.readSessionFront(later, 1), { type: 0x81, flags: 0, bodyLength: body.length });
-    assert.deepEqual(nbt.readSessionFront(hex('7fff0203')), { type: 0x7f, flags: 0xff, bodyLength: 0x1_0203 });
-    assert.deepEqual(refused(() => nbt.readSessionFront(hex('00000005'), 2)), ['MORE', 2]);
-    assert.deepEqual(refused(() => nbt.readSession(request.subarray(0, 40))), ['MORE', request.length - 40]);
-    assert.deepEqual(refused(() => nbt.readSession(packet.subarray(0, 6))), ['MORE', 3]);
-    assert.deepEqual(refused(() => nbt.readSession(new Uint8Array())), ['MORE', 4]);
-    assert.deepEqual(refused(() => nbt.writeSession(0x85, bytes('x'))), ['BAD_LENGTH', null]);
+    for (const given of [names.slice(0, 254), new Set(['FRED<20>', 'ANN<20>'])]) new nbt.Station(given, 0x0a00000a).close();
 });
 
-test('requests', () => {
-    for (const kind of ['query', 'nodeStatus', 'registration', 'refresh', 'release']) {
-        const packet = nbt.request(kind, { identifier: 3, name: 'FRED<20>', broadcast: true, timeToLive: 300, flags: 0x6000, address: '10.0.0.5' });
-        assert.match(nbt.show(137, packet), /^id=0003 .*FRED<20>/s);
-    }
-    assert.throws(() => nbt.request('toString', { identifier: 0, name: 'FRED<20>' }), RangeError);
-    assert.deepEqual(refused(() => nbt.request('query', { identifier: 0, name: '' })), ['BAD_TEXT', 0]);
-});
-
-test('responses', () => {
-    const claimed = { identifier: 3, word: 0xad86, name: 'FRED<20>.NETBIOS.COM', type: 0x20, timeToLive: 0xffff_ffff, data: hex('60000a000005') };
-    const said = (word, name, rest) => Uint8Array.of(0, 3, ...hex(word), 0, 0, 0, 1, 0, 0, 0, 0, ...nbt.spell(name), ...hex(rest));
-    assert.deepEqual(nbt.response(claimed), said('ad86', claimed.name, '00200001ffffffff000660000a000005'));
-    assert.deepEqual(nbt.response({ identifier: 3, word: 0x8583, name: 'FRED<20>', type: 0x0a }), said('8583', 'FRED<20>', '000a0001000000000000'));
-    const entry = JSON.parse(nbt.json(137, nbt.response(claimed))).answers[0];
-    assert.deepEqual([entry.name, entry.ttl, entry.entries[0].address], [claimed.name, 0xffff_ffff, '10.0.0.5']);
-    const most = nbt.response({ ...claimed, data: new Uint8Array(65_535) });
-    assert.equal(most.length, 12 + nbt.spell(claimed.name).length + 10 + 65_535);
-    for (const [odd, ...wanted] of [
-        [{ name: 'FRED' }, 'BAD_TEXT', 4], [{ name: 'SIXTEEN_LETTERS_<20>' }, 'LONG_TEXT', null], [{ data: new Uint8Array(65_536) }, 'LONG_DATA', null],
-        [{ type: 2, data: hex('026e') }, 'NAME_TRUNCATED', 2], [{ type: 2, data: hex('c00c') }, 'NAME_POINTER', 0],
-        [{ type: 2, data: hex('0161000000') }, 'NAME_TRAILING_BYTES', 3],
-    ]) {
-        assert.deepEqual(refused(() => nbt.response({ ...claimed, ...odd })), wanted);
-    }
-    for (const odd of [{ identifier: -1 }, { word: 65_536 }, { type: undefined }, { timeToLive: 2 ** 32 }]) {
-        assert.throws(() => nbt.response({ ...claimed, ...odd }), RangeError);
-    }
-    for (const odd of [{ name: undefined }, { data: '60' }]) assert.throws(() => nbt.response({ ...claimed, ...odd }), TypeError);
-});
-
-test('names of servers', () => {
-    // RDATA stands at 56, behind a name at 12 that a pointer may lead to.
-    const response = (data) => Uint8Array.of(...hex('000385800000000100000000'), ...nbt.spell('FRED<20>'), ...hex('0002000100000007'), 0, data.length, ...data);
-    const name = [...nbt.spell('FRED<20>')], label = [63, ...new Uint8Array(63).fill(97)], longest = [...label, ...label, ...label, 61, ...new Uint8Array(61).fill(98), 0];
-    for (const [data, wanted] of [
-        [[...bytes('\x02ns\0')], [...bytes('\x02ns\0')]], [[...bytes('\x03a.b'), 0xc0, 0x0c], [...bytes('\x03a.b'), ...name]],
-        [[0xc0, 0x0c], name], [[0], [0]], [longest, longest],
-    ]) {
-        const payload = response(data);
-        assert.deepEqual(nbt.readDomain(payload, 56, data.length), Uint8Array.from(wanted));
-        assert.deepEqual(refused(() => nbt.readDomain(payload, 56, data.length + 1)), ['NAME_RDATA', 56]);
-    }
-    assert.equal(nbt.text(nbt.readDomain(response([0xc0, 0x0c]), 56, 2)), 'FRED<20>');
-    for (const [data, ...wanted] of [
-        [[...bytes('\x02ns')], 'NAME_TRUNCATED', 59], [[0xc1, 0xff], 'NAME_BAD_POINTER', 56], [[0x80], 'NAME_RESERVED_LABEL', 56],
-        [[...label, ...label, ...label, ...label], 'NAME_LONG', 56 + 192], [[2, 110, 115, 0, 0], 'NAME_RDATA', 56],
-    ]) {
-        assert.deepEqual(refused(() => nbt.readDomain(response(data), 56, data.length)), wanted);
-    }
-    assert.deepEqual(refused(() => nbt.readDomain(new Uint8Array(), Number.MAX_SAFE_INTEGER, 0)), ['NAME_TRUNCATED', Number.MAX_SAFE_INTEGER]);
-    for (const place of [-1, 0.5, 2 ** 53, '56', 56n, undefined]) assert.throws(() => nbt.readDomain(response([0]), place, 1), RangeError);
-    assert.throws(() => nbt.readDomain('c00c', 0, 2), TypeError);
+test('what a station answers', () => {
+    const station = new nbt.Station(['FRED<20>'], '10.0.0.9'), pieces = nbt.writeDatagram(sent), key = { address: '10.0.0.5', port: 138, identifier: 1 };
+    const none = { address: null, port: 0, identifier: 0 }, kept = { outcome: 'KEPT', ...key, delivery: null, error: null, refusal: null };
+    assert.deepEqual([station.take(0, pieces[2]), station.take(1n, pieces[1])], [kept, kept]);
+    const delivery = { type: 0x11, ...key, source: 'JOE<00>', destination: 'FRED<20>', data: bytes('hello, FRED') };
+    assert.deepEqual(station.take(2n, pieces[0]), { ...kept, outcome: 'DELIVERED', delivery });
+    assert.deepEqual(station.take(3, hex('130000010a000005008a82')), { ...kept, ...none, outcome: 'OTHER' });
+    const { refusal, ...rest } = station.take(3, pieces[0].subarray(0, 40));
+    assert.deepEqual([rest, refusal.status, refusal.at], [{ outcome: 'REFUSED', ...none, delivery: null, error: null }, 'TRUNCATED', 40]);
+    station.close();
+    station.close();
+    assert.throws(() => station.list(), /closed/);
+    assert.throws(() => station.take(0, pieces[0]), /closed/);
 });
 
 /** A payload with a chain of so many pointers in the RDATA of its first record, and so many records of servers that point to its end. */
@@ -240,117 +133,10 @@ function chained(pointers, records) {
     return Uint8Array.from(payload);
 }
 
-test('packets of the name service', () => {
-    const claim = nbt.request('registration', { identifier: 2, name: 'FRED<20>', broadcast: true, timeToLive: 300_000, flags: 0x6000, address: '10.0.0.6' });
-    const spelling = nbt.spell('FRED<20>'), named = { spelling, isNetbios: true, type: 0x20, classNumber: 1 };
-    const nothing = { addresses: null, node: null, server: null };
-    const addresses = [{ address: '10.0.0.6', flags: 0x6000 }];
-    const packet = {
-        identifier: 2, word: 0x2910, counts: [1, 0, 0, 1], questions: [named], used: claim.length,
-        records: [{ ...named, ...nothing, section: 'additional', timeToLive: 300_000, data: hex('60000a000006'), addresses }],
-    };
-    assert.deepEqual(nbt.readService(Uint8Array.of(9, ...claim, 9), 1), packet);
-    assert.deepEqual(nbt.readServiceFront(claim), { ...packet, fault: null });
-    const cut = nbt.readServiceFront(claim.subarray(0, 55));
-    assert.deepEqual([cut.questions, cut.records, cut.used, cut.fault.status, cut.fault.at], [[named], [], 50, 'TRUNCATED', 55]);
-    assert.deepEqual(refused(() => nbt.readService(claim.subarray(0, 55))), ['TRUNCATED', 55]);
-    for (const call of [nbt.readService, nbt.readServiceFront]) assert.deepEqual(refused(() => call(claim.subarray(0, 11))), ['TRUNCATED', 11]);
-    const answer = (type, data) => nbt.readService(nbt.response({ identifier: 3, word: 0x8400, name: 'FRED<20>', type, data })).records[0];
-    const node = hex(`02${'41'.repeat(16)}8400${'42'.repeat(16)}0400`), unit = hex('00005e005301');
-    const names = [{ name: bytes('A'.repeat(16)), flags: 0x8400 }, { name: bytes('B'.repeat(16)), flags: 0x0400 }];
-    assert.deepEqual(answer(0x21, Uint8Array.of(...node, ...unit, ...new Uint8Array(40))).node, { names, unit });
-    assert.deepEqual(answer(0x21, node).node, { names, unit: null });
-    for (const [type, data] of [[0x21, node.subarray(0, 30)], [0x20, new Uint8Array(5)], [10, new Uint8Array(6)]]) {
-        assert.deepEqual(answer(type, data), { ...named, ...nothing, type, section: 'answer', timeToLive: 0, data });
-    }
-    assert.deepEqual(answer(2, spelling).server, spelling);
-    assert.throws(() => nbt.readService('0000'), TypeError);
-});
-
 test('a chain of pointers is followed once for many records', () => {
     const payload = chained(8_176, 3_776), { records, used } = nbt.readService(payload);
     assert.deepEqual([records.length, used], [3_777, payload.length]);
     assert.ok(records.slice(1).every(({ server }) => server.length === 1 && server[0] === 0));
-});
-
-test('a station', () => {
-    const station = new nbt.Station(['FRED<20>'], '10.0.0.9'), pieces = nbt.writeDatagram(sent).reverse();
-    const key = { address: '10.0.0.5', port: 138, identifier: 1 };
-    const kept = { outcome: 'KEPT', ...key, delivery: null, error: null, refusal: null };
-    assert.deepEqual([station.take(0, pieces[0]), station.take(0, pieces[1]), station.take(1, pieces[0])], [kept, kept, kept]);
-    const delivery = { type: 0x11, ...key, source: 'JOE<00>', destination: 'FRED<20>', data: bytes('hello, FRED') };
-    assert.deepEqual(station.take(2n, pieces[2]), { ...kept, outcome: 'DELIVERED', delivery });
-    assert.equal(nbt.list(station.save()), '10.0.0.5:138/0001 whole group JOE<00> FRED<20> 68656c6c6f2c2046524544\n');
-    assert.equal(station.list(), nbt.list(station.save()));
-    const refusal = station.take(3, pieces[0].subarray(0, 40));
-    assert.deepEqual([refusal.outcome, refusal.refusal.status, refusal.refusal.at], ['REFUSED', 'TRUNCATED', 40]);
-    assert.equal(station.take(3, Uint8Array.of(0x20, ...new Uint8Array(9))).refusal.at, null);
-    assert.equal(station.take(3, hex('130000010a000005008a82')).outcome, 'OTHER');
-    const unheard = station.take(3, nbt.writeDatagram({ ...sent, identifier: 2, type: 0x10, destination: 'ANN<20>', most: 99 })[0]);
-    assert.deepEqual([unheard.outcome, unheard.error.length], ['UNHEARD', 11]);
-    const other = new nbt.Station(new Set(['FRED<20>', 'ANN<20>']), 0x0a00000a);
-    assert.deepEqual(other.absorb(0, station.save()).map(({ identifier, data }) => [identifier, data]), [[1, bytes('hello, FRED')], [2, bytes('hello, FRED')]]);
-    assert.deepEqual(other.absorb(0, station.save()), []);
-    assert.deepEqual(nbt.merge(other.save(), station.save()), station.save());
-    assert.equal(station.tick(0xffff_ffff_ffff_ffffn), 2);
-    assert.equal(nbt.list(station.save()), '');
-    assert.equal(station.list(), '');
-    station.close();
-    station.close();
-    assert.throws(() => station.list(), /closed/);
-    assert.throws(() => station.take(0, pieces[0]), /closed/);
-    other.close();
-});
-
-/** A table in which these keys of 10.0.0.5:138 are spoilt. */
-const spoilt = (...identifiers) => hex(`4e425432${identifiers.length.toString(16).padStart(8, '0')}${identifiers.map((it) => `0a000005008a${it.toString(16).padStart(4, '0')}00`).join('')}`);
-
-test('tables as objects', () => {
-    const station = new nbt.Station([], '10.0.0.9');
-    assert.equal(nbt.tableJson(station.save()), '');
-    station.take(0, nbt.writeDatagram(sent)[1]);
-    const [first, second] = nbt.tableJson(nbt.merge(station.save(), spoilt(9))).split('\n').slice(0, 2).map((line) => JSON.parse(line));
-    const names = { kind: 'group', source: 'JOE<00>', destination: 'FRED<20>' };
-    assert.deepEqual(first, { key: '10.0.0.5:138/0001', state: 'partial', ...names, held: 4, end: null, runs: 1, places: [[4, 8]], more: 8 });
-    assert.deepEqual(second, { key: '10.0.0.5:138/0009', state: 'spoilt' });
-    for (const [table, ...wanted] of [['4e425433', 'TABLE_BAD_MAGIC', null], ['4e425432', 'TABLE_TRUNCATED', null], ['4e4254320000000021', 'TABLE_NOT_CANONICAL', 8]]) {
-        assert.deepEqual(refused(() => nbt.tableJson(hex(table))), wanted);
-    }
-    assert.throws(() => nbt.tableJson('NBT2'), TypeError);
-    station.close();
-});
-
-test('where tables differ', () => {
-    assert.equal(nbt.differ(spoilt(), hex('4e42543100000000')), null);
-    assert.equal(nbt.differ(spoilt(1, 2), spoilt(1, 2)), null);
-    for (const [first, second, identifier] of [[[0xffff], [], 0xffff], [[], [3], 3], [[1, 3], [1, 2], 2], [[1, 2], [1, 3], 2]]) {
-        assert.deepEqual(nbt.differ(spoilt(...first), spoilt(...second)), { address: '10.0.0.5', port: 138, identifier });
-    }
-    const least = hex(`4e42543200000001${'00'.repeat(9)}`);
-    assert.deepEqual(nbt.differ(least, spoilt()), { address: '0.0.0.0', port: 0, identifier: 0 });
-    assert.deepEqual(refused(() => nbt.differ(bytes('NBT3'), bytes('NBT3'))), ['TABLE_BAD_MAGIC', null]);
-    assert.deepEqual(refused(() => nbt.differ(spoilt(2, 1), spoilt())), ['TABLE_NOT_CANONICAL', 17]);
-    assert.deepEqual(refused(() => nbt.differ(spoilt(), bytes('NBT2'))), ['SECOND_TRUNCATED', null]);
-    assert.deepEqual(refused(() => nbt.differ(spoilt(), spoilt(2, 1))), ['SECOND_NOT_CANONICAL', 17]);
-});
-
-test('what a station refuses', () => {
-    for (const [names, ...wanted] of [
-        [['FRED<20>', 'FRED<20>'], 'NAME_PRESENT', 9], [['FRED'], 'BAD_TEXT', 4], [['FRED<20> JOE<00>'], 'BAD_TEXT', 8], [[''], 'BAD_TEXT', 0],
-        [Array.from({ length: 255 }, (_, i) => `${i}<20>`), 'TOO_MANY_NAMES', 1_919],
-    ]) {
-        const [status, at] = refused(() => new nbt.Station(names, '10.0.0.9'));
-        assert.equal(status, wanted[0]);
-        if (status !== 'TOO_MANY_NAMES') assert.equal(at, wanted[1]);
-    }
-    const small = new nbt.Station([], '10.0.0.9', { keys: 1, perSource: 1 });
-    const [first, second] = [1, 2].map((identifier) => nbt.writeDatagram({ ...sent, identifier, most: 99 })[0]);
-    assert.equal(small.take(0, first).outcome, 'UNHEARD');
-    const saved = small.save();
-    assert.deepEqual(refused(() => small.take(0, second)), ['FULL_SOURCE', null]);
-    assert.deepEqual(refused(() => small.absorb(0, bytes('NBT3'))), ['TABLE_BAD_MAGIC', null]);
-    assert.deepEqual(small.save(), saved);
-    small.close();
 });
 
 test('odd arguments', () => {
@@ -372,6 +158,21 @@ test('odd arguments', () => {
     }
     assert.throws(() => nbt.Station(['FRED<20>'], 0), TypeError);
     assert.throws(() => nbt.Station.prototype.take.call({}, 0, good), TypeError);
+    const from = { identifier: 7, address: '10.0.0.9', word: 0x8500, code: 0x82, type: 0x14, name: 'FRED<20>' };
+    for (const [call, ...odd] of [
+        [nbt.writeDatagramError, { code: 256 }, { identifier: 65_536 }, { address: '10.0.0' }, { port: -1 }, { code: undefined }], [nbt.writeDatagramQuery, { type: 256 }],
+        [nbt.response, { identifier: -1 }, { word: 65_536 }, { type: undefined }, { timeToLive: 2 ** 32 }],
+    ]) {
+        for (const each of odd) assert.throws(() => call({ ...from, ...each }), RangeError);
+        if (call !== nbt.writeDatagramError) assert.throws(() => call({ ...from, name: undefined }), TypeError);
+    }
+    assert.throws(() => nbt.response({ ...from, data: '60' }), TypeError);
+    assert.throws(() => nbt.request('toString', from), RangeError);
+    for (const place of [-1, 0.5, 2 ** 53, '56', 56n, undefined]) assert.throws(() => nbt.readDomain(good, place, 1), RangeError);
+    for (const call of [nbt.readDomain, nbt.tableJson]) assert.throws(() => call('c00c', 0, 2), TypeError);
+    for (const line of ['tick 7\n', '# an office\n', 'tick 7\r']) assert.deepEqual(refused(() => nbt.readLine(line)), ['BAD_LINE', null]);
+    for (const line of [null, 7, ['tick 7']]) assert.throws(() => nbt.readLine(line), TypeError);
+    assert.deepEqual(nbt.readLine(new Uint8Array(bytes('tick 9')).buffer), { kind: 'tick', moment: 9n });
     for (const limit of [-1, '5', NaN, 2 ** 60]) assert.rejects(load({ limit }), RangeError);
 });
 
@@ -614,40 +415,6 @@ test('memory: its limit, and requests that no memory has', async () => {
     assert.equal(heap.heap_take(60_000n), 0n);
     heap.heap_give_back(taken[1]);
     assert.ok(heap.heap_take(900n) > 0n);
-});
-
-/** What a line of a capture says, in the words of lines.txt. */
-function said(line) {
-    let read;
-    try {
-        read = nbt.readLine(line);
-    } catch (error) {
-        assert.deepEqual([error.status, error.at], ['BAD_LINE', null]);
-        return 'refused';
-    }
-    if (read === null) return 'blank';
-    const { kind, port, moment, payload } = read;
-    return [kind, ...(kind === 'tick' ? [moment] : [port, moment, Buffer.from(payload).toString('hex')])].join(' ').trimEnd();
-}
-
-test('the lines of captures that the tests of each language read', () => {
-    const cases = readFileSync(new URL('../../rust/tests/calls/lines.txt', import.meta.url), 'latin1').trimEnd().split('\n');
-    for (const each of cases) {
-        const [, wanted, line] = each.match(/^(.*?) \[(.*)\]$/);
-        for (const given of [line, bytes(line), bytes(line).buffer]) assert.equal(said(given), wanted, each);
-    }
-    assert.equal(cases.length, 32);
-    assert.deepEqual(nbt.readLine('138 7 00ff'), { kind: 'packet', port: 138, moment: 7n, payload: hex('00ff') });
-    assert.deepEqual(nbt.readLine('tick 9'), { kind: 'tick', moment: 9n });
-});
-
-test('the longest lines of captures', () => {
-    assert.deepEqual(nbt.readLine(`137 0 ${'5a'.repeat(131_097)}`).payload, new Uint8Array(131_097).fill(0x5a));
-    assert.equal(said(`137 0 ${'5a'.repeat(131_098)}`), 'refused');
-    assert.equal(said(`#${'x'.repeat(262_199)}`), 'blank');
-    assert.equal(said(`#${'x'.repeat(262_200)}`), 'refused');
-    for (const line of ['tick 7\n', '# an office\n', 'tick 7\r']) assert.equal(said(line), 'refused');
-    for (const line of [null, 7, ['tick 7']]) assert.throws(() => nbt.readLine(line), TypeError);
 });
 
 /** A module that does something after each call of a name. */

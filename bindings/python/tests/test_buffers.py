@@ -40,7 +40,11 @@ class Offsets(unittest.TestCase):
                 self.assertEqual((packet.type, packet.body, packet.used), (SessionType.MESSAGE, b'hello', 9))
                 self.assertEqual(nbt.Datagram.read(buffer, offset=11), nbt.Datagram.read(DATAGRAM))
                 claim = 11 + len(DATAGRAM)
-                self.assertEqual(nbt.ServicePacket.read(buffer, offset=claim), nbt.ServicePacket.read(CLAIM))
+                for one in nbt.ServicePacket.read, nbt.ServicePacket.read_front:
+                    self.assertEqual(one(buffer, offset=claim), one(CLAIM))
+                for one, start in (nbt.SessionPacket.read_front, 2), (nbt.Datagram.read_front, 11):
+                    self.assertEqual(one(buffer, offset=start), one(bytes(buffer)[start:]))
+                self.assertEqual(nbt.text(kind(DATAGRAM[14:48])), 'JOE<00>')
 
     def test_every_second_byte(self):
         """A view whose bytes don't stand in a row."""
@@ -189,9 +193,10 @@ class Words(unittest.TestCase):
         self.assertEqual(nbt.query(3, 'FRED<20>', 1), nbt.query(3, 'FRED<20>', True))
 
     def test_no_buffer(self):
-        for call in (lambda: nbt.text('FRED'), lambda: nbt.SessionPacket.read('FRED'), lambda: nbt.show(139, 'FRED')):
-            with self.assertRaisesRegex(TypeError, '^str is no buffer of bytes$'):
-                call()
+        for call in (nbt.text, nbt.ServicePacket.read, nbt.ServicePacket.read_front, nbt.Datagram.read_front, nbt.SessionPacket.read,
+                     nbt.SessionPacket.read_front, lambda given: nbt.show(139, given)):
+            self.assertRaisesRegex(TypeError, '^str is no buffer of bytes$', call, 'FRED')
+        self.assertRaises(TypeError, nbt.text, 7)
 
 
 if __name__ == '__main__':

@@ -6,7 +6,7 @@ use std::fmt::Write as _;
 use std::io::{self, BufRead, Write as _};
 
 use nbt::datagram::{self, Body, Header};
-use nbt::service::{self, Packet, Rdata, Record, Section};
+use nbt::service::{self, Answer, Packet, Rdata, Record, Response, Section};
 use nbt::session::{self, Next};
 use nbt::{Name, Spelling};
 
@@ -15,16 +15,18 @@ fn main() -> Result<(), Box<dyn Error>> {
     for (index, line) in io::stdin().lock().lines().enumerate() {
         let line = line?;
         let (port, digits) = line.split_once(' ').ok_or("a port and digits")?;
-        let payload = bytes_of(digits)?;
-        let said = match port {
-            "137" => service_lines(&payload),
-            "138" => Ok(datagram_lines(&payload)),
-            _ => Ok(session_lines(&payload)),
-        };
-        let said = said.unwrap_or_else(|error| refused(&error));
-        writeln!(out, "{} {port} {said}", index + 1)?;
+        writeln!(out, "{} {port} {}", index + 1, lines(port.parse()?, &bytes_of(digits)?))?;
     }
     Ok(out.flush()?)
+}
+
+/// The lines of a payload that came to a port.
+pub fn lines(port: u16, payload: &[u8]) -> String {
+    match port {
+        137 => service_lines(payload),
+        138 => datagram_lines(payload),
+        _ => session_lines(payload),
+    }
 }
 
 /// The number of a status, and its place.
@@ -34,7 +36,7 @@ fn refused(error: &nbt::Error) -> String {
 }
 
 /// The lines of a payload of port 137: its packet, and what stands of it.
-fn service_lines(payload: &[u8]) -> nbt::Result<String> {
+fn service_lines(payload: &[u8]) -> String {
     let front = service::read_front(payload);
     let mut said = match service::read(payload) {
         Ok(_) => "whole".to_string(),
@@ -44,7 +46,7 @@ fn service_lines(payload: &[u8]) -> nbt::Result<String> {
     if let Some(packet) = service::read(payload).ok().or(front.packet) {
         said += &standing(&packet);
     }
-    Ok(said)
+    said
 }
 
 /// The lines of a packet, or of what stands of one.
@@ -60,8 +62,33 @@ fn standing(packet: &Packet<'_>) -> String {
     assert_eq!(packet.records().len(), count);
     for it in parts.into_iter().flatten() {
         said += &record_line(&it);
+        if it.name.is_netbios() {
+            is_read_again(header, &it);
+        }
     }
     said
+}
+
+/// A response that says what a record does, of its values.
+pub fn written(identifier: u16, word: u16, it: &Record<'_>) -> nbt::Result<Vec<u8>> {
+    let (name, time_to_live) = (it.name.to_string(), it.time_to_live);
+    let response = |answer: Answer<'_>| Response { identifier, word, name: &name, time_to_live, answer }.write();
+    match it.rdata() {
+        Rdata::Addresses(found) => response(Answer::Addresses(&found.collect::<Vec<_>>())),
+        Rdata::NodeStatus(found) => response(Answer::NodeStatus(&found.names.collect::<Vec<_>>(), found.unit)),
+        Rdata::NameServer(name) => response(Answer::NameServer(&name)),
+        Rdata::Other(data) => response(Answer::Other(it.kind(), data)),
+    }
+}
+
+/// That such a response is read as the record.
+fn is_read_again(header: service::Header, it: &Record<'_>) {
+    let payload = written(header.identifier, header.word, it).unwrap();
+    let packet = service::read(&payload).unwrap();
+    let again = packet.answers().next().unwrap();
+    assert_eq!((packet.header.identifier, packet.header.word), (header.identifier, header.word));
+    assert_eq!((again.name, again.time_to_live, again.kind()), (it.name, it.time_to_live, it.kind()));
+    assert_eq!(rdata_words(&again.rdata()), rdata_words(&it.rdata()));
 }
 
 /// The line of a record.
@@ -134,8 +161,10 @@ fn datagram_line(payload: &[u8]) -> nbt::Result<String> {
 
 /// The lines of a payload of port 139: its packet, and the header at its front.
 fn session_lines(payload: &[u8]) -> String {
+    let front = session::read_front(payload);
+    assert_eq!(front.fault, session::Packet::try_from(payload).err());
     let line = session_line(payload).unwrap_or_else(|error| refused(&error));
-    match session::read_front(payload).header {
+    match front.header {
         Some(it) => {
             let (kind, flags, length) = (it.packet_type, it.flags, it.body_length);
             format!("{line}\n  front {kind:02x} {flags:02x} {length}")

@@ -1,53 +1,11 @@
-//! Lines of captures.
+//! Lines of captures: none has its line feed.
 
 use crate::refused;
-use nbt::{capture_line, Line, Status};
-
-/// The lines that the tests of each language read, and what each says.
-const LINES: &str = include_str!("lines.txt");
-
-/// What a line says, in the words of lines.txt.
-fn said(line: &[u8]) -> String {
-    match capture_line(line) {
-        Ok(None) => "blank".to_string(),
-        Ok(Some(Line::Tick { now })) => format!("tick {now}"),
-        Ok(Some(Line::Packet { port, moment, payload })) => {
-            let digits: String = payload.iter().map(|byte| format!("{byte:02x}")).collect();
-            format!("packet {port} {moment} {digits}").trim_end().to_string()
-        }
-        Err(error) => {
-            assert_eq!((error.status(), error.at()), (Status::BadLine, None));
-            "refused".to_string()
-        }
-    }
-}
-
-#[test]
-fn lines_are_read() {
-    for case in LINES.lines() {
-        let (wanted, line) = case.split_once(" [").unwrap();
-        let line = line.strip_suffix(']').unwrap();
-        assert_eq!(said(line.as_bytes()), wanted, "{case}");
-    }
-    assert_eq!(LINES.lines().count(), 32);
-}
-
-#[test]
-fn a_line_has_262_200_bytes_at_most() {
-    let line = |count| format!("137 0 {}", "5a".repeat(count));
-    let longest = Line::Packet { port: 137, moment: 0, payload: vec![0x5a; 131_097] };
-    assert_eq!(capture_line(line(131_097).as_bytes()), Ok(Some(longest)));
-    let refusal = refused(capture_line(line(131_098).as_bytes()));
-    assert_eq!(refusal, (Status::BadLine, None));
-    let comment = format!("#{}", "x".repeat(262_199));
-    assert_eq!(capture_line(comment.as_bytes()), Ok(None));
-    let refusal = refused(capture_line(format!("{comment}x").as_bytes()));
-    assert_eq!(refusal, (Status::BadLine, None));
-}
+use nbt::{capture_line, Status};
 
 #[test]
 fn a_line_is_without_its_line_feed() {
     for line in ["tick 7\n", "# an office\n", "\n", "tick 7\r"] {
-        assert_eq!(said(line.as_bytes()), "refused", "{line:?}");
+        assert_eq!(refused(capture_line(line.as_bytes())), (Status::BadLine, None), "{line:?}");
     }
 }

@@ -1,6 +1,7 @@
-//! What the calls answer, by examples: the bytes that several of them have, and how a refusal looks.
+//! What the calls answer, by rows and by examples: the bytes that several of them have, and how a refusal looks.
 
 mod captures;
+mod cases;
 mod datagrams;
 mod errors;
 mod names;
@@ -10,9 +11,7 @@ mod serialized;
 mod service;
 mod sessions;
 mod shown;
-mod station_values;
 mod stations;
-mod tables;
 
 use nbt::{Result, Status};
 

@@ -41,10 +41,12 @@ fn a_node_has_so_many_names() {
 #[test]
 fn faults_leave_an_empty_buffer() {
     let entries = vec![Entry { nb_flags: 0, address: 0.into() }; 10_923];
+    let names = [node("OFFICE<1e>"); 256];
     let of = |name, answer| Response { name, ..response(0, 0, answer) };
     for (response, status, at) in [
         (of("SIXTEEN-LETTERS-<20>", Answer::Addresses(&entries)), Status::LongText, None),
         (of("FRED<20>", Answer::Addresses(&entries)), Status::LongData, None),
+        (of("FRED<20>", Answer::NodeStatus(&names, None)), Status::LongData, None),
         (of("FRED<20>", Answer::Other(NS, b"\x02n")), Status::NameTruncated, Some(2)),
     ] {
         let mut buffer = b"what it held".to_vec();

@@ -4,7 +4,6 @@
 # left out.
 set -uo pipefail
 . "$(dirname "$0")/lib/counting.sh"
-. "$here/look/cut_cases.sh"
 program=$(realpath "${1:-$here/../crates/nbt/out/nbt}")
 
 if ! command -v tshark >/dev/null; then
@@ -98,7 +97,8 @@ samba() {
 }
 
 # shown WORD..: the numbers of the frames that are shown of an office.
-shown() { look "$@" "$office" | awk '/^ *[0-9]+ +[0-9.]+ / { printf "%s ", $1 }'; }
+shown() { look "$@" "$office" | numbers; }
+numbers() { awk '/^ *[0-9]+ +[0-9.]+ / { printf "%s ", $1 }'; }
 
 filters() {
     local each words wanted found
@@ -225,12 +225,9 @@ assert [(each['frame'], each['payload_byte']) for each in found['malformed']] ==
 assert (found['frames'], found['packets'], found['frames_without_a_packet']) == (22, 21, {})
 END
     count $? 'nbt-look --summary --json'
-    made disputes
-    prints 'a summary of what is decided elsewhere, or not at all' --summary "$room/disputes.pcap" <"$here/look/look_disputes.txt"
-    [ "$(look --summary --name joe "$room/disputes.pcap" | grep '^  JOE<00>  FRED')" = "$(grep '^  JOE<00>  FRED' "$here/look/look_disputes.txt")" ]
+    [ "$(look --summary --name joe "$office" | grep '^  JOE<00>  FRED<20>  192')" = '  JOE<00>  FRED<20>  192.0.2.1  192.0.2.2  1      1         -        5     0' ]
     count $? 'a session has all its packets where --name chooses it'
-    looks --kind conflict "$room/disputes.pcap" && [ "$(head -n 2 "$room/output" | cut -c 1-5 | tr -d ' \n')" = 24 ] &&
-        looks --kind conflict "$room/life.pcap" && [ "$(head -n 3 "$room/output" | cut -c 1-5 | tr -s ' \n' ' ')" = ' 2 3 22 ' ]
+    looks --kind conflict "$room/life.pcap" && [ "$(head -n 3 "$room/output" | cut -c 1-5 | tr -s ' \n' ' ')" = ' 2 3 22 ' ]
     count $? 'nbt-look --kind conflict: who claims a name too, is refused it, and has to give it up'
 }
 
@@ -359,9 +356,6 @@ END
 # What makes a row of each table, by docs/SUMMARY.md.
 summaries() { counted "$here/look/summary.py" "$program"; }
 
-# What is true of random networks, and nothing else.
-networks() { counted "$here/look/random_networks.py" 30; }
-
 # What is said of words that are no kinds, and of a kind of which there is no packet.
 guesses() {
     local word answer
@@ -418,8 +412,8 @@ END
     look --frame 2 "$room/named.txt" >"$room/output" 2>&1
     grep -q '^00020 .*\[61\]' "$room/output" && [ "$(tail -n 1 "$room/output")" = '  byte 5 of the name is byte 43 of the payload' ]
     count $? "the same of a request's second name: $(cat "$room/output")"
-    made disputes
-    look --frame 16 "$room/disputes.pcap" 2>&1 | grep -A 1 '^nbt help' | diff - <(printf '%s\n' "nbt help 'name: reserved label 12'" \
+    echo '137 0 000c0110000100000000000040' >"$room/reserved"
+    look --frame 1 "$room/reserved" 2>&1 | grep -A 1 '^nbt help' | diff - <(printf '%s\n' "nbt help 'name: reserved label 12'" \
         '  no name stands there: perhaps other traffic')
     count $? 'what to do about a fault of port 137 is about that port'
     look --json --quiet --kind query "$office" >"$room/object"
@@ -445,6 +439,70 @@ END
     done
     looks --frame 4 "$room/gaps.pcap" && grep -qx 'left out: after a gap in TCP, 1000 bytes' "$room/output"
     count $? "a gap, in its frame: $(cat "$room/output")"
+}
+
+# What is shown of packets that the snap length cut.
+cuts() {
+    local each
+    made fronts
+    for each in 60 96 124; do
+        editcap -s $each "$room/fronts.pcap" "$room/cut-$each.pcap"
+        look "$room/cut-$each.pcap" 2>&1
+    done | diff "$here/look/look_cut.txt" -
+    count $? 'snap lengths of 60, 96 and 124'
+    # Of a question the name may stand alone, or its type too.
+    for each in 87 89 90 91; do
+        editcap -s $each "$room/fronts.pcap" "$room/cut.pcap"
+        look --json --quiet "$room/cut.pcap" | sed -nE '2s/.*"brief":"cut: (.*) of 70 bytes".*"additional":\[\](.*)/\1\2/p'
+    done | diff - <(printf '%s\n' 'asks about a name, 45}' 'asks about FRED<20>, 47,"about":{"name":"FRED<20>"}}' \
+        'asks for the node status of FRED<20>, 48,"about":{"name":"FRED<20>","type":"0021"}}' \
+        'asks for the node status of FRED<20>, 49,"about":{"name":"FRED<20>","type":"0021"}}')
+    count $? 'what stands of a question'
+    prints 'nbt-look --frame of a cut packet' --frame 3 "$room/cut-96.pcap" <<'END'
+frame 3, 0.002000, 2023-11-14T22:13:20.002000Z
+10.0.0.5:137 > 10.0.0.6:137, 96 of 110 bytes captured, MAC 02:00:00:00:00:05 > 02:00:00:00:00:06
+cut: claims FRED<20>, 54 of 68 bytes
+
+137 refused truncated 54
+  id=0003 word=2910 op=registration flags=RD+B rcode=ok qd=1 an=0 ns=0 ar=1
+  question FRED<20> type=0020 class=0001
+
+payload, 54 bytes
+00000   00  03  29  10  00  01  00  00  00  00  00  01  20  45  47  46   ..)......... EGF
+00010   43  45  46  45  45  43  41  43  41  43  41  43  41  43  41  43   CEFEECACACACACAC
+00020   41  43  41  43  41  43  41  43  41  43  41  43  41  00  00  20   ACACACACACACA..
+00030   00  01  c0  0c  00  20 [  ]                                      .....
+
+Wireshark: frame.number == 3
+of the same: nbns.id == 0x0003
+END
+    prints 'nbt-look --summary of cut packets' --summary "$room/cut-60.pcap" <<'END'
+stations
+  address   mac                packets  names  refused  status  unit
+  10.0.0.5  02:00:00:00:00:05  25       -      -        -       -
+
+left out
+  reason                  frames
+  cut by the snap length  25
+
+25 frames, 0 packets, 0 malformed, 25 left out: 25 cut by the snap length
+END
+    # A capture that is text has the same fronts, with --bare too.
+    for each in '' --bare; do
+        nbt-pcap2cap --quiet --cut $each "$room/cut-96.pcap" >"$room/capture"
+        look "$room/capture" | sed 's/^.* 10\.0\.0\.6 *//; s/^.* - *- *//' >"$room/output"
+        look "$room/cut-96.pcap" | sed 's/^.* 10\.0\.0\.6 *//; s/^25 frames, //' | diff - "$room/output"
+        count $? "the text of a capture with cut packets${each:+, made with $each}"
+    done
+    [ "$(look --json --quiet "$room/cut-96.pcap" | sed -n '3s/.*"captured":96,//p')" = '"cut":true,"port":137,"moment":2,"brief":"cut: claims FRED<20>, 54 of 68 bytes","id":"0003","word":"2910","op":"registration","flags":"RD+B","rcode":"ok","qd":1,"an":0,"ns":0,"ar":1,"questions":[{"name":"FRED<20>","type":"0020","class":"0001"}],"answers":[],"authorities":[],"additional":[]}' ] &&
+        [ "$(look --json --quiet "$room/cut-60.pcap" | sed -n '3s/.*"captured":60,//p')" = '"cut":true,"port":137,"moment":2,"brief":"cut: claims a name, 18 of 68 bytes","id":"0003","word":"2910","op":"registration","flags":"RD+B","rcode":"ok","qd":1,"an":0,"ns":0,"ar":1,"questions":[],"answers":[],"authorities":[],"additional":[]}' ]
+    count $? "the objects of a cut packet: $(look --json --quiet "$room/cut-96.pcap" | sed -n 3p)"
+    for each in 'kind left-out|2 3 4 5 6 7 8 9 10 11 12 13 14 15 16 17 18 19 20 21 22 23 24 25 ' 'kind registration|3 6 8 12 13 14 15 25 ' \
+        'name fred<20>|1 2 3 4 5 6 7 8 9 10 11 12 13 14 15 16 17 18 19 '; do
+        IFS='| ' read -r option value wanted <<<"$each"
+        [ "$(look --$option "$value" "$room/cut-96.pcap" | numbers)" = "$wanted " ]
+        count $? "nbt-look --$option $value, of cut packets"
+    done
 }
 
 # --html: what stands at PAGE, or beside it, stays where it isn't a page's place.
@@ -592,9 +650,6 @@ kinds() { python3 -c 'import sys; sys.dont_write_bytecode = True; sys.path.inser
 # ---- Random captures, terminals, memory, networks.
 random() { counted "$here/look/random_looks.py" 10; }
 
-# By the system's Python, for which Debian has scapy.
-scapy() { counted /usr/bin/python3 "$here/look/scapy_looks.py" 20; }
-
 # on_terminal COLUMNS COMMAND..: what a command shows on a terminal of so many columns.
 on_terminal() {
     ended python3 -c 'import fcntl, os, pty, struct, sys, termios
@@ -664,9 +719,8 @@ for number in range(18):
     wait
 }
 
-parts list samba filters objects summary summaries networks tables words programs early guesses frames pages bad random
-if /usr/bin/python3 -c 'import scapy' 2>/dev/null; then part scapy scapy; part cut cuts; else lacks scapy python3-scapy; lacks cut python3-scapy; fi
-part terminals terminals
+parts list samba filters objects summary summaries tables words programs early guesses frames pages bad random terminals
+part cut cuts
 if /usr/bin/python3 -c 'import rich' 2>/dev/null; then part colours colours; else lacks colours python3-rich; fi
 parts growing live
 finish

@@ -32,7 +32,7 @@ ONLY = [each.removeprefix('--part=') for each in sys.argv[1:] if each.startswith
 FOLDER = os.path.realpath(WORDS[0]) if WORDS else f'{TOP}/out'
 PROGRAM = os.path.realpath(WORDS[1]) if WORDS[1:] else f'{TOP}/crates/nbt/out/nbt'
 LACKS = 'chromium, chromium-driver, python3-selenium, esbuild, nodejs, node-typescript and tshark'
-CAPTURES, NETWORKS, CHANGED = 20, 60, 10
+NETWORKS = 100
 EMPTY_CATCH = re.compile(r'catch\s*(?:\(\w*\))?\s*\{\s*\}|catch\(\(\w*\) => \{\s*\}\)')
 
 
@@ -46,18 +46,16 @@ def is_lacking():
 
 
 def modules():
-    """The modules that read files, by node's own runner; their types; random files beside nbt-pcap2cap; the cases of tests/summary/, and random
-    networks."""
+    """The modules that read files, by node's own runner; their types; the cases of tests/summary/, and random
+    networks beside nbt-look."""
     said = subprocess.run(['node', '--test', '--test-reporter=tap', f'{TOP}/page/tests/'], capture_output=True, text=True).stdout
     for passed, name in re.findall(r'^(ok|not ok) \d+ - (.*)$', said, re.MULTILINE):
         check(passed == 'ok', f'page/tests: {name}')
     types = subprocess.run(['tsc', '-p', f'{TOP}/page'], capture_output=True, text=True)
     check(types.returncode == 0, f'tsc -p page: {types.stdout[:300]}')
     check(not (empty := empty_catches()), f'faults that nobody hears of: {empty}')
-    counted([f'{TESTS}/page/page_captures.py', str(CAPTURES)])
     counted([f'{TESTS}/look/summary.py', '--page', PROGRAM])
-    counted([f'{TESTS}/look/random_networks.py', '--page', str(NETWORKS), '1', PROGRAM])
-    counted([f'{TESTS}/look/random_networks.py', '--changed', str(CHANGED), '1', PROGRAM])
+    counted([f'{TESTS}/look/random_networks.py', str(NETWORKS), '1', PROGRAM])
 
 
 def empty_catches():
@@ -93,7 +91,7 @@ class Cases(PacketCases, ViewCases, OpeningCases, PlacingCases, SourceCases, Acc
         return path
 
 
-PARTS = ('modules', 'rows', 'names', 'faults', 'filters', 'datagrams', 'deliveries', 'taps', 'exports', 'bad', 'hostile', 'keys', 'given', 'placing', 'stop', 'unread', 'changed', 'addressed', 'packed', 'access', 'singles',
+PARTS = ('modules', 'rows', 'names', 'faults', 'filters', 'deliveries', 'taps', 'exports', 'bad', 'hostile', 'keys', 'given', 'placing', 'stop', 'unread', 'changed', 'addressed', 'packed', 'access', 'singles',
          'controls', 'looks', 'quiet')
 
 

@@ -136,83 +136,40 @@ streams() {
 
 # ---- Each request for memory refused.
 
-# remembers WORD..: the program over $input with each request refused; where its words have bad digits, digits=bad.
+# remembers INPUT COMMAND..: commands over an input, with each request refused; where their words have bad digits, form=digits.
 remembers() {
-    local form=command
-    [ "${digits:-}" != bad ] || form=digits
-    counted_by lib/every_request.py $form "$room/refuse_memory.so" "$input" "$program" "$@"
+    local input=$1 command
+    for command in "${@:2}"; do
+        eval "counted_by lib/every_request.py ${form:-command} '$room/refuse_memory.so' '$input' '$program' $command"
+    done
 }
 
 memory() {
-    input=/dev/null
-    remembers name 'FRED<20>.NETBIOS.COM'
-    remembers name --bytes "$scoped"
-    remembers name FRED
-    digits=bad remembers name --bytes 0g
-    remembers name --bytes "${fred}00"
-    remembers name
-    remembers name --help
-    remembers help 'bad text 4'
-    remembers --help
-    remembers
-    remembers replay
-    remembers build registration 0002 'FRED<20>' 300000 0000 10.0.0.5
-    remembers build message 616263
-    remembers build group 10.0.0.5:138/0001 'JOE<00>' 'FRED<20>' empty 100
-    remembers build query 0001 FRED
-    remembers build group 10.0.0.5:138/0001 'JOE<00>' 'FRED<20>' 00010203040506070809 4
-    { nbt build query 0001 'FRED<20>.A' && printf 'tick 2\n139 0 00000003616263\nx\n'; } >"$room/input"
-    input=$room/input
-    remembers show
-    remembers show --brief
-    remembers show --brief --json
-    { nbt build group 10.0.0.5:138/0001 'JOE<00>' 'FRED<20>' 000102030405 2 && echo tick 1; } >"$room/input"
-    remembers save
-    remembers save --keys 0
-    remembers replay 'FRED<20>' 'JOE<00>'
-    remembers replay FRED
-    printf '138 0 %s\n' $empty >"$room/input"
-    remembers show
-    remembers save
+    local group="build group 10.0.0.5:138/0001 'JOE<00>' 'FRED<20>'"
+    remembers /dev/null "name 'FRED<20>.NETBIOS.COM'" "name --bytes $scoped" 'name FRED' "name --bytes ${fred}00" name 'name --help' "help 'bad text 4'" \
+        --help '' replay "build registration 0002 'FRED<20>' 300000 0000 10.0.0.5" 'build message 616263' "$group empty 100" 'build query 0001 FRED' \
+        "$group 00010203040506070809 4"
+    form=digits remembers /dev/null 'name --bytes 0g'
+    { nbt build query 0001 'FRED<20>.A' && printf 'tick 2\n139 0 00000003616263\nx\n'; } >"$room/packets"
+    remembers "$room/packets" show 'show --brief' 'show --brief --json'
+    { nbt build group 10.0.0.5:138/0001 'JOE<00>' 'FRED<20>' 000102030405 2 && echo tick 1; } >"$room/pieces"
+    remembers "$room/pieces" save 'save --keys 0' "replay 'FRED<20>' 'JOE<00>'" 'replay FRED'
+    printf '138 0 %s\n' $empty >"$room/one"
+    remembers "$room/one" show save
     printf '138 0 %s\n138 1 %s\ntick 2000\n138 2001 %s\n137 2002 00\n138 2003 17\n' $empty $empty $empty >"$room/capture"
-    input=$room/capture
-    remembers replay 'FRED<20>'
-    remembers replay --json --comments 'FRED<20>'
-    remembers show
-    remembers show --json
-    remembers save
-    printf '# one\n138 0 %s\n#\377' $empty >"$room/input"
-    input=$room/input
-    remembers show --comments
-    remembers replay --comments 'FRED<20>'
+    remembers "$room/capture" "replay 'FRED<20>'" "replay --json --comments 'FRED<20>'" show 'show --json' save
+    printf '# one\n138 0 %s\n#\377' $empty >"$room/comments"
+    remembers "$room/comments" 'show --comments' "replay --comments 'FRED<20>'"
     printf '137 0 %s\n138 0 %s\n139 0 0000\n' "$(nbt build query 0001 'FRED<20>.A' | cut -c 7-106)" "${empty:0:34}" >"$room/cut"
-    input=$room/cut
-    remembers show --partial
-    remembers show --partial --json
+    remembers "$room/cut" 'show --partial' 'show --partial --json'
     printf '138 0 %s\n' $empty "${empty/0001/0002}" "${empty/0001/0003}" >"$room/several"
-    input=$room/several
-    remembers replay --per-source 2 'FRED<20>'
-    remembers save --per-source 2
-    remembers save --keys 2
-    remembers save
+    remembers "$room/several" "replay --per-source 2 'FRED<20>'" 'save --per-source 2' 'save --keys 2' save
     nbt save <"$room/capture" | sed p >"$room/tables"
-    input=$room/tables
-    remembers merge
-    remembers list
-    remembers list --json
-    remembers agree
+    remembers "$room/tables" merge list 'list --json' agree
     { head -n 1 "$room/tables" && nbt save <"$room/several"; } >"$room/unequal"
-    input=$room/unequal
-    remembers merge
-    remembers list
-    remembers agree
-    remembers agree --list
-    remembers merge --keys 2
-    remembers merge --per-source 2
-    printf '4e425433\n' >"$room/input"
-    input=$room/input
-    remembers merge
-    remembers agree
+    remembers "$room/unequal" merge list agree 'agree --list' 'merge --keys 2' 'merge --per-source 2'
+    echo 4e425433 >"$room/magic"
+    remembers "$room/magic" merge agree
 }
 
 with_tools "$program"

@@ -338,6 +338,8 @@ office() {
     count $? 'examples/office.pcap has the packets that were built'
 }
 
-parts built snapped network odd random empties plugins early others long growing waits dumped office
+parts built snapped network odd
+if command -v node >/dev/null; then part random random; else lacks random nodejs; fi
+parts empties plugins early others long growing waits dumped office
 part page page docs/CAPTURES.md
 finish

@@ -3,10 +3,9 @@ pieces."""
 import random
 import struct
 
-from wire import FRED, JOE, first_level
+from wire import FRED, JOE, NB, NBSTAT, NULL, datagram, first_level, record, service, session
 
 MOST_IN_A_CAPTURE = 16_777_216
-IN, NB, NBSTAT = 1, 0x0020, 0x0021
 TO_FIRST_QUESTION = b'\xc0\x0c'
 # The kinds of packet of each port, as often as they come.
 SERVICE = ('query',) * 8 + ('registration', 'registration', 'refresh', 'release', 'positive', 'positive', 'positive', 'negative',
@@ -17,12 +16,7 @@ SESSIONS = ('message',) * 15 + ('request', 'positive', 'negative', 'retarget', '
 
 def packet(address, identifier, flags, offset, data):
     """A group datagram's packet from JOE<00> to FRED<20>."""
-    return datagram(0x11, address, identifier, flags, offset, JOE + FRED + data)
-
-
-def datagram(kind, address, identifier, flags, offset, names_and_data):
-    """A fragment of a datagram of this kind."""
-    return struct.pack('>BBH4sHHH', kind, flags, identifier, address, 138, len(names_and_data), offset) + names_and_data
+    return datagram(identifier, data, address, flags=flags, offset=offset)
 
 
 def pieces(address, identifier, data, most):
@@ -56,26 +50,18 @@ class Office:
         """An entry of RDATA of kind NB."""
         return struct.pack('>H', self.rng.choice((0x0000, 0x2000, 0x6000, 0x8000))) + self.address()
 
-    def record(self, name, kind, seconds, rdata):
-        return name + struct.pack('>HHLH', kind, IN, seconds, len(rdata)) + rdata
-
     def service(self):
         """A packet of port 137: a request, a response with records, or the answer to a node status request."""
         what, name = self.rng.choice(SERVICE), self.name()
-        question = name + struct.pack('>HH', NB, IN)
-        claim = self.record(TO_FIRST_QUESTION, NB, 300_000, self.entry())
-        word, counts, body = {
-            'query': (0x0110, (1, 0, 0, 0), question),
-            'registration': (0x2910, (1, 0, 0, 1), question + claim),
-            'refresh': (0x4000, (1, 0, 0, 1), question + claim),
-            'release': (0x3000, (1, 0, 0, 1), question + claim),
-            'positive': (0x8500, (0, 1, 0, 0), self.record(name, NB, 300_000, self.entry() + self.entry() * self.rng.randrange(4))),
-            'negative': (0x8583, (0, 1, 0, 0), self.record(name, 0x000a, 0, b'')),
-            'node status request': (0x0000, (1, 0, 0, 0), name + struct.pack('>HH', NBSTAT, IN)),
-            'node status': (0x8400, (0, 1, 0, 0), self.record(name, NBSTAT, 0, self.statistics())),
-            'wack': (0xbc00, (0, 1, 0, 0), self.record(name, NB, 15, b'\x29\x00')),
+        claim = record(NB, self.entry(), 300_000)
+        word, asked, told = {
+            'query': (0x0110, NB, b''), 'registration': (0x2910, NB, claim), 'refresh': (0x4000, NB, claim), 'release': (0x3000, NB, claim),
+            'positive': (0x8500, None, record(NB, self.entry() + self.entry() * self.rng.randrange(4), 300_000)),
+            'negative': (0x8583, None, record(NULL, b'')),
+            'node status request': (0x0000, NBSTAT, b''), 'node status': (0x8400, None, record(NBSTAT, self.statistics())),
+            'wack': (0xbc00, None, record(NB, b'\x29\x00', 15)),
         }[what]
-        return struct.pack('>6H', self.rng.randrange(65_536), word, *counts) + body
+        return service(self.rng.randrange(65_536), word, name, asked, told)
 
     def statistics(self):
         """What a node status answer says of a station: its names, and its numbers."""
@@ -90,15 +76,15 @@ class Office:
         if kind >= 0x13:
             body = b'\x82' if kind == 0x13 else self.name()
             return struct.pack('>BBH4sH', kind, 2, identifier, address, 138) + body
-        return datagram(kind, address, identifier, 2, 0, self.name() + self.name() + self.rng.randbytes(self.rng.randrange(20, 250)))
+        names = self.name() + self.name()
+        return datagram(identifier, self.rng.randbytes(self.rng.randrange(20, 250)), address, kind, names=names)
 
     def session(self):
         """A small packet of port 139."""
         what = self.rng.choice(SESSIONS)
         body = {'message': self.rng.randbytes(self.rng.randrange(35, 260)), 'request': self.name() + self.name(), 'positive': b'',
                 'negative': b'\x82', 'retarget': self.address() + b'\0\x8b', 'keepalive': b''}[what]
-        kind = {'message': 0x00, 'request': 0x81, 'positive': 0x82, 'negative': 0x83, 'retarget': 0x84, 'keepalive': 0x85}[what]
-        return struct.pack('>BBH', kind, 0, len(body)) + body
+        return session({'message': 0x00, 'request': 0x81, 'positive': 0x82, 'negative': 0x83, 'retarget': 0x84, 'keepalive': 0x85}[what], body)
 
 
 def office(port, count):
@@ -159,7 +145,7 @@ def saved_after(size, count):
 
 def pointed(name, count, times):
     """A packet of one question by this name and `count` questions by pointers to it, so many times."""
-    fields = struct.pack('>HH', NB, IN)
+    fields = struct.pack('>HH', NB, 1)
     questions = name + fields + (TO_FIRST_QUESTION + fields) * count
     payload = struct.pack('>HHHHHH', 1, 0x0110, 1 + count, 0, 0, 0) + questions
     return [line(moment, payload, 137) for moment in range(times)]

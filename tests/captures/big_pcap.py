@@ -8,12 +8,11 @@ streams that begin, carry some messages and end, 64 of them at a time. 724,638 p
 1 to 5 ms apart; all of their numbers come from the seed.
 """
 import random
-import struct
 import sys
 
 sys.dont_write_bytecode = True
 sys.path.insert(1, f'{sys.path[0]}/../lib')
-from wire import ACK, FIN, FRED, POSITIVE, REQUEST, SYN, TCP, UDP, datagram, ip, pcap_header, pcap_record, udp
+from wire import ACK, FIN, FRED, NB, POSITIVE, REQUEST, SYN, TCP, UDP, datagram, ip, pcap_header, pcap_record, record, service, session, tcp, udp
 
 STREAMS = 64
 LAST_HOST = 250
@@ -52,9 +51,8 @@ def names(rng):
     """A query, or the response to it."""
     number = rng.randrange(65_536)
     if rng.randrange(2):
-        return struct.pack('>6H', number, 0x0110, 1, 0, 0, 0) + FRED + struct.pack('>HH', 0x20, 1)
-    entry = struct.pack('>HHLHH4s', 0x20, 1, 300_000, 6, 0x6000, host(rng))
-    return struct.pack('>6H', number, 0x8500, 0, 1, 0, 0) + FRED + entry
+        return service(number, 0x0110, FRED, NB)
+    return service(number, 0x8500, FRED, told=record(NB, b'\x60\0' + host(rng), 300_000))
 
 
 def some_datagram(rng):
@@ -68,9 +66,9 @@ def stream(rng):
 
     def segment(side, flags, payload=b''):
         source, target = ((port, 139), (139, port))[side]
-        header = struct.pack('>HHLLBBHHH', source, target, sent[side], sent[1 - side], 0x50, flags, 65_535, 0, 0)
+        packet = tcp(source, target, sent[side], payload, flags, sent[1 - side])
         sent[side] = (sent[side] + len(payload) + bool(flags & (SYN | FIN))) % 2**32
-        return ip(TCP, header + payload, *((client, server), (server, client))[side])
+        return ip(TCP, packet, *((client, server), (server, client))[side])
 
     yield segment(0, SYN)
     yield segment(1, SYN | ACK)
@@ -78,7 +76,7 @@ def stream(rng):
     yield segment(1, ACK, POSITIVE)
     for _ in range(rng.randrange(10, 50)):
         data = rng.randbytes(rng.randrange(20, 781))
-        yield segment(rng.randrange(2), ACK, struct.pack('>L', len(data)) + data)
+        yield segment(rng.randrange(2), ACK, session(0, data))
     yield segment(0, FIN | ACK)
     yield segment(1, FIN | ACK)
 

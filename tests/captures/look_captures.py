@@ -10,11 +10,6 @@ from wire import *
 
 ETHERNET, USB = 1, 189
 EVIL = b'\x1b]0;x\x07\xff\x9b2J'
-TYPES = {4: b'\x08\0', 6: b'\x86\xdd'}
-
-
-def ethernet(packet, source=b'\x02\0\0\0\0\x05', target=b'\x02\0\0\0\0\x06'):
-    return target + source + TYPES[packet[0] >> 4] + packet
 
 
 def option(number, data):
@@ -33,8 +28,7 @@ def pcapng(names, frames):
 
 
 def query(name, source=CLIENT, number=3):
-    question = struct.pack('>6H', number, 0x0110, 1, 0, 0, 0) + name + struct.pack('>HH', 0x20, 1)
-    return ethernet(ip(UDP, udp(137, 137, question), source))
+    return ethernet(ip(UDP, udp(137, 137, service(number, 0x0110, name, NB)), source))
 
 
 def snapped():
@@ -45,8 +39,7 @@ def snapped():
 
 def evil():
     """A name, and an interface, of bytes that act on a terminal."""
-    letters = bytes(ord('A') + half for byte in EVIL.ljust(16) for half in (byte >> 4, byte & 15))
-    name = bytes([len(letters)]) + letters + b'\x05\x1b[31m\0'
+    name = first_level(EVIL, 0x20)[:-1] + b'\x05\x1b[31m\0'
     return pcapng([b'eth0', EVIL], [(0, 0, query(name)), (1, 1, query(name))])
 
 
@@ -74,7 +67,7 @@ def qinq():
 
 def others():
     """Port 445 and NetBEUI, and nothing of these ports."""
-    smb = ethernet(ip(TCP, struct.pack('>HHLLBBHHH', 50_000, 445, 1, 0, 0x50, SYN, 65_535, 0, 0)))
+    smb = ethernet(ip(TCP, tcp(50_000, 445, 1, flags=SYN)))
     netbeui = b'\x03\0\0\0\0\x01\x02\0\0\0\0\x05' + struct.pack('>H', 47) + b'\xf0\xf0\x03' + struct.pack('<HH', 44, 0xefff) + b'\x0a' + bytes(39)
     return pcap([(0, smb, None), (1, netbeui, None), (2, netbeui, None)])
 
@@ -96,116 +89,84 @@ def address(last):
     return bytes([10, 0, 0, last])
 
 
-def entry(last, flags=0, time=300_000):
-    """What an NB record of so many seconds says of an address."""
-    return struct.pack('>HHLHH', 0x20, 1, time, 6, flags) + address(last)
-
-
-def service(number, word, name, question=False, record=b'', kind=0x20):
-    """A packet of port 137 about one name: a question, or one record, or both."""
-    counts = (1, 0, 0, 1) if question and record else (1, 0, 0, 0) if question else (0, 1, 0, 0)
-    whole = struct.pack('>6H', number, word, *counts)
-    if question:
-        whole += name + struct.pack('>HH', kind, 1)
-    return whole + (name + record if record else b'')
-
-
-class Lan:
+class Lan(Frames):
     """The frames of a network 10.0.0.0, whose stations have the last numbers of their addresses."""
 
-    def __init__(self):
-        self.frames = []
-
-    def sends(self, at, source, target, packet, snap=None):
-        mac = b'\x02\0\0\0\0'
-        self.frames.append((at * 1000, ethernet(packet, mac + source[3:], mac + target[3:]), snap))
-
     def says(self, at, source, target, port, payload, snap=None):
-        self.sends(at, address(source), address(target), ip(UDP, udp(port, port, payload), address(source), address(target)), snap)
-
-    def segment(self, at, ends, place, data):
-        """A segment of a stream, between two stations with their ports."""
-        (source, port), (target, to) = ends
-        header = struct.pack('>HHLLBBHHH', port, to, place, 1, 0x50, ACK, 65_535, 0, 0)
-        self.sends(at, address(source), address(target), ip(TCP, header + data, address(source), address(target)))
+        self.add(at, *((address(each), port) for each in (source, target)), port, payload, snap=snap)
 
 
-def disputes():
-    """What isn't decided by the end, and what is decided elsewhere: two claimants, a refusal that names the holder, one claim that
-    wins after it was refused; queries of which a later one is answered; a session."""
-    fred, joe, ann = FRED, JOE, first_level('ANN', 0)
-    lan = Lan()
-    for source in (5, 6):
-        lan.says(source, source, 255, 137, service(source, 0x2910, fred, True, entry(source, time=0)))
-    lan.says(20, 7, 2, 137, service(7, 0x2900, joe, True, entry(7)))
-    lan.says(21, 2, 7, 137, service(7, 0xad86, joe, record=entry(9)))
-    lan.says(30, 8, 2, 137, service(8, 0x2900, ann, True, entry(8)))
-    lan.says(31, 2, 8, 137, service(8, 0xad85, ann, record=entry(8)))
-    lan.says(40, 8, 2, 137, service(9, 0x2900, ann, True, entry(8)))
-    lan.says(41, 2, 8, 137, service(9, 0xad80, ann, record=entry(8)))
-    lan.says(50, 5, 255, 137, service(10, 0x0110, ann, True))
-    lan.says(60, 5, 255, 137, service(11, 0x0110, ann, True))
-    lan.says(61, 8, 5, 137, service(11, 0x8580, ann, record=entry(8)))
-    ends = (5, 1025), (6, 139)
-    for at, both, place, data in ((70, ends, 100, REQUEST), (71, ends[::-1], 500, POSITIVE), (72, ends, 100 + len(REQUEST), SHORT),
-                                  (73, ends[::-1], 500 + len(POSITIVE), OTHER)):
-        lan.segment(at, both, place, data)
-    lan.says(400, 5, 6, 137, bytes.fromhex('000c01100001000000000000') + b'\x40' + bytes(8))
-    return pcap(lan.frames)
+def entry(last, flags=0):
+    """A record with an address."""
+    return record(NB, struct.pack('>H', flags) + address(last), 300_000)
 
 
 def life():
     """A network in which much goes wrong: claims in conflict, refusals, queries without an answer, a call that is refused,
     datagrams that are spoilt, incomplete, refused and cut."""
-    fred, joe, ann, work, nobody = FRED, JOE, first_level('ANN', 0), first_level('WORK', 0x1e), first_level('NOBODY', 0x20)
+    ann, work, nobody, anybody = first_level('ANN', 0), first_level('WORK', 0x1e), first_level('NOBODY', 0x20), first_level(b'*' + bytes(14), 0)
     lan = Lan()
-    says = lan.says
-
-    says(0, 6, 255, 137, service(1, 0x2910, fred, True, entry(6)))
-    says(200, 8, 255, 137, service(2, 0x2910, fred, True, entry(8)))
-    says(250, 6, 8, 137, service(2, 0xad86, fred, record=entry(6)))
-    says(300, 7, 9, 137, service(3, 0x2900, ann, True, entry(7)))
-    says(350, 9, 7, 137, service(3, 0xad85, ann, record=entry(7)))
-    says(400, 6, 255, 137, service(4, 0x2910, work, True, entry(6, 0x8000)))
+    lan.says(0, 6, 255, 137, service(1, 0x2910, FRED, NB, entry(6)))
+    lan.says(200, 8, 255, 137, service(2, 0x2910, FRED, NB, entry(8)))
+    lan.says(250, 6, 8, 137, service(2, 0xad86, FRED, told=entry(6)))
+    lan.says(300, 7, 9, 137, service(3, 0x2900, ann, NB, entry(7)))
+    lan.says(350, 9, 7, 137, service(3, 0xad85, ann, told=entry(7)))
+    lan.says(400, 6, 255, 137, service(4, 0x2910, work, NB, entry(6, 0x8000)))
     for at in (500, 750, 1000):
-        says(at, 5, 255, 137, service(5, 0x0110, nobody, True))
-    says(1100, 5, 255, 137, service(6, 0x0110, fred, True))
-    says(1150, 6, 5, 137, service(6, 0x8580, fred, record=entry(6)))
-    says(1200, 5, 6, 137, service(7, 0x0000, first_level('*', 0).replace(b'CA', b'AA'), True, kind=0x21))
-    names = b''.join(each.ljust(15) + bytes([last]) + struct.pack('>H', flags)
+        lan.says(at, 5, 255, 137, service(5, 0x0110, nobody, NB))
+    lan.says(1100, 5, 255, 137, service(6, 0x0110, FRED, NB))
+    lan.says(1150, 6, 5, 137, service(6, 0x8580, FRED, told=entry(6)))
+    lan.says(1200, 5, 6, 137, service(7, 0x0000, anybody, NBSTAT))
+    names = b''.join(each.ljust(15) + struct.pack('>BH', last, flags)
                      for each, last, flags in ((b'FRED', 0x20, 0x0400), (b'FRED', 0, 0x0400), (b'WORK', 0x1e, 0x8400)))
-    status = b'\x03' + names + b'\x02\0\0\0\0\x06' + bytes(40)
-    says(1250, 6, 5, 137, service(7, 0x8400, first_level('*', 0).replace(b'CA', b'AA'),
-                                  record=struct.pack('>HHLH', 0x21, 1, 0, len(status)) + status))
-    lan.segment(1300, ((5, 1025), (6, 139)), 100, REQUEST)
-    pointer = bytes.fromhex('100200010a000005008a00240000') + joe + b'\xc0\x0e'
-    says(1400, 5, 6, 138, pointer)
-    says(1450, 5, 6, 138, datagram(9, bytes(600)), 96)
+    lan.says(1250, 6, 5, 137, service(7, 0x8400, anybody, told=record(NBSTAT, b'\x03' + names + MAC + b'\x06' + bytes(40))))
+    client, server = (CLIENT, 1025), (SERVER, 139)
+    lan.add(1300, client, server, 139, REQUEST)
+    lan.says(1400, 5, 6, 138, datagram(1, b'', kind=0x10, names=JOE + b'\xc0\x0e'))
+    lan.says(1450, 5, 6, 138, datagram(9, bytes(600)), 96)
+    for at, number, flags, offset, data in ((1500, 1, 3, 0, b'abcd'), (1510, 1, 3, 0, b'abcx'), (1520, 2, 3, 0, b'abcd'), (1530, 2, 0, 8, b'ijkl')):
+        lan.says(at, 5, 6, 138, datagram(number, data, flags=flags, offset=offset))
+    lan.add(1600, server, client, 139, session(0x83, b'\x82'))
+    lan.says(1700, 8, 6, 137, service(8, 0xad87, FRED, told=entry(6)))
+    return pcap(lan.frames)
 
-    def fragment(at, number, offset, more, data):
-        header = struct.pack('>BBH4sHHH', 0x11, (0x02 if offset == 0 else 0) | more, number, address(5), 138, len(joe + fred) + len(data), offset)
-        says(at, 5, 6, 138, header + joe + fred + data)
 
-    fragment(1500, 1, 0, 1, b'abcd')
-    fragment(1510, 1, 0, 1, b'abcx')
-    fragment(1520, 2, 0, 1, b'abcd')
-    fragment(1530, 2, 8, 0, b'ijkl')
-    lan.segment(1600, ((6, 139), (5, 1025)), 1, b'\x83\0\0\x01\x82')
-    says(1700, 8, 6, 137, service(8, 0xad87, fred, record=entry(6)))
+def fronts():
+    """Packets of all kinds, of which a snap length leaves fronts."""
+    rest = (b'\x01X\0' + entry(8)) * 2
+    lan, number = Lan(), 0
+
+    def says(port, payload):
+        nonlocal number
+        lan.says(number, 5, 6, port, payload)
+        number += 1
+
+    says(137, service(1, 0x0110, FRED, NB))
+    says(137, service(2, 0x0000, FRED, NBSTAT) + bytes(20))
+    for each, word in enumerate((0x2910, 0x3110, 0x4110, 0x7910, 0x1910, 0x2800), 3):
+        says(137, service(each, word, FRED, NB, entry(6)))
+    says(137, service(9, 0x8580, FRED, told=entry(6)) + bytes(40))
+    for each, word in enumerate((0x8580, 0x8583, 0xad80, 0xad86, 0xad00, 0xad87, 0xb400, 0xb406, 0xbc00, 0x9c00), 10):
+        says(137, service(each, word, FRED, told=entry(6)) + rest)
+    for each, kind in enumerate((0x10, 0x11, 0x12), 30):
+        says(138, datagram(each, bytes(range(256)) * 4, kind=kind))
+    whole = datagram(33, b'x' * 100, kind=0x10)
+    says(138, whole[:10] + b'\0\x28' + whole[12:])         # it ends in its second name
+    says(138, datagram(34, b'', kind=0x13))
+    says(137, b'\xff' * 80)
     return pcap(lan.frames)
 
 
 def gaps():
     """A session packet in two segments, one after 1000 missing bytes; fragments of a datagram without the middle one, and of a whole one."""
-    lan = Lan()
-    ends, place = ((5, 1025), (6, 139)), 100
+    lan, ends = Lan(), ((CLIENT, 1025), (SERVER, 139))
     for at, gap, data in ((0, 0, REQUEST), (1, 0, SHORT[:6]), (2, 0, SHORT[6:]), (3, 1000, OTHER), (4, 0, KEEPALIVE)):
-        lan.segment(at, ends, place + gap, data)
-        place += gap + len(data)
+        lan.due[ends] = lan.due.get(ends, 100) + gap
+        lan.add(at, *ends, 139, data)
     packet = udp(138, 138, DATAGRAM)
     for at, number, start, end in ((5, 7, 0, 400), (6, 7, 800, None), (7, 8, 0, 400), (8, 8, 400, None)):
-        more = 0x2000 if end else 0
-        lan.sends(at, address(5), address(6), ip(UDP, packet[start:end], fragment=more | start // 8, identifier=number))
+        fragment = (0x2000 if end else 0) | start // 8
+        lan.frames.append((at * 1000, ethernet(ip(UDP, packet[start:end], fragment=fragment, identifier=number)), None))
     return pcap(lan.frames)
 
 

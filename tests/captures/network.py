@@ -86,8 +86,7 @@ class Side:
 
     def sends(self, moment, place, payload, flags=ACK, captured=None):
         ends = (SERVER, CLIENT) if self.source == 139 else (CLIENT, SERVER)
-        segment = struct.pack('>HHLLBBHHH', self.source, self.target, (self.first + place) % 2**32, 0, 0x50, flags, 65_535, 0, 0)
-        self.network.frame(moment, ip(TCP, segment + payload, *ends), captured)
+        self.network.frame(moment, ip(TCP, tcp(self.source, self.target, self.first + place, payload, flags, 0), *ends), captured)
 
 
 def session(network):

@@ -11,32 +11,35 @@ UNTAGGED = 14
 START = 1_700_000_000 * 10**9
 
 
-def pcap_of(rng):
-    """The bytes of a file."""
+def pcap_of(rng, tunnels=None):
+    """The bytes of a file, in which some packets are below tunnels of these kinds. Snap lengths leave as much of a packet below one."""
+    tunnels = TUNNELS if tunnels is None else tunnels
     interfaces = [Interface(rng, number) for number in range(rng.choice((1, 1, 2, 3)))]
-    records = list(mixed(rng, [list(conversation(rng, number)) for number in range(rng.randrange(2, 12))]))
+    records = list(mixed(rng, [list(conversation(rng, number, tunnels)) for number in range(rng.randrange(2, 12))]))
     is_ng = len(interfaces) > 1 or rng.random() < 0.3
     order = rng.choice('<>')
     head, record = (interface_blocks, packet_block) if is_ng else (file_header, file_record)
     parts, now = [head(order, interfaces)], START
-    for pause, data, link in records:
+    for pause, data, link, above in records:
         now += int(pause * rng.random() * 2 * 10**9)
         interface = rng.choice([each for each in interfaces if each.link == ETHERNET or len(link) == UNTAGGED])
         framed = data if interface.link == RAW else link + data
-        parts.append(record(order, interface, now, framed))
+        captured = framed if interface.snap is None else framed[:interface.snap + above]
+        parts.append(record(order, interface, now, framed, captured))
     return b''.join(parts)
 
 
-def conversation(rng, number):
-    """Frames of one kind between two hosts: the pause before each, the packet, and what stands before it on Ethernet."""
+def conversation(rng, number, tunnels):
+    """Frames of one kind between two hosts: the pause before each, the packet, what stands before it on Ethernet, and
+    how long its tunnel is."""
     ends = Ends(rng, number)
     kind = rng.choice((datagrams, fragments, stream, stream))
-    tunnel = rng.choice((None, None, None, None, vxlan, nested, gre))
+    tunnel = rng.choice((None, None, None, None, *TUNNELS))
     tags = rng.choice((b'', b'', b'', b'\x81\0\0\x05', b'\x88\xa8\0\x05\x81\0\0\x06'))
     for pause, packet in kind(rng, ends):
-        data = tunnel(packet) if tunnel else packet
+        data = tunnel(packet) if tunnel in tunnels else packet
         padding = bytes(max(0, 46 - len(data))) if rng.random() < 0.5 else b''
-        yield pause, data + padding, bytes(12) + tags + type_of(data)
+        yield pause, data + padding, bytes(12) + tags + type_of(data), len(data) - len(packet)
 
 
 def type_of(packet):
@@ -60,6 +63,9 @@ def gre(packet):
     return outer(47, bytes(2) + type_of(packet) + packet)
 
 
+TUNNELS = (vxlan, nested, gre)
+
+
 class Interface:
     """Where frames come from: a link layer, how much of each is captured, and what a unit of time is."""
 
@@ -78,9 +84,8 @@ def file_header(order, interfaces):
     return struct.pack(order + 'LHHLLLL', magic, 2, 4, 0, 0, 262_144, interfaces[0].link)
 
 
-def file_record(order, interface, now, data):
+def file_record(order, interface, now, data, captured):
     second, part = divmod(interface.time(now), 10**interface.digits)
-    captured = data[:interface.snap]
     return struct.pack(order + 'LLLL', second, part, len(captured), len(data)) + captured
 
 
@@ -89,7 +94,6 @@ def interface_blocks(order, interfaces):
                                            + struct.pack(order + 'HHB3xHH', 9, 1, each.digits, 0, 0), order) for each in interfaces)
 
 
-def packet_block(order, interface, now, data):
+def packet_block(order, interface, now, data, captured):
     high, low = divmod(interface.time(now), 2**32)
-    captured = data[:interface.snap]
     return block(6, struct.pack(order + 'LLLLL', interface.number, high, low, len(captured), len(data)) + captured, order)

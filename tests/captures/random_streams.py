@@ -1,7 +1,7 @@
 """What a random capture holds: datagrams, fragments and TCP streams, each a list of frames in the order of their times."""
 import struct
 
-from wire import ACK, FIN, RST, SYN, TCP, UDP
+from wire import ACK, FIN, RST, SYN, TCP, UDP, ip, tcp
 
 IPV4, IPV6 = 0x0800, 0x86dd
 TYPES = (0x00, 0x00, 0x00, 0x00, 0x81, 0x82, 0x83, 0x84, 0x85)
@@ -20,8 +20,7 @@ class Ends:
     def packet(self, protocol, data, back=False, more=0, offset=0, identifier=0, fragment=False):
         source, target = (self.target, self.source) if back else (self.source, self.target)
         if not self.six:
-            return struct.pack('>BBHHHBBH', 0x45, 0, 20 + len(data), identifier, (0x2000 if more else 0) | offset // 8, 64, protocol,
-                               0) + source + target + data
+            return ip(protocol, data, source, target, (0x2000 if more else 0) | offset // 8, identifier)
         if fragment:
             data = struct.pack('>BBHL', protocol, 0, offset | bool(more), identifier) + data
             protocol = FRAGMENT_HEADER
@@ -112,9 +111,7 @@ class Side:
 
     def packet(self, place, data, flags, options=b''):
         source, target = self.ports[::-1] if self.back else self.ports
-        sequence = (self.first + place) % 2**32
-        header = struct.pack('>HHLLBBHHH', source, target, sequence, 0, (20 + len(options)) * 4, flags, 65_535, 0, 0)
-        return self.ends.packet(TCP, header + options + data, self.back)
+        return self.ends.packet(TCP, tcp(source, target, self.first + place, data, flags, 0, options), self.back)
 
 
 def stream(rng, ends):

@@ -1,4 +1,4 @@
-"""Packets of IP, UDP and NetBIOS, and pcap and pcapng files of frames, for the scripts that make such files or send packets."""
+"""Packets of IP, UDP, TCP and NetBIOS, and pcap and pcapng files of frames, for the scripts that make such files or send packets."""
 import struct
 
 # The moment from which times in files are counted, in microseconds.
@@ -6,23 +6,23 @@ START = 1_700_000_000 * 10**6
 
 UDP, TCP, ICMP = 17, 6, 1
 FIN, SYN, RST, ACK = 0x01, 0x02, 0x04, 0x10
+NB, NBSTAT, NULL, NS = 0x20, 0x21, 0x0a, 0x02
 CLIENT, SERVER = bytes([10, 0, 0, 5]), bytes([10, 0, 0, 6])
+# All of a MAC but its last byte.
+MAC = b'\x02\0\0\0\0'
 
 
 def first_level(text, suffix):
     """A name as it stands in a packet, without a scope."""
-    letters = bytes(ord('A') + half for byte in text.ljust(15).encode() + bytes([suffix]) for half in (byte >> 4, byte & 15))
-    return bytes([len(letters)]) + letters + b'\0'
+    data = (text if isinstance(text, bytes) else text.encode()).ljust(15)[:15] + bytes([suffix])
+    return b'\x20' + bytes(ord('A') + half for byte in data for half in (byte >> 4, byte & 15)) + b'\0'
 
 
 JOE, FRED = first_level('JOE', 0x00), first_level('FRED', 0x20)
-ENTRY = struct.pack('>HHLHH4s', 0x20, 1, 300_000, 6, 0x6000, SERVER)
-QUERY = struct.pack('>6H', 0x0003, 0x0110, 1, 0, 0, 0) + FRED + struct.pack('>HH', 0x20, 1)
-RESPONSE = struct.pack('>6H', 0x0003, 0x8500, 0, 1, 0, 0) + FRED + ENTRY
-REQUEST = b'\x81\0\0\x44' + FRED + JOE
-POSITIVE, KEEPALIVE, FOREIGN = b'\x82\0\0\0', b'\x85\0\0\0', b'GET / HTTP/1.0\r\n'
-SHORT, OTHER = b'\0\0\0\x0ashort text', b'\0\0\0\x09other one'
-LONG = b'\0\x01' + struct.pack('>H', 70_000 - 65_536) + bytes(70_000)
+
+
+def ethernet(packet, source=MAC + b'\x05', target=MAC + b'\x06'):
+    return target + source + (b'\x86\xdd' if packet[0] >> 4 == 6 else b'\x08\0') + packet
 
 
 def ip(protocol, data, source=CLIENT, target=SERVER, fragment=0, identifier=0):
@@ -38,12 +38,38 @@ def udp(source, target, payload):
     return struct.pack('>HHHH', source, target, 8 + len(payload), 0) + payload
 
 
-def datagram(identifier, data, source=CLIENT):
-    """A group datagram in one packet."""
-    header = struct.pack('>BBH4sHHH', 0x11, 0x02, identifier, source, 138, len(JOE + FRED) + len(data), 0)
-    return header + JOE + FRED + data
+def tcp(source, target, sequence, payload=b'', flags=ACK, acknowledged=1, options=b''):
+    header = struct.pack('>HHLLBBHHH', source, target, sequence % 2**32, acknowledged, (20 + len(options)) * 4, flags, 65_535, 0, 0)
+    return header + options + payload
 
 
+def record(kind, data, ttl=0):
+    """What stands after the name of a record."""
+    return struct.pack('>HHLH', kind, 1, ttl, len(data)) + data
+
+
+def service(identifier, word, name, asked=None, told=b''):
+    """A packet of port 137 about one name: a question of the type `asked`, the record `told`, or both."""
+    if asked is None:
+        return struct.pack('>6H', identifier, word, 0, 1, 0, 0) + name + told
+    question = name + struct.pack('>HH', asked, 1)
+    return struct.pack('>6H', identifier, word, 1, 0, 0, bool(told)) + question + (b'\xc0\x0c' + told if told else b'')
+
+
+def datagram(identifier, data, source=CLIENT, kind=0x11, flags=0x02, offset=0, names=JOE + FRED):
+    """A group datagram in one packet, or a piece of another one."""
+    return struct.pack('>BBH4sHHH', kind, flags, identifier, source, 138, len(names) + len(data), offset) + names + data
+
+
+def session(kind, body=b''):
+    return struct.pack('>BBH', kind, len(body) >> 16, len(body) & 65_535) + body
+
+
+QUERY = service(3, 0x0110, FRED, asked=NB)
+RESPONSE = service(3, 0x8500, FRED, told=record(NB, b'\x60\0' + SERVER, 300_000))
+REQUEST, POSITIVE, KEEPALIVE = session(0x81, FRED + JOE), session(0x82), session(0x85)
+SHORT, OTHER, LONG = session(0, b'short text'), session(0, b'other one'), session(0, bytes(70_000))
+FOREIGN = b'GET / HTTP/1.0\r\n'
 DATAGRAM = datagram(7, bytes(range(250)) * 4)
 
 
@@ -73,3 +99,27 @@ def block(kind, body, order='<'):
 def section(order='<'):
     """The block that begins a file of pcapng."""
     return block(0x0a0d0d0a, struct.pack(order + 'LHHq', 0x1a2b3c4d, 1, 0, -1), order)
+
+
+class Frames:
+    """Frames of a network, which knows the next place of each stream."""
+
+    def __init__(self):
+        self.frames, self.due = [], {}
+
+    def add(self, moment, source, target, port, payload, flags=ACK, snap=None, mac=None):
+        """A packet of this service at a millisecond, from one address and port to another; `mac` is the last byte of its sender's."""
+        if port == 139:
+            packet = ip(TCP, tcp(source[1], target[1], *self.placed((source, target), payload, flags)), source[0], target[0])
+        else:
+            packet = ip(UDP, udp(source[1], target[1], payload), source[0], target[0])
+        receiver = b'\xff' * 6 if target[0][3] == 255 else MAC + target[0][3:]
+        self.frames.append((round(moment * 1000), ethernet(packet, MAC + (mac or source[0][3:]), receiver), snap))
+
+    def placed(self, key, payload, flags):
+        """The sequence number of a segment, its bytes and its flags, and what it acknowledges."""
+        if flags & SYN:
+            self.due[key] = self.due.get(key, 0) + 100_000
+        place = self.due.get(key, 1_000)
+        self.due[key] = place + len(payload) + bool(flags & SYN)
+        return place, payload, flags, 0 if flags == SYN else 1

@@ -19,8 +19,7 @@ import shlex
 import subprocess
 from dataclasses import dataclass, field
 
-from look_captures import ethernet
-from wire import ACK, SYN, TCP, UDP, ip, pcap, struct, udp
+from wire import ACK, SYN, Frames, pcap
 
 FOLDER = os.path.join(os.path.dirname(os.path.abspath(__file__)), '..', 'summary')
 PACKET = re.compile(r'(\d+(?:\.\d+)?)\s+(\S+) > (\S+)\s+(.*)')
@@ -74,15 +73,14 @@ def cases_in(path):
     return found
 
 
-class Network:
+class Network(Frames):
     """The frames of a case."""
 
     def __init__(self, program):
+        super().__init__()
         self.program = program
-        self.frames = []
-        self.due = {}                # the next sequence number, by both ends
 
-    def add(self, line):
+    def says(self, line):
         moment, source, target, rest = PACKET.fullmatch(line).groups()
         options = {}
         while match := OPTION.match(rest):
@@ -90,7 +88,8 @@ class Network:
             rest = rest[match.end():].lstrip()
         verb, *words = shlex.split(rest)
         for port, payload, flags in self.payloads(verb, words, options, (source, target)):
-            self.frame(float(moment), ends_of(source, port), ends_of(target, port), port, payload, flags, options)
+            snap = int(options['cut']) if 'cut' in options else None
+            self.add(float(moment), ends_of(source, port), ends_of(target, port), port, payload, flags, snap, bytes.fromhex(options.get('mac', '')))
 
     def payloads(self, verb, words, options, ends):
         """Port, payload and flags of TCP of each packet."""
@@ -106,25 +105,6 @@ class Network:
         lines = lines[int(options['pick']) - 1:][:1] if 'pick' in options else lines
         parted = [line.split() for line in lines]
         return [(int(port), changed(b'' if digits == 'empty' else bytes.fromhex(digits), options), ACK) for port, _, digits in parted]
-
-    def frame(self, moment, source, target, port, payload, flags, options):
-        if port == 139:
-            packet = self.segment(source, target, payload, flags)
-        else:
-            packet = ip(UDP, udp(source[1], target[1], payload), source[0], target[0])
-        mac = b'\x02\0\0\0\0'
-        sender = bytes.fromhex(options['mac']) if 'mac' in options else source[0][3:]
-        receiver = b'\xff' * 6 if target[0][3] == 255 else mac + target[0][3:]
-        self.frames.append((round(moment * 1000), ethernet(packet, mac + sender, receiver), int(options['cut']) if 'cut' in options else None))
-
-    def segment(self, source, target, payload, flags):
-        key = source, target
-        if flags & SYN:
-            self.due[key] = self.due.get(key, 0) + 100_000
-        place = self.due.get(key, 1_000)
-        self.due[key] = place + len(payload) + bool(flags & SYN)
-        header = struct.pack('>HHLLBBHHH', source[1], target[1], place, 0 if flags == SYN else 1, 0x50, flags, 65_535, 0, 0)
-        return ip(TCP, header + payload, source[0], target[0])
 
 
 def ends_of(text, port):
@@ -145,7 +125,7 @@ def capture_of(case, program):
     """The pcap file of a case."""
     network = Network(program)
     for line in case.packets:
-        network.add(line)
+        network.says(line)
     return pcap(network.frames)
 
 

@@ -3,7 +3,7 @@ import random
 import struct
 
 import random_pcap
-from wire import block, pcap_header, section
+from wire import block, ip, pcap_header, section, udp
 
 PCAP, SECTION, INTERFACE = pcap_header(), section(), block(1, struct.pack('<HHL', 1, 0, 0))
 
@@ -17,8 +17,7 @@ PLAIN_GRE = bytes([0, 0, 8, 0])
 
 def packet(data, protocol=17, is_udp=True):
     """A packet of IPv4 with data, on port 137 where it is UDP."""
-    inside = struct.pack('>HHHH', 137, 137, 8 + len(data), 0) + data if is_udp else data
-    return struct.pack('>BBHHHBBH', 0x45, 0, 20 + len(inside), 1, 0, 64, protocol, 0) + bytes([10, 0, 0, 5, 10, 0, 0, 9]) + inside
+    return ip(protocol, udp(137, 137, data) if is_udp else data, target=bytes([10, 0, 0, 9]), identifier=1)
 
 
 def ethernet(data):
@@ -78,8 +77,7 @@ def sides(program):
 
 def odd():
     """A capture of datagrams, fragments of IP and streams, with a snap length and bytes that are missing."""
-    random_pcap.vxlan = random_pcap.nested = random_pcap.gre = lambda packet: packet
-    return random_pcap.pcap_of(random.Random('page-0'))
+    return random_pcap.pcap_of(random.Random('page-0'), ())
 
 
 def markup(program):

@@ -2,7 +2,6 @@
 import os
 
 import page_files
-import summary_cases
 from parts import check, equal
 
 # What is known of a datagram whose first bytes came alone.
@@ -31,15 +30,6 @@ class ViewCases:
     def names_are_drawn(self):
         """Whether all tables of names are there, those of datagrams too, which come later."""
         return self.browser.tables() and self.browser.id('view-names').get_attribute('aria-busy') is None
-
-    def datagrams(self):
-        """The tables of datagrams are those of the cases of tests/summary/."""
-        for number, case in enumerate(each for each in summary_cases.cases() if each.file == 'datagrams.txt'):
-            self.browser.open(self.page, '#names')
-            self.browser.give(self.path(f'case-{number}.pcap', summary_cases.capture_of(case, self.program.path)))
-            self.browser.wait(self.names_are_drawn)
-            shown = {title: summary_cases.Table(*[rows[0], rows[1:]]) for title, rows in self.browser.tables().items()}
-            equal(summary_cases.difference(case, shown), '', f'{case.file}: {case.what}')
 
     def losers(self):
         """Who holds a name and who was refused it is said, and has another color."""

@@ -7,7 +7,7 @@ import types
 sys.path.insert(1, os.path.join(os.path.dirname(os.path.abspath(__file__)), '..', '..', 'tools'))
 from nbt_pcap.capture import Capture, Output
 from plugin_pcap import datagram_frame, segment_frame
-from wire import FRED, JOE, KEEPALIVE, QUERY, first_level
+from wire import FRED, JOE, KEEPALIVE, QUERY, datagram as packet, first_level
 
 ANN = first_level('ANN', 0x03)[:-1] + b'\x01A\0'
 BOB = first_level('BOB', 0x20)
@@ -71,8 +71,7 @@ class Made:
     def piece(head, data, start, end):
         kind, identifier, host, source, destination = head
         flags = (FIRST if start == 0 else 0) | (MORE if end < len(data) else 0)
-        body = source + destination + data[start:end]
-        return struct.pack('>BBH4sHHH', kind, flags, identifier, bytes([10, 0, 0, host]), 138, len(body), start) + body
+        return packet(identifier, data[start:end], bytes([10, 0, 0, host]), kind, flags, start, source + destination)
 
     def changed(self, payload):
         """A byte of a fragment changed: of its data, its header, or any."""

@@ -15,7 +15,7 @@ sys.dont_write_bytecode = True
 sys.path.insert(1, f'{sys.path[0]}/../lib')
 from plugin_captures import Made
 from plugin_pcap import datagram_frame, framed, write_pcap
-from wire import ACK, CLIENT, FRED, JOE, KEEPALIVE, OTHER, POSITIVE, QUERY, REQUEST, SERVER, SHORT, SYN, TCP, block, ip, section
+from wire import ACK, CLIENT, FRED, JOE, KEEPALIVE, OTHER, POSITIVE, QUERY, REQUEST, SERVER, SHORT, SYN, TCP, block, ip, section, session, tcp
 
 LENGTHS = (1, 2, 3, 7, 40, 500, 1_400)
 
@@ -32,12 +32,11 @@ def pieces():
 
 def segment(port, sequence, data, flags=ACK, ends=(CLIENT, SERVER)):
     ports = (port, 139) if ends[0] == CLIENT else (139, port)
-    return framed(ip(TCP, struct.pack('>HHLLBBHHH', *ports, sequence % 2**32, 1, 0x50, flags, 65_535, 0, 0) + data, *ends))
+    return framed(ip(TCP, tcp(*ports, sequence, data, flags), *ends))
 
 
 def message(rng):
-    data = rng.randbytes(70_000 if rng.random() < 0.02 else rng.choice((0, 1, 5, 60, 900, 4_000)))
-    return bytes([0, len(data) >> 16]) + struct.pack('>H', len(data) & 65_535) + data
+    return session(0, rng.randbytes(70_000 if rng.random() < 0.02 else rng.choice((0, 1, 5, 60, 900, 4_000))))
 
 
 def sent(rng):

@@ -1,9 +1,8 @@
 """Files of frames for the tests of the plugin for Wireshark, and what tshark prints of them."""
 import os
-import struct
 import subprocess
 
-from wire import TCP, UDP, ip, pcap, udp
+from wire import TCP, UDP, ip, pcap, tcp, udp
 
 ETHERNET = bytes(12) + b'\x08\0'
 # Between fields, and between the values of one.
@@ -22,8 +21,7 @@ def datagram_frame(port, payload, source):
 
 def segment_frame(number, payload, source, sequence=1):
     """Bytes of a connection of their own, by its client."""
-    header = struct.pack('>HHLLBBHHH', 1024 + number % 60_000, 139, sequence, 1, 0x50, 0x18, 8_192, 0, 0)
-    return framed(ip(TCP, header + payload, source))
+    return framed(ip(TCP, tcp(1024 + number % 60_000, 139, sequence, payload, 0x18), source))
 
 
 def write_pcap(path, frames):

@@ -11,16 +11,8 @@ odd() {
     done
 }
 
-# Twenty captures made by chance, beside an independent reading of them.
-random() {
-    local line
-    line=$("$here/wireshark/random_captures.py" 20 | tee "$room/random" | tail -n 1)
-    grep '^failed: ' "$room/random"
-    [[ $line =~ ^([0-9]+)' passed, '([0-9]+)' failed'$ ]] || line='0 passed, 1 failed'
-    passed=$((passed + ${line%% *}))
-    line=${line#*, }
-    failed=$((failed + ${line%% *}))
-}
+# Captures made by chance, beside the page's reading of them.
+random() { counted_by wireshark/random_captures.py 30; }
 
 # without_frames NAME COMMAND: a file, or a pipe, that has no frame.
 without_frames() {

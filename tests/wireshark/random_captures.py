@@ -1,16 +1,18 @@
 #!/usr/bin/env python3
-"""Random captures through the page's own reading of files, beside tools/pcap2cap, which has tshark read them.
+"""Random captures through tools/pcap2cap, which has tshark read them, beside the page's own reading of files, in node.
 
-Usage: tests/page/page_captures.py COUNT [SEED]
+Usage: tests/wireshark/random_captures.py COUNT [SEED]
 
 Each has datagrams, fragments of IP and TCP streams as networks deliver them, below VLAN tags, with snap lengths, as pcap or pcapng, in
 either byte order; some of them cooked as Linux does, in both versions, or from a loopback. What both print has to be the same, byte for
-byte: payloads with their moments, frames and ends, comments on what is left out, ticks, and the summary with its counts by reason. Its
-last line is 'N passed, M failed'; a capture that fails is kept in the folder of temporary files, and named.
+byte: payloads with their moments, frames and ends, comments on what is left out, ticks, and the summary with its counts by reason. The page reads no
+tunnels: of one capture in three pcap2cap has to print the same with tunnels around its packets and without. The last line is 'N passed, M failed'; a
+capture that fails is kept in the folder of temporary files, and named.
 """
 import os
 import re
 import struct
+import random
 import subprocess
 import sys
 
@@ -22,11 +24,6 @@ from seeds import compared, first_unlike
 TOP = os.path.realpath(f'{sys.path[0]}/../..')
 PROGRAM = ['node', f'{TOP}/page/tests/capture.mjs']
 TOOL = [f'{TOP}/tools/pcap2cap']
-
-
-def untunneled(packet):
-    """The page reads no tunnels."""
-    return packet
 
 
 # Link layers of frames that were of Ethernet: their numbers, and what stands in the place of the addresses and the type.
@@ -62,13 +59,27 @@ def relinked(data, rng):
 
 
 def main():
-    random_pcap.vxlan = random_pcap.nested = random_pcap.gre = untunneled
-    return compared('page', lambda rng: relinked(random_pcap.pcap_of(rng), rng), first_difference)
+    return compared('captures', lambda rng: relinked(random_pcap.pcap_of(rng, ()), rng), first_difference)
 
 
 def first_difference(path):
-    """What the two print of a capture, where it isn't the same."""
-    given, wanted = (subprocess.run([*words, path], capture_output=True, text=True, timeout=120) for words in (PROGRAM, TOOL))
+    """What is printed of a capture otherwise by the page than by the tool, or of one with tunnels otherwise than without."""
+    seed = re.search(r'(\d+)\.pcap$', path)[1]
+    if int(seed) % 3:
+        return unlike(run([*PROGRAM, path]), run([*TOOL, path]))
+    printed = []
+    for tunnels in ((), random_pcap.TUNNELS):
+        with open(path, 'wb') as file:
+            file.write(random_pcap.pcap_of(random.Random(seed), tunnels))
+        printed.append(run([*TOOL, path]))
+    return unlike(*printed)
+
+
+def run(words):
+    return subprocess.run(words, capture_output=True, text=True, timeout=120)
+
+
+def unlike(given, wanted):
     return first_unlike(given.stdout.splitlines(), wanted.stdout.splitlines()) or first_unlike(counts(given.stderr), counts(wanted.stderr))
 
 

@@ -5,7 +5,7 @@ use Rattle.nb_names.specs.Hexadecimal.{DataText}
 use Rattle.nb_names.specs.Name.{NetbiosName, labels_of_name}
 use Rattle.nb_names.specs.NameText.{IsText}
 use Rattle.nb_service.specs.declared.classes.TheConstants.{IN}
-use Rattle.nb_service.specs.Building.{packet_of}
+use Rattle.nb_service.specs.Requests.{packet_of}
 use Rattle.nb_service.specs.Record.{ResourceData, ResourceRecord, record_of}
 use Rattle.nb_service.specs.Packet.{ServicePacket}
 use Rattle.nb_service.specs.Encoding as service

@@ -13,10 +13,9 @@ use Rattle.nb_datagram.specs.declared.kind.Kind.TheVariants.{Unique, Group, Broa
 use Rattle.nb_datagram.specs.declared.limits.TheConstants.{MAX_LENGTH}
 use Rattle.nb_datagram.specs.declared.packet.QueryKind.{QueryKind}
 use Rattle.nb_datagram.specs.declared.packet.QueryKind.TheVariants.{Request, Positive, Negative}
-use Rattle.nb_datagram.specs.Texts.{kind_text}
+use Rattle.nb_datagram.specs.FaultTexts.{kind_text}
 use Rattle.nb_text.specs.Words.{query_word}
-use Rattle.nb_datagram.specs.Datagram.{DatagramParts}
-use Rattle.nb_datagram.specs.Fragment.{FragmentParts, named_length}
+use Rattle.nb_datagram.specs.Fragment.{DatagramParts, FragmentParts, named_length}
 use Rattle.nb_datagram.specs.Pieces.{AreTooLong, piece, piece_count}
 use Rattle.std.proofs.lemmas.Fmt.{decimal_injective}
 use Rattle.nb_building.specs.declared.build_fault.BuildFault.{BuildFault}

@@ -22,10 +22,10 @@ use Rattle.nb_session.specs.Packet.{IsPacket}
 use Rattle.nb_datagram.specs.declared.key.Key.{Key}
 use Rattle.nb_datagram.specs.declared.packet.Packet.TheVariants.{Direct, Error, Query}
 use Rattle.nb_datagram.specs.declared.packet.QueryKind.{QueryKind}
-use Rattle.nb_datagram.specs.Datagram.{DatagramParts}
+use Rattle.nb_datagram.specs.Fragment.{DatagramParts}
 use Rattle.nb_datagram.specs.Packet as datagram
 use Rattle.nb_datagram.specs.Pieces.{AreTooLong, pieces}
-use Rattle.nb_datagram.specs.Texts.{kind_text}
+use Rattle.nb_datagram.specs.FaultTexts.{kind_text}
 use Rattle.nb_text.specs.Words.{query_word}
 use Rattle.nb_building.specs.Responses.{HasRdata, response_packet, with_flag}
 

@@ -6,7 +6,7 @@ use Rattle.nb_names.specs.Labels.{NameAt}
 use Rattle.nb_names.specs.Name.{NetbiosName, labels_of_name}
 use Rattle.nb_service.specs.declared.classes.TheConstants.{IN}
 use Rattle.nb_service.specs.declared.kinds.TheConstants.{NS}
-use Rattle.nb_service.specs.Building.{packet_of}
+use Rattle.nb_service.specs.Requests.{packet_of}
 use Rattle.nb_service.specs.Record.{ResourceData, of_bytes, of_domain, record_of}
 use Rattle.nb_service.specs.Packet.{ServicePacket}
 

@@ -4,9 +4,9 @@ use Rattle.std.specs.Prelude.{◌≢◌, ◌<◌, ◌≤◌, ℕ, List, [], ◌�
 use Rattle.nb_names.specs.Hexadecimal.{DataText}
 use Rattle.nb_names.specs.NameText.{IsText}
 use Rattle.nb_datagram.specs.declared.kind.Kind.{Kind}
-use Rattle.nb_datagram.specs.Datagram.{DatagramParts}
+use Rattle.nb_datagram.specs.Fragment.{DatagramParts}
 use Rattle.nb_datagram.specs.Pieces.{AreTooLong}
-use Rattle.nb_datagram.specs.Texts.{kind_text}
+use Rattle.nb_datagram.specs.FaultTexts.{kind_text}
 use Rattle.nb_service.specs.declared.kinds.TheConstants.{NS}
 use Rattle.nb_building.specs.Built.{KeyText, NumberText, WordText}
 

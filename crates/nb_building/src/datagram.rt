@@ -2,7 +2,7 @@
 ghost use Rattle.std.specs.Prelude.{◌≡◌, ◌≢◌, ◌≤◌, ◌++◌, [], ◌∷◌, map, codes, IfErr, IfOk, OnOk};
 ghost use Rattle.nb_datagram.specs.Packet.{packet_bytes};
 ghost use Rattle.nb_datagram.specs.Pieces.{AreTooLong, pieces};
-ghost use Rattle.nb_datagram.specs.Texts.{kind_text};
+ghost use Rattle.nb_datagram.specs.FaultTexts.{kind_text};
 ghost use Rattle.nb_text.specs.Words.{query_word};
 ghost use Rattle.nb_building.specs.Built.{NamesDatagrams};
 ghost use Rattle.nb_building.specs.Refusals.{Unnamed};

@@ -6,7 +6,7 @@ ghost use Rattle.nb_names.specs.Labels.{NameAt};
 ghost use Rattle.nb_names.specs.Name.{labels_of_name};
 ghost use Rattle.nb_service.specs.declared.classes.TheConstants.{IN};
 ghost use Rattle.nb_service.specs.declared.kinds.TheConstants.{NS};
-ghost use Rattle.nb_service.specs.Building.{packet_of};
+ghost use Rattle.nb_service.specs.Requests.{packet_of};
 ghost use Rattle.nb_service.specs.Encoding.{packet_bytes};
 ghost use Rattle.nb_service.specs.Record.{ResourceData, ResourceRecord, record_of};
 ghost use Rattle.nb_building.specs.Built.{IsServiceBuilt, NumberText, WordText};

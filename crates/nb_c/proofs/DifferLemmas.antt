@@ -8,8 +8,7 @@ use Rattle.std.specs.Ordering.{eq_by_cmp, ordering_reverse}
 use Rattle.std.specs.declared.cmp.Ordering.{Ordering}
 use Rattle.std.specs.declared.cmp.Ordering.TheVariants.{Less, Equal, Greater}
 use Rattle.nb_datagram.specs.declared.key.Key.{Key}
-use Rattle.nb_datagram.specs.Key.{key_cmp}
-use Rattle.nb_datagram.specs.KeyOrder.{key_cmp_total, key_cmp_exact}
+use Rattle.nb_datagram.specs.Key.{key_cmp, key_cmp_total, key_cmp_exact}
 use Rattle.nb_entries.specs.Entry.{EntryValue}
 use Rattle.nb_entries.specs.Shared.MapsLemmas.{one_key}
 use Rattle.nb_table.specs.Contents.{Contents}

@@ -4,8 +4,7 @@ use Rattle.std.specs.List.{slice_range}
 use Rattle.std.proofs.lemmas.Bool.Decides.{nat_tests}
 use Rattle.std.proofs.lemmas.List.{length-take, length-drop}
 use Rattle.std.proofs.Math.Nat.{add-mul, one-mul}
-use Rattle.nb_datagram.specs.Datagram.{DatagramParts}
-use Rattle.nb_datagram.specs.Fragment.{FragmentParts}
+use Rattle.nb_datagram.specs.Fragment.{DatagramParts, FragmentParts}
 use Rattle.nb_datagram.specs.Header.{IsKey}
 use Rattle.nb_datagram.specs.Packet.{name_bytes}
 use Rattle.nb_datagram.specs.Pieces.{piece}

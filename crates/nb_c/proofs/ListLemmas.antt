@@ -5,7 +5,7 @@ use Rattle.nb_entries.specs.declared.load_fault.LoadFault.{LoadFault}
 use Rattle.nb_entries.specs.declared.load_fault.LoadFault.TheVariants as loads
 use Rattle.nb_table.specs.Contents.{Contents}
 use Rattle.nb_table.specs.Limits.{TableValue}
-use Rattle.nb_table.specs.LoadFaults.{LoadFails}
+use Rattle.nb_table.specs.Saved.{LoadFails}
 use Rattle.nb_c.specs.declared.refusal.Refusal.{Refusal}
 use Rattle.nb_c.specs.Outputs.{HasOne, MayLack, OrMemory, none_late, of_memory}
 use Rattle.nb_c.specs.Tables.{IsLoaded, OfOne, not_read, read, widest}

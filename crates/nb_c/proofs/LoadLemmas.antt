@@ -6,11 +6,9 @@ use Rattle.nb_entries.specs.declared.load_fault.LoadFault.{LoadFault}
 use Rattle.nb_entries.specs.declared.load_fault.LoadFault.TheVariants.{NoMemory}
 use Rattle.nb_table.specs.Contents.{Contents}
 use Rattle.nb_entries.specs.Entry.{EntryValue}
-use Rattle.nb_table.specs.KeyCounts.{FewOfEach}
-use Rattle.nb_table.specs.Limits.{Limits, TableValue}
-use Rattle.nb_table.specs.LoadFaults.{IsReadAs, LoadFails, ill_formed, too_long, full_source, full, no_memory}
+use Rattle.nb_table.specs.Limits.{FewOfEach, Limits, TableValue}
+use Rattle.nb_table.specs.Saved.{IsReadAs, LoadFails, ill_formed, too_long, full_source, full, no_memory, IsRead}
 use Rattle.nb_table.specs.Merging.{AllShort}
-use Rattle.nb_table.specs.SavedReading.{IsRead}
 use Rattle.nb_entries.specs.SavedReading.{Outcome}
 use Rattle.nb_c.specs.Tables.{IsLoaded}
 

@@ -7,8 +7,7 @@ use Rattle.nb_datagram.specs.declared.packet.Packet.TheVariants.{Direct, Error, 
 use Rattle.nb_datagram.specs.declared.packet.ErrorPacket.{ErrorPacket}
 use Rattle.nb_datagram.specs.Fragment.{FragmentParts, named_length}
 use Rattle.nb_datagram.specs.Header.{header_bytes, error_type, query_type}
-use Rattle.nb_datagram.specs.Kind.{type_of}
-use Rattle.nb_datagram.specs.Packet.{QueryPacket, IsPacket, name_bytes}
+use Rattle.nb_datagram.specs.Packet.{type_of, QueryPacket, IsPacket, name_bytes}
 use Rattle.nb_c.specs.Datagrams.{fragment_places, error_places, query_places}
 
 stands : (whole front bytes rest : List ℕ) (at : ℕ) → whole ≡ front ++ (bytes ++ rest) → at ≡ length front → StandsAt whole at bytes

@@ -4,7 +4,7 @@ use Rattle.nb_entries.specs.declared.load_fault.LoadFault.{LoadFault}
 use Rattle.nb_entries.specs.declared.load_fault.LoadFault.TheVariants as loads
 use Rattle.nb_table.specs.Contents.{Contents}
 use Rattle.nb_table.specs.Limits.{Limits, TableValue}
-use Rattle.nb_table.specs.LoadFaults.{LoadFails}
+use Rattle.nb_table.specs.Saved.{LoadFails}
 use Rattle.nb_c.specs.declared.refusal.Refusal.{Refusal}
 use Rattle.nb_c.specs.declared.refusal.Refusal.TheVariants.{Memory, Fault, FaultAt}
 use Rattle.nb_c.specs.Outputs.{HasOne, MayLack, OrMemory, refused_status}

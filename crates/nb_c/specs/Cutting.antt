@@ -9,8 +9,7 @@ use Rattle.nb_datagram.specs.declared.kind.Kind.{Kind}
 use Rattle.nb_datagram.specs.declared.kind.Kind.TheVariants.{Unique, Group, Broadcast}
 use Rattle.nb_datagram.specs.declared.limits.TheConstants.{MAX_LENGTH, DIRECT_HEADER_LENGTH}
 use Rattle.nb_datagram.specs.declared.packet.Packet.TheVariants.{Direct}
-use Rattle.nb_datagram.specs.Datagram.{DatagramParts}
-use Rattle.nb_datagram.specs.Fragment.{FragmentParts}
+use Rattle.nb_datagram.specs.Fragment.{DatagramParts, FragmentParts}
 use Rattle.nb_datagram.specs.Packet.{name_bytes, packet_bytes}
 use Rattle.nb_datagram.specs.Pieces.{pieces}
 use Rattle.nb_c.specs.declared.cutting.Sent.{Sent}

@@ -10,8 +10,7 @@ use Rattle.nb_datagram.specs.declared.packet.Packet.TheVariants.{Direct, Error, 
 use Rattle.nb_datagram.specs.DatagramFaults.{PacketFails}
 use Rattle.nb_datagram.specs.Fragment.{FragmentParts}
 use Rattle.nb_datagram.specs.Header.{error_type, query_type}
-use Rattle.nb_datagram.specs.Kind.{type_of}
-use Rattle.nb_datagram.specs.Packet.{Packet, QueryPacket, IsPacket, name_bytes}
+use Rattle.nb_datagram.specs.Packet.{type_of, Packet, QueryPacket, IsPacket, name_bytes}
 use Rattle.nb_c.specs.declared.datagrams.NbtDatagram.{NbtDatagram}
 use Rattle.nb_c.specs.declared.refusal.Refusal.{Refusal}
 use Rattle.nb_c.specs.Statuses.{datagram_refusal}

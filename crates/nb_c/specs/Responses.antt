@@ -14,7 +14,7 @@ use Rattle.nb_service.specs.declared.kinds.TheConstants.{NS}
 use Rattle.nb_service.specs.declared.limits.TheConstants.{MAX_RDATA}
 use Rattle.nb_service.specs.Encoding.{packet_bytes}
 use Rattle.nb_service.specs.Record.{ResourceData, ResourceRecord, of_bytes, of_domain, record_of}
-use Rattle.nb_service.specs.Responses.{one_answer}
+use Rattle.nb_service.specs.Requests.{one_answer}
 use Rattle.nb_c.specs.declared.refusal.Refusal.{Refusal}
 use Rattle.nb_c.specs.declared.refusal.Refusal.TheVariants.{Fault, FaultAt}
 use Rattle.nb_c.specs.declared.responses.Answered.{Answered}

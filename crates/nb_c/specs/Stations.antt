@@ -9,9 +9,8 @@ use Rattle.nb_datagram.specs.declared.fault.DatagramFault.{DatagramFault}
 use Rattle.nb_datagram.specs.declared.key.Key.{Key}
 use Rattle.nb_datagram.specs.declared.packet.ErrorPacket.{ErrorPacket}
 use Rattle.nb_datagram.specs.declared.packet.Packet.TheVariants.{Error}
-use Rattle.nb_datagram.specs.Datagram.{DatagramParts}
-use Rattle.nb_datagram.specs.Kind.{type_of}
-use Rattle.nb_datagram.specs.Packet.{name_bytes, packet_bytes}
+use Rattle.nb_datagram.specs.Fragment.{DatagramParts}
+use Rattle.nb_datagram.specs.Packet.{type_of, name_bytes, packet_bytes}
 use Rattle.nb_table.specs.declared.fault.TableFault.{TableFault}
 use Rattle.nb_table.specs.declared.fault.TableFault.TheVariants as tables
 use Rattle.nb_member.specs.declared.limits.TheConstants.{MAX_NAMES}

@@ -7,9 +7,8 @@ use Rattle.nb_table.specs.declared.fault.TableFault.TheVariants as tables
 use Rattle.nb_table.specs.Contents.{Contents}
 use Rattle.nb_table.specs.Join.{join}
 use Rattle.nb_table.specs.Limits.{Limits, TableValue, KeepsLimits}
-use Rattle.nb_table.specs.LoadFaults.{IsReadAs, LoadFails}
+use Rattle.nb_table.specs.Saved.{IsReadAs, LoadFails, saved}
 use Rattle.nb_table.specs.Merging.{Fits, IsRefused}
-use Rattle.nb_table.specs.Saved.{saved}
 use Rattle.nb_member.specs.Listing.{listing}
 use Rattle.nb_member.specs.ObjectLines.{listed_objects}
 use Rattle.nb_c.specs.declared.refusal.Refusal.{Refusal}

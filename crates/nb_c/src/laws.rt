@@ -20,10 +20,9 @@ ghost use Rattle.nb_datagram.specs.declared.packet.Packet.TheVariants.{Direct, E
 ghost use Rattle.nb_datagram.specs.declared.packet.ErrorPacket.{ErrorPacket};
 ghost use Rattle.nb_datagram.specs.declared.front.FragmentFront.{FragmentFront};
 ghost use Rattle.nb_datagram.specs.declared.front.Front.{Front};
-ghost use Rattle.nb_datagram.specs.Fragment.{FragmentParts};
+ghost use Rattle.nb_datagram.specs.Fragment.{FragmentParts, DatagramParts};
 ghost use Rattle.nb_datagram.specs.Fronts.{HasFront};
 ghost use Rattle.nb_datagram.specs.Packet.{QueryPacket, IsPacket, name_bytes};
-ghost use Rattle.nb_datagram.specs.Datagram.{DatagramParts};
 ghost use Rattle.nb_datagram.specs.Header.{IsKey};
 ghost use Rattle.nb_datagram.specs.Pieces.{piece};
 ghost use Rattle.nb_member.specs.declared.line_fault.LineFault.TheVariants as lines;

@@ -2,7 +2,7 @@
 ghost use Rattle.std.specs.Prelude.{IfOk, IfErr};
 ghost use Rattle.nb_c.specs.Tables.{IsLoaded};
 ghost use Rattle.nb_table.specs.Limits.{KeepsLimits};
-ghost use Rattle.nb_table.specs.LoadFaults.{LoadFails};
+ghost use Rattle.nb_table.specs.Saved.{LoadFails};
 
 use nb_table::{LoadFault, Table, load};
 use std::alloc::Global;

@@ -3,19 +3,17 @@ use Rattle.std.proofs.Common.{◌≡◌, ℕ, ◌+◌, ◌≤◌, inl, inr, List
 use Rattle.std.proofs.lemmas.List.{take_at}
 use Rattle.std.specs.Int.{w16, to_be_bytes}
 use Rattle.nb_names.specs.declared.pointers.Pointers.TheVariants.{Refused}
-use Rattle.nb_names.specs.Labels.{StandsAt, NameAt}
+use Rattle.nb_names.specs.Labels.{StandsAt, NameAt, NumberAt}
 use Rattle.nb_names.specs.Name.{NetbiosName, IsName, labels_of_name}
 use Rattle.nb_names.specs.NameFaults.{NetbiosFaultAt}
-use Rattle.nb_names.specs.Numbers.{NumberAt}
 use Rattle.nb_names.specs.PacketFacts.{stands_same, one_number_16}
 use Rattle.nb_datagram.specs.declared.fault.DatagramFault.{DatagramFault}
 use Rattle.nb_datagram.specs.declared.fault.DatagramFault.TheVariants.{SourceName, DestinationName}
 use Rattle.nb_datagram.specs.declared.key.Key.{Key}
 use Rattle.nb_datagram.specs.declared.packet.Packet.TheVariants.{Direct, Error, Query}
 use Rattle.nb_datagram.specs.Fragment.{FragmentParts, named_length}
-use Rattle.nb_datagram.specs.Kind.{type_of}
+use Rattle.nb_datagram.specs.Packet.{type_of, Packet, name_bytes, direct_bytes, packet_bytes, IsPacket}
 use Rattle.nb_datagram.specs.Header.{header_bytes, IsKey, error_type, query_type, IsUnknownType}
-use Rattle.nb_datagram.specs.Packet.{Packet, name_bytes, direct_bytes, packet_bytes, IsPacket}
 use Rattle.nb_datagram.specs.DatagramFaults.{HasType, NamesFail, in_source, in_destination, DirectFails, no_fields, no_data, in_names, PacketFails, no_header, no_type, direct_fails, no_code, query_fails}
 use Rattle.nb_datagram.proofs.StandsLemmas.{stands_front, stands_back, stands_begun}
 use Rattle.nb_datagram.proofs.ReadingLemmas.{header_long, kind_range, query_range}

@@ -17,9 +17,8 @@ use Rattle.nb_datagram.specs.declared.packet.Packet.TheVariants.{Direct, Error, 
 use Rattle.nb_datagram.specs.declared.packet.QueryKind.{QueryKind}
 use Rattle.nb_datagram.specs.declared.packet.QueryKind.TheVariants.{Request, Positive, Negative}
 use Rattle.nb_datagram.specs.Fragment.{FragmentParts, named_length}
-use Rattle.nb_datagram.specs.Kind.{type_of, kind_of, kind_back}
+use Rattle.nb_datagram.specs.Packet.{type_of, kind_of, kind_back, Packet, name_bytes, direct_bytes, packet_bytes, FitsDirect, Fits, IsPacket}
 use Rattle.nb_datagram.specs.Header.{header_bytes, IsKey, error_type, query_type}
-use Rattle.nb_datagram.specs.Packet.{Packet, name_bytes, direct_bytes, packet_bytes, FitsDirect, Fits, IsPacket}
 use Rattle.nb_datagram.proofs.ReadingLemmas.{header_long, kind_range, query_range}
 
 -- what the laws of nb_names say of names whose pointers are refused

@@ -13,8 +13,7 @@ use Rattle.std.proofs.lemmas.Option.{slice_get-get_or, get_or_from_slice_get, sl
 use Rattle.std.specs.Cmp.{both_ways}
 use Rattle.std.specs.List.{Contains, All, flat_map, range_with_len, slice_range}
 use Rattle.nb_datagram.specs.declared.limits.TheConstants.{MAX_LENGTH, MORE, FIRST}
-use Rattle.nb_datagram.specs.Fragment.{Core, Covers, named_length, cores_of, core_of, has_more, reach}
-use Rattle.nb_datagram.specs.Datagram.{DatagramParts}
+use Rattle.nb_datagram.specs.Fragment.{Core, Covers, named_length, cores_of, core_of, has_more, reach, DatagramParts}
 use Rattle.nb_datagram.specs.Packet.{name_bytes}
 use Rattle.nb_datagram.specs.Pieces.{IsPart, piece_count, piece, pieces, AreTooLong}
 

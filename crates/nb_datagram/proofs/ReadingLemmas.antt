@@ -3,9 +3,8 @@ use Rattle.std.proofs.Common.{◌≡◌, ℕ, ◌+◌, ◌≤◌, List, [], ◌�
 use Rattle.std.proofs.lemmas.List.{length-take-le, take_all}
 use Rattle.std.specs.Int.{w16, to_be_bytes}
 use Rattle.nb_names.specs.declared.pointers.Pointers.TheVariants.{Refused}
-use Rattle.nb_names.specs.Labels.{StandsAt, NameAt}
+use Rattle.nb_names.specs.Labels.{StandsAt, NameAt, NumberAt}
 use Rattle.nb_names.specs.Name.{NetbiosName, IsName, labels_of_name}
-use Rattle.nb_names.specs.Numbers.{NumberAt}
 use Rattle.nb_names.specs.NameFaults.{NetbiosFaultAt}
 use Rattle.nb_names.specs.declared.fault.NameFault.{NameFault}
 use Rattle.nb_datagram.specs.declared.header.Header.{Header}
@@ -14,9 +13,8 @@ use Rattle.nb_datagram.specs.declared.kind.Kind.{Kind}
 use Rattle.nb_datagram.specs.declared.packet.Packet.TheVariants as packets
 use Rattle.nb_datagram.specs.declared.packet.QueryKind.{QueryKind}
 use Rattle.nb_datagram.specs.Fragment.{named_length}
-use Rattle.nb_datagram.specs.Kind.{type_of}
+use Rattle.nb_datagram.specs.Packet.{type_of, name_bytes, IsPacket}
 use Rattle.nb_datagram.specs.Header.{header_bytes, error_type, query_type, IsDirectType, IsQueryType}
-use Rattle.nb_datagram.specs.Packet.{name_bytes, IsPacket}
 use Rattle.nb_datagram.specs.declared.fault.DatagramFault.{DatagramFault}
 use Rattle.nb_datagram.specs.declared.fault.DatagramFault.TheVariants.{DestinationName}
 use Rattle.nb_datagram.specs.declared.kind.Kind.TheVariants.{Unique, Group, Broadcast}

@@ -4,9 +4,8 @@ use Rattle.std.specs.Prelude.{◌==◌, ◌&&◌, Bool}
 use Rattle.std.specs.Cmp.Lexicographic.{pointwise}
 use Rattle.nb_names.specs.Name.{name_eq}
 use Rattle.nb_datagram.specs.declared.key.Key.{Key}
-use Rattle.nb_datagram.specs.Datagram.{DatagramParts}
-use Rattle.nb_datagram.specs.Fragment.{FragmentParts}
-use Rattle.nb_datagram.specs.Kind.{same_kind}
+use Rattle.nb_datagram.specs.Fragment.{DatagramParts, FragmentParts}
+use Rattle.nb_datagram.specs.Packet.{same_kind}
 
 -- whether two keys are equal
 abbrev pub key_eq : Key → Key → Bool

@@ -7,10 +7,9 @@ use Rattle.std.specs.Cmp.Lexicographic.{pointwise, pointwise_decides}
 use Rattle.nb_names.specs.NameFacts.{name_eq_decides}
 use Rattle.nb_datagram.specs.declared.key.Key.{Key}
 use Rattle.nb_datagram.specs.declared.kind.Kind.{Kind}
-use Rattle.nb_datagram.specs.Datagram.{DatagramParts}
+use Rattle.nb_datagram.specs.Fragment.{DatagramParts, FragmentParts}
 use Rattle.nb_datagram.specs.Equality.{key_eq, fragment_eq, datagram_eq}
-use Rattle.nb_datagram.specs.Fragment.{FragmentParts}
-use Rattle.nb_datagram.specs.Kind.{type_of, same_kind, kind_of, kind_back}
+use Rattle.nb_datagram.specs.Packet.{type_of, same_kind, kind_of, kind_back}
 
 bytes_decide : (xs ys : List ℕ) → Decides (pointwise ◌==◌ xs ys) (xs ≡ ys)
 bytes_decide = pointwise_decides unsigned_Decides

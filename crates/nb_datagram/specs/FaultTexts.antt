@@ -5,6 +5,12 @@ use Rattle.nb_datagram.specs.declared.fault.DatagramFault.{DatagramFault}
 use Rattle.nb_datagram.specs.declared.fault.DatagramFault.TheVariants.{Truncated, UnknownType, SourceName, DestinationName}
 use Rattle.nb_datagram.specs.declared.cut_fault.CutFault.{CutFault}
 use Rattle.nb_datagram.specs.declared.cut_fault.CutFault.TheVariants as cuts
+use Rattle.std.specs.Fmt.{decimal}
+use Rattle.nb_names.specs.Addresses.{address_text}
+use Rattle.nb_names.specs.Hexadecimal.{word_text}
+use Rattle.nb_datagram.specs.declared.key.Key.{Key}
+use Rattle.nb_datagram.specs.declared.kind.Kind.{Kind}
+use Rattle.nb_datagram.specs.declared.kind.Kind.TheVariants.{Unique, Group, Broadcast}
 
 -- which name is wrong in bytes that could not be decoded
 abbrev pub datagram_fault_subject : DatagramFault → List ℕ
@@ -36,3 +42,15 @@ abbrev pub cut_fault_text : CutFault → List ℕ
 cut_fault_text cuts.ZeroPiece = codes "zero piece"
 cut_fault_text cuts.TooLong = codes "too long"
 cut_fault_text cuts.NoMemory = codes "memory"
+
+-- ---- the texts of keys and kinds (our choice)
+
+-- a key: the address, the port in decimal, and the identifier as four hexadecimal digits
+abbrev pub key_text : Key → List ℕ
+key_text k = address_text k.ip ++ (codes ":" ++ (decimal k.port ++ (codes "/" ++ word_text k.id)))
+
+-- the word for a kind
+abbrev pub kind_text : Kind → List ℕ
+kind_text Unique = codes "unique"
+kind_text Group = codes "group"
+kind_text Broadcast = codes "broadcast"

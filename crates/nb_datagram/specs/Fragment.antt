@@ -78,3 +78,17 @@ end_of_one f = cond f.more None (Some (reach f))
 -- the cores of fragments, in order
 abbrev pub cores_of : List FragmentParts → List Core
 cores_of = map core_of
+
+-- ---- whole datagrams
+
+-- the parts of a datagram; a place in it counts from the first of its bytes
+pub record DatagramParts : Type 0 where
+  pub key : Key
+  pub kind : Kind
+  pub source : NetbiosName
+  pub destination : NetbiosName
+  pub bytes : List ℕ
+
+-- datagram_by f bytes: the datagram that the fragment f is of, if its data is these bytes
+abbrev pub datagram_by : FragmentParts → List ℕ → DatagramParts
+datagram_by f bytes = record { key = f.key; kind = f.kind; source = f.source; destination = f.destination; bytes = bytes }

@@ -7,10 +7,9 @@ use Rattle.std.specs.Prelude.{ℕ, ◌+◌, ◌<◌, List, length, take, Option,
 use Rattle.std.specs.Int.{w16}
 use Rattle.nb_names.specs.declared.pointers.Pointers.TheVariants.{Refused}
 use Rattle.nb_names.specs.declared.fault.NameFault.{NameFault}
-use Rattle.nb_names.specs.Labels.{StandsAt, NameAt}
+use Rattle.nb_names.specs.Labels.{StandsAt, NameAt, NumberAt}
 use Rattle.nb_names.specs.Name.{NetbiosName, IsName, labels_of_name}
 use Rattle.nb_names.specs.NameFaults.{NetbiosFaultAt}
-use Rattle.nb_names.specs.Numbers.{NumberAt}
 use Rattle.nb_datagram.specs.declared.front.FragmentFront.{FragmentFront}
 use Rattle.nb_datagram.specs.declared.front.Front.{Front}
 use Rattle.nb_datagram.specs.declared.limits.TheConstants.{HEADER_LENGTH, DIRECT_HEADER_LENGTH}

@@ -1,8 +1,5 @@
 pub mod Key
-pub mod KeyOrder
-pub mod Kind
 pub mod Fragment
-pub mod Datagram
 pub mod Equality
 pub mod EqualityFacts
 pub mod Header
@@ -10,6 +7,5 @@ pub mod Packet
 pub mod DatagramFaults
 pub mod Fronts
 pub mod FaultTexts
-pub mod Texts
 pub mod Pieces
 pub mod Code

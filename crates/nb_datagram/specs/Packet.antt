@@ -3,7 +3,7 @@
 --
 -- Our choice: DGM_LENGTH counts the names and the data of its own packet, and not the 14 bytes before them;
 -- each fragment carries both names. No bit of FLAGS is without a place: all are kept.
-use Rattle.std.specs.Prelude.{◌≡◌, ℕ, ◌<◌, ◌≤◌, ◌^◌, List, [], ◌∷◌, ◌++◌, length}
+use Rattle.std.specs.Prelude.{◌≡◌, ℕ, ◌<◌, ◌≤◌, ◌^◌, List, [], ◌∷◌, ◌++◌, length, ◌==◌, Bool, cond, refl}
 use Rattle.std.specs.Int.{w16, to_be_bytes}
 use Rattle.nb_names.specs.DomainName.{spelling}
 use Rattle.nb_names.specs.Name.{NetbiosName, IsName, labels_of_name}
@@ -11,9 +11,37 @@ use Rattle.nb_datagram.specs.declared.limits.TheConstants.{MAX_LENGTH}
 use Rattle.nb_datagram.specs.declared.packet.Packet.{Packet as PacketOf}
 use Rattle.nb_datagram.specs.declared.packet.Packet.TheVariants.{Direct, Error, Query}
 use Rattle.nb_datagram.specs.declared.packet.QueryPacket.{QueryPacket as QueryPacketOf}
-use Rattle.nb_datagram.specs.Kind.{type_of}
 use Rattle.nb_datagram.specs.Fragment.{FragmentParts, named_length}
 use Rattle.nb_datagram.specs.Header.{header_bytes, IsKey, error_type, query_type}
+use Rattle.std.specs.Coded.{Coded, code_by, coded_ℕ}
+use Rattle.nb_datagram.specs.declared.kind.Kind.{Kind}
+use Rattle.nb_datagram.specs.declared.kind.Kind.TheVariants.{Unique, Group, Broadcast}
+
+-- ---- the kinds of datagrams (RFC 1002 section 4.4.1, MSG_TYPE)
+
+-- the MSG_TYPE of a kind: hexadecimal 10, 11 and 12
+abbrev pub type_of : Kind → ℕ
+type_of Unique = 16
+type_of Group = 17
+type_of Broadcast = 18
+
+-- the two are one kind
+abbrev pub same_kind : Kind → Kind → Bool
+same_kind a b = type_of a == type_of b
+
+-- the kind with this MSG_TYPE, and Broadcast for any other number
+abbrev pub kind_of : ℕ → Kind
+kind_of n = cond (n == 16) Unique (cond (n == 17) Group Broadcast)
+
+-- the MSG_TYPE gives the kind back
+pub kind_back : (k : Kind) → kind_of (type_of k) ≡ k
+kind_back Unique = refl
+kind_back Group = refl
+kind_back Broadcast = refl
+
+-- a kind as its MSG_TYPE
+abbrev pub kind_code : Coded Kind
+kind_code = code_by ℕ coded_ℕ type_of kind_of kind_back
 
 -- a packet, whatever the form of its names
 abbrev pub Packet : Type 0

@@ -7,8 +7,7 @@
 use Rattle.std.specs.Prelude.{◌≡◌, ◌==◌, ℕ, ◌+◌, ◌-◌, ◌*◌, ◌/◌, ◌≤◌, max, cond, ◌<◌, List, map, length, slice_get, slice_range, nat_lt, Some, Contains}
 use Rattle.std.specs.List.{range_with_len}
 use Rattle.nb_datagram.specs.declared.limits.TheConstants.{MAX_LENGTH}
-use Rattle.nb_datagram.specs.Fragment.{FragmentParts, Core, Covers, reach, named_length}
-use Rattle.nb_datagram.specs.Datagram.{DatagramParts}
+use Rattle.nb_datagram.specs.Fragment.{FragmentParts, Core, Covers, reach, named_length, DatagramParts}
 
 -- f is a part of d: what it says is true of d, and it says that more follows exactly where more does
 pub record IsPart (f : Core) (d : DatagramParts) : Type 0 where

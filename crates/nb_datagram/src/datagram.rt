@@ -1,6 +1,6 @@
 //! Whole datagrams.
 ghost use Rattle.std.specs.Prelude.{◌≡◌, ◌≤◌, ◌<◌, length, MatchResult};
-ghost use Rattle.nb_datagram.specs.Datagram.{datagram_by};
+ghost use Rattle.nb_datagram.specs.Fragment.{datagram_by};
 ghost use Rattle.nb_datagram.specs.declared.limits.TheConstants.{MAX_LENGTH};
 
 use crate::fragment::LentFragment;
@@ -23,7 +23,7 @@ pub struct Datagram {
 }
 
 impl Model for Datagram {
-    ghost use Rattle.nb_datagram.specs.Datagram.{DatagramParts};
+    ghost use Rattle.nb_datagram.specs.Fragment.{DatagramParts};
 
     ghost Value = { DatagramParts };
 

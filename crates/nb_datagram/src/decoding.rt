@@ -3,8 +3,7 @@ ghost use Rattle.std.specs.Prelude.{◌≡◌, ◌≤◌, ℕ, length, IfOk, IfE
 ghost use Rattle.nb_names.specs.Name.{NetbiosName};
 ghost use Rattle.nb_datagram.specs.DatagramFaults.{DirectFails, PacketFails};
 ghost use Rattle.nb_datagram.specs.Header.{error_type, query_type};
-ghost use Rattle.nb_datagram.specs.Kind.{type_of};
-ghost use Rattle.nb_datagram.specs.Packet.{IsPacket};
+ghost use Rattle.nb_datagram.specs.Packet.{type_of, IsPacket};
 ghost use Rattle.nb_datagram.specs.Code.Reading.{HasHeader};
 
 use crate::fault::DatagramFault;

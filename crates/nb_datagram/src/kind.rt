@@ -1,6 +1,6 @@
 //! Kinds of datagrams.
 ghost use Rattle.std.specs.Prelude.{◌≡◌};
-ghost use Rattle.nb_datagram.specs.Kind.{type_of};
+ghost use Rattle.nb_datagram.specs.Packet.{type_of};
 
 use crate::limits::{BROADCAST, DIRECT_GROUP, DIRECT_UNIQUE};
 

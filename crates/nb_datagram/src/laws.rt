@@ -11,15 +11,13 @@ ghost use Rattle.nb_datagram.specs.declared.front.Front.{Front};
 ghost use Rattle.nb_datagram.specs.declared.limits.TheConstants.{MAX_LENGTH, HEADER_LENGTH, ERROR_LENGTH, DIRECT_HEADER_LENGTH, MORE, FIRST};
 ghost use Rattle.nb_datagram.specs.declared.packet.QueryKind.TheVariants.{Request, Positive, Negative};
 ghost use Rattle.nb_datagram.specs.Header.{error_type, query_type};
-ghost use Rattle.nb_datagram.specs.Kind.{type_of};
+ghost use Rattle.nb_datagram.specs.Packet.{type_of, Packet, IsPacket};
 ghost use Rattle.nb_datagram.specs.declared.key.Key.{Key};
 ghost use Rattle.nb_datagram.specs.DatagramFaults.{PacketFails};
-ghost use Rattle.nb_datagram.specs.Datagram.{DatagramParts};
+ghost use Rattle.nb_datagram.specs.Fragment.{DatagramParts, FragmentParts, Core, Covers, cores_of};
 ghost use Rattle.nb_datagram.specs.Equality.{fragment_eq, datagram_eq};
-ghost use Rattle.nb_datagram.specs.Fragment.{FragmentParts, Core, Covers, cores_of};
 ghost use Rattle.nb_datagram.specs.Fronts.{HasFront, LacksHeader};
 ghost use Rattle.nb_datagram.specs.Key.{key_cmp, same_key};
-ghost use Rattle.nb_datagram.specs.Packet.{Packet, IsPacket};
 ghost use Rattle.nb_datagram.specs.Pieces.{IsPart, pieces};
 
 use nb_names::laws::{

@@ -1,9 +1,9 @@
 //! Keys and kinds as text.
-#![tactic(auto, using(nb_names::specs::GrowthFacts::front_stays))]
+#![tactic(auto, using(nb_names::specs::Growth::front_stays))]
 
 ghost use Rattle.std.specs.Prelude.{◌≡◌, ◌++◌, OnOk, string_bytes};
 ghost use Rattle.nb_names.specs.Growth.{OnlyAdds};
-ghost use Rattle.nb_datagram.specs.Texts.{key_text, kind_text};
+ghost use Rattle.nb_datagram.specs.FaultTexts.{key_text, kind_text};
 
 use crate::key::Key;
 use crate::kind::Kind;

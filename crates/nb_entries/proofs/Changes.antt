@@ -1,9 +1,8 @@
 -- What facts that grow change at their key.
 use Rattle.std.proofs.Common.{◌≡◌, ◌≢◌, ◌≤◌, ℕ, List, length, Option, Some, None, refl, sym, ◌∙◌, ap, arith, cond}
 use Rattle.nb_datagram.specs.declared.key.Key.{Key}
-use Rattle.nb_datagram.specs.Datagram.{DatagramParts}
-use Rattle.nb_datagram.specs.Fragment.{FragmentParts}
-use Rattle.nb_entries.specs.Slot.{Spoilt, Held}
+use Rattle.nb_datagram.specs.Fragment.{DatagramParts, FragmentParts}
+use Rattle.nb_entries.specs.Maps.{Spoilt, Held}
 use Rattle.nb_entries.specs.Cover.{CoverFacts}
 use Rattle.nb_entries.specs.Entry.{EntryFacts, EntryValue, FactsFit, facts_together, join_entry}
 use Rattle.nb_entries.specs.Shared.EntryLemmas.{facts_agree_of}

@@ -3,21 +3,19 @@ use Rattle.std.proofs.Common.{◌<◌, ◌≤◌, ◌-◌, inl, inr, ℕ, get_or
 use Rattle.std.proofs.lemmas.Bool.{cases_lt, lt-leb, eqb-true, eq-eqb}
 use Rattle.std.proofs.lemmas.Option.{slice_get-get_or}
 use Rattle.nb_datagram.specs.Fragment.{Core, Covers, reach}
-use Rattle.nb_entries.specs.Promise.{GoesOnFrom, Promises, greater, promise_of_one}
+use Rattle.nb_entries.specs.Cover.{GoesOnFrom, Promises, greater, promise_of_one, placed, CoverFacts, CoversFit, AreCoverFacts, IsCover, cover_of, same_where, bytes_agree, bytes_lie_below, covers_together}
 use Rattle.nb_entries.specs.Shared.PlacedLemmas.{covers_below, find-placed, adds_promised}
 use Rattle.std.specs.Ordering.{nat_cmp, eq_by_cmp}
 use Rattle.std.specs.Cmp.{nat_cmp_total, both_ways}
 use Rattle.std.specs.FinMap as maps
 use Rattle.std.specs.FinMap.{nat_cmp-IsAntisymmetric, is_sorted}
-use Rattle.nb_entries.specs.Maps.{first_of}
-use Rattle.nb_entries.specs.Cover.{placed, CoverFacts, CoversFit, AreCoverFacts, IsCover, cover_of, same_where, bytes_agree, bytes_lie_below, covers_together}
+use Rattle.nb_entries.specs.Maps.{first_of, Spoilt, Held}
 use Rattle.nb_entries.specs.Code.CoverFacts.{with_bytes, Holds, is_there}
 use Rattle.nb_entries.specs.Shared.MapsLemmas.{one_key, all_entries_found, all_entries_from, sorted_entries}
 use Rattle.std.proofs.lemmas.Bool.Decides.{nat_tests}
 use Rattle.std.specs.Prelude.{T, nat_le, nat_lt}
 use Rattle.std.specs.List.{list_all}
 use Rattle.std.specs.Option.{option_or}
-use Rattle.nb_entries.specs.Slot.{Spoilt, Held}
 use Rattle.nb_entries.specs.Shared.CoverLemmas.{same_at, at_same, in_union, same_cover, agree_of}
 use Rattle.nb_entries.specs.Shared.RowLemmas.{run_below}
 use Rattle.nb_entries.specs.Shared.RunsLemmas.{sorted_placed}

@@ -6,13 +6,13 @@ use Rattle.std.specs.FinMap as maps
 use Rattle.nb_entries.specs.declared.ranges.PlaceRange.{PlaceRange}
 use Rattle.nb_entries.specs.Maps.{first_of}
 use Rattle.nb_entries.specs.Runs.{OneHas, StartPast, RangesApart, AreRangesOf, range_of, ranges_of_map, RunValue, run_end, StartsPast, AreApart, runs_of_map, places_of, map_of_runs}
-use Rattle.nb_entries.specs.Code.RunSteps.{byte_in, look_in, held_in, EndBy}
+use Rattle.nb_entries.specs.Code.Rows.{byte_in, look_in, held_in, EndBy}
 use Rattle.nb_entries.specs.Shared.CoverLemmas.{first_either, bytes_below_decides}
 use Rattle.nb_entries.specs.Shared.RunsLemmas.{given_back, runs_apart, places-runs}
 use Rattle.nb_entries.proofs.KeptRuns.RunRowLemmas.{get-runs, has_below, has_from, byte_within}
 use Rattle.std.specs.Option.{option_and_then}
 use Rattle.nb_entries.specs.Cover.{CoverFacts, bytes_lie_below, placed, BytesBelow}
-use Rattle.nb_entries.specs.Outline.{IsAwaited, awaited_of}
+use Rattle.nb_entries.specs.Whole.{IsAwaited, awaited_of}
 use Rattle.nb_entries.specs.Shared.PlacedLemmas.{taken}
 use Rattle.std.proofs.lemmas.Option.{same_Some}
 use Rattle.std.proofs.lemmas.List.{length-append}

@@ -1,13 +1,12 @@
 -- What a fragment changes at its key, of what is known of the key before and after (our choice).
 use Rattle.std.specs.Prelude.{◌≡◌, ◌≢◌, ℕ, List, Option, Some, None, option_and_then}
 use Rattle.nb_datagram.specs.declared.key.Key.{Key}
-use Rattle.nb_datagram.specs.Datagram.{DatagramParts, datagram_by}
-use Rattle.nb_datagram.specs.Fragment.{FragmentParts}
+use Rattle.nb_datagram.specs.Fragment.{DatagramParts, datagram_by, FragmentParts}
 use Rattle.nb_entries.specs.declared.change.Change.{Change as ChangeOf}
 use Rattle.nb_entries.specs.declared.change.Change.TheVariants.{Spoilt, Whole, Same, Grown}
 use Rattle.nb_entries.specs.declared.change.Handing.{Handing}
 use Rattle.nb_entries.specs.declared.change.Handing.TheVariants.{Over, Kept}
-use Rattle.nb_entries.specs.Slot.{Spoilt as Clashed}
+use Rattle.nb_entries.specs.Maps.{Spoilt as Clashed}
 use Rattle.nb_entries.specs.Entry.{EntryValue}
 use Rattle.nb_entries.specs.Whole.{datagram_of, newly}
 

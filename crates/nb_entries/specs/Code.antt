@@ -1,7 +1,4 @@
 -- Words of the code's own data and loops (our choice). No public clause reaches them: contracts of private functions say
 -- how they stand to the definitions.
 pub mod CoverFacts
-pub mod Part
-pub mod RunSteps
 pub mod Rows
-pub mod SavedRuns

@@ -5,8 +5,8 @@ use Rattle.std.specs.FinMap as maps
 use Rattle.std.specs.Coded.{Coded, code_by, coded×, coded_ℕ, coded_option}
 use Rattle.nb_names.specs.Name.{NetbiosName, name_code}
 use Rattle.nb_datagram.specs.declared.kind.Kind.{Kind}
-use Rattle.nb_datagram.specs.Kind.{kind_code}
-use Rattle.nb_entries.specs.Slot.{Slot, Spoilt, Held}
+use Rattle.nb_datagram.specs.Packet.{kind_code}
+use Rattle.nb_entries.specs.Maps.{Slot, Spoilt, Held}
 use Rattle.nb_entries.specs.Cover.{CoverFacts}
 use Rattle.nb_entries.specs.Entry.{EntryFacts, EntryValue}
 

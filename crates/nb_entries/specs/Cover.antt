@@ -2,14 +2,35 @@
 -- if there is one (our choice).
 -- Places count from the first byte of the datagram's data; the end is how many bytes it has; a promise is a place at
 -- which or after which it has a byte.
-use Rattle.std.specs.Prelude.{◌≡◌, ◌==◌, ◌&&◌, ◌+◌, ◌<◌, ℕ, Bool, true, List, [], ◌∷◌, Option, Some, None, nat_lt}
+use Rattle.std.specs.Prelude.{◌≡◌, ◌==◌, ◌&&◌, ◌+◌, ◌<◌, ℕ, Bool, true, List, [], ◌∷◌, Option, Some, None, nat_lt, ◌≤◌, cond, max}
 use Rattle.std.specs.Ordering.{nat_cmp}
 use Rattle.std.specs.List.{list_all}
 use Rattle.std.specs.FinMap as map
-use Rattle.nb_datagram.specs.Fragment.{Core, end_of_one}
-use Rattle.nb_entries.specs.Maps.{first_of, union}
-use Rattle.nb_entries.specs.Promise.{greater, promise_of_one}
-use Rattle.nb_entries.specs.Slot.{Slot, join_slot, OnHeld}
+use Rattle.nb_datagram.specs.Fragment.{Core, end_of_one, Covers, reach}
+use Rattle.nb_entries.specs.Maps.{first_of, union, joined_at, Slot, join_slot, OnHeld}
+
+-- ---- promises of fragments (our choice): M set in a fragment says that its datagram goes on, so a byte follows at
+-- the fragment's reach or after it
+
+-- f promises a byte at the place r or after it: M is set, and r is the place after its last byte
+abbrev pub Promises : Core → ℕ → Type 0
+Promises f r = (f.more ≡ true) × (reach f ≡ r)
+
+-- what f promises, if it does
+abbrev pub promise_of_one : Core → Option ℕ
+promise_of_one f = cond f.more (Some (reach f)) None
+
+-- the greater of two promises, or the one that there is
+abbrev pub greater : Option ℕ → Option ℕ → Option ℕ
+greater = joined_at max
+
+-- GoesOnFrom f r: M is set, and r is where the places of f are over: it covers each place from its offset up to r, and
+-- none at r or after it. A law says that this is what it promises
+pub record GoesOnFrom (f : Core) (r : ℕ) : Type 0 where
+  pub more : f.more ≡ true
+  pub from : f.offset ≤ r
+  pub covered : (i : ℕ) → f.offset ≤ i → i < r → (x : ℕ) × Covers f i x
+  pub over : (i x : ℕ) → Covers f i x → i < r
 
 -- the bytes by place, the end or none, and the promise or none
 pub record CoverFacts : Type 0 where

@@ -2,9 +2,9 @@
 use Rattle.std.specs.Prelude.{◌≡◌, ◌&&◌, Bool, ◌≤◌, ℕ, nat_le, true, Option, Some, None}
 use Rattle.nb_names.specs.Name.{NetbiosName, name_eq}
 use Rattle.nb_datagram.specs.declared.kind.Kind.{Kind}
-use Rattle.nb_datagram.specs.Kind.{same_kind}
+use Rattle.nb_datagram.specs.Packet.{same_kind}
 use Rattle.nb_datagram.specs.Fragment.{Core}
-use Rattle.nb_entries.specs.Slot.{Slot, join_slot, OnHeld, Spoilt, Held}
+use Rattle.nb_entries.specs.Maps.{Slot, join_slot, OnHeld, Spoilt, Held}
 use Rattle.nb_entries.specs.Cover.{CoverFacts, CoversFit, covers_agree, covers_together, cover_of, AreCoverFacts, BytesBelow, bytes_lie_below}
 
 -- the kind, both names, and the cover's facts

@@ -2,8 +2,7 @@
 use Rattle.std.specs.Prelude.{◌≡◌}
 use Rattle.nb_entries.specs.declared.state.State.{State}
 use Rattle.nb_entries.specs.declared.state.State.TheVariants.{Absent, Partial, Whole, Spoilt}
-use Rattle.nb_entries.specs.Slot.{Held}
-use Rattle.nb_entries.specs.Slot.{Spoilt as Clashed}
+use Rattle.nb_entries.specs.Maps.{Held, Spoilt as Clashed}
 use Rattle.nb_entries.specs.Entry.{EntryValue}
 use Rattle.nb_entries.specs.Whole.{IsWholeCover}
 

@@ -5,8 +5,8 @@ use Rattle.std.specs.Cmp.Lexicographic.{pointwise}
 use Rattle.std.specs.Ordering.{nat_cmp}
 use Rattle.std.specs.FinMap as maps
 use Rattle.nb_names.specs.Name.{name_eq}
-use Rattle.nb_datagram.specs.Kind.{same_kind}
-use Rattle.nb_entries.specs.Slot.{Slot}
+use Rattle.nb_datagram.specs.Packet.{same_kind}
+use Rattle.nb_entries.specs.Maps.{Slot}
 use Rattle.nb_entries.specs.Cover.{CoverFacts, CoverValue}
 use Rattle.nb_entries.specs.Entry.{EntryFacts, EntryValue}
 use Rattle.nb_entries.specs.Codes.{held}

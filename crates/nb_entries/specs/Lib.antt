@@ -1,6 +1,4 @@
 pub mod Maps
-pub mod Slot
-pub mod Promise
 pub mod Cover
 pub mod Entry
 pub mod Codes
@@ -8,7 +6,6 @@ pub mod Whole
 pub mod Change
 pub mod EntryState
 pub mod Runs
-pub mod Outline
 pub mod Equal
 pub mod Sinks
 pub mod Saved

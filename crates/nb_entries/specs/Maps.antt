@@ -1,7 +1,9 @@
 -- Finite maps, joined key by key, and made of a list of keys.
-use Rattle.std.specs.Prelude.{List, [], ◌∷◌, Option, Some, None}
+use Rattle.std.specs.Prelude.{List, [], ◌∷◌, Option, Some, None, Bool, cond}
 use Rattle.std.specs.declared.cmp.Ordering.{Ordering}
 use Rattle.std.specs.FinMap as map
+pub use Rattle.nb_entries.specs.declared.slot.Slot.{Slot}
+pub use Rattle.nb_entries.specs.declared.slot.Slot.TheVariants.{Spoilt, Held}
 
 -- the first value that there is
 abbrev pub first_of : {X : Type 0} → Option X → Option X → Option X
@@ -42,3 +44,20 @@ module _ {K X : Type 0} {R : K → K → Ordering} where
   abbrev pub at_keys : (K → Option X) → List K → map.FinMap R X
   at_keys f [] = map.empty
   at_keys f (k ∷ ks) = with_some (at_keys f ks) k (f k)
+
+-- ---- what facts come to that may contradict each other, and how two such results are joined (our choice)
+--  It is said once over the facts' type. Covers and entries are two cases of it.
+
+-- spoilt by facts that contradict each other, or what all of them say together: the code's own type
+
+-- join_slot agree together a b: what one side has spoilt stays so, and facts that don't agree spoil it;
+-- otherwise the facts of both together
+abbrev pub join_slot : {X : Type 0} → (X → X → Bool) → (X → X → X) → Slot X → Slot X → Slot X
+join_slot agree together Spoilt b = Spoilt
+join_slot agree together (Held a) Spoilt = Spoilt
+join_slot agree together (Held a) (Held b) = cond (agree a b) (Held (together a b)) Spoilt
+
+-- what is held is well formed, if anything is
+abbrev pub OnHeld : {X : Type 0} → (X → Type 0) → Slot X → Type 0
+OnHeld P Spoilt = Unit {0}
+OnHeld P (Held a) = P a

@@ -4,7 +4,7 @@ use Rattle.std.specs.Prelude.{◌==◌, ℕ, ◌+◌, ◌<◌, cond, List, [], �
 use Rattle.std.specs.Ordering.{nat_cmp}
 use Rattle.std.specs.FinMap as maps
 use Rattle.nb_entries.specs.Cover.{placed}
-use Rattle.nb_entries.specs.Slot.{Spoilt, Held}
+use Rattle.nb_entries.specs.Maps.{Spoilt, Held}
 use Rattle.nb_entries.specs.Entry.{EntryValue}
 use Rattle.nb_entries.specs.declared.ranges.PlaceRange.{PlaceRange}
 

@@ -4,13 +4,12 @@
 ghost use Rattle.std.specs.Prelude.{◌≡◌, ◌==◌, ◌↔◌, ◌&&◌, IfOk, IsTrue, OnOk, OnErr, Some, length, None, Ok};
 ghost use Rattle.std.specs.FinMap as maps;
 ghost use Rattle.nb_datagram.specs.Fragment.{core_of};
-ghost use Rattle.nb_entries.specs.Slot.{Held};
+ghost use Rattle.nb_entries.specs.Maps.{Held};
 ghost use Rattle.nb_datagram.specs.declared.limits.TheConstants.{MAX_LENGTH};
 ghost use Rattle.nb_entries.specs.Cover.{BytesBelow, CoversFit, cover_of, covers_agree, covers_together, is_below_end, bytes_lie_below, AreCoverFacts};
 ghost use Rattle.nb_entries.specs.Code.CoverFacts.{Holds};
 ghost use Rattle.nb_entries.specs.Runs.{runs_of_map, ranges_of_map, map_of_runs};
-ghost use Rattle.nb_entries.specs.Whole.{bytes_to, IsWholeCover};
-ghost use Rattle.nb_entries.specs.Outline.{awaited_of};
+ghost use Rattle.nb_entries.specs.Whole.{bytes_to, IsWholeCover, awaited_of};
 ghost use Rattle.nb_entries.specs.Sinks.{Puts};
 ghost use Rattle.nb_entries.specs.Saved.{cover_bytes};
 ghost use Rattle.nb_entries.specs.declared.saved.SavedForm.TheVariants.{Second};

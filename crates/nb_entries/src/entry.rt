@@ -2,7 +2,7 @@
 ghost use Rattle.std.specs.Prelude.{◌≡◌, ◌≢◌, ◌↔◌, ◌≤◌, ℕ, IfOk, OnOk, OnErr, IsTrue, Some, None, length, Ok};
 ghost use Rattle.nb_datagram.specs.Fragment.{core_of, reach};
 ghost use Rattle.nb_datagram.specs.declared.limits.TheConstants.{MAX_LENGTH};
-ghost use Rattle.nb_entries.specs.Slot.{Spoilt, Held};
+ghost use Rattle.nb_entries.specs.Maps.{Spoilt, Held};
 ghost use Rattle.nb_entries.specs.Entry.{facts_agree, facts_of, join_entry, AreShort, IsShort};
 ghost use Rattle.nb_entries.specs.Runs.{runs_of_map, entry_run_count};
 ghost use Rattle.nb_entries.specs.Whole.{IsWholeCover, bytes_to};

@@ -6,19 +6,16 @@
 
 ghost use Rattle.std.specs.Prelude.{◌≡◌, ℕ, ◌↔◌, IsTrue, Some, List};
 ghost use Rattle.std.specs.FinMap as maps;
-ghost use Rattle.nb_entries.specs.Cover.{CoverFacts, CoverValue, join_cover, IsCover};
+ghost use Rattle.nb_entries.specs.Cover.{CoverFacts, CoverValue, join_cover, IsCover, GoesOnFrom, Promises};
 ghost use Rattle.nb_entries.specs.Entry.{EntryValue, join_entry, IsEntry, EntryFacts};
 ghost use Rattle.nb_entries.specs.Equal.{same_cover, same_entry};
-ghost use Rattle.nb_datagram.specs.Fragment.{Core, Covers};
-ghost use Rattle.nb_entries.specs.Promise.{GoesOnFrom, Promises};
+ghost use Rattle.nb_datagram.specs.Fragment.{Core, Covers, DatagramParts};
 ghost use Rattle.nb_datagram.specs.declared.key.Key.{Key};
-ghost use Rattle.nb_datagram.specs.Datagram.{DatagramParts};
-ghost use Rattle.nb_entries.specs.Slot.{Held};
-ghost use Rattle.nb_entries.specs.Whole.{IsDatagram, datagram_of};
+ghost use Rattle.nb_entries.specs.Maps.{Held};
+ghost use Rattle.nb_entries.specs.Whole.{IsDatagram, datagram_of, IsAwaited, awaited_of};
 ghost use Rattle.std.specs.Ordering.{nat_cmp};
 ghost use Rattle.nb_entries.specs.Runs.{RunValue, AreApart, map_of_runs, runs_of_map, AreRangesOf, ranges_of_map};
 ghost use Rattle.nb_entries.specs.declared.ranges.PlaceRange.{PlaceRange};
-ghost use Rattle.nb_entries.specs.Outline.{IsAwaited, awaited_of};
 
 /// It makes no difference which of two covers is joined into the other.
 pub fn cover_join_is_commutative()

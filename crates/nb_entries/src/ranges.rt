@@ -2,7 +2,7 @@
 ghost use Rattle.std.specs.Prelude.{◌≡◌, ◌≤◌, [], map};
 ghost use Rattle.nb_datagram.specs.declared.limits.TheConstants.{MAX_LENGTH};
 ghost use Rattle.nb_entries.specs.Runs.{range_of, run_end};
-ghost use Rattle.nb_entries.specs.Code.RunSteps.{EndBy, value_of, values_of};
+ghost use Rattle.nb_entries.specs.Code.Rows.{EndBy, value_of, values_of};
 
 use crate::cover::runs::{EachRun, Run};
 use std::marker::Model;
@@ -28,7 +28,7 @@ impl<'a> Model for Ranges<'a> {
     ghost use Rattle.nb_datagram.specs.declared.limits.TheConstants.{MAX_LENGTH};
     ghost use Rattle.nb_entries.specs.declared.ranges.PlaceRange.{PlaceRange};
     ghost use Rattle.nb_entries.specs.Runs.{range_of};
-    ghost use Rattle.nb_entries.specs.Code.RunSteps.{EndBy, values_of};
+    ghost use Rattle.nb_entries.specs.Code.Rows.{EndBy, values_of};
 
     ghost Value = { List PlaceRange };
 

@@ -3,14 +3,11 @@ use Rattle.std.proofs.Common.{ℕ, List, [], ◌∷◌, ◌++◌, map, codes, Op
 use Rattle.std.specs.List.{AllByRecursion}
 use Rattle.nb_datagram.specs.declared.key.Key.{Key}
 use Rattle.nb_datagram.specs.declared.packet.ErrorPacket.{ErrorPacket}
-use Rattle.nb_datagram.specs.Datagram.{DatagramParts}
-use Rattle.nb_datagram.specs.Texts.{key_text}
+use Rattle.nb_datagram.specs.Fragment.{DatagramParts}
+use Rattle.nb_datagram.specs.FaultTexts.{key_text}
 use Rattle.nb_entries.specs.declared.outline.Outline.{Outline}
 use Rattle.nb_entries.specs.declared.ranges.PlaceRange.{PlaceRange}
-use Rattle.nb_table.specs.Contents.{Contents}
-use Rattle.nb_table.specs.Outline.{outline_at}
-use Rattle.nb_table.specs.Ranges.{ranges_at}
-use Rattle.nb_table.specs.Whole.{datagram_at}
+use Rattle.nb_table.specs.Contents.{Contents, outline_at, ranges_at, datagram_at}
 use Rattle.nb_telling.specs.Fields.{Field, Text, Range, LineEnds, place_fields}
 use Rattle.nb_telling.specs.Members.{AreMembers, AreParts, IsMember, nothing, member, list, both, no_part, range, words, parts}
 use Rattle.nb_member.specs.declared.outcome.Outcome.{Outcome}

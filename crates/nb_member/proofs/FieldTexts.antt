@@ -8,15 +8,12 @@ use Rattle.nb_names.specs.NameText.{written}
 use Rattle.nb_datagram.specs.declared.key.Key.{Key}
 use Rattle.nb_datagram.specs.declared.packet.ErrorPacket.{ErrorPacket}
 use Rattle.nb_datagram.specs.declared.packet.Packet.TheVariants.{Error}
-use Rattle.nb_datagram.specs.Datagram.{DatagramParts}
+use Rattle.nb_datagram.specs.Fragment.{DatagramParts}
 use Rattle.nb_datagram.specs.Packet.{packet_bytes}
-use Rattle.nb_datagram.specs.Texts.{key_text, kind_text}
+use Rattle.nb_datagram.specs.FaultTexts.{key_text, kind_text}
 use Rattle.nb_entries.specs.declared.outline.Outline.{Outline}
 use Rattle.nb_entries.specs.declared.ranges.PlaceRange.{PlaceRange}
-use Rattle.nb_table.specs.Contents.{Contents}
-use Rattle.nb_table.specs.Outline.{outline_at}
-use Rattle.nb_table.specs.Ranges.{ranges_at}
-use Rattle.nb_table.specs.Whole.{datagram_at}
+use Rattle.nb_table.specs.Contents.{Contents, outline_at, ranges_at, datagram_at}
 use Rattle.nb_telling.specs.Fields.{Field, Ends, LineEnds, place_fields}
 use Rattle.nb_telling.specs.Texts as telling
 use Rattle.nb_telling.specs.Texts.{field_text, text_of}

@@ -10,13 +10,11 @@ use Rattle.std.specs.FinMap as maps
 use Rattle.std.specs.Option.{option_to_list}
 use Rattle.nb_names.specs.Name.{NetbiosName}
 use Rattle.nb_datagram.specs.declared.key.Key.{Key}
-use Rattle.nb_datagram.specs.Fragment.{Core}
+use Rattle.nb_datagram.specs.Fragment.{Core, DatagramParts}
 use Rattle.nb_datagram.specs.Key.{same_key}
-use Rattle.nb_datagram.specs.Datagram.{DatagramParts}
-use Rattle.nb_table.specs.Contents.{Contents, table_of}
+use Rattle.nb_table.specs.Contents.{Contents, table_of, datagram_at}
 use Rattle.nb_table.specs.Join.{SameCores}
-use Rattle.nb_table.specs.KeyCounts.{FewOfEach}
-use Rattle.nb_table.specs.Whole.{datagram_at}
+use Rattle.nb_table.specs.Limits.{FewOfEach}
 use Rattle.nb_table.specs.Conflict.{IsSpoilt}
 use Rattle.nb_table.specs.Sender.{HasPartsAlone, HasAll}
 use Rattle.nb_member.specs.declared.settings.Settings.{Settings}

@@ -5,8 +5,8 @@ use Rattle.std.specs.Option.{option_to_list}
 use Rattle.std.specs.List.{flat_map}
 use Rattle.nb_names.specs.Name.{NetbiosName}
 use Rattle.nb_datagram.specs.declared.packet.ErrorPacket.{ErrorPacket}
-use Rattle.nb_datagram.specs.Datagram.{DatagramParts}
-use Rattle.nb_table.specs.Whole.{newly_whole}
+use Rattle.nb_datagram.specs.Fragment.{DatagramParts}
+use Rattle.nb_table.specs.Contents.{newly_whole}
 use Rattle.nb_member.specs.declared.settings.Settings.{Settings}
 use Rattle.nb_member.specs.declared.member_fault.MemberFault.{MemberFault}
 use Rattle.nb_member.specs.declared.member_fault.MemberFault.TheVariants.{Packet, Table}

@@ -18,8 +18,8 @@ use Rattle.nb_datagram.specs.declared.error_codes.TheConstants.{DESTINATION_NAME
 use Rattle.nb_datagram.specs.declared.limits.TheConstants.{HEADER_LENGTH}
 use Rattle.nb_datagram.specs.declared.fault.DatagramFault.{DatagramFault}
 use Rattle.nb_datagram.specs.declared.fault.DatagramFault.TheVariants.{Truncated, UnknownType, SourceName, DestinationName}
-use Rattle.nb_datagram.specs.Datagram.{DatagramParts}
-use Rattle.nb_datagram.specs.Kind.{type_of}
+use Rattle.nb_datagram.specs.Fragment.{DatagramParts}
+use Rattle.nb_datagram.specs.Packet.{type_of}
 use Rattle.nb_member.specs.declared.limits.TheConstants.{MAX_NAMES}
 use Rattle.nb_member.specs.declared.local_names.AddFault.{AddFault}
 use Rattle.nb_member.specs.declared.local_names.AddFault.TheVariants.{Present, TooMany, NoMemory}

@@ -5,14 +5,11 @@ use Rattle.std.specs.Fmt.{decimal}
 use Rattle.std.specs.FinMap as maps
 use Rattle.nb_names.specs.NameText.{written}
 use Rattle.nb_datagram.specs.declared.key.Key.{Key}
-use Rattle.nb_datagram.specs.Datagram.{DatagramParts}
+use Rattle.nb_datagram.specs.Fragment.{DatagramParts}
 use Rattle.nb_entries.specs.declared.outline.Outline.{Outline}
 use Rattle.nb_entries.specs.declared.ranges.PlaceRange.{PlaceRange}
-use Rattle.nb_table.specs.Contents.{Contents}
-use Rattle.nb_table.specs.Outline.{outline_at}
-use Rattle.nb_table.specs.Ranges.{ranges_at}
-use Rattle.nb_table.specs.Whole.{datagram_at}
-use Rattle.nb_datagram.specs.Texts.{key_text, kind_text}
+use Rattle.nb_table.specs.Contents.{Contents, outline_at, ranges_at, datagram_at}
+use Rattle.nb_datagram.specs.FaultTexts.{key_text, kind_text}
 use Rattle.nb_member.specs.Report.{parts_text}
 use Rattle.nb_member.specs.Capture.{line_feed}
 

@@ -2,14 +2,11 @@
 use Rattle.std.specs.Prelude.{ℕ, List, [], ◌∷◌, ◌++◌, map, codes, Option, None, Some}
 use Rattle.nb_names.specs.NameText.{written}
 use Rattle.nb_datagram.specs.declared.key.Key.{Key}
-use Rattle.nb_datagram.specs.Datagram.{DatagramParts}
-use Rattle.nb_datagram.specs.Texts.{key_text, kind_text}
+use Rattle.nb_datagram.specs.Fragment.{DatagramParts}
+use Rattle.nb_datagram.specs.FaultTexts.{key_text, kind_text}
 use Rattle.nb_entries.specs.declared.outline.Outline.{Outline}
 use Rattle.nb_entries.specs.declared.ranges.PlaceRange.{PlaceRange}
-use Rattle.nb_table.specs.Contents.{Contents}
-use Rattle.nb_table.specs.Outline.{outline_at}
-use Rattle.nb_table.specs.Ranges.{ranges_at}
-use Rattle.nb_table.specs.Whole.{datagram_at}
+use Rattle.nb_table.specs.Contents.{Contents, outline_at, ranges_at, datagram_at}
 use Rattle.nb_telling.specs.Fields.{Field, Text, Number, Known, Range, Words, Begins, Ends, LineEnds}
 use Rattle.nb_member.specs.Keys.{kind_key, source_key, destination_key, listed_key, state_key, held_key, end_key, runs_key, more_key}
 use Rattle.nb_member.specs.ReportFields.{parts_fields}

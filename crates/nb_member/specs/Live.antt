@@ -8,7 +8,7 @@ use Rattle.nb_datagram.specs.declared.key.Key.{Key}
 use Rattle.nb_datagram.specs.Fragment.{FragmentParts, Core, core_of}
 use Rattle.nb_datagram.specs.Key.{same_key}
 use Rattle.nb_table.specs.Contents.{Contents, table_of}
-use Rattle.nb_table.specs.KeyCounts.{held_keys, of_source}
+use Rattle.nb_table.specs.Limits.{held_keys, of_source}
 use Rattle.nb_member.specs.declared.limits.TheConstants.{FRAGMENT_TIMEOUT}
 use Rattle.nb_member.specs.declared.settings.Settings.{Settings}
 use Rattle.nb_member.specs.Events.{Saying, came, refused, another, clock}

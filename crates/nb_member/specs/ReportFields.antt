@@ -4,8 +4,8 @@ use Rattle.std.specs.FinMap as maps
 use Rattle.nb_names.specs.NameText.{written}
 use Rattle.nb_datagram.specs.declared.packet.ErrorPacket.{ErrorPacket}
 use Rattle.nb_datagram.specs.declared.packet.Packet.TheVariants.{Error}
-use Rattle.nb_datagram.specs.Datagram.{DatagramParts}
-use Rattle.nb_datagram.specs.Texts.{key_text, kind_text}
+use Rattle.nb_datagram.specs.Fragment.{DatagramParts}
+use Rattle.nb_datagram.specs.FaultTexts.{key_text, kind_text}
 use Rattle.nb_datagram.specs.Packet.{packet_bytes}
 use Rattle.nb_table.specs.declared.fault.TableFault.TheVariants.{NoMemory}
 use Rattle.nb_telling.specs.Fields.{Field, Text, Number, Digits, Data, place_fields}

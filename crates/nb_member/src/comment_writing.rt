@@ -1,5 +1,5 @@
 //! Writing the comments of captures.
-#![tactic(auto, using(nb_names::specs::GrowthFacts::front_stays))]
+#![tactic(auto, using(nb_names::specs::Growth::front_stays))]
 
 ghost use Rattle.std.specs.Prelude.{◌≡◌, ◌++◌, [], IsOk, OnOk, string_bytes};
 ghost use Rattle.std.specs.List.{flat_map};

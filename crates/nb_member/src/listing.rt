@@ -1,5 +1,5 @@
 //! What a table knows of its keys, a line for each.
-#![tactic(auto, using(nb_names::specs::GrowthFacts::front_stays))]
+#![tactic(auto, using(nb_names::specs::Growth::front_stays))]
 
 ghost use Rattle.std.specs.Prelude.{◌≡◌, ◌++◌, [], IfOk, IsOk, OnOk, string_bytes};
 ghost use Rattle.std.specs.FinMap as maps;

@@ -3,7 +3,7 @@ ghost use Rattle.std.specs.Prelude.{◌≡◌, ◌+◌, Ok, Err, OnOk, IfErr, Ma
 ghost use Rattle.std.specs.FinMap as maps;
 ghost use Rattle.nb_member.specs.Events.{limits_of};
 ghost use Rattle.nb_member.specs.Member.{contents, new_member, with_timed, after_clock};
-ghost use Rattle.nb_datagram.specs.Datagram.{datagram_by};
+ghost use Rattle.nb_datagram.specs.Fragment.{datagram_by};
 ghost use Rattle.nb_entries.specs.Change.{made_by};
 ghost use Rattle.nb_member.specs.Taking.{Takes, TakesFragment, handed, outcome_of};
 ghost use Rattle.nb_member.specs.Code.Members.{MeetsFull, BeginsFull, limit_of};

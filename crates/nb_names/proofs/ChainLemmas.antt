@@ -8,8 +8,7 @@ use Rattle.nb_names.specs.declared.pointers.Pointers.TheVariants.{Followed}
 use Rattle.nb_names.specs.declared.length_byte.LengthByte.{LengthByte}
 use Rattle.nb_names.specs.declared.length_byte.LengthByte.TheVariants.{Cut, End, Label, Reserved, Pointer}
 use Rattle.nb_names.specs.Labels.{IsPointer}
-use Rattle.nb_names.specs.Code.LengthByte.{Begins}
-use Rattle.nb_names.specs.Code.PointerEnds.{LeadsTo, stays, follows, IsEnd, AreEnds}
+use Rattle.nb_names.specs.Code.Kept.{Begins, LeadsTo, stays, follows, IsEnd, AreEnds}
 use Rattle.nb_names.proofs.LabelsLemmas.{one_target}
 use Rattle.nb_names.proofs.FaultLemmas.{sort_end, sort_label, sort_cut, sort_reserved, sort_pointer}
 use Rattle.nb_names.proofs.ReadingLemmas.{IsReading, label_there, pointer_turn}

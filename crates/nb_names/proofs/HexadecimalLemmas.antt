@@ -11,9 +11,8 @@ use Rattle.hex.specs.declared.error.FromHexError.{FromHexError}
 use Rattle.hex.proofs.HexLemmas.{decode_of-even, decode_of-ok, decode_of-same}
 use Rattle.hex.proofs.Pairs.{decode_sized-pairs}
 use Rattle.nb_names.specs.NameText.{IsHexDigit}
-use Rattle.nb_names.specs.Hexadecimal.{HexText, no_byte, one_more, digits_text}
+use Rattle.nb_names.specs.Hexadecimal.{HexText, no_byte, one_more, digits_text, pair_byte}
 use Rattle.nb_names.specs.HexadecimalFacts.{HexText-from_test, length-HexText}
-use Rattle.nb_names.specs.Code.Digits.{pair_byte}
 
 -- ---- read
 

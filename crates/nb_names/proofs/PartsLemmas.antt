@@ -13,7 +13,7 @@ use Rattle.nb_names.specs.DomainName.{IsLabel}
 use Rattle.nb_names.specs.Name.{NetbiosName, IsScope}
 use Rattle.nb_names.specs.NameText.{Parts, FitsLimits, filled, name_of, IsText, IsFormed}
 use Rattle.nb_names.specs.Code.TextSteps.{Taken, nothing_taken, step, takes, run, parts_of, finish}
-use Rattle.nb_names.specs.Code.Collected.{FitsSoFar}
+use Rattle.nb_names.specs.Code.Kept.{FitsSoFar}
 use Rattle.nb_names.proofs.SpellingLemmas.{length-spelling-snoc}
 use Rattle.nb_names.proofs.TextRunLemmas.{run-append, parts_read-form}
 use Rattle.nb_names.proofs.TextReachLemmas.{Reached, run_reached, start_reached, form-parts_read}

@@ -4,7 +4,7 @@ use Rattle.std.specs.List.{AllByRecursion}
 use Rattle.nb_names.specs.DomainName.{IsLabel, spelling, AreBytes, AreByteLabels, IsDomain, Pushes}
 use Rattle.std.specs.Option.{MatchOption}
 use Rattle.std.proofs.Math.Seq.{take-append_seam, drop-append_seam}
-use Rattle.nb_names.specs.Code.Spelled.{labels_within, labels_of, IsSpelled, BeginsWith}
+use Rattle.nb_names.specs.Code.Kept.{labels_within, labels_of, IsSpelled, BeginsWith}
 use Rattle.nb_names.specs.declared.fault.LabelFault.{LabelFault}
 use Rattle.nb_names.specs.Name.{IsScope}
 

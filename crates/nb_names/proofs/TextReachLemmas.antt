@@ -9,7 +9,7 @@ use Rattle.nb_names.specs.declared.text_steps.Stage.TheVariants.{Front, FrontEsc
 use Rattle.nb_names.specs.declared.text_steps.Added.{Added}
 use Rattle.nb_names.specs.declared.text_steps.Added.TheVariants.{Nothing, FrontByte, Last, LabelByte, LabelEnd}
 use Rattle.nb_names.specs.NameText.{is_plain, IsHexDigit, byte_of, Item, plain, escaped, Items, no_item, more_items, ScopeText, no_label, more_labels, Parts, HasForm}
-use Rattle.nb_names.specs.Code.Digits.{pair_byte}
+use Rattle.nb_names.specs.Hexadecimal.{pair_byte}
 use Rattle.nb_names.specs.Code.TextSteps.{first_digit, second_digit, step, step_in_front, step_in_label, Taken, nothing_taken, takes, run, parts_of, finish, parts_read}
 
 -- ---- items and labels at an end

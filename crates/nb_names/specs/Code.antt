@@ -1,9 +1,4 @@
 -- Words of the code's own data and loops (our choice). They are no part of what a name is: each is held
 -- against the definitions by a contract.
-pub mod Spelled
 pub mod Kept
-pub mod LengthByte
-pub mod PointerEnds
-pub mod Digits
 pub mod TextSteps
-pub mod Collected

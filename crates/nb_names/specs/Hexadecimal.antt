@@ -1,11 +1,12 @@
 -- Bytes in hexadecimal (our choice): two digits for each byte, the high half first. They are read in either case, and
 -- written in lower case. Data is its digits, or the word `empty` where it has no byte.
-use Rattle.std.specs.Prelude.{ℕ, List, [], ◌∷◌, ◌<◌, length, codes, Result, Ok, Err}
+use Rattle.std.specs.Prelude.{ℕ, List, [], ◌∷◌, ◌<◌, length, codes, Result, Ok, Err, ◌&&◌, Option, Some, None, if◌then◌else◌, nat_lt}
 use Rattle.std.specs.Int.{w16, to_be_bytes}
 use Rattle.std.specs.List.{flat_map}
 use Rattle.nb_names.specs.NameText.{IsHexDigit, byte_of, digits_of}
 use Rattle.nb_names.specs.declared.hexadecimal.DigitsFault.{DigitsFault}
 use Rattle.nb_names.specs.declared.hexadecimal.DigitsFault.TheVariants.{BadDigits, NoMemory}
+use Rattle.std.specs.Char.{digit_value}
 
 -- ---- read
 
@@ -52,3 +53,10 @@ word_text n = digits_text (to_be_bytes w16 n)
 abbrev pub data_text : List ℕ → List ℕ
 data_text [] = codes "empty"
 data_text (byte ∷ bytes) = digits_text (byte ∷ bytes)
+
+-- ---- the byte of two hexadecimal digits, as a test has it
+
+-- the byte that two digits of either case give, the high half first; none where one of them is no digit
+abbrev pub pair_byte : ℕ → ℕ → Option ℕ
+pair_byte high low =
+    if nat_lt (digit_value high) 16 && nat_lt (digit_value low) 16 then Some (byte_of high low) else None

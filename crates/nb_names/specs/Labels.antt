@@ -9,6 +9,7 @@ use Rattle.nb_names.specs.declared.limits.TheConstants.{MAX_SPELLING}
 use Rattle.nb_names.specs.declared.pointers.Pointers.{Pointers}
 use Rattle.nb_names.specs.declared.pointers.Pointers.TheVariants.{Followed}
 use Rattle.nb_names.specs.DomainName.{spelling, IsLabel}
+use Rattle.std.specs.Int.{Width, byte_len, to_be_bytes}
 
 -- StandsAt packet at bytes: the packet has these bytes from this offset on
 abbrev pub StandsAt : List ℕ → ℕ → List ℕ → Type 0
@@ -41,3 +42,11 @@ pub data LabelsAt (packet : List ℕ) (pointers : Pointers) : ℕ → ℕ → Li
 -- is the offset after it
 abbrev pub NameAt : List ℕ → Pointers → ℕ → List (List ℕ) → ℕ → Type 0
 NameAt packet pointers at = LabelsAt packet pointers at at
+
+-- ---- numbers in packets (RFC 1002 section 4.2.1), the high byte first
+-- All offsets count from the packet's first byte.
+
+-- NumberAt packet at width number: at this offset the number stands, in a field of this width
+pub record NumberAt (packet : List ℕ) (at : ℕ) (width : Width) (number : ℕ) : Type 0 where
+  pub fits : number < 256 ^ byte_len width
+  pub bytes : StandsAt packet at (to_be_bytes width number)

@@ -6,12 +6,10 @@ pub mod NameFacts
 pub mod Labels
 pub mod NameFaults
 pub mod Skipped
-pub mod Numbers
 pub mod PacketFacts
 pub mod FaultTexts
 pub mod NameText
 pub mod Growth
-pub mod GrowthFacts
 pub mod Hexadecimal
 pub mod Addresses
 pub mod HexadecimalFacts

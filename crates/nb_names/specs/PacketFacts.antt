@@ -3,8 +3,7 @@ use Rattle.std.proofs.Common.{◌≡◌, ℕ, ◌+◌, ◌-◌, ◌≤◌, ◌<�
 use Rattle.std.proofs.lemmas.List.{length-take, length-take-le}
 use Rattle.std.proofs.lemmas.Nat.{from_be_bytes-to_be_bytes_2, from_be_bytes-to_be_bytes_4}
 use Rattle.std.specs.Int.{w16, w32, to_be_bytes, from_be_bytes}
-use Rattle.nb_names.specs.Labels.{StandsAt}
-use Rattle.nb_names.specs.Numbers.{NumberAt}
+use Rattle.nb_names.specs.Labels.{StandsAt, NumberAt}
 
 -- ---- bytes
 

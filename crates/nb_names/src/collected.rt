@@ -3,7 +3,7 @@ ghost use Rattle.std.specs.Prelude.{◌≡◌, OnSome, IfNone};
 ghost use Rattle.nb_names.specs.Name.{IsByteName};
 ghost use Rattle.nb_names.specs.NameText.{name_of, FitsLimits};
 ghost use Rattle.nb_names.specs.Code.TextSteps.{nothing_taken, takes, parts_of};
-ghost use Rattle.nb_names.specs.Code.Collected.{taken_of, FitsSoFar};
+ghost use Rattle.nb_names.specs.Code.Kept.{taken_of, FitsSoFar};
 
 use crate::limits::{FRONT_LENGTH, MAX_LABEL, NAME_LENGTH};
 use crate::name::Name;

@@ -4,7 +4,7 @@ ghost use Rattle.std.proofs.Common.{rules};
 ghost use Rattle.std.specs.Cmp.{partial_order_from_own_ties};
 ghost use Rattle.std.specs.Cmp.Rules.{comparing};
 ghost use Rattle.std.specs.Ordering.{as_partial_cmp};
-ghost use Rattle.nb_names.specs.Code.Spelled.{labels_of, IsSpelled};
+ghost use Rattle.nb_names.specs.Code.Kept.{labels_of, IsSpelled};
 ghost use Rattle.nb_names.specs.DomainName.{spelling, domain_eq, domain_cmp, AreBytes, AreByteLabels, IsLabel, IsDomain, Pushes};
 ghost use Rattle.nb_names.specs.declared.limits.TheConstants.{MAX_SPELLING};
 
@@ -30,7 +30,7 @@ pub struct DomainName {
 
 impl Model for DomainName {
     ghost use Rattle.std.specs.Prelude.{ℕ, List};
-    ghost use Rattle.nb_names.specs.Code.Spelled.{labels_of, IsSpelled};
+    ghost use Rattle.nb_names.specs.Code.Kept.{labels_of, IsSpelled};
 
     ghost Value = { List (List ℕ) };
 
@@ -39,7 +39,7 @@ impl Model for DomainName {
     ghost invariant = { λ name. IsSpelled name.bytes.items };
 
     ghost use Rattle.nb_names.specs.DomainName.{spelling};
-    ghost use Rattle.nb_names.specs.Code.Spelled.{given_back};
+    ghost use Rattle.nb_names.specs.Code.Kept.{given_back};
 
     ghost inverse = { λ labels. record { bytes = record { items = spelling labels } } };
 

@@ -2,8 +2,7 @@
 ghost use Rattle.std.specs.Prelude.{◌≡◌, ◌%◌, ◌<◌, length, Err};
 ghost use Rattle.std.specs.List.{list_all};
 ghost use Rattle.std.specs.Char.{is_ascii_hexdigit};
-ghost use Rattle.nb_names.specs.Hexadecimal.{ReadsData, ReadsDigits};
-ghost use Rattle.nb_names.specs.Code.Digits.{pair_byte};
+ghost use Rattle.nb_names.specs.Hexadecimal.{ReadsData, ReadsDigits, pair_byte};
 
 use crate::bytes::Bytes;
 use std::alloc::Global;

@@ -23,7 +23,7 @@ pub struct KeptName {
 
 impl Model for KeptName {
     ghost use Rattle.nb_names.specs.Name.{NetbiosName, name_code};
-    ghost use Rattle.nb_names.specs.Code.Spelled.{labels_of};
+    ghost use Rattle.nb_names.specs.Code.Kept.{labels_of};
     ghost use Rattle.nb_names.specs.Code.Kept.{IsKept};
 
     ghost Value = { NetbiosName };

@@ -1,7 +1,6 @@
 //! What stands at a length byte, and where chains of pointers end.
-ghost use Rattle.nb_names.specs.Code.LengthByte.{Begins};
+ghost use Rattle.nb_names.specs.Code.Kept.{Begins, LeadsTo, AreEnds};
 ghost use Rattle.std.specs.Prelude.{◌≤◌, ℕ, List, length, take};
-ghost use Rattle.nb_names.specs.Code.PointerEnds.{LeadsTo, AreEnds};
 
 use crate::limits::{MAX_LABEL, POINTED_OFFSETS};
 

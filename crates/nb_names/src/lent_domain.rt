@@ -1,6 +1,6 @@
 //! Domain names whose spellings are lent.
 ghost use Rattle.std.specs.Prelude.{◌≡◌, [], ◌∷◌, MatchOption};
-ghost use Rattle.nb_names.specs.Code.Spelled.{labels_of, IsSpelled};
+ghost use Rattle.nb_names.specs.Code.Kept.{labels_of, IsSpelled};
 ghost use Rattle.nb_names.specs.DomainName.{spelling, IsDomain};
 
 use crate::domain_name::DomainName;
@@ -16,7 +16,7 @@ pub struct LentDomain<'a> {
 
 impl<'a> Model for LentDomain<'a> {
     ghost use Rattle.std.specs.Prelude.{ℕ, List};
-    ghost use Rattle.nb_names.specs.Code.Spelled.{labels_of, IsSpelled};
+    ghost use Rattle.nb_names.specs.Code.Kept.{labels_of, IsSpelled};
 
     ghost Value = { List (List ℕ) };
 

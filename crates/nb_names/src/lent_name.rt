@@ -1,11 +1,11 @@
 //! NetBIOS names whose scopes are lent.
-#![tactic(auto, using(crate::specs::GrowthFacts::front_stays))]
+#![tactic(auto, using(crate::specs::Growth::front_stays))]
 
 ghost use Rattle.std.specs.Prelude.{◌≡◌, ◌↔◌, ◌≤◌, ◌++◌, ℕ, length, string_bytes, IfOk, IfErr, IsOkAnd, IsTrue, OnOk};
 ghost use Rattle.std.proofs.Common.{rules};
 ghost use Rattle.std.specs.Cmp.Rules.{comparing};
 ghost use Rattle.nb_names.specs.Growth.{OnlyAdds};
-ghost use Rattle.nb_names.specs.Code.Spelled.{labels_of, IsSpelled};
+ghost use Rattle.nb_names.specs.Code.Kept.{labels_of, IsSpelled};
 ghost use Rattle.nb_names.specs.DomainName.{spelling};
 ghost use Rattle.nb_names.specs.Labels.{NameAt};
 ghost use Rattle.nb_names.specs.Name.{NetbiosName, IsName, IsByteName, IsNoName, IsScope, labels_of_name, name_eq};
@@ -40,7 +40,7 @@ pub struct LentName<'a> {
 
 impl<'a> Model for LentName<'a> {
     ghost use Rattle.nb_names.specs.Name.{NetbiosName, IsByteName, name_code};
-    ghost use Rattle.nb_names.specs.Code.Spelled.{labels_of, IsSpelled};
+    ghost use Rattle.nb_names.specs.Code.Kept.{labels_of, IsSpelled};
 
     ghost Value = { NetbiosName };
 

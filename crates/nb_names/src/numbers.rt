@@ -1,7 +1,7 @@
 //! Numbers, read where they stand in a packet.
 ghost use Rattle.std.specs.Prelude.{◌+◌, ◌≤◌, length};
 ghost use Rattle.std.specs.Int.{w16, w32};
-ghost use Rattle.nb_names.specs.Numbers.{NumberAt};
+ghost use Rattle.nb_names.specs.Labels.{NumberAt};
 
 /// The number in the two bytes at an offset, which are there, high byte first.
 pub fn number_16(packet: &[u8], at: usize) -> u16

@@ -1,5 +1,5 @@
 //! What is added to a text: ASCII, numbers, digits, addresses, and what has a text of its own.
-#![tactic(auto, using(crate::specs::GrowthFacts::front_stays))]
+#![tactic(auto, using(crate::specs::Growth::front_stays))]
 
 ghost use Rattle.std.specs.Prelude.{◌≡◌, ◌++◌, OnOk, string_bytes, ◌*◌, ◌≤◌, length, ◌+◌, ◌<◌, codes, drop, IfSome};
 ghost use Rattle.std.specs.Str.{IsAscii};

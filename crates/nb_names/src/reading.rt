@@ -84,7 +84,7 @@ pub struct NameReader<'a, 'r> {
 
 impl<'a, 'r> Model for NameReader<'a, 'r> {
     ghost use Rattle.std.specs.Prelude.{ℕ, List};
-    ghost use Rattle.nb_names.specs.Code.PointerEnds.{AreEnds};
+    ghost use Rattle.nb_names.specs.Code.Kept.{AreEnds};
 
     ghost Value = { List ℕ };
 

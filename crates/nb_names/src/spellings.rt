@@ -2,7 +2,7 @@
 ghost use Rattle.std.specs.Prelude.{◌≡◌, ◌<◌, IfSome, ℕ, List, [], length, option_map, slice_get, MatchOption};
 ghost use Rattle.std.specs.List.{AllByRecursion};
 ghost use Rattle.nb_names.specs.DomainName.{spelling, AreBytes, IsLabel};
-ghost use Rattle.nb_names.specs.Code.Spelled.{BeginsWith};
+ghost use Rattle.nb_names.specs.Code.Kept.{BeginsWith};
 
 /// The first label of a spelling, and the spelling of the labels after it.
 pub(crate) fn split_label(spelled: &[u8]) -> Option<(&[u8], &[u8])>

@@ -1,5 +1,5 @@
 //! Writing names as text.
-#![tactic(auto, using(crate::specs::GrowthFacts::front_stays))]
+#![tactic(auto, using(crate::specs::Growth::front_stays))]
 
 ghost use Rattle.std.specs.Prelude.{◌≡◌, ◌++◌, ◌∷◌, [], ℕ, List, IfOk, OnOk, IsTrue, length, string_bytes};
 ghost use Rattle.nb_names.specs.declared.limits.TheConstants.{NAME_LENGTH};

@@ -1,6 +1,6 @@
 //! Names, judged where they stand in a packet: the one walk along their labels.
 ghost use Rattle.std.specs.Prelude.{◌≡◌, ◌<◌, ◌≤◌, ℕ, List, [], length, IfOk, IfErr, IsOkAnd, ◌∷◌, ◌++◌, ⊤};
-ghost use Rattle.nb_names.specs.Code.PointerEnds.{AreEnds};
+ghost use Rattle.nb_names.specs.Code.Kept.{AreEnds};
 ghost use Rattle.nb_names.specs.Labels.{NameAt};
 ghost use Rattle.nb_names.specs.NameFaults.{FaultAt};
 ghost use Rattle.nb_names.specs.Skipped.{IsSkipped};

@@ -4,14 +4,13 @@ use Rattle.std.specs.Int.{w16, w32}
 use Rattle.nb_names.specs.declared.pointers.Pointers.{Pointers}
 use Rattle.nb_names.specs.declared.pointers.Pointers.TheVariants.{Followed}
 use Rattle.nb_names.specs.declared.fault.NameFault.{NameFault}
-use Rattle.nb_names.specs.Labels.{NameAt}
+use Rattle.nb_names.specs.Labels.{NameAt, NumberAt}
 use Rattle.nb_names.specs.NameFaults.{FaultAt}
 use Rattle.nb_names.specs.Skipped.{IsSkipped}
 use Rattle.nb_service.specs.declared.fault.ServiceFault.{ServiceFault}
 use Rattle.nb_service.specs.declared.fault.ServiceFault.TheVariants.{Name}
 use Rattle.nb_service.specs.declared.kinds.TheConstants.{NS}
 use Rattle.nb_service.specs.declared.question.Question.{Question}
-use Rattle.nb_names.specs.Numbers.{NumberAt}
 use Rattle.nb_service.specs.Record.{ResourceData, of_bytes, of_domain, ResourceRecord, IsRdataOf}
 use Rattle.nb_service.specs.Packet.{QuestionAt, RdataAt, bytes_there, domain_there, RecordAt}
 use Rattle.nb_service.specs.ServiceFaults.{QuestionFails, question_name, question_cut, RdataBegins, DomainFails, domain_name, domain_end, RecordFails, record_name, record_cut, rdata_cut, rdata_fails}

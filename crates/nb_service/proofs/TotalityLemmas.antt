@@ -7,9 +7,8 @@ use Rattle.std.specs.Int.{w16, w32, from_be_bytes}
 use Rattle.nb_names.specs.declared.pointers.Pointers.TheVariants.{Followed}
 use Rattle.nb_names.specs.declared.fault.NameFault.{NameFault}
 use Rattle.nb_names.specs.DomainName.{AreBytes}
-use Rattle.nb_names.specs.Labels.{NameAt}
+use Rattle.nb_names.specs.Labels.{NameAt, NumberAt}
 use Rattle.nb_names.specs.NameFaults.{FaultAt}
-use Rattle.nb_names.specs.Numbers.{NumberAt}
 use Rattle.nb_service.specs.declared.fault.ServiceFault.{ServiceFault}
 use Rattle.nb_service.specs.declared.fault.ServiceFault.TheVariants.{Truncated, Name, NameRdata}
 use Rattle.nb_service.specs.declared.kinds.TheConstants.{NS}

@@ -9,11 +9,10 @@ use Rattle.nb_service.specs.declared.section.Section.TheVariants.{Answer, Author
 use Rattle.nb_service.specs.declared.walking.Walked.{Walked}
 use Rattle.nb_service.specs.Code.Steps.{RowOf}
 use Rattle.nb_service.specs.Header.{PacketHeader, HasHeader}
-use Rattle.nb_service.specs.Items.{PacketItem, asked, told, IsRecordOf, ItemAt, question_there, record_there, ItemFails, question_fails, record_fails, ItemsAt, no_item, one_more, items_of}
+use Rattle.nb_service.specs.Items.{PacketItem, asked, told, IsRecordOf, ItemAt, question_there, record_there, ItemFails, question_fails, record_fails, ItemsAt, no_item, one_more, items_of, Walks, EndsWith, walked_of}
 use Rattle.nb_service.specs.Packet.{QuestionAt, RecordAt, none, more, ServicePacket, header_of}
 use Rattle.nb_service.specs.Record.{ResourceRecord}
 use Rattle.nb_service.specs.ServiceFaults.{item_count}
-use Rattle.nb_service.specs.Walks.{Walks, EndsWith, walked_of}
 use Rattle.nb_service.proofs.NumberedLemmas.{record_late, one_section, items-append, refused_after}
 use Rattle.nb_service.proofs.SectionLemmas.{row-append}
 

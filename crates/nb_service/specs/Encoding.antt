@@ -13,7 +13,7 @@ use Rattle.nb_service.specs.declared.question.Question.{Question}
 use Rattle.nb_service.specs.Header.{PacketHeader}
 use Rattle.nb_service.specs.Record.{ResourceData, of_bytes, of_domain, ResourceRecord, IsRdataOf}
 use Rattle.nb_service.specs.Packet.{ServicePacket, header_of, records_of}
-use Rattle.nb_service.specs.Building.{IsCounted}
+use Rattle.nb_service.specs.Requests.{IsCounted}
 
 -- the bytes of a header: NAME_TRN_ID, the flag word, QDCOUNT, ANCOUNT, NSCOUNT, ARCOUNT
 abbrev pub header_bytes : PacketHeader → List ℕ

@@ -3,14 +3,10 @@ pub mod Record
 pub mod Packet
 pub mod ServiceFaults
 pub mod Items
-pub mod Walks
-pub mod Building
-pub mod Flags
 pub mod FaultTexts
 pub mod Encoding
 pub mod Views
 pub mod Requests
-pub mod Responses
 pub mod Equality
 pub mod EqualityFacts
 pub mod Code

@@ -2,14 +2,61 @@
 -- A request asks about one name in its one question.
 --
 -- Our choice: a refresh has opcode 8, and RD is clear in it.
-use Rattle.std.specs.Prelude.{ℕ, ◌+◌, ◌*◌, ◌^◌, Bool, true, false, List, [], ◌∷◌}
+use Rattle.std.specs.Prelude.{ℕ, ◌+◌, ◌*◌, ◌^◌, Bool, true, false, List, [], ◌∷◌, ◌≤◌, ◌++◌, length}
 use Rattle.nb_names.specs.Name.{NetbiosName, labels_of_name}
 use Rattle.nb_service.specs.declared.classes.TheConstants.{IN}
 use Rattle.nb_service.specs.declared.kinds.TheConstants.{NB, NBSTAT}
 use Rattle.nb_service.specs.declared.question.Question.{Question}
-use Rattle.nb_service.specs.Record.{of_bytes, record_of}
+use Rattle.nb_service.specs.Record.{of_bytes, record_of, ResourceRecord}
 use Rattle.nb_service.specs.Packet.{ServicePacket}
-use Rattle.nb_service.specs.Building.{packet_of}
+use Rattle.nb_service.specs.declared.limits.TheConstants.{MAX_ENTRIES}
+use Rattle.nb_service.specs.declared.section.Section.{Section}
+use Rattle.nb_service.specs.declared.section.Section.TheVariants.{Answer, Authority, Additional}
+
+-- ---- packets built part by part
+
+-- packet_of id word questions answers authorities additional: the packet of these parts
+abbrev pub packet_of : ℕ → ℕ → List Question → List ResourceRecord → List ResourceRecord → List ResourceRecord → ServicePacket
+packet_of id word questions answers authorities additional =
+    record {
+      id = id;
+      word = word;
+      questions = questions;
+      answers = answers;
+      authorities = authorities;
+      additional = additional;
+    }
+
+-- a packet without questions and records
+abbrev pub empty_packet : ℕ → ℕ → ServicePacket
+empty_packet id word = packet_of id word [] [] [] []
+
+-- the packet with one more question, after the others
+abbrev pub with_question : ServicePacket → Question → ServicePacket
+with_question packet question = record packet { questions = packet.questions ++ question ∷ [] }
+
+-- with_record packet section entry: the packet with one more record in this section, after the others
+abbrev pub with_record : ServicePacket → Section → ResourceRecord → ServicePacket
+with_record packet Answer entry = record packet { answers = packet.answers ++ entry ∷ [] }
+with_record packet Authority entry = record packet { authorities = packet.authorities ++ entry ∷ [] }
+with_record packet Additional entry = record packet { additional = packet.additional ++ entry ∷ [] }
+
+-- the records of a section
+abbrev pub section_of : ServicePacket → Section → List ResourceRecord
+section_of packet Answer = packet.answers
+section_of packet Authority = packet.authorities
+section_of packet Additional = packet.additional
+
+-- no item can be added: a count in the header has sixteen bits (RFC 1002 section 4.2.1.1)
+abbrev pub IsFull : {A : Type 0} → List A → Type 0
+IsFull items = MAX_ENTRIES ≤ length items
+
+-- each list of a packet is short enough for its count in the header
+pub record IsCounted (packet : ServicePacket) : Type 0 where
+  pub questions : length packet.questions ≤ MAX_ENTRIES
+  pub answers : length packet.answers ≤ MAX_ENTRIES
+  pub authorities : length packet.authorities ≤ MAX_ENTRIES
+  pub additional : length packet.additional ≤ MAX_ENTRIES
 
 -- request_word opcode desired broadcast: a flag word with this OPCODE, and RD and B as asked
 abbrev pub request_word : ℕ → ℕ → Bool → ℕ
@@ -49,3 +96,10 @@ refresh_packet id name broadcast ttl entry = claim id (request_word 8 0 broadcas
 -- a release: opcode 6, RD clear, and no time to live
 abbrev pub release_packet : ℕ → NetbiosName → Bool → List ℕ → ServicePacket
 release_packet id name broadcast entry = claim id (request_word 6 0 broadcast) name 0 entry
+
+-- ---- the responses that are built: packets with one answer, and no question (RFC 1002 sections 4.2.5 to 4.2.18)
+-- Of these sections all but 4.2.8 and 4.2.15 have such packets.
+
+-- one_answer id word answer: a packet with this answer, and nothing else
+abbrev pub one_answer : ℕ → ℕ → ResourceRecord → ServicePacket
+one_answer id word answer = packet_of id word [] (answer ∷ []) [] []

@@ -1,7 +1,6 @@
 //! Packets that are built: requests, and responses to one.
 ghost use Rattle.std.specs.Prelude.{◌≡◌, [], ◌∷◌, IfOk};
-ghost use Rattle.nb_service.specs.Requests.{asking, inquiry, claim, query_packet, status_packet, registration_packet, refresh_packet, release_packet};
-ghost use Rattle.nb_service.specs.Responses.{one_answer};
+ghost use Rattle.nb_service.specs.Requests.{asking, inquiry, claim, query_packet, status_packet, registration_packet, refresh_packet, release_packet, one_answer};
 
 use crate::classes::IN;
 use crate::kinds::{NB, NBSTAT};

@@ -3,7 +3,7 @@ ghost use Rattle.std.specs.Prelude.{◌≡◌, ◌≤◌, ◌<◌, ℕ, None, le
 ghost use Rattle.nb_service.specs.Header.{header_value};
 ghost use Rattle.nb_service.specs.Packet.{ServicePacket, header_of, IsPacket, HasOutline, HasSections, QuestionAt, RecordAt};
 ghost use Rattle.nb_service.specs.ServiceFaults.{item_count, PacketFails, IsRefused};
-ghost use Rattle.nb_service.specs.Walks.{Walks};
+ghost use Rattle.nb_service.specs.Items.{Walks};
 ghost use Rattle.nb_service.specs.declared.question.Question.{Question as QuestionValue};
 ghost use Rattle.nb_service.specs.Code.Steps.{HasRow, RowOf};
 ghost use Rattle.nb_service.specs.Record.{ResourceRecord};

@@ -1,6 +1,6 @@
 //! Flags of packets, and of a node's names.
 ghost use Rattle.std.specs.Prelude.{⊤, ◌≡◌, [], ◌∷◌, codes};
-ghost use Rattle.nb_service.specs.Flags.{opcode_of, rcode_of, ont_of, nm_bits, nm_bits_of, node_bits, node_bits_of};
+ghost use Rattle.nb_service.specs.Header.{opcode_of, rcode_of, ont_of, nm_bits, nm_bits_of, node_bits, node_bits_of};
 
 use bitflags::{Flag, Flags, bitflag_items};
 

@@ -1,6 +1,6 @@
 //! Names of a node.
 ghost use Rattle.std.specs.Prelude.{◌≡◌};
-ghost use Rattle.nb_service.specs.Flags.{node_bits, node_bits_of};
+ghost use Rattle.nb_service.specs.Header.{node_bits, node_bits_of};
 ghost use Rattle.nb_service.specs.Views.{node_name_of};
 
 use crate::flags::{NodeFlags, node_flags_of};

@@ -1,7 +1,7 @@
 //! Name service packets, and their lists of questions and of records.
 ghost use Rattle.std.specs.Prelude.{◌≡◌, ◌↔◌, OnOk, OnErr, IsErrOf, ◌<◌, [], ◌∷◌, ◌++◌, length, IfOk};
-ghost use Rattle.nb_service.specs.Building.{packet_of, empty_packet, IsCounted, with_question, with_record, section_of, IsFull};
-ghost use Rattle.nb_service.specs.Flags.{opcode_of, rcode_of, nm_bits, nm_bits_of};
+ghost use Rattle.nb_service.specs.Requests.{packet_of, empty_packet, IsCounted, with_question, with_record, section_of, IsFull};
+ghost use Rattle.nb_service.specs.Header.{opcode_of, rcode_of, nm_bits, nm_bits_of};
 
 use crate::fault::PushFault;
 use crate::flags::{NmFlags, nm_flags_of, opcode, rcode};
@@ -28,7 +28,7 @@ pub struct Packet<'a> {
 
 impl<'a> Model for Packet<'a> {
     ghost use Rattle.nb_service.specs.Packet.{ServicePacket};
-    ghost use Rattle.nb_service.specs.Building.{packet_of, IsCounted};
+    ghost use Rattle.nb_service.specs.Requests.{packet_of, IsCounted};
 
     ghost Value = { ServicePacket };
 

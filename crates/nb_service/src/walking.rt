@@ -1,7 +1,7 @@
 //! The one walk along the items of a packet.
 ghost use Rattle.std.specs.Prelude.{◌≡◌, ◌<◌, min};
 ghost use Rattle.nb_service.specs.Header.{HasHeader, header_value};
-ghost use Rattle.nb_service.specs.Walks.{Walks, walked_of};
+ghost use Rattle.nb_service.specs.Items.{Walks, walked_of};
 
 use crate::fault::ServiceFault;
 use crate::header::Header;

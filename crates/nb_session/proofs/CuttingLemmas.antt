@@ -7,7 +7,7 @@ use Rattle.nb_session.specs.declared.stream.Next.TheVariants.{Packet as taken_pa
 use Rattle.nb_session.specs.Cutting.{ArePackets, no_packet, one_more, BeginsWithNone, IsCut, History, begun, fed_on, asked}
 use Rattle.nb_session.specs.Packet.{Packet, IsPacket}
 use Rattle.nb_session.specs.Parsing.{Parsed, Parses}
-use Rattle.nb_session.specs.StreamValue.{StreamValue}
+use Rattle.nb_session.specs.Stream.{StreamValue}
 use Rattle.nb_session.proofs.ParsingLemmas.{packet_parses}
 
 abbrev pub OneAnswer : Type 0

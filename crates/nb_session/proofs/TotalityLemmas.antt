@@ -9,10 +9,9 @@ use Rattle.nb_names.specs.declared.pointers.Pointers.TheVariants.{Refused as ref
 use Rattle.nb_names.specs.declared.fault.NameFault.{NameFault}
 use Rattle.nb_names.specs.DomainName.{AreBytes, spelling}
 use Rattle.nb_names.specs.PacketFacts.{stands_fits}
-use Rattle.nb_names.specs.Labels.{StandsAt, NameAt}
+use Rattle.nb_names.specs.Labels.{StandsAt, NameAt, NumberAt}
 use Rattle.nb_names.specs.Name.{NetbiosName, IsName, labels_of_name}
 use Rattle.nb_names.specs.NameFaults.{NetbiosFaultAt}
-use Rattle.nb_names.specs.Numbers.{NumberAt}
 use Rattle.nb_session.specs.declared.fault.SessionFault.{SessionFault}
 use Rattle.nb_session.specs.declared.fault.SessionFault.TheVariants.{UnknownType, ReservedFlags, BadLength, Name, TrailingBytes}
 use Rattle.nb_session.specs.declared.header.Header.{Header}

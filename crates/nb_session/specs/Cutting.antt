@@ -7,8 +7,7 @@ use Rattle.nb_session.specs.declared.stream.Next.{Next}
 use Rattle.nb_session.specs.declared.stream.Next.TheVariants.{Packet as taken_packet, More, Failed}
 use Rattle.nb_session.specs.Packet.{Packet, IsPacket}
 use Rattle.nb_session.specs.Parsing.{Parses}
-use Rattle.nb_session.specs.Stream.{Feeds, Takes}
-use Rattle.nb_session.specs.StreamValue.{StreamValue, running}
+use Rattle.nb_session.specs.Stream.{Feeds, Takes, StreamValue, running}
 
 -- ArePackets packets bytes: these bytes are these packets, one after the other
 pub data ArePackets : List Packet → List ℕ → Type 0 where

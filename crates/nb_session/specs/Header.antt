@@ -4,8 +4,7 @@
 -- The body's length has 17 bits: LENGTH, and the lowest bit of FLAGS above it.
 use Rattle.std.specs.Prelude.{◌≡◌, ℕ, ◌+◌, ◌*◌, ◌/◌, ◌%◌, ◌≤◌, List, [], ◌∷◌, ◌++◌, ⊤}
 use Rattle.std.specs.Int.{w16, to_be_bytes}
-use Rattle.nb_names.specs.Labels.{StandsAt}
-use Rattle.nb_names.specs.Numbers.{NumberAt}
+use Rattle.nb_names.specs.Labels.{StandsAt, NumberAt}
 use Rattle.nb_session.specs.declared.header.Header.{Header}
 use Rattle.nb_session.specs.declared.kind.Kind.{Kind}
 use Rattle.nb_session.specs.declared.kind.Kind.TheVariants.{Message, Request, Positive, Negative, Retarget, Keepalive}

@@ -1,7 +1,6 @@
 pub mod Header
 pub mod Packet
 pub mod Parsing
-pub mod StreamValue
 pub mod Stream
 pub mod Cutting
 pub mod PacketReading

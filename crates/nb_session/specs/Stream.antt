@@ -1,5 +1,5 @@
 -- A stream of session packets that comes in pieces: what each of its calls does.
-use Rattle.std.specs.Prelude.{◌≡◌, ◌⊎◌, ℕ, List, ◌++◌, Result, Ok, Err}
+use Rattle.std.specs.Prelude.{◌≡◌, ◌⊎◌, ℕ, List, ◌++◌, Result, Ok, Err, Option, Some, None}
 use Rattle.nb_session.specs.declared.parsing.Parsed.TheVariants.{More as more_parsed, Refused}
 use Rattle.nb_session.specs.declared.stream.FeedFault.{FeedFault}
 use Rattle.nb_session.specs.declared.stream.FeedFault.TheVariants.{Failed as failed_feed, NoMemory}
@@ -7,7 +7,28 @@ use Rattle.nb_session.specs.declared.stream.Next.{Next}
 use Rattle.nb_session.specs.declared.stream.Next.TheVariants.{Packet, More, Failed}
 use Rattle.nb_session.specs.Packet.{IsWhole}
 use Rattle.nb_session.specs.Parsing.{Parses}
-use Rattle.nb_session.specs.StreamValue.{StreamValue, running, stopped}
+use Rattle.nb_session.specs.declared.fault.SessionFault.{SessionFault}
+
+-- ---- A stream as a value
+
+-- the bytes that were fed and not handed out, and the fault that the stream answers ever after, if any
+pub record StreamValue : Type 0 where
+  pub held : List ℕ
+  pub failed : Option SessionFault
+
+-- a stream in memory: what it is, and of how many bytes it has memory now: those that it holds, and those handed out
+-- that it hasn't dropped yet
+pub record KeptStream : Type 0 where
+  pub value : StreamValue
+  pub kept : ℕ
+
+-- a stream that holds these bytes, and hasn't failed
+abbrev pub running : List ℕ → StreamValue
+running held = record { held = held; failed = None }
+
+-- a stream that holds these bytes, and has failed
+abbrev pub stopped : List ℕ → SessionFault → StreamValue
+stopped held fault = record { held = held; failed = Some fault }
 
 -- Feeds old piece new answer: feeding the piece gives the answer, and leaves the new stream: the piece
 -- comes after what is held; or nothing changes, because the stream has failed, or for want of memory

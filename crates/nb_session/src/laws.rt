@@ -10,7 +10,7 @@ ghost use Rattle.nb_session.specs.Cutting.{ArePackets, IsCut, History};
 ghost use Rattle.nb_session.specs.Header.{HasHeader, type_of};
 ghost use Rattle.nb_session.specs.Packet.{Packet, IsPacket};
 ghost use Rattle.nb_session.specs.Parsing.{Parsed, Parses};
-ghost use Rattle.nb_session.specs.StreamValue.{StreamValue};
+ghost use Rattle.nb_session.specs.Stream.{StreamValue};
 
 use nb_names::laws::{
     labels_tell_the_name, name_or_fault, one_netbios_fault, one_reading, spelling_is_read,

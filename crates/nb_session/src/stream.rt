@@ -3,8 +3,7 @@ ghost use Rattle.std.specs.Prelude.{◌≡◌, ◌≤◌, ◌+◌, ◌*◌, [], 
 ghost use Rattle.std.specs.Borrow.{sem};
 ghost use Rattle.std.specs.Io.BufRead.{Rests};
 ghost use Rattle.nb_session.specs.contracts.stream.Stream.{the_row};
-ghost use Rattle.nb_session.specs.Stream.{Feeds, Takes};
-ghost use Rattle.nb_session.specs.StreamValue.{running};
+ghost use Rattle.nb_session.specs.Stream.{Feeds, Takes, running};
 
 use crate::fault::SessionFault;
 use crate::packet_bytes::PacketBytes;
@@ -34,7 +33,7 @@ pub struct Stream {
 
 impl Model for Stream {
     ghost use Rattle.std.specs.Prelude.{drop, ◌≤◌, length};
-    ghost use Rattle.nb_session.specs.StreamValue.{KeptStream};
+    ghost use Rattle.nb_session.specs.Stream.{KeptStream};
 
     ghost Value = { KeptStream };
 

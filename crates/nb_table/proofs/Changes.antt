@@ -2,15 +2,14 @@
 use Rattle.std.proofs.Common.{◌≡◌, Option, Some, None, refl, sym, ◌∙◌, ap, subst, option_and_then, ◌≢◌, ◌<◌, ◌≤◌, ℕ, ◌+◌, Bool, true, false, cond, [], ◌∷◌, arith, is_some, inl, inr, Result, Ok, Err, IfErr, OnErr, IsOk, not}
 use Rattle.std.specs.FinMap as maps
 use Rattle.nb_datagram.specs.declared.key.Key.{Key}
-use Rattle.nb_datagram.specs.Datagram.{DatagramParts}
+use Rattle.nb_datagram.specs.Fragment.{DatagramParts, FragmentParts, Core, core_of, reach}
 use Rattle.nb_entries.specs.declared.change.Change.TheVariants.{Whole, Same, Grown, Spoilt as Spoils}
 use Rattle.nb_entries.specs.declared.state.State.{State}
 use Rattle.nb_entries.specs.declared.state.State.TheVariants.{Absent, Partial, Spoilt as IsSpoilt, Whole as IsWholly}
 use Rattle.nb_entries.specs.declared.slot.Slot.TheVariants.{Spoilt, Held}
 use Rattle.nb_entries.specs.Entry.{EntryFacts, EntryValue, FactsFit, facts_agree, facts_of, facts_together, join_entry, AreShort, IsShort}
-use Rattle.nb_table.specs.Contents.{Contents, table_of}
+use Rattle.nb_table.specs.Contents.{Contents, table_of, IsWholeAt, datagram_at, newly_whole}
 use Rattle.nb_entries.specs.Whole.{IsWhole, datagram_of, newly}
-use Rattle.nb_table.specs.Whole.{IsWholeAt, datagram_at, newly_whole}
 use Rattle.nb_entries.specs.Change.{Change, KeyChange}
 use Rattle.nb_table.specs.Change.{IsChange, IsSpoiltAt, BecomesSpoilt}
 use Rattle.nb_table.specs.State.{IsState, IsPartialAt}
@@ -21,15 +20,12 @@ use Rattle.std.specs.Cmp.{booleans_Decides}
 use Rattle.std.specs.Result.{IsErrAnd}
 use Rattle.nb_table.specs.declared.fault.TableFault.{TableFault}
 use Rattle.nb_table.specs.declared.fault.TableFault.TheVariants.{MisplacedFirst, TooLong, FullSource, Full, NoMemory}
-use Rattle.nb_datagram.specs.Key.{same_key}
-use Rattle.nb_datagram.specs.Fragment.{FragmentParts, Core, core_of, reach}
+use Rattle.nb_datagram.specs.Key.{same_key, key_cmp_total, key_cmp_exact, same_key_decides}
 use Rattle.nb_entries.specs.Maps.{joined_onto}
 use Rattle.nb_table.specs.Join.{IsTable}
-use Rattle.nb_table.specs.Limits.{TableValue, IsFull, IsFullSource, KeepsLimits}
-use Rattle.nb_table.specs.KeyCounts.{held_keys, of_source}
+use Rattle.nb_table.specs.Limits.{TableValue, IsFull, IsFullSource, KeepsLimits, held_keys, of_source}
 use Rattle.nb_table.proofs.Limits.GroupLemmas.{few_insert}
 use Rattle.nb_table.specs.Insert.{NeedsNoMemory, spoilt, contradicts, held, Passes, Refuses}
-use Rattle.nb_datagram.specs.KeyOrder.{key_cmp_total, key_cmp_exact, same_key_decides}
 use Rattle.nb_entries.specs.Shared.CoverLemmas.{bytes_below_both, first_either}
 use Rattle.nb_entries.specs.Shared.PlacedLemmas.{greater_either, promise_of_decides, end_of_decides, below_by_reach}
 use Rattle.nb_entries.specs.Shared.EntryLemmas.{facts_fit_of}

@@ -6,18 +6,15 @@ use Rattle.std.specs.List.{list_any}
 use Rattle.std.specs.FinMap as map
 use Rattle.std.specs.FinMap.{nat_cmp-IsAntisymmetric}
 use Rattle.nb_datagram.specs.declared.key.Key.{Key}
-use Rattle.nb_datagram.specs.Kind.{same_kind}
-use Rattle.nb_datagram.specs.Key.{same_key}
+use Rattle.nb_datagram.specs.Packet.{same_kind}
+use Rattle.nb_datagram.specs.Key.{same_key, same_key_decides}
 use Rattle.nb_datagram.specs.Fragment.{Core, Covers, EndsAt, end_of_one}
-use Rattle.nb_entries.specs.Promise.{Promises, promise_of_one}
-use Rattle.nb_entries.specs.Cover.{CoverFacts, bytes_lie_below, is_before, lies_below, same_where, bytes_agree, ends_agree, is_below_end, covers_agree, cover_of}
+use Rattle.nb_entries.specs.Cover.{Promises, promise_of_one, CoverFacts, bytes_lie_below, is_before, lies_below, same_where, bytes_agree, ends_agree, is_below_end, covers_agree, cover_of}
 use Rattle.nb_entries.specs.Entry.{FactsFit, facts_agree, facts_of}
-use Rattle.nb_table.specs.Conflict.{PastEnd, BreaksPromise, Conflict, kinds, sources, destinations, overlap, ends, past_end, past_other_end, breaks, breaks_other, IsSpoilt}
-use Rattle.nb_table.specs.ConflictTests.{conflicts, some_conflict, with_key, is_spoilt}
+use Rattle.nb_table.specs.Conflict.{PastEnd, BreaksPromise, Conflict, kinds, sources, destinations, overlap, ends, past_end, past_other_end, breaks, breaks_other, IsSpoilt, conflicts, some_conflict, with_key, is_spoilt}
 use Rattle.nb_names.specs.Name.{name_eq}
 use Rattle.nb_names.specs.NameFacts.{name_eq_decides}
 use Rattle.nb_entries.specs.Shared.MapsLemmas.{entry_fails}
-use Rattle.nb_datagram.specs.KeyOrder.{same_key_decides}
 use Rattle.nb_datagram.specs.EqualityFacts.{same_kind_decides}
 use Rattle.std.proofs.lemmas.Bool.Decides.{not_from_Decides}
 use Rattle.nb_entries.specs.Shared.PlacedLemmas.{get-cover_of, byte_of_decides, end_of_decides, cover_of_formed, promise_of_decides, covers_below}

@@ -7,14 +7,13 @@ use Rattle.std.specs.Cmp.{IsTotalOrder, eq_by_cmp_equiv}
 use Rattle.std.specs.FinMap.{is_sorted}
 use Rattle.std.specs.FinMap.Entries.{below_all, same_entries}
 use Rattle.nb_entries.specs.Maps.{joined_at, joined_onto, joined, first_of}
-use Rattle.nb_table.specs.Code.Each.{joined_each, with_each}
+use Rattle.nb_table.specs.Code.Each.{joined_each, with_each, put_back, taken_back}
 use Rattle.nb_entries.specs.Shared.MapsLemmas.{one_key, get-joined, below_none, lt_not_eq, T_left, T_right, tied_self}
 use Rattle.std.specs.FinMap as maps
 use Rattle.std.specs.List.{filter_map, cons_option}
 use Rattle.std.proofs.lemmas.Option.{none-some, same_Some, slice_get_within, get_or_from_slice_get}
 use Rattle.std.proofs.lemmas.List.{map_more}
 use Rattle.nb_table.specs.Join.{joined_all, AreTaken}
-use Rattle.nb_table.specs.Code.TakenBack.{put_back, taken_back}
 use Rattle.nb_table.specs.Shared.TreeLemmas.{T_both}
 
 alone : {X : Type 0} (f : X → X → X) (a : Option X) → a ≡ joined_at f a None

@@ -3,18 +3,14 @@ use Rattle.std.proofs.Common.{◌≡◌, ◌<◌, ◌≤◌, ◌+◌, ℕ, Bool,
 use Rattle.std.proofs.lemmas.Bool.{cases_lt, eqb-true, eq-eqb, ltb-true, lt-ltb}
 use Rattle.std.specs.FinMap as maps
 use Rattle.nb_datagram.specs.declared.key.Key.{Key}
-use Rattle.nb_datagram.specs.Fragment.{Core, FragmentParts, core_of, cores_of, Covers, reach, end_of_one}
-use Rattle.nb_datagram.specs.Datagram.{DatagramParts}
+use Rattle.nb_datagram.specs.Fragment.{Core, FragmentParts, core_of, cores_of, Covers, reach, end_of_one, DatagramParts}
 use Rattle.nb_datagram.specs.declared.limits.TheConstants.{MAX_LENGTH}
 use Rattle.nb_entries.specs.declared.slot.Slot.TheVariants.{Spoilt, Held}
 use Rattle.nb_entries.specs.Entry.{EntryValue, facts_agree, facts_of}
-use Rattle.nb_table.specs.Conflict.{IsSpoilt, Overlap, PastEnd, BreaksPromise, Conflict, kinds, sources, destinations, overlap, ends, past_end, past_other_end, breaks, breaks_other}
-use Rattle.nb_table.specs.ConflictTests.{some_conflict, with_key, is_spoilt, conflicts}
-use Rattle.nb_table.specs.Contents.{first_end, byte_at, end_of, cover_in, facts_in, entry_in, table_of}
+use Rattle.nb_table.specs.Conflict.{IsSpoilt, Overlap, PastEnd, BreaksPromise, Conflict, kinds, sources, destinations, overlap, ends, past_end, past_other_end, breaks, breaks_other, some_conflict, with_key, is_spoilt, conflicts}
+use Rattle.nb_table.specs.Contents.{first_end, byte_at, end_of, cover_in, facts_in, entry_in, table_of, datagram_at, IsWholeAt}
 use Rattle.nb_entries.specs.Whole.{IsWhole, bytes_below, bytes_to, datagram_with, datagram_of}
-use Rattle.nb_table.specs.Whole.{datagram_at, IsWholeAt}
-use Rattle.nb_table.specs.Plain.{IsLong}
-use Rattle.nb_table.specs.Code.Plain.{CoversBelow, datagram_to, differ, SameHeader}
+use Rattle.nb_table.specs.Code.Plain.{IsLong, CoversBelow, datagram_to, differ, SameHeader}
 use Rattle.nb_table.specs.declared.plain.whole.PlainFault.{PlainFault}
 use Rattle.nb_table.specs.declared.plain.whole.PlainFault.TheVariants.{TooLong, NoMemory}
 use Rattle.nb_table.proofs.Conflict.{is_spoilt_decides, conflicts_decides, past_from, covers}

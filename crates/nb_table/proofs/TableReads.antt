@@ -3,7 +3,7 @@ use Rattle.std.proofs.Common.{◌≡◌, ◌≤◌, ◌-◌, ◌↔◌, ℕ, Boo
 use Rattle.std.proofs.lemmas.Option.{none-some, same_Some}
 use Rattle.std.specs.FinMap as maps
 use Rattle.nb_datagram.specs.declared.key.Key.{Key}
-use Rattle.nb_datagram.specs.Key.{same_key}
+use Rattle.nb_datagram.specs.Key.{same_key, key_cmp_total}
 use Rattle.nb_entries.specs.declared.state.State.{State}
 use Rattle.nb_entries.specs.declared.state.State.TheVariants.{Absent, Partial, Whole, Spoilt}
 use Rattle.nb_entries.specs.declared.slot.Slot.TheVariants.{Held, Spoilt as Clashed}
@@ -14,7 +14,6 @@ use Rattle.nb_table.specs.Limits.{TableValue, KeepsLimits}
 use Rattle.nb_table.specs.State.{IsState}
 use Rattle.nb_entries.specs.EntryState.{IsEntryState}
 use Rattle.nb_entries.specs.Shared.EqualLemmas.{entry_decides}
-use Rattle.nb_datagram.specs.KeyOrder.{key_cmp_total}
 use Rattle.nb_table.proofs.Limits.GroupLemmas.{few_remove}
 use Rattle.std.proofs.lemmas.Bool.Decides.{Decides-and}
 use Rattle.std.specs.Cmp.Lexicographic.{pointwise, pointwise_decides}

@@ -2,23 +2,20 @@
 use Rattle.std.proofs.Common.{◌≡◌, ◌↔◌, option_and_then, Option, Some, None, refl, sym, ◌∙◌, ap, ◌<◌, ◌≤◌, ℕ, Contains, List, length, slice_get, arith, subst}
 use Rattle.std.specs.FinMap as maps
 use Rattle.nb_datagram.specs.declared.key.Key.{Key}
-use Rattle.nb_datagram.specs.Datagram.{DatagramParts}
-use Rattle.nb_table.specs.Contents.{Contents, first_byte, first_end, table_of, Says}
-use Rattle.nb_table.specs.Whole.{IsWholeAt, newly_whole, datagram_at}
+use Rattle.nb_datagram.specs.Fragment.{DatagramParts, Core, Covers, EndsAt, reach}
+use Rattle.nb_table.specs.Contents.{Contents, first_byte, first_end, table_of, Says, IsWholeAt, newly_whole, datagram_at}
 use Rattle.nb_entries.specs.Whole.{datagram_of, IsWholeCover, IsWhole}
 use Rattle.nb_entries.specs.Shared.WholeLemmas.{at_found, newly_found, newly_from, whole_found, whole_from, datagram_from}
 use Rattle.std.proofs.lemmas.Bool.{ltb-true, ltb-false}
 use Rattle.std.proofs.lemmas.Option.{slice_get_within, get_or_from_slice_get}
-use Rattle.nb_datagram.specs.Fragment.{Core, Covers, EndsAt, reach}
 use Rattle.nb_datagram.specs.Pieces.{IsPart}
 use Rattle.nb_entries.specs.Cover.{BytesBelow, cover_of}
-use Rattle.nb_table.specs.Conflict.{BreaksPromise, Conflict, kinds, sources, destinations, overlap, ends, past_end, past_other_end, breaks, breaks_other, IsSpoilt}
+use Rattle.nb_table.specs.Conflict.{BreaksPromise, Conflict, kinds, sources, destinations, overlap, ends, past_end, past_other_end, breaks, breaks_other, IsSpoilt, with_key}
 use Rattle.nb_table.specs.Sender.{HasPartsAlone, IsOf, HasAll, Gives}
 use Rattle.nb_table.proofs.Contents.SayingLemmas.{first_byte_from, first_end_from, absent_exactly, spoilt_exactly, held_says, first_byte_there, first_end_there}
 use Rattle.nb_table.proofs.Conflict.{covers, in_with_key, with_key_in}
 use Rattle.nb_entries.specs.declared.slot.Slot.TheVariants.{Spoilt, Held}
 use Rattle.nb_entries.specs.Entry.{EntryFacts, EntryValue}
-use Rattle.nb_table.specs.ConflictTests.{with_key}
 
 pub whole_at_exactly : (t : Contents) (k : Key) → IsWholeAt t k ↔ ((d : DatagramParts) × (datagram_at t k ≡ Some d))
 whole_at_exactly t k = (

@@ -6,8 +6,7 @@ use Rattle.nb_datagram.specs.Fragment.{FragmentParts}
 use Rattle.nb_entries.specs.declared.change.Handing.{Handing}
 use Rattle.nb_entries.specs.declared.change.Change.TheVariants.{Spoilt, Whole, Same, Grown}
 use Rattle.nb_entries.specs.declared.slot.Slot.TheVariants.{Spoilt as Clashed}
-use Rattle.nb_table.specs.Contents.{Contents}
-use Rattle.nb_table.specs.Whole.{newly_whole}
+use Rattle.nb_table.specs.Contents.{Contents, newly_whole}
 use Rattle.nb_entries.specs.Change.{Change, DataChange, made_by, told_by}
 
 -- IsSpoiltAt t k: the table t has the key k spoilt

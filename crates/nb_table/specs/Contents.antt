@@ -1,17 +1,19 @@
 -- What a list of fragments says of each key (our choice): `IsTableOf` says what a list's table is, and `table_of`
 -- is that table. Places count from the first byte of a datagram's data.
-use Rattle.std.specs.Prelude.{◌≡◌, ◌≢◌, ◌++◌, ℕ, Contains, cond, List, [], ◌∷◌, map, slice_get, Option, Some, None}
+use Rattle.std.specs.Prelude.{◌≡◌, ◌≢◌, ◌++◌, ℕ, Contains, cond, List, [], ◌∷◌, map, slice_get, Option, Some, None, option_and_then}
 use Rattle.std.specs.FinMap as maps
 use Rattle.nb_datagram.specs.declared.key.Key.{Key}
 use Rattle.nb_datagram.specs.Key.{key_cmp}
-use Rattle.nb_datagram.specs.Fragment.{Core, Covers, EndsAt, byte_of, end_of_one}
+use Rattle.nb_datagram.specs.Fragment.{Core, Covers, EndsAt, byte_of, end_of_one, DatagramParts}
 use Rattle.nb_entries.specs.Maps.{first_of, at_keys}
-use Rattle.nb_entries.specs.Promise.{Promises, greater, promise_of_one}
+use Rattle.nb_entries.specs.Cover.{Promises, greater, promise_of_one, CoverFacts, placed}
 use Rattle.nb_entries.specs.declared.slot.Slot.TheVariants.{Spoilt, Held}
-use Rattle.nb_entries.specs.Cover.{CoverFacts, placed}
 use Rattle.nb_entries.specs.Entry.{EntryFacts, EntryValue}
-use Rattle.nb_table.specs.Conflict.{IsSpoilt}
-use Rattle.nb_table.specs.ConflictTests.{with_key, some_conflict}
+use Rattle.nb_table.specs.Conflict.{IsSpoilt, with_key, some_conflict}
+use Rattle.nb_entries.specs.Whole.{IsWhole, datagram_of, newly, entry_outline}
+use Rattle.nb_entries.specs.Runs.{entry_run_count, ranges_where}
+use Rattle.nb_entries.specs.declared.ranges.PlaceRange.{PlaceRange}
+use Rattle.nb_entries.specs.declared.outline.Outline.{Outline}
 
 -- first_byte fs i: the byte at place i of the first of these fragments that covers it
 abbrev pub first_byte : List Core → ℕ → Option ℕ
@@ -121,3 +123,36 @@ entry_at L k = entry_in (with_key k L)
 -- the table of a list: an entry for each key that one of its fragments has
 abbrev pub table_of : List Core → Contents
 table_of L = at_keys (entry_at L) (map (λ f. f.key) L)
+
+-- ---- which keys a table has whole, and their datagrams (our choice)
+
+-- IsWholeAt t k: the table t has the key k whole
+abbrev pub IsWholeAt : Contents → Key → Type 0
+IsWholeAt t k = (e : EntryValue) × (maps.get t k ≡ Some e) × IsWhole e
+
+-- datagram_at t k: the datagram of key k, if the table has it whole
+abbrev pub datagram_at : Contents → Key → Option DatagramParts
+datagram_at t k = option_and_then (datagram_of k) (maps.get t k)
+
+-- newly_whole before after k: the datagram of key k, if it is whole in the table after, and wasn't in the
+-- one before
+abbrev pub newly_whole : Contents → Contents → Key → Option DatagramParts
+newly_whole before after k = newly (datagram_at before k) (datagram_at after k)
+
+-- ---- how many runs the covered places of a key make up (our choice)
+
+-- that number of a key, where it is held
+abbrev pub run_count_at : Contents → Key → Option ℕ
+run_count_at t k = option_and_then entry_run_count (maps.get t k)
+
+-- ---- the places at which a table knows bytes of a key (our choice)
+
+-- ranges_at t k: the same of the key k, where the table t holds it
+abbrev pub ranges_at : Contents → Key → List PlaceRange
+ranges_at t k = ranges_where (maps.get t k)
+
+-- ---- what a table knows of a key's datagram, but for its bytes (our choice)
+
+-- outline_at t k: the same of the key k, where the table t holds it
+abbrev pub outline_at : Contents → Key → Option Outline
+outline_at t k = option_and_then entry_outline (maps.get t k)

@@ -6,7 +6,7 @@ use Rattle.nb_datagram.specs.Key.{same_key}
 use Rattle.nb_datagram.specs.Fragment.{Core}
 use Rattle.nb_entries.specs.Maps.{joined}
 use Rattle.nb_entries.specs.Entry.{EntryValue, IsEntry, join_entry}
-use Rattle.nb_table.specs.ConflictTests.{keyed}
+use Rattle.nb_table.specs.Conflict.{keyed}
 use Rattle.nb_table.specs.Contents.{Contents}
 
 -- the join of two tables: the keys of either; at a key of both, the join of the entries

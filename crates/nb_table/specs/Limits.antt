@@ -1,11 +1,29 @@
 -- The limits of a table, and what keeps to them (our choice).
-use Rattle.std.specs.Prelude.{◌≡◌, ℕ, ◌≤◌, None, Some}
+use Rattle.std.specs.Prelude.{◌≡◌, ℕ, ◌≤◌, None, Some, ◌==◌, Bool, true, List, filter, length}
 use Rattle.std.specs.FinMap as maps
 use Rattle.nb_datagram.specs.declared.key.Key.{Key}
 use Rattle.nb_entries.specs.Entry.{EntryValue, IsShort}
 use Rattle.nb_table.specs.Contents.{Contents}
 use Rattle.nb_table.specs.Join.{IsTable}
-use Rattle.nb_table.specs.KeyCounts.{FewOfEach, held_keys, of_source}
+use Rattle.std.specs.Cmp.Lexicographic.{pointwise}
+
+-- ---- how many keys of a group a table holds: of all keys, or of those with one address (our choice)
+
+-- the group of all keys
+abbrev pub every_key : Key → Bool
+every_key k = true
+
+-- of_source ip: the group of the keys with this address, whatever their ports and identifiers
+abbrev pub of_source : List ℕ → Key → Bool
+of_source ip k = pointwise ◌==◌ k.ip ip
+
+-- held_keys p s: how many keys of s are in the group p
+abbrev pub held_keys : (Key → Bool) → Contents → ℕ
+held_keys p s = length (filter p (maps.keys s))
+
+-- FewOfEach n s: s has at most n keys of each address
+abbrev pub FewOfEach : ℕ → Contents → Type 0
+FewOfEach n s = (ip : List ℕ) → held_keys (of_source ip) s ≤ n
 
 -- how many keys a table may hold, how many of one address, and how many bytes a datagram may have
 pub record Limits : Type 0 where

@@ -5,14 +5,12 @@ use Rattle.std.specs.declared.cmp.Ordering.TheVariants.{Greater}
 use Rattle.std.specs.FinMap as maps
 use Rattle.nb_datagram.specs.declared.key.Key.{Key}
 use Rattle.nb_datagram.specs.Key.{key_cmp}
-use Rattle.nb_datagram.specs.Datagram.{DatagramParts}
+use Rattle.nb_datagram.specs.Fragment.{DatagramParts}
 use Rattle.nb_table.specs.declared.fault.TableFault.{TableFault}
 use Rattle.nb_table.specs.declared.fault.TableFault.TheVariants.{MisplacedFirst, TooLong, FullSource, Full, NoMemory}
 use Rattle.nb_entries.specs.Entry.{EntryValue, IsShort}
-use Rattle.nb_table.specs.Contents.{Contents}
-use Rattle.nb_table.specs.KeyCounts.{every_key, held_keys, of_source}
-use Rattle.nb_table.specs.Limits.{Limits}
-use Rattle.nb_table.specs.Whole.{newly_whole}
+use Rattle.nb_table.specs.Contents.{Contents, newly_whole}
+use Rattle.nb_table.specs.Limits.{every_key, held_keys, of_source, Limits}
 
 -- AllShort n t: each entry of t is spoilt, or has its bytes below n, and ends and promises at most there
 abbrev pub AllShort : ℕ → Contents → Type 0

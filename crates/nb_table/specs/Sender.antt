@@ -1,11 +1,9 @@
 -- The fragments of a datagram that its sender cut: when a list has parts of it alone, and when it has
 -- all of it (our choice). Places count from the first byte of the datagram's data.
 use Rattle.std.specs.Prelude.{◌≡◌, ℕ, ◌<◌, false, List, length, Some, Contains}
-use Rattle.nb_datagram.specs.Fragment.{Core, Covers}
-use Rattle.nb_datagram.specs.Datagram.{DatagramParts}
+use Rattle.nb_datagram.specs.Fragment.{Core, Covers, DatagramParts}
 use Rattle.nb_datagram.specs.Pieces.{IsPart}
-use Rattle.nb_table.specs.Contents.{Contents}
-use Rattle.nb_table.specs.Whole.{datagram_at}
+use Rattle.nb_table.specs.Contents.{Contents, datagram_at}
 
 -- all fragments of L with the key of d are parts of d
 abbrev pub HasPartsAlone : List Core → DatagramParts → Type 0

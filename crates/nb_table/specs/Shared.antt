@@ -3,5 +3,3 @@
 pub mod TableLemmas
 pub mod TreeLemmas
 pub mod FragmentLemmas
-pub mod KeyCountLemmas
-pub mod WaitingLemmas

@@ -6,9 +6,8 @@ use Rattle.nb_entries.specs.declared.state.State.{State}
 use Rattle.nb_entries.specs.declared.state.State.TheVariants.{Absent, Partial, Whole, Spoilt}
 use Rattle.nb_entries.specs.declared.slot.Slot.TheVariants.{Held}
 use Rattle.nb_entries.specs.Entry.{EntryFacts}
-use Rattle.nb_table.specs.Contents.{Contents}
+use Rattle.nb_table.specs.Contents.{Contents, IsWholeAt}
 use Rattle.nb_entries.specs.Whole.{IsWholeCover}
-use Rattle.nb_table.specs.Whole.{IsWholeAt}
 use Rattle.nb_table.specs.Change.{IsSpoiltAt}
 
 -- the key is held, neither spoilt nor whole

@@ -7,9 +7,9 @@ ghost use Rattle.std.specs.BTreeMap.Range.{entries_between};
 ghost use Rattle.std.specs.declared.ops.Bound.TheVariants.{Included, Unbounded};
 ghost use Rattle.std.specs.FinMap as maps;
 ghost use Rattle.nb_datagram.specs.Key.{key_cmp};
-ghost use Rattle.nb_table.specs.KeyCounts.{held_keys, of_source};
+ghost use Rattle.nb_table.specs.Limits.{held_keys, of_source};
 ghost use Rattle.nb_table.specs.Code.SourceCounts.{Adds, Takes, count_of};
-ghost use Rattle.nb_table.specs.Code.Lending.{LendsEntry};
+ghost use Rattle.nb_table.specs.Code.Each.{LendsEntry};
 
 mod counts;
 

@@ -89,7 +89,7 @@ pub fn join_all<J: Join>(first: &mut J, others: &[J]) -> Result<(), (usize, Tabl
 impl<F: Facts> Join for Slot<F> {
     ghost use Rattle.std.specs.Prelude.{◌≡◌};
     ghost use Rattle.nb_entries.specs.declared.slot.Slot.{Slot as SlotOf};
-    ghost use Rattle.nb_entries.specs.Slot.{OnHeld, join_slot};
+    ghost use Rattle.nb_entries.specs.Maps.{OnHeld, join_slot};
     ghost use Rattle.nb_entries.specs.Shared.SlotLemmas.{join-comm, join-assoc, idem_formed};
     ghost use Rattle.nb_table.specs.declared.fault.TableFault.TheVariants.{NoMemory};
 

@@ -4,9 +4,8 @@
 ghost use Rattle.std.specs.Prelude.{◌≡◌, ◌↔◌, IsTrue, ◌≢◌, ◌++◌, [], ◌∷◌, ℕ, List, Some, None, MatchOption};
 ghost use Rattle.nb_datagram.specs.Header.{IsKey};
 ghost use Rattle.nb_entries.specs.Sinks.{Puts};
-ghost use Rattle.nb_table.specs.Saved.{key_bytes};
+ghost use Rattle.nb_table.specs.Saved.{key_bytes, KeyAt, IsAfter, key_at as key_reading};
 ghost use Rattle.nb_entries.specs.SavedReading.{Field};
-ghost use Rattle.nb_table.specs.SavedReading.{KeyAt, IsAfter, key_at as key_reading};
 ghost use Rattle.nb_datagram.specs.declared.key.Key.{Key};
 ghost use Rattle.nb_table.specs.Code.SavedTables.{SourcesSoFar};
 

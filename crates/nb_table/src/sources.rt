@@ -1,7 +1,7 @@
 //! How many keys of one address a table still takes in. Keys ascend by address first, so those of
 //! one address stand together.
 ghost use Rattle.std.specs.Prelude.{◌≡◌, ◌≤◌, ◌-◌, ◌↔◌, ℕ, List, IsTrue, IfSome, None, MatchOption, unwrap_or};
-ghost use Rattle.nb_table.specs.KeyCounts.{held_keys, of_source};
+ghost use Rattle.nb_table.specs.Limits.{held_keys, of_source};
 ghost use Rattle.nb_table.specs.Merging.{IsUnfitSource, SourcesFit, first_unfit};
 
 use crate::entries::{Entries, first_of};

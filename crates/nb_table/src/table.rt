@@ -4,12 +4,9 @@ ghost use Rattle.std.specs.FinMap as maps;
 ghost use Rattle.nb_table.specs.Limits.{KeepsLimits};
 ghost use Rattle.nb_table.specs.Change.{IsChange, Tells};
 ghost use Rattle.nb_table.specs.State.{IsState};
-ghost use Rattle.nb_table.specs.RunCount.{run_count_at};
+ghost use Rattle.nb_table.specs.Contents.{run_count_at, outline_at, ranges_at, datagram_at};
 ghost use Rattle.nb_datagram.specs.Fragment.{core_of};
 ghost use Rattle.nb_table.specs.Insert.{NeedsNoMemory, Passes, Takes, Refuses, with_fragment};
-ghost use Rattle.nb_table.specs.Outline.{outline_at};
-ghost use Rattle.nb_table.specs.Ranges.{ranges_at};
-ghost use Rattle.nb_table.specs.Whole.{datagram_at};
 
 mod fitting;
 mod loading;

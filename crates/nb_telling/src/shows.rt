@@ -75,7 +75,7 @@ impl Shows for [u8; 4] {
 }
 
 impl Shows for Key {
-    ghost use Rattle.nb_datagram.specs.Texts.{key_text};
+    ghost use Rattle.nb_datagram.specs.FaultTexts.{key_text};
 
     ghost shown = { key_text };
 

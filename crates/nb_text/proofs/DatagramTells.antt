@@ -12,9 +12,8 @@ use Rattle.nb_datagram.specs.declared.packet.QueryKind.TheVariants.{Request, Pos
 use Rattle.nb_datagram.specs.declared.packet.Packet.TheVariants.{Direct, Error, Query}
 use Rattle.nb_datagram.specs.Fragment.{FragmentParts, named_length}
 use Rattle.nb_datagram.specs.Header.{IsKey, header_bytes, error_type, query_type}
-use Rattle.nb_datagram.specs.Kind.{type_of}
-use Rattle.nb_datagram.specs.Packet.{Packet, QueryPacket, IsPacket, Fits, FitsDirect, packet_bytes, direct_bytes, name_bytes}
-use Rattle.nb_datagram.specs.Texts.{kind_text}
+use Rattle.nb_datagram.specs.Packet.{type_of, Packet, QueryPacket, IsPacket, Fits, FitsDirect, packet_bytes, direct_bytes, name_bytes}
+use Rattle.nb_datagram.specs.FaultTexts.{kind_text}
 use Rattle.nb_text.specs.Fields.{IsWord}
 use Rattle.nb_text.specs.Lines.{used_text}
 use Rattle.nb_text.specs.Words.{query_word}

@@ -13,7 +13,7 @@ use Rattle.nb_names.specs.Hexadecimal.{data_text, digits_text, word_text}
 use Rattle.nb_names.specs.Name.{NetbiosName, IsScope, IsName, IsByteName}
 use Rattle.nb_names.specs.NameText.{is_plain, digits_of, item_of, items_of, scope_text_of, kept_before, trimmed, domain_written, is_letter, are_letters, bytes_of_letters, either_written, labels_written, written}
 use Rattle.nb_datagram.specs.declared.key.Key.{Key}
-use Rattle.nb_datagram.specs.Texts.{key_text}
+use Rattle.nb_datagram.specs.FaultTexts.{key_text}
 use Rattle.nb_text.specs.Fields.{IsVisible, IsWord}
 use Rattle.nb_telling.specs.Sets.{added_names, joined}
 use Rattle.nb_text.specs.Words.{Flag, is_set, names_set, packet_flags, name_flags, set_text}

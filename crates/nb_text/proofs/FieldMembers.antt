@@ -7,8 +7,7 @@ use Rattle.nb_service.specs.declared.address_entry.AddressEntry.{AddressEntry}
 use Rattle.nb_service.specs.declared.kinds.TheConstants.{NB, NBSTAT}
 use Rattle.nb_service.specs.declared.node_name.NodeName.{NodeName}
 use Rattle.nb_service.specs.declared.question.Question.{Question}
-use Rattle.nb_service.specs.Flags.{opcode_of, rcode_of, ont_of}
-use Rattle.nb_service.specs.Header.{PacketHeader}
+use Rattle.nb_service.specs.Header.{opcode_of, rcode_of, ont_of, PacketHeader}
 use Rattle.nb_service.specs.Packet.{ServicePacket, header_of}
 use Rattle.nb_service.specs.Record.{ResourceData, of_bytes, of_domain, ResourceRecord}
 use Rattle.nb_service.specs.Views.{StatusParts, entries_in, status_in}
@@ -30,7 +29,7 @@ use Rattle.nb_text.specs.Words.{operation_word, rcode_word, names_set, name_flag
 use Rattle.nb_names.specs.Name.{NetbiosName}
 use Rattle.nb_datagram.specs.declared.front.FragmentFront.{FragmentFront}
 use Rattle.nb_datagram.specs.declared.front.Front.{Front}
-use Rattle.nb_datagram.specs.Texts.{key_text}
+use Rattle.nb_datagram.specs.FaultTexts.{key_text}
 use Rattle.nb_session.specs.declared.header.Header.{Header}
 use Rattle.nb_text.specs.FrontFields.{indent, names_header_fields, type_field, standing_name, fragment_front_fields, datagram_front_fields, session_front_fields}
 use Rattle.nb_text.specs.TellsFront as fronts

@@ -15,7 +15,7 @@ use Rattle.nb_names.proofs.PartsLemmas.{one_name_of}
 use Rattle.nb_names.proofs.WrittenLemmas.{written-text}
 use Rattle.nb_datagram.specs.declared.key.Key.{Key}
 use Rattle.nb_datagram.specs.Header.{IsKey}
-use Rattle.nb_datagram.specs.Texts.{key_text}
+use Rattle.nb_datagram.specs.FaultTexts.{key_text}
 use Rattle.nb_text.proofs.FieldLemmas.{byte_at, data_word, name_word, number_word, address_word, key_word}
 use Rattle.nb_text.proofs.TellLemmas.{cut, Tells, seen_tells}
 

@@ -11,14 +11,13 @@ use Rattle.nb_service.specs.declared.address_entry.AddressEntry.{AddressEntry}
 use Rattle.nb_service.specs.declared.kinds.TheConstants.{NB, NBSTAT}
 use Rattle.nb_service.specs.declared.node_name.NodeName.{NodeName}
 use Rattle.nb_service.specs.declared.question.Question.{Question}
-use Rattle.nb_service.specs.Header.{PacketHeader}
-use Rattle.nb_service.specs.Flags.{opcode_of, rcode_of, ont_of}
+use Rattle.nb_service.specs.Header.{PacketHeader, opcode_of, rcode_of, ont_of}
 use Rattle.nb_service.specs.Packet.{ServicePacket, header_of}
 use Rattle.nb_service.specs.Record.{ResourceData, of_bytes, of_domain, ResourceRecord}
 use Rattle.nb_service.specs.Views.{StatusParts, no_status, entries_of_data, entries_in, status_of_data, status_in}
 use Rattle.nb_datagram.specs.Packet.{Packet}
 use Rattle.nb_datagram.specs.declared.packet.Packet.TheVariants.{Direct, Error, Query}
-use Rattle.nb_datagram.specs.Texts.{key_text, kind_text}
+use Rattle.nb_datagram.specs.FaultTexts.{key_text, kind_text}
 use Rattle.nb_session.specs.Packet.{Packet as SessionPacket}
 use Rattle.nb_session.specs.declared.packet.Packet.TheVariants.{Message, Request, Positive, Negative, Retarget, Keepalive}
 use Rattle.nb_session.specs.Parsing.{Parsed}

@@ -14,8 +14,7 @@ use Rattle.nb_service.specs.declared.address_entry.AddressEntry.{AddressEntry}
 use Rattle.nb_service.specs.declared.kinds.TheConstants.{NBSTAT}
 use Rattle.nb_service.specs.declared.node_name.NodeName.{NodeName}
 use Rattle.nb_service.specs.declared.question.Question.{Question}
-use Rattle.nb_service.specs.Flags.{opcode_of, rcode_of, ont_of}
-use Rattle.nb_service.specs.Header.{PacketHeader}
+use Rattle.nb_service.specs.Header.{opcode_of, rcode_of, ont_of, PacketHeader}
 use Rattle.nb_service.specs.Packet.{ServicePacket, header_of, IsPacket, QuestionAt, RecordAt, RdataAt, bytes_there, domain_there, Row, none, more}
 use Rattle.nb_service.specs.Record.{ResourceData, of_bytes, of_domain, ResourceRecord}
 use Rattle.nb_service.specs.Views.{StatusParts, pieces, entries_in, node_name_of, status_of_size, status_of_data, status_in, no_status}

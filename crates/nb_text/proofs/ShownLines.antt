@@ -13,9 +13,8 @@ use Rattle.nb_names.specs.declared.fault.NameFault.TheVariants as name_faults
 use Rattle.nb_service.specs.FaultTexts.{service_fault_text}
 use Rattle.nb_service.specs.declared.fault.ServiceFault.{ServiceFault}
 use Rattle.nb_service.specs.declared.fault.ServiceFault.TheVariants as service
-use Rattle.nb_datagram.specs.FaultTexts.{datagram_fault_text}
+use Rattle.nb_datagram.specs.FaultTexts.{datagram_fault_text, key_text, kind_text}
 use Rattle.nb_datagram.specs.Packet.{Packet}
-use Rattle.nb_datagram.specs.Texts.{key_text, kind_text}
 use Rattle.nb_datagram.specs.declared.fault.DatagramFault.{DatagramFault}
 use Rattle.nb_datagram.specs.declared.fault.DatagramFault.TheVariants as datagrams
 use Rattle.nb_datagram.specs.declared.key.Key.{Key}

@@ -6,7 +6,7 @@ use Rattle.nb_datagram.specs.declared.packet.ErrorPacket.{ErrorPacket}
 use Rattle.nb_datagram.specs.Packet.{Packet, QueryPacket}
 use Rattle.nb_datagram.specs.declared.packet.Packet.TheVariants.{Direct, Error, Query}
 use Rattle.nb_datagram.specs.Fragment.{FragmentParts}
-use Rattle.nb_datagram.specs.Texts.{key_text, kind_text}
+use Rattle.nb_datagram.specs.FaultTexts.{key_text, kind_text}
 use Rattle.nb_telling.specs.Fields.{Field, Text, Number, Digits, Data}
 use Rattle.nb_text.specs.Keys.{key_named, kind_key}
 use Rattle.nb_text.specs.LineFields.{used_fields}

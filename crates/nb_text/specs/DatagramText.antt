@@ -8,7 +8,7 @@ use Rattle.nb_datagram.specs.declared.packet.ErrorPacket.{ErrorPacket}
 use Rattle.nb_datagram.specs.Packet.{Packet, QueryPacket}
 use Rattle.nb_datagram.specs.declared.packet.Packet.TheVariants.{Direct, Error, Query}
 use Rattle.nb_datagram.specs.Fragment.{FragmentParts}
-use Rattle.nb_datagram.specs.Texts.{key_text, kind_text}
+use Rattle.nb_datagram.specs.FaultTexts.{key_text, kind_text}
 use Rattle.nb_text.specs.Lines.{used_text}
 use Rattle.nb_text.specs.Words.{query_word}
 

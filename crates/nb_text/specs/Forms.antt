@@ -4,7 +4,7 @@ use Rattle.std.specs.Prelude.{ℕ, ◌==◌, Bool, false, not, List, codes, Opti
 use Rattle.std.specs.Option.{option_eq}
 use Rattle.nb_service.specs.declared.kinds.TheConstants.{NS, NBSTAT}
 use Rattle.nb_service.specs.declared.flags.TheConstants.NmFlags.{RD, RA}
-use Rattle.nb_service.specs.Flags.{nm_bits, opcode_of, rcode_of}
+use Rattle.nb_service.specs.Header.{nm_bits, opcode_of, rcode_of}
 use Rattle.nb_text.specs.declared.brief.form.TheConstants.{RESPONSE}
 use Rattle.nb_text.specs.declared.brief.form.Ending.{Ending}
 use Rattle.nb_text.specs.declared.brief.form.Ending.TheVariants as endings

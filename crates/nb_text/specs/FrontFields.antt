@@ -6,7 +6,7 @@ use Rattle.nb_names.specs.Name.{NetbiosName}
 use Rattle.nb_names.specs.NameText.{written}
 use Rattle.nb_datagram.specs.declared.front.FragmentFront.{FragmentFront}
 use Rattle.nb_datagram.specs.declared.front.Front.{Front}
-use Rattle.nb_datagram.specs.Texts.{key_text}
+use Rattle.nb_datagram.specs.FaultTexts.{key_text}
 use Rattle.nb_service.specs.Header.{PacketHeader}
 use Rattle.nb_service.specs.Packet.{ServicePacket}
 use Rattle.nb_session.specs.declared.header.Header.{Header}

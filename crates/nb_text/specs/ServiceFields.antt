@@ -9,8 +9,7 @@ use Rattle.nb_service.specs.declared.address_entry.AddressEntry.{AddressEntry}
 use Rattle.nb_service.specs.declared.kinds.TheConstants.{NB, NBSTAT}
 use Rattle.nb_service.specs.declared.node_name.NodeName.{NodeName}
 use Rattle.nb_service.specs.declared.question.Question.{Question}
-use Rattle.nb_service.specs.Flags.{opcode_of, rcode_of, ont_of}
-use Rattle.nb_service.specs.Header.{PacketHeader}
+use Rattle.nb_service.specs.Header.{opcode_of, rcode_of, ont_of, PacketHeader}
 use Rattle.nb_service.specs.Packet.{ServicePacket, header_of}
 use Rattle.nb_service.specs.Record.{ResourceData, of_bytes, of_domain, ResourceRecord, record_of}
 use Rattle.nb_service.specs.Views.{StatusParts, entries_in, status_in}

@@ -16,7 +16,7 @@ use Rattle.nb_service.specs.declared.question.Question.{Question}
 use Rattle.nb_service.specs.declared.seen.Seen.{Seen}
 use Rattle.nb_service.specs.FaultTexts.{service_fault_place, service_fault_subject, service_fault_words}
 use Rattle.nb_service.specs.declared.flags.TheConstants.NodeFlags.{G}
-use Rattle.nb_service.specs.Flags.{node_bits, opcode_of, rcode_of}
+use Rattle.nb_service.specs.Header.{node_bits, opcode_of, rcode_of}
 use Rattle.nb_service.specs.Packet.{ServicePacket, records_of}
 use Rattle.nb_service.specs.Record.{ResourceData, of_bytes, of_domain, ResourceRecord}
 use Rattle.nb_service.specs.Views.{entries_of_data, status_of_data}

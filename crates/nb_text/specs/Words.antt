@@ -4,7 +4,7 @@ use Rattle.std.specs.Prelude.{ℕ, ◌==◌, Bool, not, List, [], ◌∷◌, cod
 use Rattle.std.specs.Fmt.{decimal}
 use Rattle.nb_service.specs.declared.flags.TheConstants.NmFlags.{AA, TC, RD, RA, B}
 use Rattle.nb_service.specs.declared.flags.TheConstants.NodeFlags.{G, DRG, CNF, ACT, PRM}
-use Rattle.nb_service.specs.Flags.{nm_bits, node_bits}
+use Rattle.nb_service.specs.Header.{nm_bits, node_bits}
 use Rattle.nb_session.specs.declared.kind.Kind.{Kind as SessionKind}
 use Rattle.nb_session.specs.declared.kind.Kind.TheVariants as sessions
 use Rattle.nb_session.specs.Header as session_types
@@ -12,8 +12,8 @@ use Rattle.nb_datagram.specs.declared.kind.Kind.TheVariants.{Unique, Group, Broa
 use Rattle.nb_datagram.specs.declared.packet.QueryKind.{QueryKind}
 use Rattle.nb_datagram.specs.declared.packet.QueryKind.TheVariants.{Request, Positive, Negative}
 use Rattle.nb_datagram.specs.Header.{error_type, query_type}
-use Rattle.nb_datagram.specs.Kind.{type_of}
-use Rattle.nb_datagram.specs.Texts.{kind_text}
+use Rattle.nb_datagram.specs.Packet.{type_of}
+use Rattle.nb_datagram.specs.FaultTexts.{kind_text}
 use Rattle.nb_telling.specs.Sets.{joined}
 use Rattle.nb_text.specs.declared.codes.TheConstants.{QUERY, REGISTRATION, RELEASE, WACK, OTHER_REFRESH, REFRESH, OK, FMT_ERR, SRV_ERR, NAM_ERR, IMP_ERR, RFS_ERR, ACT_ERR, CFT_ERR}
 

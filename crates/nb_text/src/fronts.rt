@@ -1,5 +1,5 @@
 //! What the front of a payload says, told to a sink, and its text.
-#![tactic(auto, using(nb_names::specs::GrowthFacts::front_stays))]
+#![tactic(auto, using(nb_names::specs::Growth::front_stays))]
 
 ghost use Rattle.std.specs.Prelude.{◌≡◌, ◌≢◌, ◌++◌, ℕ, List, OnOk, fold, string_bytes};
 ghost use Rattle.nb_names.specs.Growth.{OnlyAdds};

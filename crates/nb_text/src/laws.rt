@@ -7,7 +7,7 @@ ghost use Rattle.nb_names.specs.Name.{NetbiosName, IsName, IsByteName, IsNoName,
 ghost use Rattle.nb_names.specs.NameText.{ScopeText, domain_written, labels_written, name_of_labels, written};
 ghost use Rattle.nb_service.specs.declared.flags.TheConstants.NmFlags.{AA, TC, RD, RA, B};
 ghost use Rattle.nb_service.specs.declared.flags.TheConstants.NodeFlags.{G, DRG, CNF, ACT, PRM};
-ghost use Rattle.nb_service.specs.Flags.{nm_bits, node_bits, ont_of, opcode_of, rcode_of};
+ghost use Rattle.nb_service.specs.Header.{nm_bits, node_bits, ont_of, opcode_of, rcode_of};
 ghost use Rattle.nb_service.specs.Packet.{ServicePacket, IsPacket as IsServicePacket};
 ghost use Rattle.nb_session.specs.Packet.{Packet as SessionPacket};
 ghost use Rattle.nb_session.specs.declared.parsing.Parsed.TheVariants.{Whole};
@@ -16,7 +16,7 @@ ghost use Rattle.nb_datagram.specs.declared.key.Key.{Key};
 ghost use Rattle.nb_datagram.specs.declared.packet.QueryKind.TheVariants.{Request, Positive, Negative};
 ghost use Rattle.nb_datagram.specs.Header.{IsKey};
 ghost use Rattle.nb_datagram.specs.Packet.{Packet as DatagramPacket, IsPacket as IsDatagramPacket};
-ghost use Rattle.nb_datagram.specs.Texts.{key_text};
+ghost use Rattle.nb_datagram.specs.FaultTexts.{key_text, datagram_fault_place, datagram_fault_text};
 ghost use Rattle.nb_telling.specs.Fields.{Field};
 ghost use Rattle.nb_telling.specs.Members.{AreMembers};
 ghost use Rattle.nb_telling.specs.Texts.{text_of};
@@ -27,7 +27,6 @@ ghost use Rattle.nb_service.specs.FaultTexts.{service_fault_place, service_fault
 ghost use Rattle.nb_session.specs.declared.fault.SessionFault.{SessionFault};
 ghost use Rattle.nb_session.specs.FaultTexts.{session_fault_place, session_fault_text};
 ghost use Rattle.nb_datagram.specs.declared.fault.DatagramFault.{DatagramFault};
-ghost use Rattle.nb_datagram.specs.FaultTexts.{datagram_fault_place, datagram_fault_text};
 ghost use Rattle.nb_text.specs.FaultEnds.{IsPlaceIn};
 ghost use Rattle.nb_text.specs.Fields.{AreLines, IsWord};
 ghost use Rattle.nb_text.specs.LineFields.{refused_fields};

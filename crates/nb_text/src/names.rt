@@ -2,7 +2,7 @@
 
 ghost use Rattle.std.specs.Prelude.{◌≡◌, ◌∷◌, Bool, None, Some, OnOk, fold};
 ghost use Rattle.nb_service.specs.Header.{PacketHeader, header_value};
-ghost use Rattle.nb_service.specs.Walks.{Walks};
+ghost use Rattle.nb_service.specs.Items.{Walks};
 ghost use Rattle.nb_telling.specs.Telling.{Grows};
 ghost use Rattle.nb_text.specs.FrontFields.{names_header_fields};
 ghost use Rattle.nb_text.specs.Keys.{key_named, id_key};

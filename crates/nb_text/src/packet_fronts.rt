@@ -4,7 +4,7 @@
 ghost use Rattle.std.specs.Prelude.{◌≡◌, ◌≢◌, ◌∷◌, [], ℕ, List, Some, None, OnOk, fold, option_map};
 ghost use Rattle.nb_datagram.specs.declared.fault.DatagramFault.{DatagramFault};
 ghost use Rattle.nb_datagram.specs.DatagramFaults.{PacketFails};
-ghost use Rattle.nb_datagram.specs.Texts.{key_text};
+ghost use Rattle.nb_datagram.specs.FaultTexts.{key_text};
 ghost use Rattle.nb_session.specs.Parsing.{Parsed as ParsedValue, Parses, taken_by};
 ghost use Rattle.nb_telling.specs.Fields.{Digits, Field, Text};
 ghost use Rattle.nb_telling.specs.Telling.{Grows, key_of};

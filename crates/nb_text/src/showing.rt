@@ -1,5 +1,5 @@
 //! A payload told to a sink, and its text.
-#![tactic(auto, using(nb_names::specs::GrowthFacts::front_stays))]
+#![tactic(auto, using(nb_names::specs::Growth::front_stays))]
 
 ghost use Rattle.std.specs.Prelude.{OnOk, string_bytes};
 ghost use Rattle.nb_names.specs.Growth.{OnlyAdds};

@@ -1,7 +1,7 @@
 //! Numbers told, by their words where they have some, and what lines end with.
 
 ghost use Rattle.std.specs.Prelude.{◌≡◌, ◌∷◌, [], OnOk, fold, option_map};
-ghost use Rattle.nb_service.specs.Flags.{ont_of};
+ghost use Rattle.nb_service.specs.Header.{ont_of};
 ghost use Rattle.nb_telling.specs.Fields.{Digits, LineEnds, Number, PartEnds, Text};
 ghost use Rattle.nb_telling.specs.Telling.{Grows, key_of};
 ghost use Rattle.nb_text.specs.Keys.{key_named, kind_key};

@@ -8,17 +8,15 @@ use Rattle.std.specs.FinMap.{is_sorted}
 use Rattle.std.specs.FinMap.Entries.{below_all}
 use Rattle.std.specs.FinMap as maps
 use Rattle.nb_datagram.specs.declared.key.Key.{Key}
-use Rattle.nb_datagram.specs.Key.{key_cmp}
+use Rattle.nb_datagram.specs.Key.{key_cmp, key_cmp_total, key_cmp_exact}
 use Rattle.nb_entries.specs.Maps.{joined_at}
 use Rattle.nb_table.specs.Contents.{Contents}
 use Rattle.nb_entries.specs.Entry.{EntryValue, join_entry}
 use Rattle.nb_entries.specs.Equal.{same_entry}
 use Rattle.nb_table.specs.Join.{join}
 use Rattle.nb_entries.specs.Shared.EqualLemmas.{options_decide, entry_decides}
-use Rattle.nb_table.specs.Shared.KeyCountLemmas.{entries_kept, keys_kept, get_kept}
+use Rattle.nb_table.specs.Shared.TableLemmas.{entries_kept, keys_kept, get_kept, get-join}
 use Rattle.nb_entries.specs.Shared.MapsLemmas.{one_key}
-use Rattle.nb_datagram.specs.KeyOrder.{key_cmp_total, key_cmp_exact}
-use Rattle.nb_table.specs.Shared.TableLemmas.{get-join}
 use Rattle.nbt.specs.Differences.{differ_at, differing}
 use Rattle.nbt.specs.Code.Marks.{Marks, with_mark, marked}
 

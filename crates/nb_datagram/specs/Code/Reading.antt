@@ -5,7 +5,7 @@ use Rattle.nb_datagram.specs.declared.form.Form.{Form}
 use Rattle.nb_datagram.specs.declared.form.Form.TheVariants.{Direct, Error, Query}
 use Rattle.nb_datagram.specs.declared.header.Header.{Header}
 use Rattle.nb_datagram.specs.declared.limits.TheConstants.{HEADER_LENGTH}
-use Rattle.nb_datagram.specs.Kind.{type_of}
+use Rattle.nb_datagram.specs.Packet.{type_of}
 use Rattle.nb_datagram.specs.Header.{header_bytes, IsKey, error_type, query_type}
 
 -- the MSG_TYPE of packets of a form

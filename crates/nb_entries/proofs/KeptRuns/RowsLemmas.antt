@@ -7,8 +7,7 @@ use Rattle.std.specs.List.Sorted.{IsNonDecreasingBy}
 use Rattle.std.proofs.lemmas.List.Sorted.{IsNonDecreasingBy-from_all_adjacent}
 use Rattle.std.specs.declared.vec.Vec.{Vec}
 use Rattle.nb_entries.specs.Runs.{RunValue, run_end, StartsPast, AreApart}
-use Rattle.nb_entries.specs.Code.RunSteps.{value_of, values_of, EndBefore, EndFrom, StartAfter}
-use Rattle.nb_entries.specs.Code.Rows.{runs_in, values_in, NoneEmpty, last_end, LastsTo, IsFrom}
+use Rattle.nb_entries.specs.Code.Rows.{value_of, values_of, EndBefore, EndFrom, StartAfter, runs_in, values_in, NoneEmpty, last_end, LastsTo, IsFrom}
 use Rattle.nb_entries.specs.declared.cover.runs.Run.{Run}
 use Rattle.nb_entries.proofs.KeptRuns.RunRowLemmas.{apart_front, apart_back, split_at}
 use Rattle.std.proofs.lemmas.Grind.{common_steps}

@@ -15,7 +15,7 @@ use Rattle.nb_entries.specs.Maps.{first_of, union}
 use Rattle.nb_entries.specs.Code.CoverFacts.{is_there, with_bytes}
 use Rattle.nb_entries.specs.Runs.{RunValue, AreApart, places_of, map_of_runs, run_end}
 use Rattle.nb_entries.specs.Whole.{bytes_below}
-use Rattle.nb_entries.specs.Code.RunSteps.{run_at, byte_in, look_in, Agree, IsPut, AreBetween, Lacks, value_of, values_of, grown, Meet, EndBefore, EndFrom, StartTo, StartAfter}
+use Rattle.nb_entries.specs.Code.Rows.{run_at, byte_in, look_in, Agree, IsPut, AreBetween, Lacks, value_of, values_of, grown, Meet, EndBefore, EndFrom, StartTo, StartAfter}
 use Rattle.nb_entries.specs.Shared.CoverLemmas.{same_at, at_same, first_either, first_of_three, one_value}
 use Rattle.nb_entries.specs.Shared.MapsLemmas.{and_left, and_right, get-union, all_entries_found, all_entries_from}
 use Rattle.nb_entries.specs.Shared.RowLemmas.{places_in_map}

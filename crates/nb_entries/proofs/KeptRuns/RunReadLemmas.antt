@@ -11,8 +11,7 @@ use Rattle.std.specs.FinMap as maps
 use Rattle.nb_entries.specs.Maps.{first_of, union}
 use Rattle.nb_entries.specs.Runs.{RunValue, run_end, StartsPast, AreApart, map_of_runs}
 use Rattle.nb_entries.specs.Code.CoverFacts.{with_bytes}
-use Rattle.nb_entries.specs.Code.RunSteps.{run_at, byte_in, look_in, Agree, AgreeOne, EndBefore, EndFrom, AreBetween, Lacks}
-use Rattle.nb_entries.specs.Code.Rows.{IsFrom}
+use Rattle.nb_entries.specs.Code.Rows.{run_at, byte_in, look_in, Agree, AgreeOne, EndBefore, EndFrom, AreBetween, Lacks, IsFrom, run_of, after_run, row_of}
 use Rattle.nb_entries.specs.Shared.CoverLemmas.{first_either, agree_of}
 use Rattle.nb_entries.specs.Shared.PlacedLemmas.{find-placed}
 use Rattle.nb_entries.specs.Shared.WholeLemmas.{slice_get-front}
@@ -22,9 +21,7 @@ use Rattle.nb_entries.proofs.KeptRuns.RunPutLemmas.{slice_get-take, slice_get-dr
 use Rattle.nb_entries.proofs.KeptRuns.RowsLemmas.{all_both}
 use Rattle.std.specs.Option.{option_or}
 use Rattle.nb_datagram.specs.Fragment.{Core}
-use Rattle.nb_entries.specs.Cover.{CoverFacts, CoversFit, placed, same_where, cover_of, covers_together}
-use Rattle.nb_entries.specs.Promise.{greater, promise_of_one}
-use Rattle.nb_entries.specs.Code.SavedRuns.{run_of, after_run, row_of}
+use Rattle.nb_entries.specs.Cover.{CoverFacts, CoversFit, placed, same_where, cover_of, covers_together, greater, promise_of_one}
 use Rattle.nb_entries.specs.Whole.{bytes_below, bytes_to}
 use Rattle.nb_entries.specs.Shared.MapsLemmas.{and_left}
 

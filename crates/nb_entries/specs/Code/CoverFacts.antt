@@ -3,6 +3,11 @@ use Rattle.std.specs.Prelude.{◌≡◌, ◌==◌, ℕ, ◌+◌, ◌<◌, ◌≤
 use Rattle.std.specs.Ordering.{nat_cmp}
 use Rattle.std.specs.FinMap as maps
 use Rattle.nb_entries.specs.Cover.{CoverFacts}
+use Rattle.nb_datagram.specs.declared.key.Key.{Key}
+use Rattle.nb_datagram.specs.Fragment.{FragmentParts, core_of, reach}
+use Rattle.nb_datagram.specs.declared.limits.TheConstants.{MAX_LENGTH}
+use Rattle.nb_entries.specs.Maps.{Held}
+use Rattle.nb_entries.specs.Entry.{EntryValue, facts_of}
 
 -- with_bytes m i xs: the map m, and from place i on these bytes
 abbrev pub with_bytes : maps.FinMap nat_cmp ℕ → ℕ → List ℕ → maps.FinMap nat_cmp ℕ
@@ -33,3 +38,12 @@ pub record Holds (a b : CoverFacts) : Type 0 where
 -- AreCovered look n: there is a byte at each place below n
 abbrev pub AreCovered : (ℕ → Option ℕ) → ℕ → Type 0
 AreCovered look n = (i : ℕ) → i < n → (x : ℕ) × (look i ≡ Some x)
+
+-- ---- entries that one fragment says all of
+
+-- IsPart k e f: the fragment f has the key k and says what the entry e knows, and reaches no further than
+-- a datagram may
+pub record IsPart (k : Key) (e : EntryValue) (f : FragmentParts) : Type 0 where
+  pub key : f.key ≡ k
+  pub says : e ≡ Held (facts_of (core_of f))
+  pub short : reach (core_of f) ≤ MAX_LENGTH

@@ -2,7 +2,7 @@
 -- of SlotLemmas.
 use Rattle.std.proofs.Common.{◌≡◌, Decides, true, refl, sym, ◌∙◌}
 use Rattle.std.specs.FinMap as maps
-use Rattle.nb_entries.specs.Slot.{Spoilt, Held, OnHeld}
+use Rattle.nb_entries.specs.Maps.{Spoilt, Held, OnHeld}
 use Rattle.nb_entries.specs.Cover.{CoverValue, covers_agree, join_cover, IsCover}
 use Rattle.nb_entries.specs.Entry.{EntryFacts, FactsFit, EntryValue, facts_agree, facts_together, join_entry, AreEntryFacts, IsEntry}
 use Rattle.nb_names.specs.NameFacts.{name_eq_decides}

@@ -8,7 +8,7 @@ use Rattle.std.specs.Cmp.Lexicographic.{pointwise, pointwise_decides}
 use Rattle.std.specs.Ordering.{nat_cmp}
 use Rattle.std.specs.FinMap as maps
 use Rattle.nb_names.specs.NameFacts.{name_eq_decides}
-use Rattle.nb_entries.specs.Slot.{Slot, Spoilt, Held}
+use Rattle.nb_entries.specs.Maps.{Slot, Spoilt, Held}
 use Rattle.nb_entries.specs.Cover.{CoverFacts, CoverValue}
 use Rattle.nb_entries.specs.Entry.{EntryFacts, EntryValue}
 use Rattle.nb_entries.specs.Codes.{held, slot_of, slot_back}

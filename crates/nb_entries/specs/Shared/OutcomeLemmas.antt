@@ -2,19 +2,18 @@
 use Rattle.std.proofs.Common.{◌≡◌, ◌+◌, ◌<◌, ◌≤◌, ℕ, suc, zero, List, [], ◌∷◌, length, Option, None, Some, Ok, Err, refl, sym, ap, subst, ◌∙◌, arith}
 use Rattle.std.specs.Int.{w16}
 use Rattle.nb_names.specs.declared.pointers.Pointers.TheVariants.{Refused}
-use Rattle.nb_names.specs.Labels.{StandsAt}
+use Rattle.nb_names.specs.Labels.{StandsAt, NumberAt}
 use Rattle.nb_names.specs.Name.{labels_of_name}
-use Rattle.nb_names.specs.Numbers.{NumberAt}
 use Rattle.nb_names.specs.PacketFacts.{stands_same, one_number_16}
 use Rattle.nb_names.proofs.FaultLemmas.{one_netbios, no_netbios}
 use Rattle.nb_names.proofs.LabelsLemmas.{one_reading}
 use Rattle.nb_names.proofs.NameLemmas.{one_name}
 use Rattle.nb_datagram.specs.declared.kind.Kind.{Kind}
-use Rattle.nb_datagram.specs.Kind.{type_of, kind_of, kind_back}
+use Rattle.nb_datagram.specs.Packet.{type_of, kind_of, kind_back}
 use Rattle.nb_entries.specs.declared.load_fault.LoadFault.{LoadFault}
 use Rattle.nb_entries.specs.declared.saved.SavedForm.{SavedForm}
 use Rattle.nb_entries.specs.declared.saved.SavedForm.TheVariants.{First, Second}
-use Rattle.nb_entries.specs.Slot.{Spoilt, Held}
+use Rattle.nb_entries.specs.Maps.{Spoilt, Held}
 use Rattle.nb_entries.specs.SavedReading.{Outcome, Gives, gives, Then, stops, goes_on, Field, cut, whole, Judged, good, bad, Marked, is_0, is_1, is_neither, byte_at, number_at, bytes_at, KindOf, known, unknown, kind_at, name_at, fault_of_name, stands, ill, end_at, PromisesBelow, promise_at, start_at, size_at, run_at, row_at, runs_at, most_of, facts_at, entry_at}
 use Rattle.nb_entries.specs.Runs.{run_end}
 

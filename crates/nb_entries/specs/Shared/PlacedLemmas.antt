@@ -3,8 +3,7 @@ use Rattle.std.proofs.Common.{◌≡◌, ◌⊎◌, inl, inr, ◌<◌, ℕ, Bool
 use Rattle.std.proofs.lemmas.Bool.{cases_lt, leb-true, le-leb, ltb-true, lt-ltb, eqb-true, eq-eqb, leb-false, lt-leb}
 use Rattle.std.proofs.lemmas.Option.{none-some, same_Some, slice_get_within}
 use Rattle.nb_datagram.specs.Fragment.{Core, reach, Covers, EndsAt, byte_of, end_of_one}
-use Rattle.nb_entries.specs.Promise.{Promises, promise_of_one, greater}
-use Rattle.nb_entries.specs.Cover.{is_before, BytesBelow, placed, cover_of, AreCoverFacts}
+use Rattle.nb_entries.specs.Cover.{Promises, promise_of_one, greater, is_before, BytesBelow, placed, cover_of, AreCoverFacts}
 use Rattle.nb_entries.specs.Code.CoverFacts.{IsPromised, is_promised}
 use Rattle.nb_entries.specs.Shared.MapsLemmas.{at-comm, at-assoc, at-idem}
 use Rattle.std.specs.declared.cmp.Ordering.{Ordering}

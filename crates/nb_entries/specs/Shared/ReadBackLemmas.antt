@@ -15,13 +15,12 @@ use Rattle.nb_names.proofs.FirstLevelLemmas.{length-letters}
 use Rattle.nb_names.proofs.LabelsLemmas.{stands_before, stands_behind, spelled_stands}
 use Rattle.nb_datagram.specs.declared.kind.Kind.{Kind}
 use Rattle.nb_datagram.specs.declared.limits.TheConstants.{MAX_LENGTH}
-use Rattle.nb_datagram.specs.Kind.{type_of}
-use Rattle.nb_datagram.specs.Packet.{name_bytes}
+use Rattle.nb_datagram.specs.Packet.{type_of, name_bytes}
 use Rattle.nb_entries.specs.declared.saved.SavedForm.{SavedForm}
 use Rattle.nb_entries.specs.declared.saved.SavedForm.TheVariants.{First, Second}
 use Rattle.nb_entries.specs.Cover.{CoverFacts, AreCoverFacts, BytesBelow}
 use Rattle.nb_entries.specs.Entry.{EntryFacts, EntryValue}
-use Rattle.nb_entries.specs.Slot.{Spoilt, Held, OnHeld}
+use Rattle.nb_entries.specs.Maps.{Spoilt, Held, OnHeld}
 use Rattle.nb_entries.specs.Runs.{RunValue, run_end, StartsPast, AreApart, map_of_runs, runs_of_map}
 use Rattle.nb_entries.specs.Saved.{run_bytes, runs_bytes, end_bytes, promise_bytes, facts_bytes, FitsRun, FitsFacts}
 use Rattle.nb_entries.specs.SavedReading.{gives, goes_on, whole, good, is_0, is_1, byte_at, number_at, bytes_at, known, kind_at, name_at, stands, end_at, PromisesBelow, promise_at, run_at, row_at, runs_at, most_of, facts_at}

@@ -11,19 +11,18 @@ use Rattle.std.proofs.lemmas.Bool.Decides.{nat_tests}
 use Rattle.std.proofs.lemmas.List.{drop-drop}
 use Rattle.std.proofs.lemmas.List.Folds.{list_all-append}
 use Rattle.std.proofs.lemmas.Nat.{from_be_bytes-to_be_bytes_2}
-use Rattle.nb_names.specs.Labels.{StandsAt}
-use Rattle.nb_names.specs.Numbers.{NumberAt}
+use Rattle.nb_names.specs.Labels.{StandsAt, NumberAt}
 use Rattle.nb_entries.specs.Cover.{placed, AreCoverFacts}
 use Rattle.nb_entries.specs.Runs.{RunValue, run_end, AreApart, places_of, map_of_runs}
 use Rattle.nb_entries.specs.SavedReading.{gives, goes_on, whole, good, number_at, bytes_at, run_at, row_at, is_0, is_1, most_of, facts_at, entry_at}
-use Rattle.nb_entries.specs.Code.SavedRuns.{number_in, run_of, after_run, RunThere, row_of, RowThere}
+use Rattle.nb_entries.specs.Code.Rows.{number_in, run_of, after_run, RunThere, row_of, RowThere}
 use Rattle.nb_entries.specs.Shared.MapsLemmas.{sorted_entries}
 use Rattle.nb_entries.specs.Shared.FoundLemmas.{row_found, IsPromise, promise_found, runs_found}
 use Rattle.nb_entries.specs.Shared.RunsLemmas.{sorted_places}
 use Rattle.nb_entries.specs.declared.saved.SavedForm.{SavedForm}
 use Rattle.nb_entries.specs.declared.saved.SavedForm.TheVariants.{First}
 use Rattle.nb_entries.specs.Entry.{EntryFacts, EntryValue, IsEntry}
-use Rattle.nb_entries.specs.Slot.{OnHeld}
+use Rattle.nb_entries.specs.Maps.{OnHeld}
 use Rattle.nb_entries.specs.Shared.CoverLemmas.{bytes_below_decides}
 
 -- ---- runs by their bytes

@@ -12,10 +12,9 @@ use Rattle.std.specs.FinMap as maps
 use Rattle.std.specs.FinMap.{is_sorted, nat_cmp-IsAntisymmetric}
 use Rattle.nb_names.specs.DomainName.{spelling, IsLabel, IsDomain}
 use Rattle.nb_names.specs.Name.{NetbiosName, IsName, labels_of_name}
-use Rattle.nb_datagram.specs.Kind.{type_of, kind_of, kind_back}
-use Rattle.nb_datagram.specs.Packet.{name_bytes}
+use Rattle.nb_datagram.specs.Packet.{type_of, kind_of, kind_back, name_bytes}
 use Rattle.nb_entries.specs.declared.saved.SavedForm.TheVariants.{Second}
-use Rattle.nb_entries.specs.Slot.{Spoilt, Held, OnHeld}
+use Rattle.nb_entries.specs.Maps.{Spoilt, Held, OnHeld}
 use Rattle.nb_entries.specs.Cover.{CoverFacts, BytesBelow}
 use Rattle.nb_entries.specs.Entry.{EntryFacts, EntryValue, IsShort}
 use Rattle.nb_entries.specs.Runs.{RunValue, map_of_runs, runs_of_map, run_end, StartsPast, AreApart, in_front, runs_in}
@@ -24,7 +23,7 @@ use Rattle.nb_entries.specs.Shared.MapsLemmas.{one_key, tied_self, below_none, T
 use Rattle.nb_entries.specs.Shared.RunsLemmas.{given_back, runs_apart}
 use Rattle.std.proofs.lemmas.Bool.{eqb-true}
 use Rattle.nb_datagram.specs.declared.limits.TheConstants.{MAX_LENGTH}
-use Rattle.nb_entries.specs.Code.RunSteps.{EndBy}
+use Rattle.nb_entries.specs.Code.Rows.{EndBy}
 
 -- what the laws of nb_names say of names
 pub record NameLaws : Type 0 where

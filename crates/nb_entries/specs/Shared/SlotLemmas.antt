@@ -3,7 +3,7 @@
 use Rattle.std.proofs.Common.{◌≡◌, ◌&&◌, Bool, true, false, cond, refl, sym, ◌∙◌, ap}
 use Rattle.std.proofs.lemmas.Bool.{true≢false, and_from}
 use Rattle.std.specs.Cmp.{both_ways}
-use Rattle.nb_entries.specs.Slot.{Slot, Spoilt, Held, join_slot, OnHeld}
+use Rattle.nb_entries.specs.Maps.{Slot, Spoilt, Held, join_slot, OnHeld}
 use Rattle.nb_entries.specs.Shared.MapsLemmas.{and_left, and_right}
 
 -- what makes facts that agree a union

@@ -6,8 +6,8 @@ use Rattle.std.proofs.lemmas.Option.{same_Some, slice_get-get_or}
 use Rattle.std.specs.Ordering.{nat_cmp}
 use Rattle.std.specs.FinMap as maps
 use Rattle.nb_datagram.specs.declared.key.Key.{Key}
-use Rattle.nb_datagram.specs.Datagram.{DatagramParts}
-use Rattle.nb_entries.specs.Slot.{Spoilt, Held}
+use Rattle.nb_datagram.specs.Fragment.{DatagramParts}
+use Rattle.nb_entries.specs.Maps.{Spoilt, Held}
 use Rattle.nb_entries.specs.Cover.{CoverFacts}
 use Rattle.nb_entries.specs.Code.CoverFacts.{AreCovered}
 use Rattle.nb_entries.specs.Entry.{EntryFacts, EntryValue}

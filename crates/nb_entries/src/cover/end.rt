@@ -1,9 +1,8 @@
 //! Ends of datagrams' data and promises of fragments: those of one, and of two together.
 ghost use Rattle.std.specs.Prelude.{◌≡◌, ◌↔◌, ℕ, IsTrue, Some};
 ghost use Rattle.nb_datagram.specs.Fragment.{core_of};
-ghost use Rattle.nb_entries.specs.Cover.{cover_of, is_below_end, bytes_lie_below, ends_agree as same_ends, is_before as promise_is_before};
+ghost use Rattle.nb_entries.specs.Cover.{cover_of, is_below_end, bytes_lie_below, ends_agree as same_ends, is_before as promise_is_before, promise_of_one, greater as the_greater};
 ghost use Rattle.nb_entries.specs.Entry.{ends_by};
-ghost use Rattle.nb_entries.specs.Promise.{promise_of_one, greater as the_greater};
 ghost use Rattle.nb_entries.specs.Code.CoverFacts.{is_promised as promised_already};
 
 use nb_datagram::LentFragment;

@@ -5,8 +5,7 @@ ghost use Rattle.std.specs.FinMap as maps;
 ghost use Rattle.nb_entries.specs.Cover.{placed, same_where};
 ghost use Rattle.nb_entries.specs.Code.CoverFacts.{with_bytes};
 ghost use Rattle.nb_entries.specs.Runs.{AreApart, run_end, map_of_runs};
-ghost use Rattle.nb_entries.specs.Code.RunSteps.{value_of, run_at};
-ghost use Rattle.nb_entries.specs.Code.Rows.{kept_values, AreFilled};
+ghost use Rattle.nb_entries.specs.Code.Rows.{value_of, run_at, kept_values, AreFilled};
 
 mod each_run;
 mod growing;
@@ -88,7 +87,7 @@ impl Model for Runs {
     ghost use Rattle.std.specs.Prelude.{ℕ};
     ghost use Rattle.std.specs.Ordering.{nat_cmp};
     ghost use Rattle.std.specs.FinMap as maps;
-    ghost use Rattle.nb_entries.specs.Code.RunSteps.{bytes_code};
+    ghost use Rattle.nb_entries.specs.Code.Rows.{bytes_code};
 
     ghost Value = { maps.FinMap nat_cmp ℕ };
 

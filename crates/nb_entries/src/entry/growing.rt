@@ -2,7 +2,7 @@
 ghost use Rattle.std.specs.Prelude.{◌≡◌, ◌≤◌, ℕ, IfOk, OnOk, OnErr, Some, None};
 ghost use Rattle.nb_datagram.specs.Fragment.{core_of};
 ghost use Rattle.nb_datagram.specs.declared.limits.TheConstants.{MAX_LENGTH};
-ghost use Rattle.nb_entries.specs.Slot.{Held};
+ghost use Rattle.nb_entries.specs.Maps.{Held};
 ghost use Rattle.nb_entries.specs.Entry.{AreEntryFacts, FactsFit, facts_of, facts_together};
 ghost use Rattle.nb_entries.specs.Cover.{CoversFit, cover_of, covers_together};
 ghost use Rattle.nb_entries.specs.Code.CoverFacts.{Holds};

@@ -6,7 +6,7 @@ ghost use Rattle.nb_datagram.specs.declared.limits.TheConstants.{MAX_LENGTH};
 ghost use Rattle.nb_entries.specs.Entry.{join_entry, IsShort, is_short};
 ghost use Rattle.nb_entries.specs.Whole.{newly, datagram_of as entry_datagram};
 ghost use Rattle.nb_entries.specs.Change.{handed_by, whole_by};
-ghost use Rattle.nb_entries.specs.Code.Part.{IsPart};
+ghost use Rattle.nb_entries.specs.Code.CoverFacts.{IsPart};
 
 use super::{Entry, EntryFacts};
 use crate::change::{Change, Handing};

@@ -2,9 +2,8 @@
 ghost use Rattle.std.specs.Prelude.{◌≡◌, ◌↔◌, IsTrue, IfOk, None, Ok};
 ghost use Rattle.nb_datagram.specs.declared.limits.TheConstants.{MAX_LENGTH};
 ghost use Rattle.nb_entries.specs.Entry.{AreShort, IsShort};
-ghost use Rattle.nb_entries.specs.Outline.{entry_outline, outline_of};
+ghost use Rattle.nb_entries.specs.Whole.{entry_outline, outline_of, IsWhole, datagram_of as entry_datagram};
 ghost use Rattle.nb_entries.specs.Runs.{entry_ranges};
-ghost use Rattle.nb_entries.specs.Whole.{IsWhole, datagram_of as entry_datagram};
 
 use super::EntryFacts;
 use crate::outline::Outline;

@@ -4,7 +4,7 @@ ghost use Rattle.nb_entries.specs.Entry.{is_short as is_short_entry};
 ghost use Rattle.nb_entries.specs.Sinks.{Puts};
 ghost use Rattle.nb_entries.specs.Saved.{facts_bytes, entry_bytes, IsNamed};
 ghost use Rattle.nb_entries.specs.SavedReading.{facts_at, entry_at, most_of as most_reading};
-ghost use Rattle.nb_entries.specs.Slot.{Held, OnHeld};
+ghost use Rattle.nb_entries.specs.Maps.{Held, OnHeld};
 ghost use Rattle.nb_entries.specs.declared.saved.SavedForm.TheVariants.{Second};
 
 use super::SavedForm;

@@ -3,7 +3,7 @@
 
 ghost use Rattle.std.specs.Prelude.{◌≡◌, ◌↔◌, ℕ, IsTrue, MatchResult, Some};
 ghost use Rattle.std.specs.Int.{w16, w32, to_be_bytes};
-ghost use Rattle.nb_names.specs.Numbers.{NumberAt};
+ghost use Rattle.nb_names.specs.Labels.{NumberAt};
 ghost use Rattle.nb_entries.specs.Sinks.{Puts};
 ghost use Rattle.nb_entries.specs.Saved.{end_bytes};
 ghost use Rattle.nb_entries.specs.SavedReading.{Field, PromisesBelow, fault_of_name, byte_at as byte_reading, number_at as number_reading, bytes_at as bytes_reading, kind_at as kind_reading, name_at as name_reading, end_at as end_reading, promise_at as promise_reading};

@@ -3,10 +3,9 @@ ghost use Rattle.std.specs.Prelude.{◌≡◌, ◌≤◌, IfOk, length, nat_le, 
 ghost use Rattle.std.specs.List.{list_all};
 ghost use Rattle.std.specs.FinMap as maps;
 ghost use Rattle.nb_datagram.specs.declared.limits.TheConstants.{MAX_LENGTH};
-ghost use Rattle.nb_entries.specs.Code.Rows.{kept_values, AreFilled};
+ghost use Rattle.nb_entries.specs.Code.Rows.{kept_values, AreFilled, RunThere, RowThere, run_of, row_of, after_run};
 ghost use Rattle.nb_entries.specs.Runs.{run_end, map_of_runs};
 ghost use Rattle.nb_entries.specs.SavedReading.{run_at, runs_at};
-ghost use Rattle.nb_entries.specs.Code.SavedRuns.{RunThere, RowThere, run_of, row_of, after_run};
 
 use super::fields::{read_bytes, read_number};
 use crate::cover::runs::{Kept, Runs, add_run};
@@ -93,7 +92,7 @@ pub(crate) struct SavedRuns<'a> {
 impl<'a> Model for SavedRuns<'a> {
     ghost use Rattle.std.specs.Prelude.{List};
     ghost use Rattle.nb_entries.specs.Runs.{RunValue, AreApart};
-    ghost use Rattle.nb_entries.specs.Code.SavedRuns.{row_of, RowThere};
+    ghost use Rattle.nb_entries.specs.Code.Rows.{row_of, RowThere};
 
     ghost Value = { List RunValue };
 

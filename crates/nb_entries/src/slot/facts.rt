@@ -1,7 +1,7 @@
 //! Facts that may contradict each other, and slots of them, joined.
 ghost use Rattle.std.specs.Prelude.{◌≡◌, Bool, true, IfOk, OnErr};
 ghost use Rattle.nb_entries.specs.Shared.SlotLemmas.{Unites};
-ghost use Rattle.nb_entries.specs.Slot.{OnHeld, join_slot};
+ghost use Rattle.nb_entries.specs.Maps.{OnHeld, join_slot};
 
 use super::Slot;
 use nb_names::NoMemory;

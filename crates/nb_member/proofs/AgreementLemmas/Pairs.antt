@@ -1,7 +1,7 @@
 -- What two members hand over that are given the same fragments.
 use Rattle.std.proofs.Common.{List, [], sym, subst}
 use Rattle.nb_names.specs.Name.{NetbiosName}
-use Rattle.nb_datagram.specs.Datagram.{DatagramParts}
+use Rattle.nb_datagram.specs.Fragment.{DatagramParts}
 use Rattle.nb_member.specs.declared.event.Event.{Event}
 use Rattle.nb_member.specs.declared.pair.Pair.{Pair}
 use Rattle.nb_member.specs.declared.settings.Settings.{Settings}

@@ -5,12 +5,10 @@ use Rattle.std.specs.Option.{option_to_list}
 use Rattle.std.specs.FinMap as maps
 use Rattle.nb_names.specs.Name.{NetbiosName}
 use Rattle.nb_datagram.specs.declared.key.Key.{Key}
-use Rattle.nb_datagram.specs.Fragment.{Core}
-use Rattle.nb_datagram.specs.Datagram.{DatagramParts}
+use Rattle.nb_datagram.specs.Fragment.{Core, DatagramParts}
 use Rattle.nb_entries.specs.declared.slot.Slot.TheVariants.{Spoilt}
 use Rattle.nb_table.specs.Conflict.{IsSpoilt}
-use Rattle.nb_table.specs.Contents.{Contents, table_of}
-use Rattle.nb_table.specs.Whole.{IsWholeAt, datagram_at}
+use Rattle.nb_table.specs.Contents.{Contents, table_of, IsWholeAt, datagram_at}
 use Rattle.nb_table.specs.Sender.{HasPartsAlone, HasAll, Gives}
 use Rattle.nb_member.specs.declared.settings.Settings.{Settings}
 use Rattle.nb_member.proofs.HearingLemmas.{Hears-from_test, test-from_Hears}

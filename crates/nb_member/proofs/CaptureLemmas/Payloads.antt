@@ -1,9 +1,8 @@
 -- Payloads: what a word stands for.
 use Rattle.std.proofs.Common.{◌≡◌, ◌≢◌, ℕ, ◌%◌, List, length, sym, ap, ◌∙◌, arith, inl, inr}
 use Rattle.std.specs.Prelude.{codes}
-use Rattle.nb_names.specs.Hexadecimal.{HexText}
+use Rattle.nb_names.specs.Hexadecimal.{HexText, DataText}
 use Rattle.nb_names.specs.HexadecimalFacts.{length-HexText, one_HexText, DataText-cases}
-use Rattle.nb_names.specs.Hexadecimal.{DataText}
 
 -- an odd number of digits gives no bytes
 pub no_odd_hex : (text : List ℕ) → length text % 2 ≢ 0 → ¬ ((bytes : List ℕ) × HexText bytes text)

@@ -6,15 +6,13 @@ use Rattle.std.specs.Option.{option_to_list}
 use Rattle.nb_names.specs.Name.{NetbiosName}
 use Rattle.nb_datagram.specs.declared.key.Key.{Key}
 use Rattle.nb_datagram.specs.declared.packet.ErrorPacket.{ErrorPacket}
-use Rattle.nb_datagram.specs.Datagram.{DatagramParts}
-use Rattle.nb_datagram.specs.Fragment.{FragmentParts}
+use Rattle.nb_datagram.specs.Fragment.{DatagramParts, FragmentParts}
 use Rattle.nb_entries.specs.declared.change.Change.TheVariants as change
 use Rattle.nb_entries.specs.Change.{Change}
 use Rattle.nb_table.specs.Change.{IsChange}
-use Rattle.nb_table.specs.Contents.{Contents}
+use Rattle.nb_table.specs.Contents.{Contents, newly_whole, datagram_at}
 use Rattle.nb_entries.specs.Entry.{EntryValue}
 use Rattle.nb_entries.specs.Whole.{datagram_of, newly}
-use Rattle.nb_table.specs.Whole.{newly_whole, datagram_at}
 use Rattle.nb_member.specs.declared.member_fault.MemberFault.{MemberFault}
 use Rattle.nb_member.specs.declared.outcome.Outcome.{Outcome}
 use Rattle.nb_member.specs.declared.outcome.Outcome.TheVariants.{Delivered, Unheard}

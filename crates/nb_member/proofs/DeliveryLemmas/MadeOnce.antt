@@ -7,15 +7,13 @@ use Rattle.std.proofs.lemmas.Option.{none-some}
 use Rattle.std.specs.FinMap as maps
 use Rattle.nb_names.specs.Name.{NetbiosName}
 use Rattle.nb_datagram.specs.declared.key.Key.{Key}
-use Rattle.nb_datagram.specs.Key.{same_key}
-use Rattle.nb_datagram.specs.KeyOrder.{same_key_decides}
-use Rattle.nb_datagram.specs.Datagram.{DatagramParts}
+use Rattle.nb_datagram.specs.Key.{same_key, same_key_decides}
+use Rattle.nb_datagram.specs.Fragment.{DatagramParts}
 use Rattle.nb_entries.specs.declared.slot.Slot.TheVariants.{Spoilt}
 use Rattle.nb_entries.specs.Entry.{EntryValue}
-use Rattle.nb_table.specs.Contents.{Contents}
+use Rattle.nb_table.specs.Contents.{Contents, datagram_at, newly_whole}
 use Rattle.nb_entries.specs.Whole.{datagram_of, newly}
 use Rattle.nb_entries.specs.Shared.WholeLemmas.{newly_same}
-use Rattle.nb_table.specs.Whole.{datagram_at, newly_whole}
 use Rattle.nb_table.specs.Shared.FragmentLemmas.{get-table_of}
 use Rattle.nb_member.specs.declared.settings.Settings.{Settings}
 use Rattle.nb_member.proofs.DeliveryLemmas.WholeKeys.{DatagramsKnown, has_its_key, one_stays, all_stay, others_stay}

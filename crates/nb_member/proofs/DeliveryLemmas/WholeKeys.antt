@@ -4,14 +4,12 @@ use Rattle.std.proofs.lemmas.Option.{none-some, slice_get-get_or}
 use Rattle.std.specs.FinMap as maps
 use Rattle.nb_datagram.specs.declared.key.Key.{Key}
 use Rattle.nb_datagram.specs.Key.{same_key}
-use Rattle.nb_datagram.specs.Fragment.{Core, core_of}
-use Rattle.nb_datagram.specs.Datagram.{DatagramParts}
+use Rattle.nb_datagram.specs.Fragment.{Core, core_of, DatagramParts}
 use Rattle.nb_entries.specs.Maps.{first_of, joined_at}
 use Rattle.nb_entries.specs.declared.slot.Slot.TheVariants.{Spoilt, Held}
 use Rattle.nb_entries.specs.Entry.{EntryFacts, EntryValue, join_entry, facts_agree, facts_together, facts_of}
-use Rattle.nb_table.specs.Contents.{Contents, table_of}
+use Rattle.nb_table.specs.Contents.{Contents, table_of, datagram_at}
 use Rattle.nb_entries.specs.Whole.{IsDatagram, datagram_of}
-use Rattle.nb_table.specs.Whole.{datagram_at}
 use Rattle.nb_table.specs.Join.{join}
 use Rattle.nb_entries.specs.Shared.CoverLemmas.{in_union}
 use Rattle.nb_table.specs.Shared.TableLemmas.{get-join}

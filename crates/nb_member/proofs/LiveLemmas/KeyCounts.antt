@@ -5,14 +5,13 @@ use Rattle.std.specs.List.{list_any}
 use Rattle.std.specs.Ordering.{eq_by_cmp}
 use Rattle.std.specs.FinMap as maps
 use Rattle.nb_datagram.specs.declared.key.Key.{Key}
-use Rattle.nb_datagram.specs.Key.{key_cmp, same_key}
-use Rattle.nb_datagram.specs.KeyOrder.{key_cmp_total, same_key_decides}
+use Rattle.nb_datagram.specs.Key.{key_cmp, same_key, key_cmp_total, same_key_decides}
 use Rattle.nb_entries.specs.Entry.{EntryValue}
 use Rattle.std.specs.Cmp.{unsigned_Decides}
 use Rattle.std.specs.Cmp.Lexicographic.{pointwise_decides}
 use Rattle.nb_table.specs.Contents.{Contents}
-use Rattle.nb_table.specs.KeyCounts.{held_keys, of_source}
-use Rattle.nb_table.specs.Shared.KeyCountLemmas.{held_is, get_kept}
+use Rattle.nb_table.specs.Limits.{held_keys, of_source}
+use Rattle.nb_table.specs.Shared.TableLemmas.{held_is, get_kept}
 use Rattle.std.proofs.lemmas.Bool.{false≢true, cases_lt, cases_Bool}
 
 -- every key of a is one of b

@@ -5,19 +5,18 @@ use Rattle.std.specs.FinMap as maps
 use Rattle.std.proofs.lemmas.Bool.{cases_Bool, false≢true, leb-true}
 use Rattle.std.proofs.lemmas.List.{append_assoc, append-nil}
 use Rattle.nb_datagram.specs.declared.key.Key.{Key}
-use Rattle.nb_datagram.specs.Key.{same_key}
+use Rattle.nb_datagram.specs.Key.{same_key, same_key_decides}
 use Rattle.nb_datagram.specs.Fragment.{FragmentParts, Core, core_of}
-use Rattle.nb_datagram.specs.KeyOrder.{same_key_decides}
 use Rattle.nb_entries.specs.Maps.{joined_at}
 use Rattle.nb_entries.specs.Entry.{EntryValue, join_entry}
 use Rattle.nb_table.specs.Contents.{Contents, entry_in, entry_at, table_of}
-use Rattle.nb_table.specs.ConflictTests.{keyed, with_key}
+use Rattle.nb_table.specs.Conflict.{keyed, with_key}
 use Rattle.nb_table.specs.Shared.TableLemmas.{get-join}
 use Rattle.nb_table.specs.Join.{join, SameCores}
 use Rattle.nb_member.specs.declared.settings.Settings.{Settings}
 use Rattle.nb_member.proofs.LiveLemmas.KeyCounts.{HasKeysOf, fewer_keys_without, fewer_of_group, own_source}
 use Rattle.std.specs.Prelude.{nat_le}
-use Rattle.nb_table.specs.KeyCounts.{held_keys, of_source}
+use Rattle.nb_table.specs.Limits.{held_keys, of_source}
 use Rattle.nb_member.specs.Events.{Saying, came, refused, another, clock}
 use Rattle.nb_member.specs.Live.{Timed, cores, table_from, is_full, is_source_full, NoneFull, live_after, live_from, live}
 use Rattle.nb_member.specs.Agreement.{valid, NoneDropped, HasRoomFor, GiveTheSame}

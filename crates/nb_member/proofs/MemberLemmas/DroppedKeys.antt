@@ -4,8 +4,7 @@ use Rattle.std.specs.Prelude.{filter}
 use Rattle.std.specs.FinMap as maps
 use Rattle.std.specs.Cmp.{eq_by_cmp_equiv}
 use Rattle.nb_datagram.specs.declared.key.Key.{Key}
-use Rattle.nb_datagram.specs.Key.{key_cmp, same_key}
-use Rattle.nb_datagram.specs.KeyOrder.{key_cmp_total, key_cmp_exact}
+use Rattle.nb_datagram.specs.Key.{key_cmp, same_key, key_cmp_total, key_cmp_exact}
 use Rattle.nb_entries.specs.Entry.{EntryValue}
 use Rattle.nb_table.specs.Contents.{Contents}
 use Rattle.nb_table.specs.Limits.{TableValue}

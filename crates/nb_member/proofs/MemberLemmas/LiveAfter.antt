@@ -4,15 +4,13 @@ use Rattle.std.specs.Prelude.{filter, nat_le, is_some}
 use Rattle.std.specs.FinMap as maps
 use Rattle.std.proofs.lemmas.Bool.{cases_Bool, false≢true, leb-true, le-leb}
 use Rattle.nb_datagram.specs.declared.key.Key.{Key}
-use Rattle.nb_datagram.specs.Key.{same_key}
-use Rattle.nb_datagram.specs.KeyOrder.{key_cmp_total, same_key_decides}
+use Rattle.nb_datagram.specs.Key.{same_key, key_cmp_total, same_key_decides}
 use Rattle.nb_datagram.specs.Fragment.{FragmentParts, Core, core_of}
-use Rattle.nb_table.specs.ConflictTests.{keyed}
+use Rattle.nb_table.specs.Conflict.{keyed}
 use Rattle.nb_entries.specs.Entry.{EntryValue}
 use Rattle.nb_table.specs.Contents.{Contents, table_of}
 use Rattle.nb_table.specs.Join.{join}
-use Rattle.nb_table.specs.KeyCounts.{held_keys, of_source}
-use Rattle.nb_table.specs.Limits.{Limits, IsFull, IsFullSource}
+use Rattle.nb_table.specs.Limits.{held_keys, of_source, Limits, IsFull, IsFullSource}
 use Rattle.nb_member.specs.declared.settings.Settings.{Settings}
 use Rattle.nb_member.proofs.MemberLemmas.DroppedKeys.{get-lasting}
 use Rattle.nb_member.proofs.LiveLemmas.LiveTables.{cores-append, cores-filter}

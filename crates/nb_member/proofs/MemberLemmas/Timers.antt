@@ -3,8 +3,7 @@ use Rattle.std.proofs.Common.{◌≡◌, ◌≢◌, ℕ, ◌+◌, Bool, true, fa
 use Rattle.std.specs.FinMap as maps
 use Rattle.std.proofs.lemmas.Bool.{false≢true}
 use Rattle.nb_datagram.specs.declared.key.Key.{Key}
-use Rattle.nb_datagram.specs.Key.{key_cmp, same_key}
-use Rattle.nb_datagram.specs.KeyOrder.{key_cmp_total, same_key_decides}
+use Rattle.nb_datagram.specs.Key.{key_cmp, same_key, key_cmp_total, same_key_decides}
 use Rattle.nb_datagram.specs.Fragment.{FragmentParts, Core, core_of}
 use Rattle.nb_entries.specs.declared.slot.Slot.TheVariants.{Held}
 use Rattle.nb_entries.specs.Maps.{joined_onto}

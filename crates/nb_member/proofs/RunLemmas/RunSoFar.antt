@@ -6,7 +6,7 @@ use Rattle.std.proofs.lemmas.List.Elements.{filter-append}
 use Rattle.std.proofs.lemmas.List.Sums.{fold-append}
 use Rattle.nb_names.specs.Name.{NetbiosName}
 use Rattle.nb_datagram.specs.declared.packet.ErrorPacket.{ErrorPacket}
-use Rattle.nb_datagram.specs.Datagram.{DatagramParts}
+use Rattle.nb_datagram.specs.Fragment.{DatagramParts}
 use Rattle.nb_member.specs.declared.event.Event.{Event}
 use Rattle.nb_member.specs.declared.run_report.RunReport.{RunReport}
 use Rattle.nb_member.specs.declared.settings.Settings.{Settings}

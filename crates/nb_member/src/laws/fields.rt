@@ -2,7 +2,7 @@
 ghost use Rattle.std.specs.Prelude.{◌≡◌, ◌++◌, ℕ, Result, codes};
 ghost use Rattle.std.specs.Fmt.{decimal};
 ghost use Rattle.nb_datagram.specs.declared.key.Key.{Key};
-ghost use Rattle.nb_datagram.specs.Datagram.{DatagramParts};
+ghost use Rattle.nb_datagram.specs.Fragment.{DatagramParts};
 ghost use Rattle.nb_table.specs.Contents.{Contents};
 ghost use Rattle.nb_telling.specs.Members.{AreMembers};
 ghost use Rattle.nb_telling.specs.Texts.{text_of};

@@ -1,7 +1,7 @@
 //! Laws on members that stand for events, and on the merge of their tables.
 ghost use Rattle.std.specs.Prelude.{◌≡◌, ◌++◌, ℕ, List, []};
 ghost use Rattle.nb_names.specs.Name.{NetbiosName};
-ghost use Rattle.nb_datagram.specs.Datagram.{DatagramParts};
+ghost use Rattle.nb_datagram.specs.Fragment.{DatagramParts};
 ghost use Rattle.nb_table.specs.Contents.{Contents};
 ghost use Rattle.nb_table.specs.Join.{join};
 ghost use Rattle.nb_member.specs.declared.event.Event.{Event};

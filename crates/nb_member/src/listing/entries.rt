@@ -2,9 +2,7 @@
 #![tactic(auto, using(nb_telling::proofs::FoldLemmas::told_both))]
 
 ghost use Rattle.std.specs.Prelude.{◌≡◌, OnOk, fold, map};
-ghost use Rattle.nb_table.specs.Outline.{outline_at};
-ghost use Rattle.nb_table.specs.Ranges.{ranges_at};
-ghost use Rattle.nb_table.specs.Whole.{datagram_at};
+ghost use Rattle.nb_table.specs.Contents.{outline_at, ranges_at, datagram_at};
 ghost use Rattle.nb_telling.specs.Telling.{Grows};
 ghost use Rattle.nb_member.specs.ListingFields.{further_range, key_fields, known_fields, more_fields, outline_fields, places_fields, ranges_fields};
 

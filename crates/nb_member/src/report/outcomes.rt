@@ -3,8 +3,8 @@
 
 ghost use Rattle.std.specs.Prelude.{◌≡◌, ◌∷◌, [], OnOk, fold};
 ghost use Rattle.nb_telling.specs.Telling.{Grows};
-ghost use Rattle.nb_datagram.specs.Datagram.{datagram_by};
-ghost use Rattle.nb_datagram.specs.Texts.{key_text, kind_text};
+ghost use Rattle.nb_datagram.specs.Fragment.{datagram_by};
+ghost use Rattle.nb_datagram.specs.FaultTexts.{key_text, kind_text};
 ghost use Rattle.nb_names.specs.NameText.{written};
 ghost use Rattle.nb_telling.specs.Fields.{Text, Data};
 ghost use Rattle.nb_member.specs.Keys.{outcome_key, key_key, kind_key, source_key, destination_key, data_key};

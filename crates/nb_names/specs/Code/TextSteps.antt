@@ -8,7 +8,7 @@ use Rattle.nb_names.specs.declared.text_steps.Added.{Added}
 use Rattle.nb_names.specs.declared.text_steps.Added.TheVariants.{Nothing, FrontByte, Last, LabelByte, LabelEnd}
 use Rattle.nb_names.specs.Ascii.{dot, less_than, greater_than, backslash}
 use Rattle.nb_names.specs.NameText.{is_plain, Parts}
-use Rattle.nb_names.specs.Code.Digits.{pair_byte}
+use Rattle.nb_names.specs.Hexadecimal.{pair_byte}
 
 -- first_digit byte next: the byte is a hexadecimal digit, which the next stage remembers
 abbrev pub first_digit : ℕ → Stage → Option (Stage × Added)

@@ -6,13 +6,13 @@ use Rattle.std.specs.Ordering.{nat_cmp}
 use Rattle.std.specs.Cmp.{nat_cmp_total, both_ways}
 use Rattle.std.specs.List.{list_any}
 use Rattle.std.specs.FinMap as maps
-use Rattle.nb_datagram.specs.Key.{same_key}
+use Rattle.nb_datagram.specs.Key.{same_key, key_cmp_total, key_cmp_exact, same_key_decides}
 use Rattle.nb_datagram.specs.Fragment.{Core, byte_of}
 use Rattle.nb_entries.specs.Maps.{first_of, joined_at}
 use Rattle.nb_entries.specs.declared.slot.Slot.TheVariants.{Spoilt, Held}
 use Rattle.nb_entries.specs.Cover.{CoverFacts, covers_together, placed, cover_of}
 use Rattle.nb_entries.specs.Entry.{EntryFacts, EntryValue, facts_agree, facts_together, join_entry, facts_of, IsEntry}
-use Rattle.nb_table.specs.ConflictTests.{conflicts, some_conflict, with_key, keyed}
+use Rattle.nb_table.specs.Conflict.{conflicts, some_conflict, with_key, keyed}
 use Rattle.nb_table.specs.Contents.{first_byte, all_placed, cover_in, facts_in, entry_in, entry_at, table_of, Contents}
 use Rattle.nb_table.specs.Join.{join, IsTable, SameCores, without_key}
 use Rattle.nb_entries.specs.Shared.MapsLemmas.{at-assoc, joined-empty}
@@ -25,7 +25,6 @@ use Rattle.nb_table.specs.Shared.FragmentLemmas.{facts_in-one, or_left, or_right
 use Rattle.std.proofs.lemmas.Bool.{true≢false}
 use Rattle.std.proofs.lemmas.List.{reverse-append}
 use Rattle.nb_datagram.specs.declared.key.Key.{Key}
-use Rattle.nb_datagram.specs.KeyOrder.{key_cmp_total, key_cmp_exact, same_key_decides}
 
 -- ---- the cover of fragments
 

@@ -2,7 +2,7 @@
 use Rattle.std.proofs.Common.{◌≡◌, ◌≤◌, arith, inl, inr, ℕ, Contains, List, [], ◌∷◌, Option, Some, None, refl, ◌∙◌, ap, ◌≢◌, ◌↔◌, Bool, true, false, cond, slice_get, sym, subst}
 use Rattle.nb_datagram.specs.Fragment.{Core, Covers, EndsAt, byte_of, end_of_one}
 use Rattle.nb_entries.specs.Maps.{first_of}
-use Rattle.nb_entries.specs.Promise.{Promises, promise_of_one}
+use Rattle.nb_entries.specs.Cover.{Promises, promise_of_one}
 use Rattle.nb_table.specs.Contents.{first_byte, first_end, greatest_promise, Contents, facts_in, entry_in, table_of, Says, IsEntryOf, IsTableOf, HasByte, HasEnd, HasPromise}
 use Rattle.nb_entries.specs.Shared.CoverLemmas.{first_either, same_cover}
 use Rattle.nb_entries.specs.Shared.PlacedLemmas.{promise_of_decides, greater_either, greater_left, greater_right, byte_of_decides, end_of_decides}
@@ -13,8 +13,7 @@ use Rattle.std.specs.FinMap as maps
 use Rattle.nb_datagram.specs.declared.key.Key.{Key}
 use Rattle.nb_entries.specs.declared.slot.Slot.TheVariants.{Spoilt, Held}
 use Rattle.nb_entries.specs.Entry.{EntryFacts, EntryValue}
-use Rattle.nb_table.specs.Conflict.{Conflict, overlap, ends, IsSpoilt}
-use Rattle.nb_table.specs.ConflictTests.{some_conflict, with_key}
+use Rattle.nb_table.specs.Conflict.{Conflict, overlap, ends, IsSpoilt, some_conflict, with_key}
 use Rattle.nb_table.specs.Shared.TableLemmas.{same_table}
 use Rattle.nb_table.specs.Shared.FragmentLemmas.{get-table_of}
 use Rattle.nb_table.proofs.Conflict.{is_spoilt_decides, with_key_in, in_with_key}

@@ -11,16 +11,14 @@ use Rattle.std.specs.FinMap as maps
 use Rattle.nb_datagram.specs.declared.key.Key.{Key}
 use Rattle.nb_entries.specs.Entry.{EntryValue, IsShort, ends_by, is_short}
 use Rattle.nb_table.specs.Contents.{Contents}
-use Rattle.nb_table.specs.KeyCounts.{of_source, held_keys}
+use Rattle.nb_table.specs.Limits.{of_source, held_keys, Limits, KeepsLimits}
 use Rattle.nb_table.specs.Code.SourceCounts.{ip_cmp, Adds, AreCounted, Counts, CountsKeys, HasNoZero, Takes, count_of, if_same}
 use Rattle.nb_table.proofs.Limits.GroupLemmas.{few_of_none, held_at_most, held_insert, held_without}
-use Rattle.nb_datagram.specs.Key.{key_cmp}
-use Rattle.nb_table.specs.Limits.{Limits, KeepsLimits}
+use Rattle.nb_datagram.specs.Key.{key_cmp, key_cmp_total, key_cmp_exact}
 use Rattle.std.specs.List.{list_all}
 use Rattle.nb_entries.specs.declared.slot.Slot.TheVariants.{Spoilt, Held}
 use Rattle.nb_table.specs.Merging.{AllShort}
 use Rattle.nb_entries.specs.Shared.MapsLemmas.{and_left, and_right, all_entries_found, all_entries_from}
-use Rattle.nb_datagram.specs.KeyOrder.{key_cmp_total, key_cmp_exact}
 use Rattle.nb_entries.specs.Shared.CoverLemmas.{bytes_below_decides}
 
 -- ---- addresses

@@ -8,16 +8,14 @@ use Rattle.std.specs.Cmp.Lexicographic.{pointwise_decides}
 use Rattle.std.specs.Bool.{Decides}
 use Rattle.std.specs.FinMap as maps
 use Rattle.nb_datagram.specs.declared.key.Key.{Key}
-use Rattle.nb_datagram.specs.Key.{key_cmp, same_key}
+use Rattle.nb_datagram.specs.Key.{key_cmp, same_key, key_cmp_total, key_cmp_exact, same_key_decides}
 use Rattle.nb_entries.specs.Maps.{joined_at}
 use Rattle.nb_entries.specs.Entry.{EntryValue, join_entry}
 use Rattle.nb_table.specs.Contents.{Contents}
 use Rattle.nb_table.specs.Join.{join}
-use Rattle.nb_table.specs.KeyCounts.{every_key, of_source, held_keys, FewOfEach}
+use Rattle.nb_table.specs.Limits.{every_key, of_source, held_keys, FewOfEach}
 use Rattle.nb_table.specs.Merging.{new_keys, first_unfit, SourcesFit}
-use Rattle.nb_datagram.specs.KeyOrder.{key_cmp_total, key_cmp_exact, same_key_decides}
-use Rattle.nb_table.specs.Shared.TableLemmas.{get-join}
-use Rattle.nb_table.specs.Shared.KeyCountLemmas.{keys_kept, entries_kept, held_is, get_kept}
+use Rattle.nb_table.specs.Shared.TableLemmas.{get-join, keys_kept, entries_kept, held_is, get_kept}
 use Rattle.nb_table.proofs.Joins.{lacking, len-joined}
 
 -- ---- lists of keys that pass a test

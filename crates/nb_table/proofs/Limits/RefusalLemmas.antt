@@ -13,7 +13,7 @@ use Rattle.std.specs.FinMap.Entries.{below_all}
 use Rattle.std.specs.FinMap as maps
 use Rattle.nb_datagram.specs.declared.key.Key.{Key}
 use Rattle.nb_datagram.specs.Fragment.{FragmentParts, core_of}
-use Rattle.nb_datagram.specs.Key.{key_cmp}
+use Rattle.nb_datagram.specs.Key.{key_cmp, key_cmp_total, key_cmp_exact}
 use Rattle.nb_table.specs.declared.fault.TableFault.TheVariants.{Full}
 use Rattle.nb_entries.specs.declared.load_fault.LoadFault.TheVariants as faults
 use Rattle.nb_entries.specs.declared.slot.Slot.TheVariants.{Held}
@@ -22,15 +22,13 @@ use Rattle.nb_entries.specs.Entry.{EntryValue, facts_of, join_entry}
 use Rattle.nb_table.specs.Contents.{Contents}
 use Rattle.nb_table.specs.Insert.{Refuses, with_fragment}
 use Rattle.nb_table.specs.Join.{join}
-use Rattle.nb_table.specs.KeyCounts.{FewOfEach, every_key, held_keys, of_source}
-use Rattle.nb_table.specs.Limits.{Limits, TableValue}
-use Rattle.nb_table.specs.LoadFaults.{IsReadAs, LoadFails, ill_formed, full}
+use Rattle.nb_table.specs.Limits.{FewOfEach, every_key, held_keys, of_source, Limits, TableValue}
+use Rattle.nb_table.specs.Saved.{IsReadAs, LoadFails, ill_formed, full}
 use Rattle.nb_table.specs.Merging.{IsRefused, IsUnfitSource, first_unfit, new_keys}
 use Rattle.nb_table.specs.Refusals.{IsNew, below, is_lesser}
 use Rattle.nb_table.specs.Shared.FragmentLemmas.{join_one}
-use Rattle.nb_table.specs.Shared.KeyCountLemmas.{entries_kept, keys_kept}
+use Rattle.nb_table.specs.Shared.TableLemmas.{entries_kept, keys_kept}
 use Rattle.nb_entries.specs.Shared.MapsLemmas.{T_left, T_right, and_left, and_right, tied_self}
-use Rattle.nb_datagram.specs.KeyOrder.{key_cmp_total, key_cmp_exact}
 use Rattle.nb_table.proofs.Limits.GroupLemmas.{few_insert, few_join, filter_at_most, fit_held, held_every, held_join, source_decides}
 use Rattle.nb_table.proofs.Limits.SourceLemmas.{is_less}
 use Rattle.nb_table.proofs.Limits.UnfitLemmas.{found_kept}

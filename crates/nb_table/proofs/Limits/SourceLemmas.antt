@@ -15,10 +15,10 @@ use Rattle.std.specs.FinMap.{is_sorted, slice_cmp-IsAntisymmetric, nat_cmp-IsAnt
 use Rattle.std.specs.FinMap.Entries.{below_all, is_sorted-where_key}
 use Rattle.nb_datagram.specs.declared.key.Key.{Key}
 use Rattle.nb_datagram.specs.Key.{key_cmp}
-use Rattle.nb_table.specs.KeyCounts.{of_source}
+use Rattle.nb_table.specs.Limits.{of_source}
 use Rattle.nb_entries.specs.Shared.MapsLemmas.{T_left, T_right, and_left}
 use Rattle.nb_table.proofs.Limits.GroupLemmas.{source_decides}
-use Rattle.nb_table.specs.Shared.KeyCountLemmas.{keys_kept}
+use Rattle.nb_table.specs.Shared.TableLemmas.{keys_kept}
 
 -- ---- addresses in order
 

@@ -12,13 +12,12 @@ use Rattle.std.specs.FinMap.{is_sorted}
 use Rattle.std.specs.FinMap.Entries.{below_all}
 use Rattle.std.specs.FinMap as maps
 use Rattle.nb_datagram.specs.declared.key.Key.{Key}
-use Rattle.nb_datagram.specs.Key.{key_cmp}
+use Rattle.nb_datagram.specs.Key.{key_cmp, key_cmp_total}
 use Rattle.nb_entries.specs.Entry.{EntryValue}
 use Rattle.nb_table.specs.Contents.{Contents}
-use Rattle.nb_table.specs.KeyCounts.{of_source, held_keys}
+use Rattle.nb_table.specs.Limits.{of_source, held_keys}
 use Rattle.nb_table.specs.Merging.{first_unfit, new_keys, SourcesFit, IsUnfitSource}
 use Rattle.nb_entries.specs.Shared.MapsLemmas.{T_left, T_right, and_left}
-use Rattle.nb_datagram.specs.KeyOrder.{key_cmp_total}
 use Rattle.nb_table.proofs.Limits.GroupLemmas.{held_at_most, filter_at_most, source_decides}
 use Rattle.nb_table.proofs.Limits.SourceLemmas.{ip_cmp, is_less, lower_ip, lower_key, strictly}
 

@@ -9,11 +9,8 @@ use Rattle.nb_entries.specs.declared.load_fault.LoadFault.TheVariants.{TooLong, 
 use Rattle.nb_entries.specs.declared.saved.SavedForm.{SavedForm}
 use Rattle.nb_table.specs.Contents.{Contents}
 use Rattle.nb_entries.specs.Entry.{EntryValue}
-use Rattle.nb_table.specs.KeyCounts.{FewOfEach, of_source}
-use Rattle.nb_table.specs.Limits.{Limits, KeepsLimits}
-use Rattle.nb_table.specs.LoadFaults.{IsReadAs, LoadFails, too_long, full_source, full, no_memory}
-use Rattle.nb_table.specs.Saved.{magic, IsSaved}
-use Rattle.nb_table.specs.SavedReading.{IsRead, entries_at, IsAfter}
+use Rattle.nb_table.specs.Limits.{FewOfEach, of_source, Limits, KeepsLimits}
+use Rattle.nb_table.specs.Saved.{IsReadAs, LoadFails, too_long, full_source, full, no_memory, magic, IsSaved, IsRead, entries_at, IsAfter}
 use Rattle.nb_names.specs.Labels.{StandsAt}
 use Rattle.nb_table.specs.Code.SavedTables.{IsJudged, AreKept, AreFew, SourcesSoFar}
 use Rattle.nb_table.proofs.SavedReading.LoadedLemmas.{table_with, read_inside, read_entries, read_len, read_saved, read_formed, read_short}

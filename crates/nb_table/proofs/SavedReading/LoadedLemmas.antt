@@ -7,20 +7,18 @@ use Rattle.std.specs.FinMap as maps
 use Rattle.std.specs.FinMap.{is_sorted}
 use Rattle.std.specs.FinMap.Entries.{below_all}
 use Rattle.nb_datagram.specs.declared.key.Key.{Key}
-use Rattle.nb_datagram.specs.Key.{key_cmp}
+use Rattle.nb_datagram.specs.Key.{key_cmp, key_cmp_total, key_cmp_exact}
 use Rattle.nb_entries.specs.declared.saved.SavedForm.{SavedForm}
 use Rattle.nb_entries.specs.declared.saved.SavedForm.TheVariants.{First, Second}
 use Rattle.nb_table.specs.Contents.{Contents}
 use Rattle.nb_entries.specs.Entry.{EntryValue, IsEntry, is_short, IsShort}
 use Rattle.nb_table.specs.Join.{IsTable}
 use Rattle.nb_table.specs.Merging.{AllShort}
-use Rattle.nb_table.specs.Saved.{magic, entries_bytes, saved_as, IsSaved, key_bytes, keyed_bytes, saved, saved_first, HasNoPromise}
+use Rattle.nb_table.specs.Saved.{magic, entries_bytes, saved_as, IsSaved, key_bytes, keyed_bytes, saved, saved_first, HasNoPromise, IsAfter, entries_at, IsRead, after_magic, key_at, KeyAt, FitsKeyed, FitsSaved}
 use Rattle.nb_entries.specs.SavedReading.{gives, goes_on, whole, good, Field, is_0, is_1, entry_at}
-use Rattle.nb_table.specs.SavedReading.{IsAfter, entries_at, IsRead, after_magic, key_at, KeyAt}
 use Rattle.nb_entries.specs.declared.slot.Slot.TheVariants.{Held, Spoilt}
-use Rattle.nb_entries.specs.Slot.{OnHeld}
-use Rattle.nb_names.specs.Labels.{StandsAt}
-use Rattle.nb_datagram.specs.KeyOrder.{key_cmp_total, key_cmp_exact}
+use Rattle.nb_entries.specs.Maps.{OnHeld}
+use Rattle.nb_names.specs.Labels.{StandsAt, NumberAt}
 use Rattle.nb_entries.specs.Shared.MapsLemmas.{sorted_entries, T_left, T_right}
 use Rattle.nb_table.proofs.Limits.CountLemmas.{all_short_decides}
 use Rattle.nb_table.proofs.SavedReading.FoundLemmas.{key_found, entries_found, read_found, magic_size}
@@ -30,12 +28,10 @@ use Rattle.std.specs.declared.cmp.Ordering.{Ordering}
 use Rattle.std.specs.declared.cmp.Ordering.TheVariants.{Less}
 use Rattle.std.specs.Ordering.{is_lt, eq_by_cmp}
 use Rattle.std.proofs.lemmas.List.{take_all, drop_more}
-use Rattle.nb_names.specs.Numbers.{NumberAt}
 use Rattle.nb_names.specs.PacketFacts.{stands_fits}
 use Rattle.nb_datagram.specs.declared.limits.TheConstants.{MAX_LENGTH}
 use Rattle.nb_datagram.specs.Header.{IsKey}
 use Rattle.nb_entries.specs.Saved.{facts_bytes, entry_bytes}
-use Rattle.nb_table.specs.SavedFits.{FitsKeyed, FitsSaved}
 use Rattle.nb_entries.specs.Shared.FoundLemmas.{Spells, spells_then}
 use Rattle.nb_entries.specs.Shared.SavedLemmas.{each_found}
 use Rattle.nb_entries.specs.Shared.ReadBackLemmas.{InForm, any_form, byte_back, facts_back, split}

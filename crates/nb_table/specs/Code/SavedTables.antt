@@ -12,10 +12,10 @@ use Rattle.nb_entries.specs.declared.saved.SavedForm.{SavedForm}
 use Rattle.nb_table.specs.declared.saved.Sources.{Sources}
 use Rattle.nb_entries.specs.Entry.{EntryValue, is_short}
 use Rattle.nb_table.specs.Contents.{Contents}
-use Rattle.nb_table.specs.KeyCounts.{of_source}
+use Rattle.nb_table.specs.Limits.{of_source}
 use Rattle.nb_entries.specs.Saved.{IsNamed}
-use Rattle.nb_table.specs.SavedReading.{entries_at, IsRead}
-use Rattle.nb_entries.specs.Slot.{OnHeld}
+use Rattle.nb_table.specs.Saved.{entries_at, IsRead}
+use Rattle.nb_entries.specs.Maps.{OnHeld}
 
 -- the key is one, and the entry is spoilt or its names are names
 abbrev pub HasNames : Key × EntryValue → Type 0

@@ -6,7 +6,7 @@ use Rattle.std.specs.Ordering.{nat_cmp}
 use Rattle.std.specs.Cmp.Lexicographic.{pointwise, slice_cmp}
 use Rattle.std.specs.FinMap as maps
 use Rattle.nb_table.specs.Contents.{Contents}
-use Rattle.nb_table.specs.KeyCounts.{held_keys, of_source}
+use Rattle.nb_table.specs.Limits.{held_keys, of_source}
 
 -- the order of addresses: byte by byte
 abbrev pub ip_cmp : List ℕ → List ℕ → Ordering

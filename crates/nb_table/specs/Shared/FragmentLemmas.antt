@@ -5,20 +5,18 @@ use Rattle.std.proofs.lemmas.Option.{none-some}
 use Rattle.std.specs.List.{list_any}
 use Rattle.std.specs.FinMap as maps
 use Rattle.nb_datagram.specs.declared.key.Key.{Key}
-use Rattle.nb_datagram.specs.Key.{same_key}
+use Rattle.nb_datagram.specs.Key.{same_key, key_cmp_total, key_cmp_exact, same_key_decides}
 use Rattle.nb_datagram.specs.Fragment.{Core, end_of_one}
 use Rattle.nb_entries.specs.Maps.{first_of, joined_at, joined_onto}
 use Rattle.nb_entries.specs.declared.slot.Slot.TheVariants.{Spoilt, Held}
-use Rattle.nb_entries.specs.Cover.{placed, cover_of}
+use Rattle.nb_entries.specs.Cover.{placed, cover_of, promise_of_one}
 use Rattle.nb_entries.specs.Entry.{EntryValue, join_entry, facts_of}
-use Rattle.nb_table.specs.ConflictTests.{with_key}
+use Rattle.nb_table.specs.Conflict.{with_key}
 use Rattle.nb_table.specs.Contents.{Contents, cover_in, facts_in, entry_in, entry_at, table_of}
 use Rattle.nb_table.specs.Join.{join}
 use Rattle.nb_table.specs.Insert.{NeedsNoMemory, spoilt, contradicts, held}
 use Rattle.nb_entries.specs.Shared.MapsLemmas.{get-at_keys, tied_self}
-use Rattle.nb_entries.specs.Promise.{promise_of_one}
 use Rattle.nb_entries.specs.Shared.PlacedLemmas.{greater-alone}
-use Rattle.nb_datagram.specs.KeyOrder.{key_cmp_total, key_cmp_exact, same_key_decides}
 use Rattle.nb_table.specs.Shared.TableLemmas.{same_table, get-join}
 
 -- ---- the facts of one fragment

@@ -3,21 +3,18 @@
 ghost use Rattle.std.specs.Prelude.{◌≡◌, ◌≤◌, ◌↔◌, ◌++◌, ℕ, Bool, List, reverse, Some, ◌<◌, map};
 ghost use Rattle.std.specs.FinMap as maps;
 ghost use Rattle.nb_datagram.specs.declared.key.Key.{Key};
-ghost use Rattle.nb_datagram.specs.Fragment.{Core, Covers, EndsAt, core_of};
+ghost use Rattle.nb_datagram.specs.Fragment.{Core, Covers, EndsAt, core_of, DatagramParts};
 ghost use Rattle.nb_entries.specs.declared.slot.Slot.TheVariants.{Spoilt, Held};
 ghost use Rattle.nb_entries.specs.Maps.{joined_at};
 ghost use Rattle.nb_entries.specs.Entry.{EntryFacts, join_entry};
-ghost use Rattle.nb_table.specs.Conflict.{IsSpoilt, PastEnd, Conflict};
-ghost use Rattle.nb_table.specs.ConflictTests.{keyed};
-ghost use Rattle.nb_table.specs.Contents.{Contents, IsTableOf, HasByte, HasEnd, HasPromise, table_of, entry_at};
+ghost use Rattle.nb_table.specs.Conflict.{IsSpoilt, PastEnd, Conflict, keyed};
+ghost use Rattle.nb_table.specs.Contents.{Contents, IsTableOf, HasByte, HasEnd, HasPromise, table_of, entry_at, IsWholeAt, datagram_at, newly_whole};
 ghost use Rattle.nb_table.specs.Join.{join, IsTable, SameCores, without_key};
-ghost use Rattle.nb_datagram.specs.Datagram.{DatagramParts};
-ghost use Rattle.nb_table.specs.Whole.{IsWholeAt, datagram_at, newly_whole};
 ghost use Rattle.nb_entries.specs.declared.state.State.{State};
 ghost use Rattle.nb_entries.specs.Change.{Change};
 ghost use Rattle.nb_table.specs.Change.{IsChange};
 ghost use Rattle.nb_table.specs.State.{IsState};
-ghost use Rattle.nb_entries.specs.Promise.{Promises};
+ghost use Rattle.nb_entries.specs.Cover.{Promises};
 ghost use Rattle.nb_datagram.specs.Pieces.{pieces};
 ghost use Rattle.nb_table.specs.Sender.{HasPartsAlone, HasAll, Gives};
 

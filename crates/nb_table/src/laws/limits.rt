@@ -4,15 +4,14 @@ ghost use Rattle.std.specs.Prelude.{◌≡◌, ◌≤◌, ◌↔◌, ℕ, None, 
 ghost use Rattle.std.specs.FinMap as maps;
 ghost use Rattle.nb_table.specs.Contents.{Contents};
 ghost use Rattle.nb_table.specs.Join.{join};
-ghost use Rattle.nb_table.specs.KeyCounts.{FewOfEach, every_key, held_keys, of_source};
+ghost use Rattle.nb_table.specs.Limits.{FewOfEach, every_key, held_keys, of_source, Limits, TableValue};
 ghost use Rattle.nb_table.specs.Merging.{SourcesFit, first_unfit, IsRefused};
 ghost use Rattle.nb_datagram.specs.declared.key.Key.{Key};
 ghost use Rattle.nb_datagram.specs.Fragment.{FragmentParts};
 ghost use Rattle.nb_table.specs.declared.fault.TableFault.TheVariants.{Full, FullSource};
 ghost use Rattle.nb_entries.specs.declared.load_fault.LoadFault.TheVariants as faults;
 ghost use Rattle.nb_table.specs.Insert.{Refuses, with_fragment};
-ghost use Rattle.nb_table.specs.Limits.{Limits, TableValue};
-ghost use Rattle.nb_table.specs.LoadFaults.{IsReadAs, LoadFails};
+ghost use Rattle.nb_table.specs.Saved.{IsReadAs, LoadFails};
 ghost use Rattle.nb_table.specs.Refusals.{IsNew, below};
 
 /// All keys of a second table fit a first, which has at most n, exactly where their join has at

@@ -8,14 +8,11 @@ ghost use Rattle.nb_table.specs.Contents.{Contents};
 ghost use Rattle.nb_entries.specs.Entry.{EntryValue};
 ghost use Rattle.nb_table.specs.Join.{IsTable, join};
 ghost use Rattle.nb_table.specs.Limits.{TableValue, with_contents};
-ghost use Rattle.nb_table.specs.LoadFaults.{IsReadAs};
+ghost use Rattle.nb_table.specs.Saved.{IsReadAs, HasNoPromise, IsSaved, saved, saved_first, FitsSaved, IsRead};
 ghost use Rattle.nb_table.specs.Merging.{AllShort};
-ghost use Rattle.nb_table.specs.Saved.{HasNoPromise, IsSaved, saved, saved_first};
-ghost use Rattle.nb_table.specs.SavedFits.{FitsSaved};
 ghost use Rattle.nb_entries.specs.SavedReading.{Outcome};
-ghost use Rattle.nb_table.specs.SavedReading.{IsRead};
 ghost use Rattle.nb_datagram.specs.Header.{IsKey};
-ghost use Rattle.nb_entries.specs.Slot.{OnHeld};
+ghost use Rattle.nb_entries.specs.Maps.{OnHeld};
 ghost use Rattle.nb_table.specs.SavedExample.{example_saved, example_saved_first, example_table};
 ghost use Rattle.nb_entries.specs.Saved.{IsNamed};
 

@@ -2,11 +2,8 @@
 ghost use Rattle.std.specs.Prelude.{◌≡◌, ◌↔◌, ◌&&◌, IsTrue};
 ghost use Rattle.std.specs.List.{list_any};
 ghost use Rattle.nb_datagram.specs.Key.{same_key};
-ghost use Rattle.nb_datagram.specs.Fragment.{core_of, cores_of};
-ghost use Rattle.nb_datagram.specs.Fragment.{byte_of as core_byte};
-ghost use Rattle.nb_datagram.specs.Fragment.{end_of_one as core_end};
-ghost use Rattle.nb_table.specs.Conflict.{Overlap, PastEnd, BreaksPromise, Conflict, IsSpoilt};
-ghost use Rattle.nb_table.specs.ConflictTests.{conflicts, with_key};
+ghost use Rattle.nb_datagram.specs.Fragment.{core_of, cores_of, byte_of as core_byte, end_of_one as core_end};
+ghost use Rattle.nb_table.specs.Conflict.{Overlap, PastEnd, BreaksPromise, Conflict, IsSpoilt, conflicts, with_key};
 ghost use Rattle.nb_table.specs.Code.Plain.{differ, SameNames, SameHeader};
 
 use super::{byte_of, end_of_one, has_key, promise_of_one};

@@ -1,16 +1,11 @@
 //! Whether a key is whole, and its datagram.
 ghost use Rattle.std.specs.Prelude.{◌≡◌, ◌↔◌, ◌<◌, ◌≤◌, IsTrue, IfOk, IsErrOf, Ok, Err, Some, None, slice_get, option_map, is_some, length, MatchResult};
-ghost use Rattle.nb_datagram.specs.Fragment.{core_of, cores_of};
-ghost use Rattle.nb_datagram.specs.Datagram.{DatagramParts};
+ghost use Rattle.nb_datagram.specs.Fragment.{core_of, cores_of, DatagramParts};
 ghost use Rattle.nb_datagram.specs.declared.limits.TheConstants.{MAX_LENGTH};
-ghost use Rattle.nb_table.specs.ConflictTests.{with_key};
-ghost use Rattle.nb_table.specs.Contents.{cover_in, table_of};
-ghost use Rattle.nb_table.specs.Contents.{byte_at as list_byte};
-ghost use Rattle.nb_table.specs.Whole.{datagram_at};
+ghost use Rattle.nb_table.specs.Conflict.{with_key};
+ghost use Rattle.nb_table.specs.Contents.{cover_in, table_of, byte_at as list_byte, datagram_at, IsWholeAt};
 ghost use Rattle.nb_entries.specs.Whole.{bytes_below as cover_bytes};
-ghost use Rattle.nb_table.specs.Whole.{IsWholeAt};
-ghost use Rattle.nb_table.specs.Plain.{IsLong};
-ghost use Rattle.nb_table.specs.Code.Plain.{CoversBelow, datagram_to};
+ghost use Rattle.nb_table.specs.Code.Plain.{IsLong, CoversBelow, datagram_to};
 
 use super::conflicting::is_spoilt;
 use super::{byte_at, end_of, has_key};

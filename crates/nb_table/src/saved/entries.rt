@@ -7,9 +7,8 @@ ghost use Rattle.nb_datagram.specs.Key.{key_cmp};
 ghost use Rattle.nb_entries.specs.Entry.{is_short as is_short_entry};
 ghost use Rattle.nb_table.specs.Code.SavedTables.{AreJudged, AreKept, HasNames};
 ghost use Rattle.nb_entries.specs.Sinks.{Puts};
-ghost use Rattle.nb_table.specs.Saved.{entries_bytes, keyed_bytes};
+ghost use Rattle.nb_table.specs.Saved.{entries_bytes, keyed_bytes, entries_at};
 ghost use Rattle.nb_entries.specs.declared.saved.SavedForm.TheVariants.{Second};
-ghost use Rattle.nb_table.specs.SavedReading.{entries_at};
 ghost use Rattle.nb_entries.specs.declared.load_fault.LoadFault.TheVariants.{NoMemory as no_memory};
 
 use super::{Sources, put_key, read_key};

@@ -1,6 +1,6 @@
 //! Bytes of a saved table whose digits are written a part at a time, in room of their own.
 ghost use Rattle.std.specs.Prelude.{◌≡◌, ◌++◌, [], OnOk, OnErr};
-ghost use Rattle.nb_table.specs.Code.Waiting.{Passes, Breaks};
+ghost use Rattle.nb_table.specs.Code.Each.{Passes, Breaks};
 
 use arrayvec::ArrayVec;
 use nb_entries::saved::ByteSink;
@@ -39,9 +39,9 @@ impl<'a, W: Write> ByteSink for DigitsSink<'a, W> {
 
     ghost use Rattle.std.specs.Prelude.{◌≡◌, ◌++◌, refl};
     ghost use Rattle.std.proofs.Common.{◌∙◌};
-    ghost use Rattle.nb_table.specs.Code.Waiting.{Passes, Breaks};
-    ghost use Rattle.nb_table.specs.Shared.WaitingLemmas.{passes_no_more, passes_more};
-    ghost use Rattle.nb_table.specs.Shared.WaitingLemmas.{breaks_first, breaks_later};
+    ghost use Rattle.nb_table.specs.Code.Each.{Passes, Breaks};
+    ghost use Rattle.nb_table.specs.Shared.TableLemmas.{passes_no_more, passes_more};
+    ghost use Rattle.nb_table.specs.Shared.TableLemmas.{breaks_first, breaks_later};
 
     ghost takes = { λ old new bytes.
         Passes W.contents old.writer.now new.writer.now (old.part.items ++ bytes) new.part.items

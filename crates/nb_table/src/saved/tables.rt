@@ -7,10 +7,8 @@ ghost use Rattle.nb_datagram.specs.Key.{key_cmp};
 ghost use Rattle.nb_table.specs.Code.SavedTables.{HasNames, IsJudged};
 ghost use Rattle.nb_names.specs.Labels.{StandsAt};
 ghost use Rattle.nb_entries.specs.Sinks.{Puts};
-ghost use Rattle.nb_table.specs.Code.Waiting.{Passes, Breaks};
-ghost use Rattle.nb_table.specs.Saved.{magic};
-ghost use Rattle.nb_table.specs.Saved.{saved as saved_bytes};
-ghost use Rattle.nb_table.specs.SavedReading.{IsRead};
+ghost use Rattle.nb_table.specs.Code.Each.{Passes, Breaks};
+ghost use Rattle.nb_table.specs.Saved.{magic, saved as saved_bytes, IsRead};
 
 use super::entries::{Within, judge_entries, put_entries};
 use super::part::{DigitsSink, Part};

@@ -2,7 +2,7 @@
 ghost use Rattle.std.specs.Prelude.{◌≡◌, ◌≢◌, ◌↔◌, OnOk, IfErr, IsTrue, filter, slice_get, is_none, IfSome, MatchOption};
 ghost use Rattle.std.specs.List.{list_all};
 ghost use Rattle.std.specs.FinMap as maps;
-ghost use Rattle.nb_table.specs.KeyCounts.{every_key};
+ghost use Rattle.nb_table.specs.Limits.{every_key};
 ghost use Rattle.nb_table.specs.Merging.{AllShort, Fits, IsRefused, first_unfit as least_unfit};
 ghost use Rattle.nb_entries.specs.Entry.{is_short};
 ghost use Rattle.nb_table.specs.Insert.{Refuses, Takes};

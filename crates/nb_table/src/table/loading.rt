@@ -1,13 +1,10 @@
 //! Tables, saved and loaded.
 ghost use Rattle.std.specs.Prelude.{◌≡◌, ℕ, Err, IfOk, IfErr, OnOk, OnErr};
-ghost use Rattle.nb_table.specs.LoadFaults.{IsReadAs, LoadFails};
-ghost use Rattle.nb_table.specs.Saved.{IsSaved, saved as saved_bytes};
-ghost use Rattle.nb_table.specs.SavedReading.{IsRead};
+ghost use Rattle.nb_table.specs.Saved.{IsReadAs, LoadFails, IsSaved, saved as saved_bytes, IsRead, FitsSaved};
 ghost use Rattle.nb_entries.specs.declared.load_fault.LoadFault.{LoadFault};
 ghost use Rattle.std.specs.Io.KnownBytes.{Appends};
 ghost use Rattle.nb_names.specs.Devices.{AppendsFront, GrowTo, ShowsWriteFault};
 ghost use Rattle.nb_names.specs.Hexadecimal.{digits_text};
-ghost use Rattle.nb_table.specs.SavedFits.{FitsSaved};
 
 use super::{Table, are_counted};
 use crate::saved::entries::load_entries;

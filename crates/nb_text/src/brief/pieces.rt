@@ -9,7 +9,7 @@ use nb_names::{NameFault, NoMemory, push_decimal, push_digits};
 use nb_telling::Shows;
 
 /// Adds a piece.
-#[tactic(auto, using(nb_names::specs::GrowthFacts::front_stays))]
+#[tactic(auto, using(nb_names::specs::Growth::front_stays))]
 pub fn push_text(piece: &str, text: &mut String) -> Result<(), NoMemory>
     ensures { Adds result text.old text.new (piece.now ∷ []) }
 {

@@ -8,7 +8,7 @@ ghost use Rattle.nb_names.specs.declared.fault.NameFault.TheVariants.{BadPointer
 ghost use Rattle.nb_service.specs.declared.fault.ServiceFault.TheVariants.{NoMemory, Truncated};
 ghost use Rattle.nb_session.specs.declared.fault.SessionFault.TheVariants.{Name, TrailingBytes, UnknownType};
 ghost use Rattle.nb_datagram.specs.declared.fault.DatagramFault.TheVariants.{DestinationName, SourceName};
-ghost use Rattle.nb_service.specs.Building.{packet_of};
+ghost use Rattle.nb_service.specs.Requests.{packet_of};
 ghost use Rattle.nb_service.specs.Record.{of_bytes, of_domain, record_of};
 ghost use Rattle.nb_session.specs.Packet.{Packet as SessionPacket};
 ghost use Rattle.nb_session.specs.declared.packet.Packet.TheVariants as sessions;

@@ -5,7 +5,7 @@ ghost use Rattle.std.specs.Int.{w16, to_be_bytes};
 ghost use Rattle.nb_names.specs.Addresses.{address_text};
 ghost use Rattle.nb_names.specs.Name.{NetbiosName, IsName, labels_of_name};
 ghost use Rattle.nb_names.specs.NameText.{written};
-ghost use Rattle.nb_service.specs.Building.{packet_of};
+ghost use Rattle.nb_service.specs.Requests.{packet_of};
 ghost use Rattle.nb_service.specs.Record.{of_bytes, record_of};
 ghost use Rattle.nb_text.specs.Said.{phrase};
 ghost use Rattle.nb_text.specs.ServiceSaid.{service_said};

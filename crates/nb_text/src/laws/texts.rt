@@ -7,7 +7,7 @@ ghost use Rattle.nb_session.specs.declared.fault.SessionFault.TheVariants.{Trail
 ghost use Rattle.nb_datagram.specs.declared.kind.Kind.TheVariants.{Broadcast, Group, Unique};
 ghost use Rattle.nb_datagram.specs.declared.packet.Packet.TheVariants.{Direct, Error, Query};
 ghost use Rattle.nb_datagram.specs.declared.packet.QueryKind.TheVariants.{Request};
-ghost use Rattle.nb_datagram.specs.Texts.{kind_text};
+ghost use Rattle.nb_datagram.specs.FaultTexts.{kind_text};
 ghost use Rattle.nb_text.specs.DatagramText.{datagram_text};
 ghost use Rattle.nb_text.specs.Lines.{line_end};
 ghost use Rattle.nb_text.specs.ServiceText.{header_line, question_line, record_line, record_lines, node_name_line, unit_line};

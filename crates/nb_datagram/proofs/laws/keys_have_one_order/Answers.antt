@@ -1,4 +1,4 @@
-use Rattle.nb_datagram.specs.KeyOrder.{key_cmp_total, key_cmp_exact, same_key_decides}
+use Rattle.nb_datagram.specs.Key.{key_cmp_total, key_cmp_exact, same_key_decides}
 use Rattle.nb_datagram.proofs.laws.keys_have_one_order.Goals as goal
 
 pub returns-clause-total : goal.returns-clause-total

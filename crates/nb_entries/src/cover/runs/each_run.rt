@@ -1,8 +1,7 @@
 //! The runs of several rows, one after the other.
 ghost use Rattle.std.specs.Prelude.{◌≡◌, []};
 ghost use Rattle.nb_entries.specs.Runs.{AreApart};
-ghost use Rattle.nb_entries.specs.Code.RunSteps.{values_of};
-ghost use Rattle.nb_entries.specs.Code.Rows.{kept_runs, kept_values, AreFilled, IsFrom};
+ghost use Rattle.nb_entries.specs.Code.Rows.{values_of, kept_runs, kept_values, AreFilled, IsFrom};
 
 use super::searching::{first_from, row_to};
 use super::{Kept, Run};

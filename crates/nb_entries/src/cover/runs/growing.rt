@@ -3,7 +3,7 @@ ghost use Rattle.std.specs.Prelude.{◌≡◌, ◌+◌, ◌<◌, ◌≤◌, ◌+
 ghost use Rattle.std.specs.Vec.{vec_capacity, vec_len};
 ghost use Rattle.nb_entries.specs.Runs.{AreApart};
 ghost use Rattle.nb_entries.specs.declared.cover.runs.growing.TheConstants.{FEW};
-ghost use Rattle.nb_entries.specs.Code.RunSteps.{value_of, values_of, run_at, grown, Meet, Agree, IsPut};
+ghost use Rattle.nb_entries.specs.Code.Rows.{value_of, values_of, run_at, grown, Meet, Agree, IsPut};
 
 use super::Run;
 use super::searching::{first_from, past_to};

@@ -3,8 +3,7 @@
 
 ghost use Rattle.std.specs.Prelude.{◌≡◌, ◌≤◌, ◌<◌, ◌+◌, ◌++◌, ◌∷◌, [], length, take, drop, slice_index_or, OnOk, OnErr, IfOk};
 ghost use Rattle.nb_entries.specs.Runs.{AreApart};
-ghost use Rattle.nb_entries.specs.Code.RunSteps.{value_of, run_at, EndBefore, Meet, Agree, IsPut};
-ghost use Rattle.nb_entries.specs.Code.Rows.{runs_in, values_in, NoneEmpty, kept_runs, kept_values, AreFilled};
+ghost use Rattle.nb_entries.specs.Code.Rows.{value_of, run_at, EndBefore, Meet, Agree, IsPut, runs_in, values_in, NoneEmpty, kept_runs, kept_values, AreFilled};
 
 use super::searching::{row_to, rows_to};
 use super::{Kept, Run, growing};

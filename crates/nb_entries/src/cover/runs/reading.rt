@@ -7,7 +7,7 @@ ghost use Rattle.nb_entries.specs.Cover.{placed, same_where, BytesBelow};
 ghost use Rattle.nb_entries.specs.Runs.{ranges_of_map, runs_of_map};
 ghost use Rattle.nb_entries.specs.Whole.{bytes_below as map_below};
 ghost use Rattle.nb_entries.specs.Code.CoverFacts.{is_there, with_bytes, AreCovered};
-ghost use Rattle.nb_entries.specs.Code.RunSteps.{value_of, run_at, Meet, AgreeOne, AreBetween, Lacks};
+ghost use Rattle.nb_entries.specs.Code.Rows.{value_of, run_at, Meet, AgreeOne, AreBetween, Lacks};
 
 use super::{EachRun, Run, Runs};
 use crate::ranges::Ranges;

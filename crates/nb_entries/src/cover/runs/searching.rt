@@ -1,8 +1,7 @@
 //! Where runs lie that are apart, in a row and in several.
 ghost use Rattle.std.specs.Prelude.{◌≡◌, ◌≤◌, ◌<◌, length, take, drop, ltb, IsTrue};
 ghost use Rattle.nb_entries.specs.Runs.{AreApart, StartsPast};
-ghost use Rattle.nb_entries.specs.Code.RunSteps.{values_of, EndBefore, EndFrom, StartTo, StartAfter};
-ghost use Rattle.nb_entries.specs.Code.Rows.{values_in, NoneEmpty, last_end, LastsTo};
+ghost use Rattle.nb_entries.specs.Code.Rows.{values_of, EndBefore, EndFrom, StartTo, StartAfter, values_in, NoneEmpty, last_end, LastsTo};
 
 use super::Run;
 

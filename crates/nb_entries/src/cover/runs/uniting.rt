@@ -4,7 +4,7 @@ ghost use Rattle.std.specs.FinMap as maps;
 ghost use Rattle.nb_entries.specs.Cover.{bytes_agree, placed};
 ghost use Rattle.nb_entries.specs.Maps.{union};
 ghost use Rattle.nb_entries.specs.Runs.{runs_of_map};
-ghost use Rattle.nb_entries.specs.Code.RunSteps.{value_of};
+ghost use Rattle.nb_entries.specs.Code.Rows.{value_of};
 ghost use Rattle.nb_entries.specs.Sinks.{Puts};
 ghost use Rattle.nb_entries.specs.Saved.{run_bytes, runs_bytes};
 

@@ -1,6 +1,6 @@
 use Rattle.std.proofs.Common.{◌≡◌, ℕ, List, length, take, arith}
 use Rattle.std.proofs.lemmas.List.{take_more_set, length-take-le, get_or-take}
-use Rattle.nb_names.specs.Code.PointerEnds.{LeadsTo, stays, follows, IsEnd}
+use Rattle.nb_names.specs.Code.Kept.{LeadsTo, stays, follows, IsEnd}
 use Rattle.nb_names.proofs.ChainLemmas.{end_here, end_high, ends_more}
 use Rattle.nb_names.proofs.length_byte.find_ends.Goals as goal
 use Rattle.nb_names.proofs.length_byte.find_ends.Goals.{in-Pointer, in_default, in_default-via-in-Pointer+else-target-at, in_default-via-in_default}

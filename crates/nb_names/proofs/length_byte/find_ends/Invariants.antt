@@ -1,5 +1,5 @@
 use Rattle.std.proofs.Common.{take}
-use Rattle.nb_names.specs.Code.PointerEnds.{AreEnds}
+use Rattle.nb_names.specs.Code.Kept.{AreEnds}
 use Rattle.nb_names.proofs.length_byte.find_ends.Given as goal
 
 abbrev pub invariant-loop-at : goal.invariant-loop-at

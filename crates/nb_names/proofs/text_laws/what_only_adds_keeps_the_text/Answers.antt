@@ -1,4 +1,4 @@
-use Rattle.nb_names.specs.GrowthFacts.{own_front, only_adds}
+use Rattle.nb_names.specs.Growth.{own_front, only_adds}
 use Rattle.nb_names.proofs.text_laws.what_only_adds_keeps_the_text.Goals as goal
 
 pub returns-clause-kept : goal.returns-clause-kept

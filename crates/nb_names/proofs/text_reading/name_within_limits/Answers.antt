@@ -2,7 +2,7 @@ use Rattle.std.proofs.Common.{◌≡◌, ◌+◌, Some, sym, ◌∙◌, ap}
 use Rattle.nb_names.specs.declared.text_steps.Stage.{Stage}
 use Rattle.nb_names.specs.declared.text_steps.Stage.TheVariants.{Front}
 use Rattle.nb_names.specs.Code.TextSteps.{Taken, takes, parts_of, finish}
-use Rattle.nb_names.specs.Code.Collected.{taken_of}
+use Rattle.nb_names.specs.Code.Kept.{taken_of}
 use Rattle.nb_names.proofs.FrontLemmas.{run_turn, bad_inside, bad_at_end, not_ended}
 use Rattle.nb_names.proofs.PartsLemmas.{no_name_unformed, no_name_past_limits, no_name_past_label, text_at_end}
 use Rattle.nb_names.proofs.text_reading.name_within_limits.Goals as goal

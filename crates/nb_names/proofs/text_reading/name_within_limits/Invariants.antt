@@ -1,7 +1,7 @@
 use Rattle.std.proofs.Common.{◌≡◌, Some, take}
 use Rattle.nb_names.specs.declared.text_steps.Stage.TheVariants.{Front}
 use Rattle.nb_names.specs.Code.TextSteps.{nothing_taken, run}
-use Rattle.nb_names.specs.Code.Collected.{taken_of}
+use Rattle.nb_names.specs.Code.Kept.{taken_of}
 use Rattle.nb_names.proofs.text_reading.name_within_limits.Given as goal
 
 abbrev pub invariant-loop-byte : goal.invariant-loop-byte

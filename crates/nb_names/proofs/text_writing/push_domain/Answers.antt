@@ -1,6 +1,6 @@
 use Rattle.std.proofs.Common.{◌≡◌, ◌++◌, ◌∷◌, List, ℕ, string_bytes, sym, ◌∙◌, ap}
 use Rattle.std.proofs.lemmas.Result.{on_ok_weaker}
-use Rattle.nb_names.specs.Code.Spelled.{labels_of}
+use Rattle.nb_names.specs.Code.Kept.{labels_of}
 use Rattle.nb_names.specs.NameText.{bytes_written, domain_written, scope_text_of, labels_written}
 use Rattle.nb_names.proofs.PushingLemmas.{labels_written-letters, labels_written-others}
 use Rattle.nb_names.proofs.text_writing.push_domain.Goals as goal

@@ -1,7 +1,7 @@
 use Rattle.std.proofs.Common.{◌++◌, List, ℕ, string_bytes, sym, ◌∙◌, ap, append_assoc}
 use Rattle.std.proofs.lemmas.Result.{on_ok_weaker}
 use Rattle.nb_names.specs.NameText.{domain_written, items_of, scope_text_of}
-use Rattle.nb_names.specs.Code.Spelled.{labels_of}
+use Rattle.nb_names.specs.Code.Kept.{labels_of}
 use Rattle.nb_names.proofs.text_writing.push_plain.Goals as goal
 
 pub returns-in_ok-push_items-in-Some-clause-added : goal.returns-in_ok-push_items-in-Some-clause-added

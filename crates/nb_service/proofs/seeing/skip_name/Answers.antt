@@ -1,6 +1,6 @@
 use Rattle.std.proofs.Common.{◌≡◌, ◌+◌, ◌<◌, ◌-◌, ℕ, List, [], ◌∷◌, length, take, drop, get_or, None, refl, subst, arith}
 use Rattle.nb_names.specs.declared.pointers.Pointers.TheVariants.{Followed}
-use Rattle.nb_names.specs.Code.LengthByte.{HasLabel}
+use Rattle.nb_names.specs.Code.Kept.{HasLabel}
 use Rattle.nb_names.specs.Labels.{StandsAt}
 use Rattle.nb_names.specs.Skipped.{IsSkipped}
 use Rattle.nb_names.proofs.LabelsLemmas.{stands_one}

@@ -1,7 +1,6 @@
 use Rattle.std.proofs.Common.{ap, sym, ◌∙◌, length}
 use Rattle.std.specs.FinMap as maps
-use Rattle.nb_datagram.specs.Key.{key_cmp}
-use Rattle.nb_datagram.specs.KeyOrder.{key_cmp_total, key_cmp_exact}
+use Rattle.nb_datagram.specs.Key.{key_cmp, key_cmp_total, key_cmp_exact}
 use Rattle.nb_table.specs.Shared.TreeLemmas.{same_list}
 use Rattle.nb_table.proofs.TableReads.{entries_decide}
 use Rattle.nb_table.proofs.entries.are_equal.Goals as goal

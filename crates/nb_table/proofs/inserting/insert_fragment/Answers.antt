@@ -8,7 +8,7 @@ use Rattle.nb_entries.specs.declared.slot.Slot.TheVariants.{Held}
 use Rattle.nb_entries.specs.Entry.{EntryValue, facts_of, join_entry}
 use Rattle.nb_entries.specs.declared.change.Handing.{Handing}
 use Rattle.nb_entries.specs.Change.{DataChange, KeyChange, Tells}
-use Rattle.nb_datagram.specs.KeyOrder.{key_cmp_total, key_cmp_exact}
+use Rattle.nb_datagram.specs.Key.{key_cmp_total, key_cmp_exact}
 use Rattle.nb_table.proofs.Joins.{put_same}
 use Rattle.nb_table.proofs.Changes.{needs_more, on_err_both, on_any_err}
 use Rattle.nb_table.specs.Shared.FragmentLemmas.{needs_new}

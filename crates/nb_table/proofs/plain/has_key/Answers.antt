@@ -1,8 +1,7 @@
 use Rattle.std.proofs.Common.{◌≡◌, ◌∙◌, ap, sym}
 use Rattle.std.specs.Cmp.{both_ways}
 use Rattle.nb_datagram.specs.declared.key.Key.{Key}
-use Rattle.nb_datagram.specs.Key.{same_key}
-use Rattle.nb_datagram.specs.KeyOrder.{same_key_decides}
+use Rattle.nb_datagram.specs.Key.{same_key, same_key_decides}
 use Rattle.nb_datagram.specs.Equality.{key_eq}
 use Rattle.nb_datagram.specs.EqualityFacts.{key_eq_decides}
 use Rattle.nb_table.proofs.plain.has_key.Goals as goal

@@ -1,5 +1,5 @@
 use Rattle.std.proofs.Common.{arith}
-use Rattle.nb_table.specs.KeyCounts.{of_source}
+use Rattle.nb_table.specs.Limits.{of_source}
 use Rattle.nb_table.proofs.Limits.GroupLemmas.{held_at_most}
 use Rattle.nb_table.proofs.sources.is_full_of.Goals as goal
 

@@ -5,7 +5,7 @@ use Rattle.std.specs.FinMap as maps
 use Rattle.nb_datagram.specs.declared.key.Key.{Key}
 use Rattle.nb_datagram.specs.Key.{key_cmp}
 use Rattle.nb_entries.specs.Entry.{EntryValue}
-use Rattle.nb_table.specs.KeyCounts.{held_keys, of_source}
+use Rattle.nb_table.specs.Limits.{held_keys, of_source}
 use Rattle.nb_table.proofs.Limits.SourceLemmas.{Left, onward, onward_new, left_begun, left_next, none_unfit, one_out, one_in, first_in, not_true, not_false}
 use Rattle.nb_table.proofs.sources.unfit_of.Goals as goal
 

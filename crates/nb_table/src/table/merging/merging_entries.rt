@@ -4,15 +4,13 @@ ghost use Rattle.std.specs.List.{cons_option, AllByRecursion};
 ghost use Rattle.std.specs.Option.{option_copied};
 ghost use Rattle.std.specs.FinMap as maps;
 ghost use Rattle.nb_datagram.specs.declared.limits.TheConstants.{MAX_LENGTH};
-ghost use Rattle.nb_datagram.specs.Datagram.{DatagramParts};
+ghost use Rattle.nb_datagram.specs.Fragment.{DatagramParts};
 ghost use Rattle.nb_entries.specs.Maps.{joined_onto};
 ghost use Rattle.nb_entries.specs.Entry.{join_entry, IsShort};
 ghost use Rattle.nb_entries.specs.Change.{handed_by};
 ghost use Rattle.nb_table.specs.Join.{join};
 ghost use Rattle.nb_table.specs.Merging.{AllShort, newly_handed};
-ghost use Rattle.nb_table.specs.Code.Each.{joined_each};
-ghost use Rattle.nb_table.specs.Code.Handed.{handed, handed_at, with_entry};
-ghost use Rattle.nb_table.specs.Code.TakenBack.{taken_back};
+ghost use Rattle.nb_table.specs.Code.Each.{joined_each, handed, handed_at, with_entry, taken_back};
 
 use super::others::{Other, Others};
 use super::taking_in::{put_noted, take_back};

@@ -4,7 +4,7 @@ ghost use Rattle.nb_table.specs.Join.{join, joined_all, AreTaken};
 ghost use Rattle.nb_table.specs.Limits.{TableValue, with_contents};
 ghost use Rattle.nb_table.specs.Merging.{Fits, IsRefused};
 ghost use Rattle.std.specs.FinMap as maps;
-ghost use Rattle.nb_table.specs.Code.TakenBack.{put_back as with_before, taken_back};
+ghost use Rattle.nb_table.specs.Code.Each.{put_back as with_before, taken_back};
 
 use super::merging_entries::merge_entries;
 use crate::entries::Entries;

@@ -1,8 +1,7 @@
 use Rattle.std.proofs.Common.{ap, sym, subst, ◌∙◌}
 use Rattle.std.specs.Option.{option_or}
 use Rattle.nb_datagram.specs.Fragment.{core_of}
-use Rattle.nb_entries.specs.Cover.{CoverFacts, AreCoverFacts, cover_of}
-use Rattle.nb_entries.specs.Promise.{greater}
+use Rattle.nb_entries.specs.Cover.{CoverFacts, AreCoverFacts, cover_of, greater}
 use Rattle.nb_entries.specs.Shared.PlacedLemmas.{cover_of_formed}
 use Rattle.nb_entries.proofs.Covers.{together_formed}
 use Rattle.nb_entries.proofs.KeptRuns.RunReadLemmas.{fit_agrees, put_is}

@@ -1,5 +1,5 @@
 use Rattle.std.proofs.Common.{◌∙◌, ap}
-use Rattle.nb_entries.specs.Slot.{Held}
+use Rattle.nb_entries.specs.Maps.{Held}
 use Rattle.nb_entries.specs.Entry.{EntryFacts}
 use Rattle.nb_entries.specs.Whole.{bytes_to, datagram_of, datagram_with}
 use Rattle.nb_entries.specs.Change.{grown_to, made_by}

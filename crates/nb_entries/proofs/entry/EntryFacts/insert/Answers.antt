@@ -1,8 +1,7 @@
 use Rattle.std.specs.Prelude.{box_value}
 use Rattle.std.proofs.Common.{◌≡◌, ◌∙◌, sym, ap, subst, Option}
-use Rattle.nb_datagram.specs.Fragment.{core_of}
-use Rattle.nb_datagram.specs.Datagram.{DatagramParts}
-use Rattle.nb_entries.specs.Slot.{Held}
+use Rattle.nb_datagram.specs.Fragment.{core_of, DatagramParts}
+use Rattle.nb_entries.specs.Maps.{Held}
 use Rattle.nb_entries.specs.Cover.{AreCoverFacts}
 use Rattle.nb_entries.specs.Entry.{EntryFacts, facts_of, facts_together}
 use Rattle.nb_entries.specs.Whole.{bytes_to, datagram_of, newly}

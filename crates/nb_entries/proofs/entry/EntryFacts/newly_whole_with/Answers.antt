@@ -3,7 +3,7 @@ use Rattle.std.proofs.Common.{◌∙◌, sym, ap, Some}
 use Rattle.nb_datagram.specs.Fragment.{core_of}
 use Rattle.nb_datagram.specs.declared.limits.TheConstants.{MAX_LENGTH}
 use Rattle.nb_entries.specs.Cover.{cover_of, covers_together}
-use Rattle.nb_entries.specs.Slot.{Held}
+use Rattle.nb_entries.specs.Maps.{Held}
 use Rattle.nb_entries.specs.Entry.{EntryFacts}
 use Rattle.nb_entries.specs.Whole.{bytes_to, datagram_with}
 use Rattle.std.proofs.lemmas.Bool.Decides.{not_from_Decides}

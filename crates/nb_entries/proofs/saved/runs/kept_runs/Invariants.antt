@@ -1,6 +1,5 @@
 use Rattle.std.proofs.Common.{◌≡◌, ◌-◌, ◌++◌}
-use Rattle.nb_entries.specs.Code.Rows.{kept_values, AreFilled}
-use Rattle.nb_entries.specs.Code.SavedRuns.{row_of, RowThere}
+use Rattle.nb_entries.specs.Code.Rows.{kept_values, AreFilled, row_of, RowThere}
 use Rattle.nb_entries.proofs.saved.runs.kept_runs.Given as goal
 
 abbrev pub invariant-loop : goal.invariant-loop

@@ -1,7 +1,6 @@
 use Rattle.std.proofs.Common.{◌≡◌, Bool, false, cond, sym, ap, ◌∙◌, subst}
 use Rattle.std.specs.FinMap as maps
-use Rattle.nb_datagram.specs.Key.{key_cmp}
-use Rattle.nb_datagram.specs.KeyOrder.{key_cmp_total, key_cmp_exact}
+use Rattle.nb_datagram.specs.Key.{key_cmp, key_cmp_total, key_cmp_exact}
 use Rattle.nb_member.proofs.MemberLemmas.DroppedKeys.{not_found, once_pushed}
 use Rattle.nb_member.proofs.starts.Starts.begin_new.Goals as goal
 use Rattle.nb_member.specs.Member.{Moments}

@@ -1,7 +1,7 @@
 use Rattle.std.proofs.Common.{rules, ◌≡◌, ◌<◌, ◌≤◌, ◌+◌, [], ◌∷◌, ◌++◌, length, arith, ap, refl}
 use Rattle.std.proofs.lemmas.Bool.Decides.{nat_tests}
 use Rattle.nb_names.specs.DomainName.{spelling, IsDomain, IsLabel}
-use Rattle.nb_names.specs.Code.Spelled.{labels_of}
+use Rattle.nb_names.specs.Code.Kept.{labels_of}
 use Rattle.nb_names.proofs.SpellingLemmas.{length-spelling-snoc, spelling-pushed, IsDomain-pushed, labels_of-spelled, spelled}
 use Rattle.nb_names.proofs.domain_name.DomainName.push_within.Goals as goal
 

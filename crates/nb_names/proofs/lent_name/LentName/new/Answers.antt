@@ -1,5 +1,5 @@
 use Rattle.std.proofs.Common.{arith, subst}
-use Rattle.nb_names.specs.Code.Spelled.{labels_of}
+use Rattle.nb_names.specs.Code.Kept.{labels_of}
 use Rattle.nb_names.specs.DomainName.{AreBytes}
 use Rattle.nb_names.specs.Name.{IsByteName}
 use Rattle.nb_names.proofs.SpellingLemmas.{AreByteLabels-spelled}

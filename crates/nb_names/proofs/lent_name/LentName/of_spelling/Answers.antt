@@ -1,5 +1,5 @@
 use Rattle.std.proofs.Common.{◌∷◌, ◌∙◌, ap, sym}
-use Rattle.nb_names.specs.Code.Spelled.{labels_of}
+use Rattle.nb_names.specs.Code.Kept.{labels_of}
 use Rattle.nb_names.specs.Name.{no_label, labels_of_name}
 use Rattle.nb_names.proofs.NameLemmas.{IsScope-rest, no_name_length, no_name_letter}
 use Rattle.nb_names.proofs.SpellingLemmas.{IsDomain-rest, labels_of-spelled, spelled}

@@ -1,9 +1,8 @@
 use Rattle.std.proofs.Common.{◌≡◌, ◌∙◌, is_some, true, sym, ap, subst, arith}
 use Rattle.std.specs.FinMap as maps
-use Rattle.nb_datagram.specs.Key.{key_cmp}
+use Rattle.nb_datagram.specs.Key.{key_cmp, key_cmp_total, key_cmp_exact}
 use Rattle.nb_table.specs.Contents.{Contents}
 use Rattle.nb_table.specs.Code.SourceCounts.{AreCounted}
-use Rattle.nb_datagram.specs.KeyOrder.{key_cmp_total, key_cmp_exact}
 use Rattle.nb_table.specs.Shared.TreeLemmas.{get_is, insert_is, len_is, remove_is, taken_back}
 use Rattle.nb_table.proofs.Limits.CountLemmas.{kept_held, kept_more, none_at, room_for_one}
 use Rattle.nb_table.proofs.entries.Entries.insert.Goals as goal

@@ -1,5 +1,5 @@
 use Rattle.std.proofs.Common.{◌∙◌, sym}
-use Rattle.nb_datagram.specs.KeyOrder.{key_cmp_total, key_cmp_exact}
+use Rattle.nb_datagram.specs.Key.{key_cmp_total, key_cmp_exact}
 use Rattle.nb_table.specs.Shared.TreeLemmas.{len_is}
 use Rattle.nb_table.proofs.entries.Entries.len.Goals as goal
 

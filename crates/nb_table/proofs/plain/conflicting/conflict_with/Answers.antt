@@ -1,7 +1,7 @@
 use Rattle.std.proofs.Common.{◌∙◌, ap, sym, ◌&&◌}
 use Rattle.std.specs.Cmp.{both_ways}
 use Rattle.nb_datagram.specs.Fragment.{core_of}
-use Rattle.nb_table.specs.ConflictTests.{conflicts}
+use Rattle.nb_table.specs.Conflict.{conflicts}
 use Rattle.nb_table.proofs.Conflict.{conflicts_decides}
 use Rattle.nb_table.proofs.plain.conflicting.conflict_with.Goals as goal
 

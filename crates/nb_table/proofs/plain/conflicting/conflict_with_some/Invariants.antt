@@ -1,7 +1,7 @@
 use Rattle.std.proofs.Common.{◌≡◌, drop}
 use Rattle.std.specs.List.{list_any}
 use Rattle.nb_datagram.specs.Fragment.{core_of, cores_of}
-use Rattle.nb_table.specs.ConflictTests.{conflicts, with_key}
+use Rattle.nb_table.specs.Conflict.{conflicts, with_key}
 use Rattle.nb_table.proofs.plain.conflicting.conflict_with_some.Given as goal
 
 abbrev pub invariant-loop-other : goal.invariant-loop-other

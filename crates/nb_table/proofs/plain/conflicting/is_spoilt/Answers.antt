@@ -1,6 +1,6 @@
 use Rattle.std.proofs.Common.{◌≡◌, true, refl, sym, ◌∙◌}
 use Rattle.nb_datagram.specs.Fragment.{cores_of}
-use Rattle.nb_table.specs.ConflictTests.{is_spoilt}
+use Rattle.nb_table.specs.Conflict.{is_spoilt}
 use Rattle.std.proofs.lemmas.Bool.Decides.{not_from_Decides}
 use Rattle.std.proofs.lemmas.Bool.{or_left}
 use Rattle.nb_table.proofs.Conflict.{is_spoilt_decides}

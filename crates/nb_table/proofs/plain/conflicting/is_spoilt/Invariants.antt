@@ -1,6 +1,6 @@
 use Rattle.std.proofs.Common.{◌≡◌, drop}
 use Rattle.nb_datagram.specs.Fragment.{cores_of}
-use Rattle.nb_table.specs.ConflictTests.{is_spoilt}
+use Rattle.nb_table.specs.Conflict.{is_spoilt}
 use Rattle.nb_table.proofs.plain.conflicting.is_spoilt.Given as goal
 
 abbrev pub invariant-loop-index : goal.invariant-loop-index

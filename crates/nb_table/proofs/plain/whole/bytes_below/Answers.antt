@@ -1,6 +1,6 @@
 use Rattle.std.proofs.Common.{sym, ◌∙◌, ap, Some}
 use Rattle.nb_datagram.specs.Fragment.{cores_of}
-use Rattle.nb_table.specs.ConflictTests.{with_key}
+use Rattle.nb_table.specs.Conflict.{with_key}
 use Rattle.nb_table.specs.Contents.{cover_in}
 use Rattle.nb_table.proofs.Contents.ContentsLemmas.{get-cover_in}
 use Rattle.nb_entries.specs.Shared.WholeLemmas.{below_none, below_more}

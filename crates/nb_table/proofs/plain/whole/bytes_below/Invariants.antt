@@ -1,6 +1,6 @@
 use Rattle.std.proofs.Common.{◌≡◌, Some}
 use Rattle.nb_datagram.specs.Fragment.{cores_of}
-use Rattle.nb_table.specs.ConflictTests.{with_key}
+use Rattle.nb_table.specs.Conflict.{with_key}
 use Rattle.nb_table.specs.Contents.{cover_in}
 use Rattle.nb_entries.specs.Whole.{bytes_below}
 use Rattle.nb_table.proofs.plain.whole.bytes_below.Given as goal

@@ -1,7 +1,6 @@
 use Rattle.std.proofs.Common.{◌≡◌, refl, sym, ◌∙◌, None}
 use Rattle.nb_datagram.specs.Fragment.{core_of, cores_of}
-use Rattle.nb_table.specs.Contents.{table_of}
-use Rattle.nb_table.specs.Whole.{datagram_at}
+use Rattle.nb_table.specs.Contents.{table_of, datagram_at}
 use Rattle.std.proofs.lemmas.Bool.Decides.{not_from_Decides}
 use Rattle.nb_table.proofs.PlainProgram.{not_whole, none_long, whole_ending, whole_starting, whole_is, whole_long, whole_short, not_this}
 use Rattle.nb_table.proofs.Wholeness.{none_whole}

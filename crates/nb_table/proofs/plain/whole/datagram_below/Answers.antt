@@ -1,6 +1,6 @@
 use Rattle.std.proofs.Common.{arith, sym, ◌∙◌}
 use Rattle.nb_datagram.specs.Fragment.{cores_of}
-use Rattle.nb_table.specs.ConflictTests.{with_key}
+use Rattle.nb_table.specs.Conflict.{with_key}
 use Rattle.nb_table.specs.Contents.{cover_in}
 use Rattle.nb_entries.specs.Shared.WholeLemmas.{below_found}
 use Rattle.nb_table.proofs.plain.whole.datagram_below.Goals as goal

@@ -1,6 +1,6 @@
 use Rattle.std.proofs.Common.{◌≡◌, drop, slice_get}
 use Rattle.nb_datagram.specs.Fragment.{cores_of}
-use Rattle.nb_table.specs.ConflictTests.{with_key}
+use Rattle.nb_table.specs.Conflict.{with_key}
 use Rattle.nb_table.proofs.plain.whole.first_with.Given as goal
 
 abbrev pub invariant-loop-fragment : goal.invariant-loop-fragment

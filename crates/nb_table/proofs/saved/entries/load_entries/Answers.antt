@@ -1,6 +1,6 @@
 use Rattle.std.proofs.Common.{[], ◌∷◌, ◌++◌, ◌∙◌, inr, arith}
 use Rattle.std.proofs.lemmas.Result.{err_from_is_err_and}
-use Rattle.nb_datagram.specs.KeyOrder.{key_cmp_total, key_cmp_exact}
+use Rattle.nb_datagram.specs.Key.{key_cmp_total, key_cmp_exact}
 use Rattle.nb_table.proofs.Joins.{each_is, each_put}
 use Rattle.nb_table.proofs.SavedReading.LoadedLemmas.{entries_ascend}
 use Rattle.nb_table.proofs.SavedReading.FoundLemmas.{entries_turn, key_stopped, entry_stopped, entries_ended}

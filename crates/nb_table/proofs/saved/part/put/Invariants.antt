@@ -1,5 +1,5 @@
 use Rattle.std.proofs.Common.{◌+◌, ◌++◌, length}
-use Rattle.nb_table.specs.Code.Waiting.{Passes}
+use Rattle.nb_table.specs.Code.Each.{Passes}
 use Rattle.nb_table.proofs.saved.part.put.Given as goal
 
 abbrev pub invariant-parts : goal.invariant-parts

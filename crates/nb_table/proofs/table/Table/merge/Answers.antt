@@ -5,7 +5,7 @@ use Rattle.nb_entries.specs.declared.change.Handing.TheVariants.{Over}
 use Rattle.nb_table.specs.Limits.{TableValue, with_contents}
 use Rattle.nb_entries.specs.Entry.{IsShort}
 use Rattle.nb_table.specs.Merging.{newly_handed}
-use Rattle.nb_table.specs.Code.Handed.{handed}
+use Rattle.nb_table.specs.Code.Each.{handed}
 use Rattle.nb_table.proofs.Changes.{short_more}
 use Rattle.nb_table.proofs.Limits.MergingLemmas.{merged_keeps, others_short, entries_short, joined_is, handed_all}
 use Rattle.nb_table.proofs.table.Table.merge.Goals as goal

@@ -1,7 +1,7 @@
 use Rattle.std.proofs.Common.{◌≤◌, rules, sym, ◌∙◌, ap}
 use Rattle.std.specs.Option.{option_and_then}
 use Rattle.nb_datagram.specs.declared.limits.TheConstants.{MAX_LENGTH}
-use Rattle.nb_entries.specs.Outline.{entry_outline}
+use Rattle.nb_entries.specs.Whole.{entry_outline}
 use Rattle.nb_table.specs.Limits.{TableValue}
 use Rattle.nb_table.proofs.SavedBytes.{all_short}
 use Rattle.nb_table.proofs.table.Table.outline.Goals as goal

@@ -4,9 +4,8 @@ use Rattle.std.specs.Bool.{beq}
 use Rattle.std.specs.FinMap as maps
 use Rattle.nb_datagram.specs.declared.key.Key.{Key}
 use Rattle.nb_datagram.specs.Fragment.{FragmentParts, core_of, reach, is_first}
-use Rattle.nb_table.specs.Limits.{Limits, IsFullSource}
+use Rattle.nb_table.specs.Limits.{Limits, IsFullSource, held_keys, of_source}
 use Rattle.nb_table.specs.Contents.{Contents}
-use Rattle.nb_table.specs.KeyCounts.{held_keys, of_source}
 use Rattle.nb_table.specs.Insert.{Passes}
 use Rattle.nb_table.proofs.Limits.GroupLemmas.{held_at_most}
 use Rattle.nb_table.proofs.Changes.{same_test}

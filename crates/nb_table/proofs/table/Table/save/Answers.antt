@@ -1,8 +1,7 @@
 use Rattle.std.proofs.Common.{◌≤◌, ◌<◌, ◌^◌, rules, sym, subst}
 use Rattle.nb_datagram.specs.declared.limits.TheConstants.{MAX_LENGTH}
 use Rattle.nb_table.specs.Limits.{TableValue}
-use Rattle.nb_table.specs.LoadFaults.{IsReadAs}
-use Rattle.nb_table.specs.SavedFits.{FitsSaved}
+use Rattle.nb_table.specs.Saved.{IsReadAs, FitsSaved}
 use Rattle.nb_table.proofs.SavedBytes.{table_fits, table_read}
 use Rattle.nb_table.proofs.table.Table.save.Goals as goal
 

@@ -1,6 +1,6 @@
 use Rattle.std.proofs.Common.{sym, ap, ◌∙◌}
 use Rattle.nb_entries.specs.Runs.{map_of_runs}
-use Rattle.nb_entries.specs.Code.RunSteps.{values_of}
+use Rattle.nb_entries.specs.Code.Rows.{values_of}
 use Rattle.nb_entries.specs.Shared.RunsLemmas.{one_row}
 use Rattle.nb_entries.proofs.cover.runs.Runs.are.Goals as goal
 

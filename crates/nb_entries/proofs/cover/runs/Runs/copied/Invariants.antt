@@ -1,7 +1,6 @@
 use Rattle.std.proofs.Common.{◌≡◌, ◌++◌}
 use Rattle.nb_entries.specs.Runs.{AreApart, map_of_runs}
-use Rattle.nb_entries.specs.Code.RunSteps.{values_of}
-use Rattle.nb_entries.specs.Code.Rows.{kept_values, AreFilled}
+use Rattle.nb_entries.specs.Code.Rows.{values_of, kept_values, AreFilled}
 use Rattle.nb_entries.proofs.cover.runs.Runs.copied.Given as goal
 
 abbrev pub invariant-loop-run : goal.invariant-loop-run

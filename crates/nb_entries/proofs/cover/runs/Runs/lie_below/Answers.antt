@@ -1,6 +1,5 @@
 use Rattle.std.proofs.Common.{ap, subst, refl}
-use Rattle.nb_entries.specs.Code.RunSteps.{values_of}
-use Rattle.nb_entries.specs.Code.Rows.{IsFrom}
+use Rattle.nb_entries.specs.Code.Rows.{values_of, IsFrom}
 use Rattle.nb_entries.proofs.KeptRuns.RunReadLemmas.{ends_below, not_below}
 use Rattle.nb_entries.proofs.cover.runs.Runs.lie_below.Goals as goal
 

@@ -2,7 +2,7 @@ use Rattle.std.proofs.Common.{length, map, refl, sym, ap, ◌∙◌}
 use Rattle.std.specs.Int.{w16, to_be_bytes}
 use Rattle.std.specs.List.{concat}
 use Rattle.nb_entries.specs.Runs.{runs_of_map}
-use Rattle.nb_entries.specs.Code.RunSteps.{value_of, values_of}
+use Rattle.nb_entries.specs.Code.Rows.{value_of, values_of}
 use Rattle.nb_entries.specs.Saved.{run_bytes, runs_bytes}
 use Rattle.nb_entries.specs.Shared.RunsLemmas.{runs_back}
 use Rattle.nb_entries.specs.Shared.PuttingLemmas.{begun, turn, stop}

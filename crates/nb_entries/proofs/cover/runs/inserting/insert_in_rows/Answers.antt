@@ -2,8 +2,7 @@ use Rattle.std.proofs.Common.{rules, ◌≡◌, ◌+◌, ◌++◌, ◌∷◌, []
 use Rattle.std.proofs.lemmas.Result.{on_ok_weaker, on_err_weaker}
 use Rattle.std.proofs.lemmas.List.{append-nil, map-append, take_all}
 use Rattle.std.specs.Vec.{vec_len}
-use Rattle.nb_entries.specs.Code.RunSteps.{value_of, values_of, run_at}
-use Rattle.nb_entries.specs.Code.Rows.{runs_in}
+use Rattle.nb_entries.specs.Code.Rows.{value_of, values_of, run_at, runs_in}
 use Rattle.nb_entries.proofs.KeptRuns.RunPutLemmas.{put_alone}
 use Rattle.nb_entries.proofs.KeptRuns.RunMapLemmas.{apart_between, agrees_between, put_between}
 use Rattle.nb_entries.proofs.KeptRuns.RowsLemmas.{row_cut, set_rows}

@@ -1,5 +1,5 @@
 use Rattle.std.proofs.Common.{take}
-use Rattle.nb_entries.specs.Code.RunSteps.{values_of, StartTo}
+use Rattle.nb_entries.specs.Code.Rows.{values_of, StartTo}
 use Rattle.nb_entries.proofs.cover.runs.searching.past_to.Given as goal
 
 abbrev pub invariant-loop-index : goal.invariant-loop-index

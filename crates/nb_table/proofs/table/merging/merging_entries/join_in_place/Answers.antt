@@ -4,7 +4,7 @@ use Rattle.std.specs.FinMap as maps
 use Rattle.nb_datagram.specs.declared.limits.TheConstants.{MAX_LENGTH}
 use Rattle.nb_entries.specs.Maps.{joined_onto}
 use Rattle.nb_entries.specs.Entry.{join_entry}
-use Rattle.nb_datagram.specs.KeyOrder.{key_cmp_total, key_cmp_exact}
+use Rattle.nb_datagram.specs.Key.{key_cmp_total, key_cmp_exact}
 use Rattle.nb_table.proofs.Joins.{put_same}
 use Rattle.nb_table.proofs.Changes.{short_join}
 use Rattle.nb_table.proofs.Limits.MergingLemmas.{handed_held}

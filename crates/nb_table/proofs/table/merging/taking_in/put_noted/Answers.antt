@@ -1,5 +1,5 @@
 use Rattle.std.proofs.Common.{◌∙◌, ◌++◌, ◌∷◌, [], ap}
-use Rattle.nb_datagram.specs.KeyOrder.{key_cmp_total, key_cmp_exact}
+use Rattle.nb_datagram.specs.Key.{key_cmp_total, key_cmp_exact}
 use Rattle.nb_table.proofs.Joins.{noted}
 use Rattle.nb_table.proofs.table.merging.taking_in.put_noted.Goals as goal
 

@@ -1,5 +1,5 @@
 use Rattle.std.proofs.Common.{◌≡◌, length}
-use Rattle.nb_table.specs.Code.TakenBack.{taken_back}
+use Rattle.nb_table.specs.Code.Each.{taken_back}
 use Rattle.nb_table.proofs.table.merging.taking_in.take_back.Given as goal
 
 abbrev pub invariant-loop-key : goal.invariant-loop-key

@@ -1,7 +1,6 @@
 use Rattle.std.proofs.Common.{ℕ, List, ◌∷◌, [], sym, arith}
 use Rattle.std.proofs.lemmas.List.{append-nil, length-drop, take_all, take_rest}
-use Rattle.nb_entries.specs.Code.RunSteps.{value_of, EndBefore}
-use Rattle.nb_entries.specs.Code.Rows.{values_in, NoneEmpty, IsFrom}
+use Rattle.nb_entries.specs.Code.Rows.{value_of, EndBefore, values_in, NoneEmpty, IsFrom}
 use Rattle.nb_entries.specs.Runs.{RunValue, AreApart}
 use Rattle.nb_entries.proofs.KeptRuns.RunRowLemmas.{apart_front}
 use Rattle.nb_entries.proofs.KeptRuns.RowsLemmas.{from_row, row_apart_at}

@@ -44,8 +44,8 @@ def items(folder, library, path, count):
     memory = Row('requests of these calls for memory', of=float(taken), most=0.0)
     plain = plain_program.compiled(folder)
     if not plain:
-        return [*rows, memory, Row('a plain reader of port 137', said=plain_program.WANTED)]
-    bar = Row('a plain reader of port 137, in Rust', a_payload([plain], path, count), least(call_seconds, [plain, '1'], path))
+        return [*rows, memory, Row("the plain program's reading of port 137", said=plain_program.WANTED)]
+    bar = Row("the plain program's reading of port 137", a_payload([plain], path, count), least(call_seconds, [plain, '1'], path))
     sums = {printed([program, '1', *words], path)[0] for program, *words in ([loop], [loop, 'judged'], [plain])}
     assert len(sums) == 1, f'they read other values: {sums}'
     for row, most in zip(rows, (MOST_OF_ITEMS, MOST_OF_JUDGED)):

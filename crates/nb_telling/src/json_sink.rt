@@ -1,6 +1,7 @@
 //! Fields as JSON.
 ghost use Rattle.std.specs.Prelude.{◌≡◌, ◌≤◌, ◌++◌, ◌∷◌, [], ℕ, List, IfOk, OnOk, map};
-ghost use Rattle.json.specs.Token.{begin_object, end_object, key, string};
+ghost use Rattle.std.specs.Fmt.{decimal};
+ghost use Rattle.json.specs.Token.{begin_object, end_object, key, number, string};
 ghost use Rattle.json.specs.Print.{print};
 ghost use Rattle.nb_telling.specs.Fields.{Field};
 ghost use Rattle.nb_telling.specs.Members.{AreMembers, IsJson};
@@ -12,24 +13,33 @@ use crate::flag::Flag;
 use crate::shows::Shows;
 use crate::sink::Sink;
 use json::Writer;
-use nb_names::{NoMemory, push_digits, push_shown};
+use nb_names::{NoMemory, ascii_str, push_digits, push_shown};
 use std::alloc::Global;
 use std::fmt::Display;
 use std::marker::Model;
+
+/// How many bytes of earlier objects stay in front of the next one, at most. The kit's writer
+/// makes as many bytes ready at once as stand there, so that most objects are made room for in one
+/// step.
+const MOST_KEPT: usize = 512;
 
 /// The bytes of an object, and memory that is used again for the next one.
 #[derive(Drop)]
 pub struct JsonRoom {
     bytes: Vec<u8>,
+    /// Where the object begins, behind what is kept of earlier ones.
+    start: usize,
     scratch: String,
 }
 
 impl Model for JsonRoom {
-    ghost use Rattle.std.specs.Prelude.{List, ℕ};
+    ghost use Rattle.std.specs.Prelude.{◌≤◌, List, drop, length, ℕ};
 
     ghost Value = { List ℕ };
 
-    ghost view = { λ room. room.bytes.items };
+    ghost view = { λ room. drop room.start room.bytes.items };
+
+    ghost invariant = { λ room. room.start ≤ length room.bytes.items };
 }
 
 impl JsonRoom {
@@ -39,6 +49,7 @@ impl JsonRoom {
     {
         JsonRoom {
             bytes: Vec::new(alloc),
+            start: 0,
             scratch: String::new(alloc),
         }
     }
@@ -47,16 +58,24 @@ impl JsonRoom {
     pub fn as_slice(&self) -> &[u8]
         ensures { result.now ≡ self.now }
     {
-        self.bytes.as_slice()
+        &self.bytes[self.start..]
     }
 
     /// The same room, whose bytes are gone.
     pub fn cleared(self) -> JsonRoom
         ensures { result ≡ [] }
     {
-        let JsonRoom { mut bytes, scratch } = self;
-        bytes.clear();
-        JsonRoom { bytes, scratch }
+        let JsonRoom {
+            mut bytes,
+            scratch,
+            ..
+        } = self;
+        bytes.truncate(MOST_KEPT);
+        JsonRoom {
+            start: bytes.len(),
+            bytes,
+            scratch,
+        }
     }
 
     /// Adds a line feed, so that the object is a line.
@@ -79,11 +98,13 @@ impl JsonRoom {
 #[derive(Drop)]
 pub struct JsonSink {
     writer: Writer,
+    /// How many bytes stand before the object.
+    start: usize,
     scratch: String,
 }
 
 impl Model for JsonSink {
-    ghost use Rattle.std.specs.Prelude.{◌≡◌, List, []};
+    ghost use Rattle.std.specs.Prelude.{◌≡◌, List, length};
     ghost use Rattle.json.specs.Token.{Token, tokens_code};
 
     ghost Value = { List Token };
@@ -92,7 +113,7 @@ impl Model for JsonSink {
 
     ghost view = { λ s. s.writer.tokens };
 
-    ghost invariant = { λ s. s.writer.before ≡ [] };
+    ghost invariant = { λ s. length s.writer.before ≡ s.start };
 }
 
 impl JsonSink {
@@ -104,10 +125,18 @@ impl JsonSink {
     pub fn begin(room: JsonRoom) -> Result<JsonSink, NoMemory>
         ensures { IfOk result (λ sink. sink ≡ begin_object ∷ []) }
     {
-        let JsonRoom { bytes, scratch } = room.cleared();
+        let JsonRoom {
+            bytes,
+            start,
+            scratch,
+        } = room.cleared();
         let mut writer = Writer::new(bytes);
         writer.begin_object()?;
-        Ok(JsonSink { writer, scratch })
+        Ok(JsonSink {
+            writer,
+            start,
+            scratch,
+        })
     }
 
     /// The object, ended: its bytes are those of the room.
@@ -123,11 +152,13 @@ impl JsonSink {
     {
         let JsonSink {
             mut writer,
+            start,
             scratch,
         } = self;
         writer.end_object()?;
         Ok(JsonRoom {
             bytes: writer.into_inner(),
+            start,
             scratch,
         })
     }
@@ -165,8 +196,7 @@ impl Sink for JsonSink {
 
     fn number(&mut self, key: FieldKey, value: u64) -> Result<(), NoMemory> {
         self.writer.key(key.name)?;
-        self.writer.u64(value)?;
-        Ok(())
+        write_number(value, &mut self.writer)
     }
 
     fn digits(&mut self, key: FieldKey, value: &[u8]) -> Result<(), NoMemory> {
@@ -190,16 +220,18 @@ impl Sink for JsonSink {
     fn known(&mut self, key: FieldKey, value: Option<u64>) -> Result<(), NoMemory> {
         self.writer.key(key.name)?;
         match value {
-            Some(value) => self.writer.u64(value)?,
-            None => self.writer.null()?,
+            Some(value) => write_number(value, &mut self.writer),
+            None => {
+                self.writer.null()?;
+                Ok(())
+            }
         }
-        Ok(())
     }
 
     fn range(&mut self, _lead: &str, from: u64, to: u64) -> Result<(), NoMemory> {
         self.writer.begin_array()?;
-        self.writer.u64(from)?;
-        self.writer.u64(to)?;
+        write_number(from, &mut self.writer)?;
+        write_number(to, &mut self.writer)?;
         self.writer.end_array()?;
         Ok(())
     }
@@ -210,8 +242,7 @@ impl Sink for JsonSink {
 
     fn at(&mut self, place: u64) -> Result<(), NoMemory> {
         self.writer.key("at")?;
-        self.writer.u64(place)?;
-        Ok(())
+        write_number(place, &mut self.writer)
     }
 
     fn begins(&mut self, name: &str) -> Result<(), NoMemory> {
@@ -248,6 +279,21 @@ fn write_text(name: &str, value: &str, writer: &mut Writer) -> Result<(), NoMemo
 {
     writer.key(name)?;
     writer.string(value)?;
+    Ok(())
+}
+
+/// Writes a number. One of a digit, as most counts are, needs no room for its digits.
+fn write_number(value: u64, writer: &mut Writer) -> Result<(), NoMemory>
+    ensures written { OnOk result
+        (writer.new.tokens ≡ writer.old.tokens ++ number (decimal value) ∷ []) }
+    ensures before { writer.new.before ≡ writer.old.before }
+{
+    if value < 10 {
+        let digit = [b'0' + value as u8];
+        writer.number(ascii_str(&digit))?;
+        return Ok(());
+    }
+    writer.u64(value)?;
     Ok(())
 }
 

@@ -8,7 +8,7 @@ use Rattle.nb_datagram.specs.FaultTexts.{key_text}
 use Rattle.nb_entries.specs.declared.outline.Outline.{Outline}
 use Rattle.nb_entries.specs.declared.ranges.PlaceRange.{PlaceRange}
 use Rattle.nb_table.specs.Contents.{Contents, outline_at, ranges_at, datagram_at}
-use Rattle.nb_telling.specs.Fields.{Field, Text, Range, LineEnds, place_fields}
+use Rattle.nb_telling.specs.Telling.{Field, Text, Range, LineEnds, place_fields}
 use Rattle.nb_telling.specs.Members.{AreMembers, AreParts, IsMember, nothing, member, list, both, no_part, range, words, parts}
 use Rattle.nb_member.specs.declared.outcome.Outcome.{Outcome}
 use Rattle.nb_member.specs.declared.outcome.Outcome.TheVariants.{Kept, Spoilt, Delivered, Unheard, Other}

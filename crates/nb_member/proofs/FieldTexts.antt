@@ -14,7 +14,7 @@ use Rattle.nb_datagram.specs.FaultTexts.{key_text, kind_text}
 use Rattle.nb_entries.specs.declared.outline.Outline.{Outline}
 use Rattle.nb_entries.specs.declared.ranges.PlaceRange.{PlaceRange}
 use Rattle.nb_table.specs.Contents.{Contents, outline_at, ranges_at, datagram_at}
-use Rattle.nb_telling.specs.Fields.{Field, Ends, LineEnds, place_fields}
+use Rattle.nb_telling.specs.Telling.{Field, Ends, LineEnds, place_fields}
 use Rattle.nb_telling.specs.Texts as telling
 use Rattle.nb_telling.specs.Texts.{field_text, text_of}
 use Rattle.nb_member.specs.declared.outcome.Outcome.{Outcome}

@@ -1,7 +1,7 @@
 -- The keys of the fields of a report and of a listing (our choice): what a field is called in an object, and what stands
 -- before its value in text.
 use Rattle.std.specs.Prelude.{ℕ, List, [], codes}
-use Rattle.nb_telling.specs.Fields.{FieldKey}
+use Rattle.nb_telling.specs.Telling.{FieldKey}
 
 -- a key of this name, before whose value this stands
 abbrev pub key_of : List ℕ → List ℕ → FieldKey

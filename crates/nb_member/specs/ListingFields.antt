@@ -7,7 +7,7 @@ use Rattle.nb_datagram.specs.FaultTexts.{key_text, kind_text}
 use Rattle.nb_entries.specs.declared.outline.Outline.{Outline}
 use Rattle.nb_entries.specs.declared.ranges.PlaceRange.{PlaceRange}
 use Rattle.nb_table.specs.Contents.{Contents, outline_at, ranges_at, datagram_at}
-use Rattle.nb_telling.specs.Fields.{Field, Text, Number, Known, Range, Words, Begins, Ends, LineEnds}
+use Rattle.nb_telling.specs.Telling.{Field, Text, Number, Known, Range, Words, Begins, Ends, LineEnds}
 use Rattle.nb_member.specs.Keys.{kind_key, source_key, destination_key, listed_key, state_key, held_key, end_key, runs_key, more_key}
 use Rattle.nb_member.specs.ReportFields.{parts_fields}
 

@@ -3,7 +3,7 @@ use Rattle.std.specs.Prelude.{◌≡◌, ℕ, List, [], ◌∷◌, ◌++◌}
 use Rattle.std.specs.FinMap as maps
 use Rattle.nb_datagram.specs.declared.key.Key.{Key}
 use Rattle.nb_table.specs.Contents.{Contents}
-use Rattle.nb_telling.specs.Fields.{Field}
+use Rattle.nb_telling.specs.Telling.{Field}
 use Rattle.nb_telling.specs.Members.{IsJson}
 use Rattle.nb_telling.specs.Tokens.{object_of}
 use Rattle.nb_member.specs.Capture.{line_feed}

@@ -8,7 +8,7 @@ use Rattle.nb_datagram.specs.Fragment.{DatagramParts}
 use Rattle.nb_datagram.specs.FaultTexts.{key_text, kind_text}
 use Rattle.nb_datagram.specs.Packet.{packet_bytes}
 use Rattle.nb_table.specs.declared.fault.TableFault.TheVariants.{NoMemory}
-use Rattle.nb_telling.specs.Fields.{Field, Text, Number, Digits, Data, place_fields}
+use Rattle.nb_telling.specs.Telling.{Field, Text, Number, Digits, Data, place_fields}
 use Rattle.nb_member.specs.declared.outcome.Outcome.{Outcome}
 use Rattle.nb_member.specs.declared.outcome.Outcome.TheVariants.{Kept, Spoilt, Delivered, Unheard, Other}
 use Rattle.nb_member.specs.declared.line.Line as capture

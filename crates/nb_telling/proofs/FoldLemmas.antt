@@ -3,7 +3,7 @@ use Rattle.std.proofs.Common.{◌≡◌, List, [], ◌∷◌, ◌++◌, fold, fl
 use Rattle.std.proofs.lemmas.Grind.{flat_map-append}
 use Rattle.std.proofs.lemmas.List.{append_assoc, append-nil}
 use Rattle.std.proofs.lemmas.List.Sums.{fold-append}
-use Rattle.nb_telling.specs.Fields.{Field}
+use Rattle.nb_telling.specs.Telling.{Field}
 
 -- some fields, and then others
 pub told_both : {S : Type 0} (after : S → Field → S) (s : S) (xs ys : List Field)

@@ -1,5 +1,3 @@
-pub mod Fields
-pub mod Sets
 pub mod Texts
 pub mod Tokens
 pub mod Telling

@@ -1,6 +1,44 @@
 -- What sinks are given, and what they keep.
-use Rattle.nb_telling.specs.Fields.{FieldKey}
 use Rattle.nb_telling.specs.declared.field_key.FieldKey.{FieldKey as GivenKey}
+use Rattle.std.specs.Prelude.{ℕ, List, [], ◌∷◌, Option, None, Some}
+
+-- ---- what is told of a thing, as of a packet (our choice): a list of fields, in order
+-- Each kind of field stands in text and in JSON in its own way (Texts, Tokens).
+
+-- the name of a field in an object, and what stands before its value in text
+pub record FieldKey : Type 0 where
+  pub name : List ℕ
+  pub lead : List ℕ
+
+-- what is reported of a thing, piece by piece
+pub data Field : Type 0 where
+  -- under a key: a text; a number; bytes as hexadecimal digits; data, which may be empty; the names of a set
+  Text : FieldKey → List ℕ → Field
+  Number : FieldKey → ℕ → Field
+  Digits : FieldKey → List ℕ → Field
+  Data : FieldKey → List ℕ → Field
+  Set : FieldKey → List (List ℕ) → Field
+  -- a number under a key, where it is known
+  Known : FieldKey → Option ℕ → Field
+  -- a part of a list that is two numbers, which begins so in text
+  Range : List ℕ → ℕ → ℕ → Field
+  -- words that stand in text alone
+  Words : List ℕ → Field
+  -- the place of a fault, with which the fault's text ends
+  At : ℕ → Field
+  -- a list under this name, of parts, up to its end
+  Begins : List ℕ → Field
+  Ends : Field
+  -- a part of a list, which begins so in text, up to its end
+  Part : List ℕ → Field
+  PartEnds : Field
+  -- the end of a line of text
+  LineEnds : Field
+
+-- the place of a fault, where it has one
+abbrev pub place_fields : Option ℕ → List Field
+place_fields None = []
+place_fields (Some place) = At place ∷ []
 
 -- what a key of the code stands for
 abbrev pub key_of : GivenKey → FieldKey

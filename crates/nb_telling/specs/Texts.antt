@@ -1,10 +1,26 @@
 -- Fields as text.
-use Rattle.std.specs.Prelude.{ℕ, List, [], ◌∷◌, ◌++◌, codes, Option, Some, None}
+use Rattle.std.specs.Prelude.{ℕ, List, [], ◌∷◌, ◌++◌, codes, Option, Some, None, if◌then◌else◌}
 use Rattle.std.specs.Fmt.{decimal}
 use Rattle.std.specs.List.{flat_map}
 use Rattle.nb_names.specs.Hexadecimal.{data_text, digits_text}
-use Rattle.nb_telling.specs.Fields.{Field, Text, Number, Digits, Data, Set, Known, Range, Words, At, Begins, Ends, Part, PartEnds, LineEnds}
-use Rattle.nb_telling.specs.Sets.{joined}
+use Rattle.nb_telling.specs.Telling.{Field, Text, Number, Digits, Data, Set, Known, Range, Words, At, Begins, Ends, Part, PartEnds, LineEnds}
+use Rattle.nb_telling.specs.declared.flag.Flag.{Flag}
+
+-- ---- sets as text (our choice)
+
+-- each name after a `+`
+abbrev pub added_names : List (List ℕ) → List ℕ
+added_names = flat_map (λ name. codes "+" ++ name)
+
+-- names with `+` between them, or `none` where there is none
+abbrev pub joined : List (List ℕ) → List ℕ
+joined [] = codes "none"
+joined (name ∷ names) = name ++ added_names names
+
+-- the names of the flags that are set
+abbrev pub names_of : List Flag → List (List ℕ)
+names_of [] = []
+names_of (f ∷ flags) = if f.is_set then f.name.now ∷ names_of flags else names_of flags
 
 -- a number, or `?` where it isn't known
 abbrev pub known_text : Option ℕ → List ℕ

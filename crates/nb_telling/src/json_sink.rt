@@ -3,9 +3,9 @@ ghost use Rattle.std.specs.Prelude.{◌≡◌, ◌≤◌, ◌++◌, ◌∷◌, [
 ghost use Rattle.std.specs.Fmt.{decimal};
 ghost use Rattle.json.specs.Token.{begin_object, end_object, key, number, string};
 ghost use Rattle.json.specs.Print.{print};
-ghost use Rattle.nb_telling.specs.Fields.{Field};
+ghost use Rattle.nb_telling.specs.Telling.{Field};
 ghost use Rattle.nb_telling.specs.Members.{AreMembers, IsJson};
-ghost use Rattle.nb_telling.specs.Sets.{names_of};
+ghost use Rattle.nb_telling.specs.Texts.{names_of};
 ghost use Rattle.nb_telling.specs.Tokens.{tokens_of};
 
 use crate::field_key::FieldKey;

@@ -1,7 +1,6 @@
 //! The places of faults, reported to a sink.
 ghost use Rattle.std.specs.Prelude.{◌≡◌, OnOk, fold};
-ghost use Rattle.nb_telling.specs.Fields.{place_fields};
-ghost use Rattle.nb_telling.specs.Telling.{Grows};
+ghost use Rattle.nb_telling.specs.Telling.{place_fields, Grows};
 
 use crate::sink::Sink;
 use nb_names::NoMemory;

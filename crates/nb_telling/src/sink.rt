@@ -1,8 +1,7 @@
 //! What fields are reported to.
 ghost use Rattle.std.specs.Prelude.{◌≡◌, IfSome, OnOk};
-ghost use Rattle.nb_telling.specs.Fields.{Field, Text, Number, Digits, Data, Set, Known, Range, Words, At, Begins, Ends, Part, PartEnds, LineEnds};
-ghost use Rattle.nb_telling.specs.Sets.{names_of};
-ghost use Rattle.nb_telling.specs.Telling.{Grows, key_of};
+ghost use Rattle.nb_telling.specs.Telling.{Field, Text, Number, Digits, Data, Set, Known, Range, Words, At, Begins, Ends, Part, PartEnds, LineEnds, Grows, key_of};
+ghost use Rattle.nb_telling.specs.Texts.{names_of};
 
 use crate::field_key::FieldKey;
 use crate::flag::Flag;

@@ -3,7 +3,7 @@
 
 ghost use Rattle.std.specs.Prelude.{◌≡◌, ◌++◌, OnOk, string_bytes};
 ghost use Rattle.nb_names.specs.Growth.{OnlyAdds};
-ghost use Rattle.nb_telling.specs.Sets.{joined, names_of};
+ghost use Rattle.nb_telling.specs.Texts.{joined, names_of};
 
 use crate::field_key::FieldKey;
 use crate::flag::Flag;

@@ -17,11 +17,11 @@ use Rattle.nb_session.specs.Packet.{Packet as SessionPacket}
 use Rattle.nb_session.specs.declared.packet.Packet.TheVariants.{Message, Request, Positive, Negative, Retarget, Keepalive}
 use Rattle.nb_session.specs.Parsing.{Parsed}
 use Rattle.nb_session.specs.declared.parsing.Parsed.TheVariants.{Whole, More, Refused}
-use Rattle.nb_telling.specs.Fields.{Field, FieldKey, Text, Number, Digits, Set, LineEnds}
+use Rattle.nb_telling.specs.Telling.{Field, FieldKey, Text, Number, Digits, Set, LineEnds}
 use Rattle.nb_telling.specs.Members.{AreMembers, AreParts, IsMember, nothing, member, list, both, no_part, part, parts}
 use Rattle.nb_text.specs.DatagramFields as datagrams
 use Rattle.nb_text.specs.Keys.{key_named, name_key, unit_key}
-use Rattle.nb_text.specs.LineFields.{used_fields, refused_fields, list_fields}
+use Rattle.nb_text.specs.Fields.{used_fields, refused_fields, list_fields}
 use Rattle.nb_text.specs.ServiceFields.{word_field, named_field, named_fields, header_fields, question_fields, rdata_field, entry_fields, node_name_fields, unit_fields, status_fields, view_fields, record_fields, lists_fields, service_fields}
 use Rattle.nb_text.specs.SessionFields as sessions
 use Rattle.nb_text.specs.Tells.{Tells, names, no_names, datagram, no_datagram, session}

@@ -23,11 +23,11 @@ use Rattle.nb_session.specs.declared.packet.Packet.TheVariants.{Message, Request
 use Rattle.nb_session.specs.Parsing.{Parsed}
 use Rattle.nb_session.specs.declared.parsing.Parsed.TheVariants.{Whole, More, Refused}
 use Rattle.nb_session.specs.FaultTexts.{session_fault_place, session_fault_text}
-use Rattle.nb_telling.specs.Fields.{Field, Digits, Ends, PartEnds, LineEnds}
+use Rattle.nb_telling.specs.Telling.{Field, Digits, Ends, PartEnds, LineEnds}
 use Rattle.nb_telling.specs.Texts.{field_text, text_of}
 use Rattle.nb_text.specs.DatagramFields as datagrams
 use Rattle.nb_text.specs.DatagramText as datagram_texts
-use Rattle.nb_text.specs.LineFields.{used_fields, refused_fields, list_fields}
+use Rattle.nb_text.specs.Fields.{used_fields, refused_fields, list_fields}
 use Rattle.nb_text.specs.Keys.{unit_key}
 use Rattle.nb_text.specs.Lines.{line_end, refused_text}
 use Rattle.nb_text.specs.ServiceFields as services

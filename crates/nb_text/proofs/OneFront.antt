@@ -19,7 +19,7 @@ use Rattle.nb_session.specs.Packet.{Packet as SessionPacket}
 use Rattle.nb_session.specs.declared.parsing.Parsed.TheVariants.{Whole}
 use Rattle.nb_session.specs.Header as sessions
 use Rattle.nb_session.specs.Parsing.{Parsed, Parses, taken_by}
-use Rattle.nb_telling.specs.Fields.{Field}
+use Rattle.nb_telling.specs.Telling.{Field}
 use Rattle.nb_text.specs.FrontFields.{names_header_fields, names_front_fields, datagram_front_fields, session_front_fields}
 use Rattle.nb_text.specs.ServiceFields.{lists_fields}
 use Rattle.nb_text.specs.TellsFront as fronts

@@ -9,7 +9,7 @@ use Rattle.nb_datagram.specs.FaultTexts.{datagram_fault_place, datagram_fault_te
 use Rattle.nb_datagram.specs.Packet as datagrams
 use Rattle.nb_datagram.specs.DatagramFaults as datagram_faults
 use Rattle.nb_session.specs.Parsing.{Parsed, Parses}
-use Rattle.nb_telling.specs.Fields.{Field, Text, LineEnds, place_fields}
+use Rattle.nb_telling.specs.Telling.{Field, Text, LineEnds, place_fields}
 use Rattle.json.specs.Token.{Token, begin_object, end_object}
 use Rattle.json.specs.Print.{print}
 use Rattle.nb_telling.specs.Members.{AreMembers, IsJson}
@@ -18,7 +18,7 @@ use Rattle.nb_telling.specs.Tokens.{field_tokens, tokens_of}
 use Rattle.nb_telling.proofs.FoldLemmas.{appended, told_both, and_then}
 use Rattle.nb_text.specs.DatagramFields.{datagram_fields}
 use Rattle.nb_text.specs.Keys.{refused_key}
-use Rattle.nb_text.specs.LineFields.{refused_fields}
+use Rattle.nb_text.specs.Fields.{refused_fields}
 use Rattle.nb_text.specs.SessionFields.{session_fields}
 use Rattle.nb_text.specs.Shown as shown
 use Rattle.nb_text.specs.Shown.{Shown, AddsShown}

@@ -5,9 +5,9 @@ use Rattle.std.proofs.lemmas.Grind.{flat_map-append}
 use Rattle.std.proofs.lemmas.List.{append-nil, take_more}
 use Rattle.std.proofs.lemmas.List.Sums.{fold-append}
 use Rattle.std.proofs.lemmas.Option.{slice_get_within, get_or_from_slice_get}
-use Rattle.nb_telling.specs.Fields.{Field, Begins, Ends}
+use Rattle.nb_telling.specs.Telling.{Field, Begins, Ends}
 use Rattle.nb_telling.proofs.FoldLemmas.{told_both}
-use Rattle.nb_text.specs.LineFields.{list_fields}
+use Rattle.nb_text.specs.Fields.{list_fields}
 use Rattle.std.proofs.Math.Seq.{take-length, drop-length}
 use Rattle.nb_service.specs.Code.Steps.{RowOf}
 use Rattle.nb_service.specs.Packet.{Row, none, more}

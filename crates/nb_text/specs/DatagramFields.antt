@@ -7,9 +7,9 @@ use Rattle.nb_datagram.specs.Packet.{Packet, QueryPacket}
 use Rattle.nb_datagram.specs.declared.packet.Packet.TheVariants.{Direct, Error, Query}
 use Rattle.nb_datagram.specs.Fragment.{FragmentParts}
 use Rattle.nb_datagram.specs.FaultTexts.{key_text, kind_text}
-use Rattle.nb_telling.specs.Fields.{Field, Text, Number, Digits, Data}
+use Rattle.nb_telling.specs.Telling.{Field, Text, Number, Digits, Data}
 use Rattle.nb_text.specs.Keys.{key_named, kind_key}
-use Rattle.nb_text.specs.LineFields.{used_fields}
+use Rattle.nb_text.specs.Fields.{used_fields}
 use Rattle.nb_text.specs.Words.{query_word}
 
 -- begin_fields kind flags key: what a packet is, and what each packet's header says

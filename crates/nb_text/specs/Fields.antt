@@ -1,8 +1,10 @@
 -- What a reader of the texts can rely on (our choice): a text is lines; a line is words of printable ASCII with one space
 -- between them; two or four spaces begin the line of a part, and no other.
-use Rattle.std.specs.Prelude.{◌≡◌, ℕ, ◌<◌, ◌≤◌, List, ◌∷◌, ◌++◌, length}
+use Rattle.std.specs.Prelude.{◌≡◌, ℕ, ◌<◌, ◌≤◌, List, ◌∷◌, ◌++◌, length, [], Option}
 use Rattle.std.specs.List.{AllByRecursion, flat_map}
 use Rattle.nb_text.specs.Lines.{line_end}
+use Rattle.nb_telling.specs.Telling.{Field, Text, Number, Begins, Ends, LineEnds, place_fields}
+use Rattle.nb_text.specs.Keys.{key_named, refused_key}
 
 -- a character that can be seen: 21 to 7e in hexadecimal
 abbrev pub IsVisible : ℕ → Type 0
@@ -29,3 +31,17 @@ pub record AreLines (text : List ℕ) : Type 0 where
   pub words : AreWords first
   pub each : AllByRecursion IsPart parts
   pub whole : text ≡ first ++ (line_end ++ flat_map (λ part. part ++ line_end) parts)
+
+-- ---- the fields that all packets have, and those of a payload that begins with none (our choice)
+
+-- how many bytes of the payload a packet takes up, with which its line ends
+abbrev pub used_fields : ℕ → List Field
+used_fields used = Number (key_named "used") used ∷ LineEnds ∷ []
+
+-- refused_fields fault place: why a payload begins with no packet, the fault's text and its place
+abbrev pub refused_fields : List ℕ → Option ℕ → List Field
+refused_fields fault place = Text refused_key fault ∷ (place_fields place ++ LineEnds ∷ [])
+
+-- list_fields name parts: these parts as a list of this name
+abbrev pub list_fields : List ℕ → List Field → List Field
+list_fields name parts = Begins name ∷ (parts ++ Ends ∷ [])

@@ -11,7 +11,7 @@ use Rattle.nb_service.specs.Header.{PacketHeader}
 use Rattle.nb_service.specs.Packet.{ServicePacket}
 use Rattle.nb_session.specs.declared.header.Header.{Header}
 use Rattle.nb_session.specs.Header.{body_length}
-use Rattle.nb_telling.specs.Fields.{Field, FieldKey, Text, Number, Digits, Words, LineEnds}
+use Rattle.nb_telling.specs.Telling.{Field, FieldKey, Text, Number, Digits, Words, LineEnds}
 use Rattle.nb_text.specs.Keys.{key_named, kind_key, id_key, packet_type_key}
 use Rattle.nb_text.specs.ServiceFields.{word_field, state_fields, count_fields, lists_fields}
 use Rattle.nb_text.specs.Words.{datagram_word, session_word}

@@ -1,6 +1,6 @@
 -- The keys of a packet's fields (our choice): what a field is called in an object, and what stands before its value in text.
 use Rattle.std.specs.Prelude.{ℕ, List, [], ◌∷◌, ◌++◌, codes}
-use Rattle.nb_telling.specs.Fields.{FieldKey}
+use Rattle.nb_telling.specs.Telling.{FieldKey}
 use Prim.Native.String.{String}
 
 -- a key of this name, before whose value this stands

@@ -7,7 +7,6 @@ pub mod Shown
 pub mod Fields
 pub mod Keys
 pub mod FaultEnds
-pub mod LineFields
 pub mod ServiceFields
 pub mod DatagramFields
 pub mod SessionFields

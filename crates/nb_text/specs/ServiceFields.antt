@@ -13,9 +13,9 @@ use Rattle.nb_service.specs.Header.{opcode_of, rcode_of, ont_of, PacketHeader}
 use Rattle.nb_service.specs.Packet.{ServicePacket, header_of}
 use Rattle.nb_service.specs.Record.{ResourceData, of_bytes, of_domain, ResourceRecord, record_of}
 use Rattle.nb_service.specs.Views.{StatusParts, entries_in, status_in}
-use Rattle.nb_telling.specs.Fields.{Field, FieldKey, Text, Number, Digits, Data, Set, Part, PartEnds, LineEnds}
+use Rattle.nb_telling.specs.Telling.{Field, FieldKey, Text, Number, Digits, Data, Set, Part, PartEnds, LineEnds}
 use Rattle.nb_text.specs.Keys.{key_named, id_key, name_key, unit_key}
-use Rattle.nb_text.specs.LineFields.{used_fields, list_fields}
+use Rattle.nb_text.specs.Fields.{used_fields, list_fields}
 use Rattle.nb_text.specs.Words.{operation_word, rcode_word, names_set, packet_flags, name_flags}
 
 -- ---- the header

@@ -8,9 +8,9 @@ use Rattle.nb_session.specs.declared.kind.Kind.TheVariants as kinds
 use Rattle.nb_session.specs.Parsing.{Parsed}
 use Rattle.nb_session.specs.declared.parsing.Parsed.TheVariants.{Whole, More, Refused}
 use Rattle.nb_session.specs.FaultTexts.{session_fault_place, session_fault_text}
-use Rattle.nb_telling.specs.Fields.{Field, Text, Number, Digits, Data, LineEnds}
+use Rattle.nb_telling.specs.Telling.{Field, Text, Number, Digits, Data, LineEnds}
 use Rattle.nb_text.specs.Keys.{key_named, kind_key, to_port_key, more_key}
-use Rattle.nb_text.specs.LineFields.{used_fields, refused_fields}
+use Rattle.nb_text.specs.Fields.{used_fields, refused_fields}
 use Rattle.nb_text.specs.Words.{session_kind_word}
 
 -- what a packet is, and its parts

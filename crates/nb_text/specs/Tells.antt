@@ -10,9 +10,9 @@ use Rattle.nb_datagram.specs.FaultTexts.{datagram_fault_place, datagram_fault_te
 use Rattle.nb_datagram.specs.Packet as datagrams
 use Rattle.nb_datagram.specs.DatagramFaults as datagram_faults
 use Rattle.nb_session.specs.Parsing.{Parsed, Parses}
-use Rattle.nb_telling.specs.Fields.{Field}
+use Rattle.nb_telling.specs.Telling.{Field}
 use Rattle.nb_telling.specs.Tokens.{object_of}
-use Rattle.nb_text.specs.LineFields.{refused_fields}
+use Rattle.nb_text.specs.Fields.{refused_fields}
 use Rattle.nb_text.specs.ServiceFields.{service_fields}
 use Rattle.nb_text.specs.DatagramFields.{datagram_fields}
 use Rattle.nb_text.specs.SessionFields.{session_fields}

@@ -3,8 +3,7 @@
 ghost use Rattle.std.specs.Prelude.{◌≡◌, ◌∷◌, [], ◌++◌, OnOk, fold};
 ghost use Rattle.nb_names.specs.NameText.{written};
 ghost use Rattle.nb_datagram.specs.FaultTexts.{kind_text};
-ghost use Rattle.nb_telling.specs.Fields.{Number, Text};
-ghost use Rattle.nb_telling.specs.Telling.{Grows};
+ghost use Rattle.nb_telling.specs.Telling.{Number, Text, Grows};
 ghost use Rattle.nb_text.specs.DatagramFields.{begin_fields, datagram_fields, error_fields, fragment_fields, parts_fields, query_fields};
 ghost use Rattle.nb_text.specs.Keys.{key_named};
 ghost use Rattle.nb_text.specs.Tells.{IsTold};

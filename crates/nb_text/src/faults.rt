@@ -2,7 +2,7 @@
 
 ghost use Rattle.std.specs.Prelude.{◌≡◌, IfSome, OnOk, fold};
 ghost use Rattle.nb_telling.specs.Telling.{Grows};
-ghost use Rattle.nb_text.specs.LineFields.{refused_fields};
+ghost use Rattle.nb_text.specs.Fields.{refused_fields};
 
 use crate::keys::REFUSED;
 use nb_names::NoMemory;

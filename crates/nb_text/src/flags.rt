@@ -1,7 +1,7 @@
 //! The flags that are set in words.
 
 ghost use Rattle.std.specs.Prelude.{◌≡◌};
-ghost use Rattle.nb_telling.specs.Sets.{names_of};
+ghost use Rattle.nb_telling.specs.Texts.{names_of};
 ghost use Rattle.nb_text.specs.Words.{is_set, name_flags, names_set, packet_flags};
 
 use bitflags::{Flag as Named, Flags};

@@ -17,7 +17,7 @@ ghost use Rattle.nb_datagram.specs.declared.packet.QueryKind.TheVariants.{Reques
 ghost use Rattle.nb_datagram.specs.Header.{IsKey};
 ghost use Rattle.nb_datagram.specs.Packet.{Packet as DatagramPacket, IsPacket as IsDatagramPacket};
 ghost use Rattle.nb_datagram.specs.FaultTexts.{key_text, datagram_fault_place, datagram_fault_text};
-ghost use Rattle.nb_telling.specs.Fields.{Field};
+ghost use Rattle.nb_telling.specs.Telling.{Field};
 ghost use Rattle.nb_telling.specs.Members.{AreMembers};
 ghost use Rattle.nb_telling.specs.Texts.{text_of};
 ghost use Rattle.nb_text.specs.DatagramFields.{datagram_fields};
@@ -28,8 +28,7 @@ ghost use Rattle.nb_session.specs.declared.fault.SessionFault.{SessionFault};
 ghost use Rattle.nb_session.specs.FaultTexts.{session_fault_place, session_fault_text};
 ghost use Rattle.nb_datagram.specs.declared.fault.DatagramFault.{DatagramFault};
 ghost use Rattle.nb_text.specs.FaultEnds.{IsPlaceIn};
-ghost use Rattle.nb_text.specs.Fields.{AreLines, IsWord};
-ghost use Rattle.nb_text.specs.LineFields.{refused_fields};
+ghost use Rattle.nb_text.specs.Fields.{AreLines, IsWord, refused_fields};
 ghost use Rattle.nb_text.specs.Lines.{refused_text};
 ghost use Rattle.nb_text.specs.SaysPacket.{IsSaid};
 ghost use Rattle.nb_text.specs.ServiceFields.{service_fields};

@@ -9,9 +9,8 @@ ghost use Rattle.nb_service.specs.declared.question.Question.{Question as Questi
 ghost use Rattle.nb_service.specs.Code.Steps.{HasRow, RowOf};
 ghost use Rattle.nb_service.specs.Items.{SeesQuestion};
 ghost use Rattle.nb_service.specs.Packet.{QuestionAt};
-ghost use Rattle.nb_telling.specs.Fields.{Text};
-ghost use Rattle.nb_telling.specs.Telling.{Grows, key_of};
-ghost use Rattle.nb_text.specs.LineFields.{list_fields};
+ghost use Rattle.nb_telling.specs.Telling.{Text, Grows, key_of};
+ghost use Rattle.nb_text.specs.Fields.{list_fields};
 ghost use Rattle.nb_text.specs.ServiceFields.{named_fields, question_fields};
 
 use crate::keys::{CLASS, NAME, TYPE};

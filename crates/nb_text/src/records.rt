@@ -8,10 +8,9 @@ ghost use Rattle.nb_service.specs.Items.{SeesRecord};
 ghost use Rattle.nb_service.specs.Packet.{RecordAt};
 ghost use Rattle.nb_service.specs.Record.{ResourceRecord, of_bytes};
 ghost use Rattle.nb_service.specs.Views.{entries_of_data};
-ghost use Rattle.nb_telling.specs.Fields.{Data, LineEnds, Text};
-ghost use Rattle.nb_telling.specs.Telling.{Grows};
+ghost use Rattle.nb_telling.specs.Telling.{Data, LineEnds, Text, Grows};
 ghost use Rattle.nb_text.specs.Keys.{key_named};
-ghost use Rattle.nb_text.specs.LineFields.{list_fields};
+ghost use Rattle.nb_text.specs.Fields.{list_fields};
 ghost use Rattle.nb_text.specs.ServiceFields.{data_fields, entry_fields, rdata_field, record_fields, view_fields};
 
 use crate::keys::{ADDRESS, DATA, DOMAIN, TTL};

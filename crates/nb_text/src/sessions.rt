@@ -2,7 +2,7 @@
 
 ghost use Rattle.std.specs.Prelude.{◌≡◌, ◌≢◌, ◌++◌, ℕ, OnOk, fold};
 ghost use Rattle.nb_telling.specs.Telling.{Grows};
-ghost use Rattle.nb_text.specs.LineFields.{used_fields};
+ghost use Rattle.nb_text.specs.Fields.{used_fields};
 ghost use Rattle.nb_text.specs.SessionFields.{parts_fields, session_fields};
 ghost use Rattle.nb_text.specs.Tells.{IsTold};
 

@@ -5,10 +5,9 @@ ghost use Rattle.std.specs.List.{flat_map};
 ghost use Rattle.nb_names.specs.NameText.{written};
 ghost use Rattle.nb_service.specs.Record.{of_bytes};
 ghost use Rattle.nb_service.specs.Views.{status_of_data};
-ghost use Rattle.nb_telling.specs.Fields.{Text};
-ghost use Rattle.nb_telling.specs.Telling.{Grows};
+ghost use Rattle.nb_telling.specs.Telling.{Text, Grows};
 ghost use Rattle.nb_text.specs.Keys.{name_key};
-ghost use Rattle.nb_text.specs.LineFields.{list_fields};
+ghost use Rattle.nb_text.specs.Fields.{list_fields};
 ghost use Rattle.nb_text.specs.ServiceFields.{node_name_fields, status_fields, unit_fields};
 
 use crate::flags::name_flags_of;

@@ -2,10 +2,9 @@
 
 ghost use Rattle.std.specs.Prelude.{◌≡◌, ◌∷◌, [], OnOk, fold, option_map};
 ghost use Rattle.nb_service.specs.Header.{ont_of};
-ghost use Rattle.nb_telling.specs.Fields.{Digits, LineEnds, Number, PartEnds, Text};
-ghost use Rattle.nb_telling.specs.Telling.{Grows, key_of};
+ghost use Rattle.nb_telling.specs.Telling.{Digits, LineEnds, Number, PartEnds, Text, Grows, key_of};
 ghost use Rattle.nb_text.specs.Keys.{key_named, kind_key};
-ghost use Rattle.nb_text.specs.LineFields.{used_fields};
+ghost use Rattle.nb_text.specs.Fields.{used_fields};
 ghost use Rattle.nb_text.specs.ServiceFields.{named_field, word_field};
 
 use crate::keys::{FLAGS, KIND, ONT, USED};

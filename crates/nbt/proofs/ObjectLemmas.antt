@@ -2,7 +2,7 @@
 use Rattle.std.proofs.Common.{◌≡◌, ◌≢◌, ◌≤◌, ◌+◌, Result, Err, ℕ, List, [], ◌∷◌, ◌++◌, fold, refl, ap, sym, subst, ◌∙◌, arith, codes}
 use Rattle.json.specs.Token.{Token, begin_object, end_object}
 use Rattle.json.specs.Print.{print}
-use Rattle.nb_telling.specs.Fields.{Field, Number, Text}
+use Rattle.nb_telling.specs.Telling.{Field, Number, Text}
 use Rattle.nb_telling.specs.Members.{AreMembers, IsJson, nothing, member, both}
 use Rattle.nb_telling.specs.Tokens.{tokens_of}
 use Rattle.nb_telling.proofs.FoldLemmas.{and_then}

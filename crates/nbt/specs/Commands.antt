@@ -11,7 +11,7 @@ use Rattle.nb_member.specs.declared.line.Line.{Line}
 use Rattle.nb_member.specs.Listing.{listing}
 use Rattle.nb_member.specs.Member.{MemberValue}
 use Rattle.nb_table.specs.Contents.{Contents}
-use Rattle.nb_telling.specs.Fields.{Field}
+use Rattle.nb_telling.specs.Telling.{Field}
 use Rattle.nb_text.specs.Shown.{Shown}
 use Rattle.nb_text.specs.TellsFront.{ShowsFront}
 use Rattle.nbt.specs.declared.fault.Fault.{Fault}

@@ -4,7 +4,7 @@ use Rattle.std.specs.FinMap as maps
 use Rattle.std.specs.List.{flat_map}
 use Rattle.nb_table.specs.Contents.{Contents}
 use Rattle.nb_table.specs.declared.fault.TableFault.TheVariants.{NoMemory}
-use Rattle.nb_telling.specs.Fields.{Field, FieldKey, Text, Number}
+use Rattle.nb_telling.specs.Telling.{Field, FieldKey, Text, Number}
 use Rattle.nb_telling.specs.Members.{AreMembers}
 use Rattle.nb_text.specs.Keys.{kind_key}
 use Rattle.nb_text.specs.SaysPacket.{IsSaid}

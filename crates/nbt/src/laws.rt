@@ -4,7 +4,7 @@ ghost use Rattle.clap.specs.Words.{Text};
 ghost use Rattle.clap.specs.declared.parser.matches.ArgMatches.{ArgMatches};
 ghost use Rattle.nb_member.specs.declared.comments.Comments.TheVariants.{LeftOut, Printed};
 ghost use Rattle.nb_member.specs.declared.line.Line.TheVariants.{Packet, Tick};
-ghost use Rattle.nb_telling.specs.Fields.{FieldKey, Number, Text as Said};
+ghost use Rattle.nb_telling.specs.Telling.{FieldKey, Number, Text as Said};
 ghost use Rattle.nbt.specs.declared.status.Status.TheVariants.{Done, Refused, BadUsage, Failed};
 ghost use Rattle.nbt.specs.Building.{IsBroadcast};
 ghost use Rattle.nbt.specs.NameCommand.{IsFlag};

@@ -20,7 +20,7 @@ use std::alloc::Global;
 pub trait LineFields {
     ghost use Rattle.std.specs.Prelude.{List};
     ghost use Rattle.nb_member.specs.declared.line.Line.{Line};
-    ghost use Rattle.nb_telling.specs.Fields.{Field};
+    ghost use Rattle.nb_telling.specs.Telling.{Field};
 
     // What stands from line to line.
     ghost State: { Type 0 };

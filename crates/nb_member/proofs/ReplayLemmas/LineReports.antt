@@ -15,7 +15,7 @@ use Rattle.nb_member.specs.Code.ReplayLines.{MayReportLine, ReportsLine, WritesO
 use Rattle.nb_member.specs.ReportFields.{MayAct, OutcomeFields, TellsOutcome, dropped_fields, passed_fields, result_fields}
 use Rattle.nb_member.specs.ReportFields as outcome
 use Rattle.nb_table.specs.declared.fault.TableFault.TheVariants.{NoMemory}
-use Rattle.nb_telling.specs.Fields.{Field}
+use Rattle.nb_telling.specs.Telling.{Field}
 use Rattle.nb_telling.specs.Texts.{field_text, text_of}
 use Rattle.nb_telling.proofs.FoldLemmas.{appended}
 use Rattle.nb_member.proofs.FieldTexts.{dropped_same, result_same}

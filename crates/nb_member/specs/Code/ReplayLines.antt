@@ -3,7 +3,7 @@ use Rattle.std.specs.Prelude.{ℕ, List, ◌≡◌, ◌≢◌, ◌⊎◌, Option
 use Rattle.std.specs.Io.KnownBytes.{Appends, Keeps}
 use Rattle.nb_names.specs.Counted.{CountedOf}
 use Rattle.nb_names.specs.Devices.{AppendsFront, GrowTo, ShowsWriteFault}
-use Rattle.nb_telling.specs.Fields.{Field}
+use Rattle.nb_telling.specs.Telling.{Field}
 use Rattle.nb_telling.specs.Texts.{text_of}
 use Rattle.nb_member.specs.declared.comments.Comments.{Comments}
 use Rattle.nb_member.specs.declared.event.Event.{Event}

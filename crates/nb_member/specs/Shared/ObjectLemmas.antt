@@ -2,7 +2,7 @@
 use Rattle.std.proofs.Common.{◌≡◌, ◌≤◌, ℕ, List, [], ◌∷◌, ◌++◌, fold, ap, subst, ◌∙◌}
 use Rattle.json.specs.Token.{Token, begin_object, end_object}
 use Rattle.json.specs.Print.{print}
-use Rattle.nb_telling.specs.Fields.{Field}
+use Rattle.nb_telling.specs.Telling.{Field}
 use Rattle.nb_telling.specs.Members.{AreMembers, IsJson}
 use Rattle.nb_telling.specs.Tokens.{field_tokens, object_of, tokens_of}
 use Rattle.nb_telling.proofs.FoldLemmas.{appended}

@@ -5,7 +5,7 @@ ghost use Rattle.nb_session.specs.Packet.{Packet as SessionPacket};
 ghost use Rattle.nb_session.specs.declared.parsing.Parsed.TheVariants.{Whole};
 ghost use Rattle.nb_session.specs.Parsing.{Parses};
 ghost use Rattle.nb_datagram.specs.Packet.{Packet as DatagramPacket, IsPacket as IsDatagramPacket};
-ghost use Rattle.nb_telling.specs.Fields.{Field};
+ghost use Rattle.nb_telling.specs.Telling.{Field};
 ghost use Rattle.nb_telling.specs.Members.{AreMembers};
 ghost use Rattle.nb_text.specs.DatagramFields.{datagram_fields};
 ghost use Rattle.nb_text.specs.ServiceFields.{service_fields};

@@ -1,6 +1,6 @@
 use Rattle.std.proofs.Common.{◌≡◌, ◌++◌, drop, map}
 use Rattle.json.specs.Token.{string}
-use Rattle.nb_telling.specs.Sets.{names_of}
+use Rattle.nb_telling.specs.Texts.{names_of}
 use Rattle.nb_telling.proofs.json_sink.write_names.Given as goal
 
 abbrev pub invariant-loop-flag : goal.invariant-loop-flag

@@ -1,7 +1,7 @@
 use Rattle.std.proofs.lemmas.Result.{on_ok_weaker}
 use Rattle.nb_telling.proofs.FoldLemmas.{and_then}
 use Rattle.nb_text.specs.DatagramFields.{parts_fields}
-use Rattle.nb_text.specs.LineFields.{used_fields}
+use Rattle.nb_text.specs.Fields.{used_fields}
 use Rattle.nb_text.proofs.datagrams.tell_whole.Goals as goal
 
 pub returns-clause-told : goal.returns-clause-told

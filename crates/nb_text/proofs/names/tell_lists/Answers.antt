@@ -2,7 +2,7 @@ use Rattle.std.proofs.Common.{◌++◌, codes}
 use Rattle.std.specs.List.{flat_map}
 use Rattle.nb_service.specs.Packet.{RecordAt}
 use Rattle.nb_telling.proofs.FoldLemmas.{and_then}
-use Rattle.nb_text.specs.LineFields.{list_fields}
+use Rattle.nb_text.specs.Fields.{list_fields}
 use Rattle.nb_text.specs.ServiceFields.{question_fields, record_fields}
 use Rattle.nb_text.proofs.WalkLemmas.{row_from}
 use Rattle.nb_text.proofs.names.tell_lists.Goals as goal

@@ -1,7 +1,7 @@
 use Rattle.std.proofs.Common.{◌∷◌, [], fold, sym, ap, ◌∙◌}
 use Rattle.std.proofs.lemmas.Result.{on_ok_weaker}
 use Rattle.nb_datagram.specs.FaultTexts.{key_text}
-use Rattle.nb_telling.specs.Fields.{Digits, LineEnds, Text}
+use Rattle.nb_telling.specs.Telling.{Digits, LineEnds, Text}
 use Rattle.nb_telling.proofs.FoldLemmas.{told_both}
 use Rattle.nb_text.specs.FrontFields.{fragment_front_fields, indent, type_field}
 use Rattle.nb_text.specs.Keys.{key_named}

@@ -1,8 +1,7 @@
 use Rattle.std.proofs.Common.{List, ℕ, ap, ◌∙◌}
 use Rattle.std.proofs.lemmas.Result.{on_ok_weaker}
 use Rattle.nb_names.specs.NameText.{labels_written}
-use Rattle.nb_telling.specs.Fields.{Text}
-use Rattle.nb_telling.specs.Telling.{key_of}
+use Rattle.nb_telling.specs.Telling.{Text, key_of}
 use Rattle.nb_text.proofs.questions.tell_name.Goals as goal
 
 pub returns-in-Some-clause-told : goal.returns-in-Some-clause-told

@@ -1,6 +1,6 @@
 use Rattle.std.proofs.Common.{◌∷◌, [], fold, ap, ◌∙◌}
 use Rattle.std.proofs.lemmas.Result.{on_ok_weaker}
-use Rattle.nb_telling.specs.Fields.{LineEnds, PartEnds}
+use Rattle.nb_telling.specs.Telling.{LineEnds, PartEnds}
 use Rattle.nb_text.specs.ServiceFields.{named_fields}
 use Rattle.nb_text.proofs.questions.tell_question.Goals as goal
 

@@ -2,7 +2,7 @@ use Rattle.std.proofs.Common.{◌∷◌, [], fold, ap, ◌∙◌}
 use Rattle.std.proofs.lemmas.Result.{on_ok_weaker}
 use Rattle.nb_names.specs.Addresses.{address_text}
 use Rattle.nb_service.specs.Header.{ont_of}
-use Rattle.nb_telling.specs.Fields.{LineEnds, Number, PartEnds, Text}
+use Rattle.nb_telling.specs.Telling.{LineEnds, Number, PartEnds, Text}
 use Rattle.nb_text.specs.Keys.{key_named}
 use Rattle.nb_text.specs.ServiceFields.{word_field}
 use Rattle.nb_text.proofs.records.tell_entry.Goals as goal

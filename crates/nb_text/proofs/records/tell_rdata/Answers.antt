@@ -4,7 +4,7 @@ use Rattle.nb_names.specs.NameText.{labels_written}
 use Rattle.nb_service.specs.declared.fields.Fields.{Fields}
 use Rattle.nb_service.specs.declared.kinds.TheConstants.{NS}
 use Rattle.nb_service.specs.Record.{ResourceRecord, of_bytes, of_domain}
-use Rattle.nb_telling.specs.Fields.{Data, LineEnds, Text}
+use Rattle.nb_telling.specs.Telling.{Data, LineEnds, Text}
 use Rattle.nb_text.specs.Keys.{key_named}
 use Rattle.nb_text.specs.ServiceFields.{data_fields, rdata_field, view_fields}
 use Rattle.nb_text.proofs.HeardLemmas.{is_ns}

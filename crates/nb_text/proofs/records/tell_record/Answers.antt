@@ -2,7 +2,7 @@ use Rattle.std.proofs.Common.{◌≡◌, ℕ, List, ◌∷◌, [], ◌++◌, fol
 use Rattle.std.proofs.lemmas.Result.{on_ok_weaker}
 use Rattle.nb_service.specs.declared.fields.Fields.{Fields}
 use Rattle.nb_service.specs.Record.{ResourceRecord}
-use Rattle.nb_telling.specs.Fields.{Field, Part, Number, LineEnds, PartEnds}
+use Rattle.nb_telling.specs.Telling.{Field, Part, Number, LineEnds, PartEnds}
 use Rattle.nb_telling.proofs.FoldLemmas.{told_both}
 use Rattle.nb_text.specs.Keys.{key_named}
 use Rattle.nb_text.specs.ServiceFields.{named_fields, rdata_field, record_fields, view_fields}

@@ -1,7 +1,7 @@
 use Rattle.std.proofs.Common.{ap, ◌∙◌}
 use Rattle.std.proofs.lemmas.Result.{on_ok_weaker}
 use Rattle.nb_names.specs.NameText.{written}
-use Rattle.nb_telling.specs.Fields.{Text}
+use Rattle.nb_telling.specs.Telling.{Text}
 use Rattle.nb_text.specs.Keys.{key_named}
 use Rattle.nb_text.proofs.sessions.tell_request.Goals as goal
 

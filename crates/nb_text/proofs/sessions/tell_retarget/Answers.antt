@@ -1,7 +1,7 @@
 use Rattle.std.proofs.Common.{ap, ◌∙◌}
 use Rattle.std.proofs.lemmas.Result.{on_ok_weaker}
 use Rattle.nb_names.specs.Addresses.{address_text}
-use Rattle.nb_telling.specs.Fields.{Text, Number}
+use Rattle.nb_telling.specs.Telling.{Text, Number}
 use Rattle.nb_text.specs.Keys.{key_named, to_port_key}
 use Rattle.nb_text.proofs.sessions.tell_retarget.Goals as goal
 

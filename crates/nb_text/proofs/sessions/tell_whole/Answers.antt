@@ -1,6 +1,6 @@
 use Rattle.std.proofs.lemmas.Result.{on_ok_weaker}
 use Rattle.nb_telling.proofs.FoldLemmas.{and_then}
-use Rattle.nb_text.specs.LineFields.{used_fields}
+use Rattle.nb_text.specs.Fields.{used_fields}
 use Rattle.nb_text.specs.SessionFields.{parts_fields}
 use Rattle.nb_text.proofs.sessions.tell_whole.Goals as goal
 

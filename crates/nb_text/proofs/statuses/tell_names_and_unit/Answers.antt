@@ -2,7 +2,7 @@ use Rattle.std.proofs.Common.{codes}
 use Rattle.std.specs.List.{flat_map}
 use Rattle.std.proofs.lemmas.Result.{on_ok_weaker}
 use Rattle.nb_telling.proofs.FoldLemmas.{and_then}
-use Rattle.nb_text.specs.LineFields.{list_fields}
+use Rattle.nb_text.specs.Fields.{list_fields}
 use Rattle.nb_text.specs.ServiceFields.{node_name_fields, unit_fields}
 use Rattle.nb_text.proofs.statuses.tell_names_and_unit.Goals as goal
 

@@ -1,7 +1,7 @@
 use Rattle.std.proofs.Common.{ℕ, List, Option, ◌∙◌, ap, sym, fold}
 use Rattle.std.proofs.lemmas.Result.{on_ok_weaker}
 use Rattle.nb_datagram.specs.declared.packet.ErrorPacket.{ErrorPacket}
-use Rattle.nb_telling.specs.Fields.{Digits}
+use Rattle.nb_telling.specs.Telling.{Digits}
 use Rattle.nb_member.specs.Keys.{error_key}
 use Rattle.nb_member.specs.ReportFields.{error_fields}
 use Rattle.nb_member.proofs.report.outcomes.tell_error.Goals as goal

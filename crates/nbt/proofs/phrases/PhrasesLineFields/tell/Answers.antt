@@ -1,6 +1,6 @@
 use Rattle.std.proofs.Common.{ℕ, List, ◌++◌, ap, ap₂, subst, sym, ◌∙◌}
 use Rattle.std.proofs.lemmas.Result.{on_ok_weaker}
-use Rattle.nb_telling.specs.Fields.{FieldKey, Text}
+use Rattle.nb_telling.specs.Telling.{FieldKey, Text}
 use Rattle.nb_text.specs.SaysPacket.{IsSaid}
 use Rattle.nb_member.specs.declared.line.Line.TheVariants.{Packet}
 use Rattle.nbt.proofs.ObjectLemmas.{phrased_told, ticked_told}

@@ -19,9 +19,9 @@ sys.path[1:1] = [f'{sys.path[0]}/../{it}' for it in ('.', 'lib')]
 import bench
 import plain_program
 from bench_captures import FRED, JOE, MOST_IN_A_CAPTURE, line, office, one_address
+from model.limits import MOST_LINE as LONGEST_LINE
 
 EXAMPLE = os.path.join(bench.HERE, '..', 'examples', 'capture.txt')
-LONGEST_LINE = 262_200
 SCOPED, LOWER, POINTER = JOE[:-1] + b'\x02AB\x01.\0', b'\x20' + b'a' * 32 + b'\0', b'\xc0\x0c'
 LABELS = JOE[:-1] + (b'\x3f' + b'a' * 63) * 3
 # The fourth is as long as may be. Those after it are bad, the first by one byte too many.

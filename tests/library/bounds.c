@@ -8,7 +8,7 @@
 #include <sys/mman.h>
 #include <ucontext.h>
 
-enum { PAINT = 0x5a, STACK = 1 << 20, PAGE = 4096, LINE_PAYLOAD = 131097, KEYS = 2000 };
+enum { PAINT = 0x5a, STACK = 1 << 20, PAGE = 4096, LINE_PAYLOAD = NBT_LINE_ROOM, KEYS = 2000 };
 
 /* ---- the stack of a call */
 

@@ -30,7 +30,7 @@
 #define LONGER OF_137("\0\0", "\0\0\0\0\0\1\0\0") "\0" "\0\2\0\1\0\0\0\0\0\4" "\1A\0" "."
 
 static const uint8_t zeros[131072];
-static uint8_t digits[262201] = "137 0 ", letters[320], many_names[255 * 8];
+static uint8_t digits[NBT_MOST_LINE + 1] = "137 0 ", letters[320], many_names[(NBT_MOST_NAMES + 1) * 8];
 
 struct nbt_station no_station, full_station, small_station, open_station;
 static struct nbt_station new_station;
@@ -67,9 +67,9 @@ const struct sample samples[] = {
     TEXT(capture_line, NBT_DONE, 0, "# an office"),
     TEXT(capture_line, NBT_DONE, 0, ""),
     TEXT(capture_line, NBT_BAD_LINE, UNSAID, "138 0 0"),
-    SAMPLE(capture_line, NBT_BAD_LINE, UNSAID, .in = {{digits, 262199}}),
-    SAMPLE(capture_line, NBT_DONE, NBT_LINE_ROOM, .in = {{digits, 262200}}),
-    SAMPLE(capture_line, NBT_BAD_LINE, UNSAID, .in = {{digits, 262201}}),
+    SAMPLE(capture_line, NBT_BAD_LINE, UNSAID, .in = {{digits, NBT_MOST_LINE - 1}}),
+    SAMPLE(capture_line, NBT_DONE, NBT_LINE_ROOM, .in = {{digits, NBT_MOST_LINE}}),
+    SAMPLE(capture_line, NBT_BAD_LINE, UNSAID, .in = {{digits, NBT_MOST_LINE + 1}}),
     TEXT(service_header, NBT_DONE, UNSAID, REGISTRATION),
     TEXT(service_header, NBT_TRUNCATED, 0, ""),
     TEXT(service_read, NBT_DONE, UNSAID, REGISTRATION),
@@ -199,8 +199,8 @@ const struct sample samples[] = {
     SAMPLE(table_differ, NBT_TABLE_BAD_MAGIC, UNSAID, .in = {BYTES(""), BYTES("")}),
     SAMPLE(station_create, NBT_DONE, UNSAID, .station = &new_station, .n = {0x0a000009, 138, 4, 4}, .in = {BYTES("FRED<20> JOE<00>")}),
     SAMPLE(station_create, NBT_DONE, UNSAID, .station = &new_station, .n = {1, 138, 1, 1}, .in = {BYTES("")}),
-    SAMPLE(station_create, NBT_DONE, UNSAID, .station = &new_station, .in = {{many_names, 254 * 8 - 1}}),
-    SAMPLE(station_create, NBT_TOO_MANY_NAMES, 254 * 8, .station = &new_station, .in = {{many_names, sizeof many_names - 1}}),
+    SAMPLE(station_create, NBT_DONE, UNSAID, .station = &new_station, .in = {{many_names, NBT_MOST_NAMES * 8 - 1}}),
+    SAMPLE(station_create, NBT_TOO_MANY_NAMES, NBT_MOST_NAMES * 8, .station = &new_station, .in = {{many_names, sizeof many_names - 1}}),
     SAMPLE(station_create, NBT_BAD_TEXT, 1, .station = &new_station, .in = {BYTES("?")}),
     SAMPLE(station_create, NBT_BAD_TEXT, 0, .station = &new_station, .in = {BYTES(" ")}),
     SAMPLE(station_create, NBT_LONG_TEXT, UNSAID, .station = &new_station, .in = {BYTES("ABCDEFGHIJKLMNOP<20>")}),
@@ -241,7 +241,7 @@ void make_samples(void) {
     memset(digits + 6, '5', sizeof digits - 6);
     memset(letters, 'A', sizeof letters);
     letters[0] = letters[64] = letters[128] = letters[192] = 63;
-    for (i = 0; i < 255; i++)
+    for (i = 0; i <= NBT_MOST_NAMES; i++)
         memcpy(many_names + 8 * i, (uint8_t[]){'N', (uint8_t)('A' + i / 16), (uint8_t)('A' + i % 16), '<', '2', '0', '>', ' '}, 8);
     full_station = made(0, UINT32_MAX);
     small_station = made(2, 1);

@@ -4,6 +4,7 @@ import unittest
 
 import nbt
 from nbt import Line, LineKind, Status
+from nbt.header import LINE_ROOM, MOST_LINE
 
 # The lines that the tests of each language read, and what each says.
 LINES = pathlib.Path(__file__).parents[2] / 'rust/tests/calls/lines.txt'
@@ -35,10 +36,10 @@ class Lines(unittest.TestCase):
         self.assertEqual(nbt.capture_line(''), Line(LineKind.BLANK, 0, 0, b''))
 
     def test_longest(self):
-        self.assertEqual(nbt.capture_line('137 0 ' + '5a' * 131_097).payload, b'Z' * 131_097)
-        self.assertEqual(said('137 0 ' + '5a' * 131_098), 'refused')
-        self.assertEqual(said('#' + 'x' * 262_199 + '\n'), 'blank')
-        self.assertEqual(said('#' + 'x' * 262_200), 'refused')
+        self.assertEqual(nbt.capture_line('137 0 ' + '5a' * LINE_ROOM).payload, b'Z' * LINE_ROOM)
+        self.assertEqual(said('137 0 ' + '5a' * (LINE_ROOM + 1)), 'refused')
+        self.assertEqual(said('#' + 'x' * (MOST_LINE - 1) + '\n'), 'blank')
+        self.assertEqual(said('#' + 'x' * MOST_LINE), 'refused')
 
     def test_line_feeds(self):
         for line in ['tick 7\n\n', '# an office\n\n', 'tick 7\r\n', 'tick 7\nx']:

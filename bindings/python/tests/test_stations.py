@@ -5,6 +5,7 @@ import unittest
 
 import nbt
 from nbt import Outcome, Status
+from nbt.header import MOST_NAMES
 
 EMPTY, OLD_EMPTY = b'NBT2\0\0\0\0', b'NBT1\0\0\0\0'
 ADDRESS = ipaddress.IPv4Address('10.0.0.5')
@@ -76,10 +77,10 @@ class Stations(Refusing):
             self.assertEqual(self.refused(station.take, 0, past), (Status.LONG, None))
 
     def test_names(self):
-        names = ['N%d<20>' % i for i in range(255)]
+        names = ['N%d<20>' % i for i in range(MOST_NAMES + 1)]
         self.assertEqual(self.refused(nbt.Station, ['FRED<20>', 'JOE'], '10.0.0.9'), (Status.BAD_TEXT, 12))
         self.assertEqual(self.refused(nbt.Station, ['FRED<20>'] * 2, '10.0.0.9'), (Status.NAME_PRESENT, 9))
-        self.assertEqual(self.refused(nbt.Station, names, '10.0.0.9'), (Status.TOO_MANY_NAMES, len(' '.join(names[:254])) + 1))
+        self.assertEqual(self.refused(nbt.Station, names, '10.0.0.9'), (Status.TOO_MANY_NAMES, len(' '.join(names[:MOST_NAMES])) + 1))
         self.assertEqual(self.refused(nbt.Station, [''] * 2, '10.0.0.9'), (Status.BAD_TEXT, 0))
 
     def test_names_that_joining_would_hide(self):

@@ -92,6 +92,17 @@ pub fn name_or_fault()
         ⊎ ((fault : NameFault) × NetbiosFaultAt packet pointers at fault) }
 {}
 
+/// Bytes after a packet change neither a name that stands in it nor a fault, but for the fault that
+/// bytes are missing.
+pub fn more_behind()
+    ensures name { (packet more : List ℕ) (pointers : Pointers) (at : ℕ)
+        (labels : List (List ℕ)) (next : ℕ) →
+        NameAt packet pointers at labels next → NameAt (packet ++ more) pointers at labels next }
+    ensures fault { (packet more : List ℕ) (pointers : Pointers) (at : ℕ) (fault : NameFault) →
+        FaultAt packet pointers at fault → ((count : ℕ) → fault ≢ Truncated count) →
+        FaultAt (packet ++ more) pointers at fault }
+{}
+
 /// A pointer is its offset plus c000, as a number of two bytes.
 pub fn pointer_is_a_number()
     ensures { (target : ℕ) → target < 16384 →

@@ -5,6 +5,9 @@ use nbt::{capture_line, Line, Status};
 
 /// The lines that the tests of each language read, and what each says.
 const LINES: &str = include_str!("lines.txt");
+/// The limits of nbt.h.
+const MOST_LINE: usize = 262_200;
+const LINE_ROOM: usize = 131_097;
 
 /// What a line says, in the words of lines.txt.
 fn said(line: &[u8]) -> String {
@@ -33,13 +36,13 @@ fn lines_are_read() {
 }
 
 #[test]
-fn a_line_has_262_200_bytes_at_most() {
+fn a_line_has_so_many_bytes_at_most() {
     let line = |count| format!("137 0 {}", "5a".repeat(count));
-    let longest = Line::Packet { port: 137, moment: 0, payload: vec![0x5a; 131_097] };
-    assert_eq!(capture_line(line(131_097).as_bytes()), Ok(Some(longest)));
-    let refusal = refused(capture_line(line(131_098).as_bytes()));
+    let longest = Line::Packet { port: 137, moment: 0, payload: vec![0x5a; LINE_ROOM] };
+    assert_eq!(capture_line(line(LINE_ROOM).as_bytes()), Ok(Some(longest)));
+    let refusal = refused(capture_line(line(LINE_ROOM + 1).as_bytes()));
     assert_eq!(refusal, (Status::BadLine, None));
-    let comment = format!("#{}", "x".repeat(262_199));
+    let comment = format!("#{}", "x".repeat(MOST_LINE - 1));
     assert_eq!(capture_line(comment.as_bytes()), Ok(None));
     let refusal = refused(capture_line(format!("{comment}x").as_bytes()));
     assert_eq!(refusal, (Status::BadLine, None));

@@ -8,6 +8,9 @@ use nbt::datagram::{Datagram, Kind, Packets};
 use nbt::station::{Key, Outcome};
 use nbt::{list_table, merge, Limits, Station, Status};
 
+/// A limit of nbt.h.
+const MOST_NAMES: usize = 254;
+
 /// A station at 10.0.0.9:138 with these names.
 #[track_caller]
 pub fn station(names: &[&str]) -> Station {
@@ -195,9 +198,9 @@ fn what_is_too_much() {
 
 #[test]
 fn names_that_are_refused() {
-    let many: Vec<_> = (0..255).map(|it| format!("N{it}<20>")).collect();
+    let many: Vec<_> = (0..=MOST_NAMES).map(|it| format!("N{it}<20>")).collect();
     let many: Vec<_> = many.iter().map(String::as_str).collect();
-    let last = many[..254].join(" ").len() + 1;
+    let last = many[..MOST_NAMES].join(" ").len() + 1;
     for (names, status, at) in [
         (&["FRED<20>", "JOE"][..], Status::BadText, Some(12)),
         (&["FRED<20>", "FRED<20>"], Status::NamePresent, Some(9)),
@@ -209,7 +212,7 @@ fn names_that_are_refused() {
         let address = "10.0.0.9:138".parse().unwrap();
         assert_eq!(refused(Station::new(names, address, Limits::default())), (status, at));
     }
-    station(&many[..254]);
+    station(&many[..MOST_NAMES]);
 }
 
 #[test]

@@ -10,7 +10,7 @@ fred=20454746434546454543414341434143414341434143414341434143414341434100
 joe=20454b45504546434143414341434143414341434143414341434143414341414100
 scoped=204547464345464545434143414341434143414341434143414341434143414341074e455442494f5303434f4d00
 empty=110200010a000005008a00440000$joe$fred
-keys=$(limit KEYS)
+limits=$(for name in KEYS MOST_KEYS MOST_LINE MOST_NAMES; do echo "s/{$name}/$(limit $name)/g; s/{OVER_$name}/$(($(limit $name) + 1))/g"; done)
 wildcard=20434b41414141414141414141414141414141414141414141414141414141414100
 
 nbt() { ended "$program" "$@"; }
@@ -20,13 +20,13 @@ holds() { printf '%s' "$2" | cmp -s - "$1"; }
 
 # ---- The cases of tests/cases: after `$ COMMAND`, and further ones behind `& ` that say the same, stand the lines of its standard
 # output, those of its standard error behind `! `, and a status that isn't 0 before the last of these, as in `1! nbt: read`, or by itself,
-# as in `? 1`. `...` stands for text that isn't empty, {FRED} and the like for spellings, {KEYS} and {MOST_KEYS} for limits of
-# include/nbt.h, {OVER_KEYS} and {OVER_MOST_KEYS} for one more.
+# as in `? 1`. `...` stands for text that isn't empty, {FRED} and the like for spellings, {KEYS} and the like for limits of
+# include/nbt.h, {OVER_KEYS} and the like for one more.
 # `hostile NAME=VALUE .. COMMAND` runs a command over the devices of tests/lib/devices.c.
 
 spelled() {
     sed "s/{FRED}/$fred/g; s/{JOE}/$joe/g; s/{SCOPED}/$scoped/g; s/{WILDCARD}/$wildcard/g; s/{EMPTY}/$empty/g
-        s/{KEYS}/$keys/g; s/{OVER_KEYS}/$((keys + 1))/g; s/{MOST_KEYS}/$many/g; s/{OVER_MOST_KEYS}/$((many + 1))/g" "$1"
+        $limits" "$1"
 }
 
 # samples TOLD COMMAND..: what each command writes and ends with, told as in tests/cases.

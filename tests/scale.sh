@@ -9,6 +9,9 @@ program=$(realpath "${1:-$here/../crates/nbt/out/nbt}")
 tools=$(realpath "$here/../tools")
 cd "$room" || exit
 
+# A longest line.
+line=$(limit MOST_LINE)
+
 save() { ended "$program" save --keys "$many"; }
 merge() { ended "$program" merge --keys "$many"; }
 
@@ -209,9 +212,9 @@ folders() {
     [ $? -eq 2 ] && [ "$(cat errors)" = "$text" ] && [ -L out.work ] && [ "$(ls theirs)" = monday ]
     count $? "nbt-parallel: OUT.work is a link: $(cat errors)"
     rm out.work
-    ended ./nbt-parallel "$room/unjoining" --shard-bytes 262201 gaps out >output 2>errors
+    ended ./nbt-parallel "$room/unjoining" --shard-bytes $((line + 1)) gaps out >output 2>errors
     mv theirs/monday out.work
-    ended ./nbt-parallel "$program" --shard-bytes 262201 gaps out >output 2>errors
+    ended ./nbt-parallel "$program" --shard-bytes $((line + 1)) gaps out >output 2>errors
     [ $? -eq 2 ] && [ "$(cat errors)" = "$text" ] && cmp -s gaps out.work/monday
     count $? "nbt-parallel: OUT.work of an earlier run has another file: $(cat errors)"
     rm -rf out.work theirs
@@ -219,10 +222,10 @@ folders() {
 
 # programs: a table that another program made isn't used; the program of these tools is found off PATH.
 programs() {
-    refuses 3 'nbt-parallel: gaps: merge g0000-level01-000000.table: *' ./nbt-parallel "$room/unjoining" --shard-bytes 262201 gaps
-    ended ./nbt-parallel "$room/unjoining" --shard-bytes 262201 gaps out >output 2>errors
+    refuses 3 'nbt-parallel: gaps: merge g0000-level01-000000.table: *' ./nbt-parallel "$room/unjoining" --shard-bytes $((line + 1)) gaps
+    ended ./nbt-parallel "$room/unjoining" --shard-bytes $((line + 1)) gaps out >output 2>errors
     : >started
-    ended ./nbt-parallel "$room/slow" --shard-bytes 262201 gaps out >output 2>errors && cmp -s gaps.table out && [ "$(wc -l <started)" -ge 8 ] &&
+    ended ./nbt-parallel "$room/slow" --shard-bytes $((line + 1)) gaps out >output 2>errors && cmp -s gaps.table out && [ "$(wc -l <started)" -ge 8 ] &&
         [[ $(cat errors) == *'out.work is of other captures, of another program, or of other words: begun anew' ]]
     count $? "nbt-parallel, after another program: $(cat errors)"
     rm -f out
@@ -265,10 +268,10 @@ with_parallel() {
     folders
     programs
     settings
-    gives gaps.table ./nbt-parallel "$program" --shard-bytes 262201 gaps
+    gives gaps.table ./nbt-parallel "$program" --shard-bytes $((line + 1)) gaps
     PATH=$room/installed/bin:$PATH gives gaps.table nbt-parallel gaps
-    gives flow.table ./nbt-parallel "$program" --shard-bytes 262201 flow
-    ended ./nbt-parallel "$program" --by-source 3 --shard-bytes 262201 flow out && [ "$(wc -l <out)" -eq 3 ] &&
+    gives flow.table ./nbt-parallel "$program" --shard-bytes $((line + 1)) flow
+    ended ./nbt-parallel "$program" --by-source 3 --shard-bytes $((line + 1)) flow out && [ "$(wc -l <out)" -eq 3 ] &&
         merge <out | cmp -s flow.table
     count $? './nbt-parallel --by-source 3, with ticks'
     rm out
@@ -285,7 +288,7 @@ with_parallel() {
 
     # Comments make no difference, and go to all groups.
     sed '1~2i # a comment' flow >said
-    ended ./nbt-parallel "$program" --by-source 3 --shard-bytes 262201 said out && merge <out | cmp -s flow.table
+    ended ./nbt-parallel "$program" --by-source 3 --shard-bytes $((line + 1)) said out && merge <out | cmp -s flow.table
     count $? './nbt-parallel --by-source 3, with comments'
 
     # An OUT of several lines.

@@ -12,18 +12,11 @@ import sys
 
 sys.dont_write_bytecode = True
 from making import crates, grammar, javascript, python, rust, scripts, tools
-from making.header import TOP, Header
+from making.header import HEADER, TOP, Header
+from making.within import OF_HEADER, WITHIN
 
 BEGIN, END = '// ---- tools/lists.py --write makes what follows of include/nbt.h.', '// ---- Up to here.'
 MADE = {'bindings/python/nbt/header.py': python.python_file, 'bindings/rust/src/header.rs': rust.rust_file}
-# What stands in other files, by what stands around it.
-OF_TABLES = ((r'(How many keys the table holds at most, 1 to )\d+(\.\nWithout it they are )\d+', '{MOST_KEYS}', '{KEYS}'),
-             (r'(How many keys of one source address the table holds at most, 1 to )\d+', '{MOST_KEYS}'))
-OF_NBT = (*OF_TABLES, (r'(How many bytes the capture may have, 1 to \d+\.\nWithout it they are )\d+', '{INPUT}'),
-          (r'(as in `--keys )\d+(?=`, or have)', '{MOST_KEYS}'), (r'(as in `--keys )\d+(?=`, or save)', '{KEYS}'))
-OF_PACKAGE = (r'((?:^version = |^  "version": )")[^"]+', '{VERSION}'),
-WITHIN = {'man/nbt.1': OF_NBT, 'man/nbt-station.1': OF_TABLES, 'tools/pkgconfig': ((r'(^Version: ).+', '{VERSION}'),),
-          **dict.fromkeys(('bindings/python/pyproject.toml', 'bindings/rust/Cargo.toml', 'bindings/javascript/package.json'), OF_PACKAGE)}
 PARTS = {'bindings/javascript/nbt.mjs': javascript.in_module, 'bindings/javascript/nbt.d.mts': javascript.in_types}
 
 
@@ -45,20 +38,28 @@ def write_made(header):
             path.write_text(text, encoding='utf-8')
 
 
+def with_limits(path, patterns, header):
+    """A file with what stands of the header within it."""
+    over = {f'OVER_{name}': number + 1 for name, number in header.limits.items()}
+    said = {'VERSION': header.version, 'MOST_HELD': crates.constants('nb_member/src/limits.rt')['MAX_HELD'], **header.limits, **over}
+    text = path.read_text(encoding='utf-8')
+    for pattern, *wanted in patterns:
+        words = ''.join(f'\\g<{at}>{each}' for at, each in enumerate(wanted, 1)).format(**said)
+        text, count = re.subn(pattern, words, text, flags=re.MULTILINE)
+        if count == 0:
+            raise SystemExit(f'tools/lists.py: {path.relative_to(TOP)} has no {pattern}')
+    return text
+
+
 def kept():
-    """Each file that is kept, as it should be."""
+    """Each file that is kept, as it should be: include/nbt.h first, whose comments the others have."""
+    yield HEADER, with_limits(HEADER, OF_HEADER, Header())
     header = Header()
     yield TOP / 'tools/nbt_pcap/header.py', tools.tools_file(header)
     for name, maker in PARTS.items():
         yield TOP / name, with_part((TOP / name).read_text(encoding='utf-8'), maker(header))
     for name, patterns in WITHIN.items():
-        text = (TOP / name).read_text(encoding='utf-8')
-        for pattern, *wanted in patterns:
-            words = ''.join(f'\\g<{at}>{each}' for at, each in enumerate(wanted, 1)).format(VERSION=header.version, **header.limits)
-            text, count = re.subn(pattern, words, text, flags=re.MULTILINE)
-            if count == 0:
-                raise SystemExit(f'tools/lists.py: {name} has no {pattern}')
-        yield TOP / name, text
+        yield TOP / name, with_limits(TOP / name, patterns, header)
 
 
 def check():

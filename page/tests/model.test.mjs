@@ -12,6 +12,7 @@ import { keyOf } from '../src/model/keys.js';
 import { LEFT_OUT, Packets } from '../src/model/packets.js';
 import { place_of } from '../src/made/places.js';
 import { momentOf, since, utc } from '../src/model/times.js';
+import { MOST_LINE } from '../src/model/vocabulary.js';
 import { Advice, placed } from '../src/view/advice.js';
 import { Filter } from '../src/view/filter.js';
 import { outcome, summary } from '../src/view/conflicts.js';
@@ -52,7 +53,7 @@ test('what is wrong with a line that no capture has', () => {
     for (const [bad, line, why] of [
         ['137 0 0\n', 1, 'its bytes have an odd number of digits'], ['137 0 00\n140 0 00\n', 2, 'it begins with “140”, and not with 137, 138, 139, tick or #'],
         ['tick 18446744073709551616', 1, '“18446744073709551616” is no millisecond'], ['tick 5 6', 1, 'something follows its millisecond'],
-        [`# ${'x'.repeat(262_200)}`, 1, 'it is longer than 262200 bytes'], ['137', 1, 'a millisecond and one space before it are wanted after 137'],
+        [`# ${'x'.repeat(MOST_LINE)}`, 1, `it is longer than ${MOST_LINE} bytes`], ['137', 1, 'a millisecond and one space before it are wanted after 137'],
         ['137  0 00', 1, 'a millisecond and one space before it are wanted after 137'], ['137 now 00', 1, '“now” is no millisecond'],
         ['137 0', 1, 'its bytes are missing: of none the word is empty'], ['137 0 00 ff', 1, 'there is a space between its bytes, or after them'],
         ['137 0 0x00', 1, '“x” stands in its bytes, and is no hexadecimal digit'], ['137 0 00\r\n', 1, 'it ends in a carriage return, and a line feed alone is wanted'],

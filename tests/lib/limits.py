@@ -3,12 +3,13 @@ import os
 import sys
 
 sys.path.append(os.path.join(os.path.dirname(os.path.abspath(__file__)), '..'))
-from model.limits import KEYS, MOST_KEYS
+from model.limits import KEYS, MOST_KEYS, MOST_LINE, MOST_NAMES
 
 # The words for as many keys as may be.
 MANY = ['--keys', str(MOST_KEYS)]
 # What stands in tests/cases for a limit, and for one more.
-NAMED = {'KEYS': KEYS, 'OVER_KEYS': KEYS + 1, 'MOST_KEYS': MOST_KEYS, 'OVER_MOST_KEYS': MOST_KEYS + 1}
+NAMED = {'KEYS': KEYS, 'MOST_KEYS': MOST_KEYS, 'MOST_LINE': MOST_LINE, 'MOST_NAMES': MOST_NAMES}
+NAMED |= {f'OVER_{name}': limit + 1 for name, limit in NAMED.items()}
 
 
 def filled(line):

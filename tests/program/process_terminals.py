@@ -3,7 +3,7 @@ import os
 import re
 import time
 
-from limits import MANY, filled
+from limits import MANY, MOST_NAMES, filled
 from process_inputs import COMMANDS, FRED, READING, captures, packet
 from process_runs import (TESTS, at_terminal, limited, lines_of, quiet_terminal, rest_of, rest_of_terminal, run, start, starts, wait,
                           with_errors_shown)
@@ -119,7 +119,7 @@ def refused():
     yield [*bytes_of_name, '40'], b'', b'nbt: reserved label 0\n'
     yield [*bytes_of_name, 'c00c'], b'', b'nbt: pointer not allowed 0\n'
     yield [*bytes_of_name, '0000'], b'', b'nbt: not netbios 0\n'
-    yield ['replay', *(f'N{it}<20>' for it in range(255))], b'', b'nbt: too many names\n'
+    yield ['replay', *(f'N{it}<20>' for it in range(MOST_NAMES + 1))], b'', b'nbt: too many names\n'
     for words in READING[:3]:
         yield words, b'x\n', b'nbt: line 1\n'
     yield ['merge'], b'00\n', b'nbt: bad magic\n'

@@ -16,7 +16,7 @@ import time
 
 HERE = pathlib.Path(__file__).resolve().parents[1]
 sys.path.insert(1, str(HERE / 'lib'))
-from limits import MANY
+from limits import MANY, MOST_LINE
 
 ENGINES = {'nbt-parallel': ['--jobs', '2'], 'nbt-dask': ['--workers', '2']}
 LONGEST = 120
@@ -52,7 +52,7 @@ class Runs:
         subprocess.run([HERE / 'scale/scale_capture.py', 'gaps', folder], check=True)
         capture = (folder / 'gaps').read_bytes()
         self.table = subprocess.run([program, 'save', *MANY], input=capture, capture_output=True, check=True).stdout
-        self.command = [HERE.parent / 'tools' / options.engine, '--program', program, '--shard-bytes', '262201', 'gaps', 'out',
+        self.command = [HERE.parent / 'tools' / options.engine, '--program', program, '--shard-bytes', str(MOST_LINE + 1), 'gaps', 'out',
                         *ENGINES[options.engine]]
 
     def start(self):

@@ -4,7 +4,6 @@ import re
 from .header import TOP
 
 CONSTANT = re.compile(r'const (\w+)(?:: \w+)? = (\w+(?: \+ \w+)*);')
-KEYS = re.compile(r'number\(alloc, "keys", "N", help, (\w+)\)\.default_value\("(\w+)"\)')
 # By enumeration the files with its constants. Those that have other names there stand below.
 FILES = {'status': 'nb_c/src/statuses.rt', 'line_kind': 'nb_c/src/captures.rt', 'outcome': 'nb_c/src/taken.rt', 'record_type': 'nb_service/src/kinds.rt',
          'datagram_flag': 'nb_datagram/src/limits.rt', 'datagram_type': 'nb_datagram/src/limits.rt', 'word': 'nb_service/src/flags.rt',
@@ -18,7 +17,8 @@ ARMS = {'session_type': ('nb_session/src/kind.rt', r'Kind::(?P<name>\w+) => (?P<
 LIMITS = {'MOST_LINE': ('nb_member/src/limits.rt', 'MAX_LINE'), 'MOST_DATAGRAM': ('nb_datagram/src/limits.rt', 'MAX_LENGTH'),
           'MOST_BODY': ('nb_session/src/limits.rt', 'MAX_MESSAGE'), 'INPUT': ('nb_names/src/limits.rt', 'MAX_INPUT'),
           'MOST_NAMES': ('nb_member/src/limits.rt', 'MAX_NAMES'), 'KEPT_FOR': ('nb_member/src/limits.rt', 'FRAGMENT_TIMEOUT'),
-          'TAKE_ROOM': ('nb_c/src/taken.rt', 'TAKE_ROOM')}
+          'TAKE_ROOM': ('nb_c/src/taken.rt', 'TAKE_ROOM'), 'MOST_KEYS': ('nbt/src/limits.rt', 'MOST_KEYS'),
+          'KEYS': ('nbt/src/limits.rt', 'KEYS')}
 
 
 def text_of(path):
@@ -47,5 +47,3 @@ def numbers(header):
                 yield f'{enum} {each.name}', each.number, found.get(each.name)
     for name, (path, constant) in LIMITS.items():
         yield name, header.limits[name], constants(path).get(constant)
-    most, usual = KEYS.search(text_of('nbt/src/command_line.rt')).groups()
-    yield from (('MOST_KEYS', header.limits['MOST_KEYS'], int(most)), ('KEYS', header.limits['KEYS'], int(usual)))

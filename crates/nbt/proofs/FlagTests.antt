@@ -14,15 +14,15 @@ use Rattle.nbt.proofs.FlagValues.{SubFits, SubsFit, has_rule}
 
 -- ---- tests
 
-abbrev is_set_true : ArgAction → Bool
+abbrev pub is_set_true : ArgAction → Bool
 is_set_true action.SetTrue = true
 is_set_true _ = false
 
-abbrev is_as_written : Reading → Bool
+abbrev pub is_as_written : Reading → Bool
 is_as_written AsWritten = true
 is_as_written _ = false
 
-abbrev begins : List Text → Bool
+abbrev pub begins : List Text → Bool
 begins [] = false
 begins (v ∷ vs) = bytes_eq v (codes "true") || bytes_eq v (codes "false")
 
@@ -57,15 +57,15 @@ by_begins (v ∷ vs) e = go (bytes_eq v (codes "true")) refl e
 module _ (id : Text) where
   -- ---- the same, by a test
 
-  abbrev is_flag : Rule → Bool
+  abbrev pub is_flag : Rule → Bool
   is_flag a =
       is_set_true (action_of a)
       && (begins a.missing && (begins a.defaults && (is_as_written (reading_by a) && (not (takes_values a) && not (is_some a.index)))))
 
-  abbrev rule_passes : Rule → Bool
+  abbrev pub rule_passes : Rule → Bool
   rule_passes a = not (bytes_eq a.id id) || is_flag a
 
-  abbrev sub_passes : Text → Shape → Bool
+  abbrev pub sub_passes : Text → Shape → Bool
   sub_passes name s = not (bytes_eq s.name name) || (list_all rule_passes s.rules && has_rule id s.rules)
 
   flag_by_test : (a : Rule) → is_flag a ≡ true → IsFlag id a

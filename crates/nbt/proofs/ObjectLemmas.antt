@@ -1,5 +1,5 @@
 -- The objects that are printed of lines of a capture and of keys of a table.
-use Rattle.std.proofs.Common.{◌≡◌, ◌≢◌, ◌≤◌, ◌+◌, Result, Err, ℕ, List, [], ◌∷◌, ◌++◌, fold, refl, ap, sym, subst, ◌∙◌, arith, codes}
+use Rattle.std.proofs.Common.{◌≡◌, ◌≤◌, Result, ℕ, List, [], ◌∷◌, ◌++◌, fold, ap, sym, subst, ◌∙◌, arith, codes}
 use Rattle.json.specs.Token.{Token, begin_object, end_object}
 use Rattle.json.specs.Print.{print}
 use Rattle.nb_telling.specs.Telling.{Field, Number, Text}
@@ -10,19 +10,15 @@ use Rattle.nb_text.specs.Keys.{kind_key}
 use Rattle.nb_text.specs.SaysPacket.{IsSaid}
 use Rattle.nb_text.specs.Tells.{IsTold, Tells}
 use Rattle.nb_text.specs.TellsFront.{TellsFront, IsFrontTold}
-use Rattle.std.specs.FinMap as maps
-use Rattle.nb_table.specs.declared.fault.TableFault.TheVariants.{NoMemory}
 use Rattle.nb_member.specs.declared.member_fault.MemberFault.{MemberFault}
-use Rattle.nb_member.specs.declared.member_fault.MemberFault.TheVariants.{Table}
 use Rattle.nb_member.specs.declared.outcome.Outcome.{Outcome}
-use Rattle.nb_member.specs.Member.{MemberValue, after_clock, contents, with_timed}
+use Rattle.nb_member.specs.Member.{MemberValue}
 use Rattle.nb_member.specs.ObjectLines.{IsObject}
 use Rattle.nb_member.specs.Shared.ObjectLemmas.{adds, told_object}
-use Rattle.nb_member.specs.ReportFields.{dropped_fields, passed_fields, result_fields}
-use Rattle.nb_member.specs.Taking.{Takes}
+use Rattle.nb_member.specs.ReportFields.{OutcomeFields, TellsOutcome, dropped, dropped_fields, passed, passed_fields, result_fields, taken}
 use Rattle.nb_member.specs.declared.line.Line as capture
 use Rattle.nb_member.specs.declared.line.Line.TheVariants.{Packet, Tick}
-use Rattle.nbt.specs.Objects.{BriefFields, FrontFields, in_part, of_tick, ObjectOf, OutcomeFields, PacketFields, TellsFields, arrival_fields, brief_key, comment_fields, comment_key, head_fields, line_key, packet, phrased, tick, ticked, dropped, passed, taken}
+use Rattle.nbt.specs.Objects.{BriefFields, FrontFields, in_part, of_tick, ObjectOf, PacketFields, TellsFields, arrival_fields, brief_key, comment_fields, comment_key, head_fields, line_key, packet, phrased, tick, ticked}
 
 -- ---- what objects of lines begin with
 
@@ -136,39 +132,25 @@ of_tick_told after value s t now old new said told = record {
   seen = told;
 }
 
-pub dropped_told : {A : Type 0} (after : A → Field → A) (value : capture.Line) (m new : MemberValue) (now keys : ℕ) (old seen : A) → value ≡ Tick now
-    → ((n : ℕ) → AreMembers 1 (dropped_fields n)) → new ≡ with_timed m (after_clock m.timed now) → keys + maps.len (contents new) ≡ maps.len (contents m)
-    → seen ≡ fold after old (dropped_fields keys) → TellsFields (OutcomeFields value m new) after old seen
-dropped_told after value m new now keys old seen said are is count told = record {
-  fields = dropped_fields keys;
-  are = subst (λ (v : capture.Line). OutcomeFields v m new (dropped_fields keys)) (sym said) (dropped now keys m new is count);
+-- what became of a line are members
+outcome_members : (value : capture.Line) (m new : MemberValue) (fields : List Field) → ((n : ℕ) → AreMembers 1 (dropped_fields n)) → AreMembers 1 passed_fields
+    → ((r : Result Outcome MemberFault) → AreMembers 1 (result_fields r)) → OutcomeFields value m new fields → AreMembers 1 fields
+outcome_members _ _ _ _ drops passes results (dropped now keys m new is count) = drops keys
+outcome_members _ _ _ _ drops passes results (passed port moment payload m new other same) = passes
+outcome_members _ _ _ _ drops passes results (taken port moment payload m new result is had takes) = results result
+
+pub outcome_told : {A : Type 0} (after : A → Field → A) (value : capture.Line) (m new : MemberValue) (old seen : A)
+    → ((n : ℕ) → AreMembers 1 (dropped_fields n)) → AreMembers 1 passed_fields → ((r : Result Outcome MemberFault) → AreMembers 1 (result_fields r))
+    → TellsOutcome after value m new old seen → TellsFields (OutcomeFields value m new) after old seen
+outcome_told after value m new old seen drops passes results t = record {
+  fields = t.fields;
+  are = t.are;
   depth = 1;
   low = omega arith;
-  members = are keys;
-  seen = told;
+  members = outcome_members value m new t.fields drops passes results t.are;
+  seen = t.told;
 }
 
-pub passed_told : {A : Type 0} (after : A → Field → A) (value : capture.Line) (m : MemberValue) (port moment : ℕ) (payload : List ℕ) (old seen : A)
-    → value ≡ Packet port moment payload → port ≢ 138 → AreMembers 1 passed_fields → seen ≡ fold after old passed_fields
-    → TellsFields (OutcomeFields value m m) after old seen
-passed_told after value m port moment payload old seen said other are told = record {
-  fields = passed_fields;
-  are = subst (λ (v : capture.Line). OutcomeFields v m m passed_fields) (sym said) (passed port moment payload m m other refl);
-  depth = 1;
-  low = omega arith;
-  members = are;
-  seen = told;
-}
-
-pub taken_told : {A : Type 0} (after : A → Field → A) (value : capture.Line) (m new : MemberValue) (port moment : ℕ) (payload : List ℕ)
-    (result : Result Outcome MemberFault) (old seen : A) → value ≡ Packet port moment payload → port ≡ 138
-    → ((r : Result Outcome MemberFault) → AreMembers 1 (result_fields r)) → Takes m moment payload new result
-    → (result ≢ Err (Table NoMemory)) × (seen ≡ fold after old (result_fields result)) → TellsFields (OutcomeFields value m new) after old seen
-taken_told after value m new port moment payload result old seen said is are takes told = record {
-  fields = result_fields result;
-  are = subst (λ (v : capture.Line). OutcomeFields v m new (result_fields result)) (sym said) (taken port moment payload m new result is told.0 takes);
-  depth = 1;
-  low = omega arith;
-  members = are result;
-  seen = told.1;
-}
+-- before the first line
+pub objects_begin : {T S : Type 0} (state : T → S) {told made : T} {comment : List ℕ} → made ≡ told → comment ≡ [] → (comment, state made) ≡ ([], state told)
+objects_begin state is empty = λ i. (empty i, state (is i))

@@ -1,9 +1,8 @@
 -- Of each option that is given or not, one case holds of the words that name its command.
-use Rattle.std.proofs.Common.{◌≡◌, ◌∙◌, ◌⊎◌, inl, inr, refl, sym, ap, subst, Bool, true, false, true≢false, List, codes, Option, Some, None}
-use Rattle.std.specs.List.{list_all}
+use Rattle.std.proofs.Common.{◌≡◌, ◌∙◌, inl, inr, refl, sym, ap, subst, true, false, true≢false, List, codes, Option, Some}
 use Rattle.std.specs.Option.{option_map_or}
 use Rattle.std.specs.Str.{bytes_eq}
-use Rattle.clap.specs.Words.{Text, found_of, one_of, one_text, rows_of}
+use Rattle.clap.specs.Words.{Text, found_of, one_text, rows_of}
 use Rattle.clap.specs.Simple.{built}
 use Rattle.clap.specs.declared.parser.matches.ArgMatches.{ArgMatches}
 use Rattle.clap.proofs.WalkLemmas.{one_text-rows}
@@ -24,19 +23,11 @@ asked : (id name : Text) (words : List Text) (matches : ArgMatches) → SubsFit 
 asked id name words matches fit is =
     subst (IsAsked id) (sym (one_text-rows (found_of matches) id)) (is_asked id nbt_app words name (rows_of (found_of matches)) fit is)
 
-not_first : (id : Text) (held : Option Text) → IsAsked id held → OneOf (held ≡ Some (codes "false")) (held ≡ Some (codes "true"))
-not_first id held (inl given) = inr ((λ no. true_is_another (sym given ∙ no)), given)
-not_first id held (inr none) = inl (none, (λ given. true_is_another (sym given ∙ none)))
-
 given_first : (id : Text) (held : Option Text) → IsAsked id held → OneOf (held ≡ Some (codes "true")) (held ≡ Some (codes "false"))
 given_first id held (inl given) = inl (given, (λ no. true_is_another (sym given ∙ no)))
 given_first id held (inr none) = inr ((λ given. true_is_another (sym given ∙ none)), none)
 
--- the option isn't given, or it is
-pub not_or_given : (id name : Text) → SubsFit id name (built nbt_app).subs → (words : List Text) (matches : ArgMatches) → Enters words name matches
-    → OneOf (IsHeld id matches (codes "false")) (IsHeld id matches (codes "true"))
-not_or_given id name fit words matches is = not_first id _ (asked id name words matches fit is)
-
+-- the option is given, or it isn't
 pub given_or_not : (id name : Text) → SubsFit id name (built nbt_app).subs → (words : List Text) (matches : ArgMatches) → Enters words name matches
     → OneOf (IsHeld id matches (codes "true")) (IsHeld id matches (codes "false"))
 given_or_not id name fit words matches is = given_first id _ (asked id name words matches fit is)

@@ -1,5 +1,5 @@
 -- What is printed of a text, or left of it where the output fails.
-use Rattle.std.proofs.Common.{◌≡◌, ◌≢◌, ◌++◌, ℕ, Bool, false, true, List, Option, refl, sym, subst, Result, Ok, Err, OnOk, OnErr, IfErr}
+use Rattle.std.proofs.Common.{◌≡◌, ◌≢◌, ◌++◌, ℕ, Bool, false, true, List, codes, Option, refl, sym, subst, Result, Ok, Err, OnOk, OnErr, IfErr}
 use Rattle.std.specs.Io.KnownBytes.{Appends, Keeps}
 use Rattle.nb_names.specs.Devices.{AppendsFront}
 use Rattle.nb_names.specs.DeviceFacts.{Appends-more, Keeps-same, front_after, front_wider}
@@ -9,7 +9,7 @@ use Rattle.clap.specs.declared.parser.matches.ArgMatches.{ArgMatches}
 use Rattle.nbt.specs.Commands.{ListCommand, PrintsTables, Streams}
 use Rattle.nbt.specs.Objects.{listed_as}
 use Rattle.nbt.specs.Printing.{IsNoWrite, Leaves, PrintsLine, PrintsText, line}
-use Rattle.nbt.specs.Settings.{AsksJson, AsksText}
+use Rattle.nbt.specs.Settings.{IsGiven}
 
 -- a text that is written at once
 pub prints_text : (text : List ℕ) (old new : Option (List ℕ)) (r : Result (Unit {0}) Fault) → OnOk r (Appends old new text) → IfErr r (λ fault. fault ≡ Write)
@@ -86,10 +86,10 @@ nothing_left IsText old Write other = absurd (other refl)
 nothing_left IsText old _ other = Keeps-same old
 
 -- the join of tables as it is asked for
-pub listed : (matches : ArgMatches) (json : Bool) (s : Streams) (r : Result Unit Fault) → (AsksText matches → json ≡ false) → (AsksJson matches → json ≡ true)
+pub listed : (matches : ArgMatches) (json : Bool) (s : Streams) (r : Result Unit Fault) → ((given : Bool) → IsGiven matches (codes "json") given → json ≡ given)
     → PrintsTables matches (listed_as json) s r → ListCommand matches s r
-listed matches json s r text objects prints = record {
-  text = λ asked. subst (λ (b : Bool). PrintsTables matches (listed_as b) s r) (text asked) prints;
-  json = λ asked. subst (λ (b : Bool). PrintsTables matches (listed_as b) s r) (objects asked) prints;
+listed matches json s r given prints = record {
+  text = λ asked. subst (λ (b : Bool). PrintsTables matches (listed_as b) s r) (given false asked) prints;
+  json = λ asked. subst (λ (b : Bool). PrintsTables matches (listed_as b) s r) (given true asked) prints;
   why = prints.why;
 }

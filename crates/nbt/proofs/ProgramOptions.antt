@@ -1,47 +1,31 @@
--- The program's options that are given or not.
-use Rattle.std.proofs.Common.{refl, codes}
+-- The program's options that have no value.
+use Rattle.std.proofs.Common.{◌≡◌, refl, true, codes}
+use Rattle.std.specs.List.{Contains, list_all}
+use Rattle.std.proofs.lemmas.List.Elements.{All-contains}
+use Rattle.std.proofs.lemmas.List.Sums.{AllPass-from_list_all}
 use Rattle.clap.specs.Simple.{built}
+use Rattle.clap.specs.Words.{Text}
 use Rattle.clap.proofs.OnLiterals.{clap_on_literals}
 use Rattle.nbt.specs.CommandLine.{nbt_app}
-use Rattle.nbt.proofs.FlagTests.{subs_by_test}
+use Rattle.nbt.specs.Options.{options}
+use Rattle.nbt.proofs.FlagTests.{sub_passes, subs_by_test}
 use Rattle.nbt.proofs.FlagValues.{SubsFit}
 
-pub show_json : SubsFit (codes "json") (codes "show") (built nbt_app).subs
+each_passes : list_all (λ p. list_all (sub_passes p.1 p.0) (built nbt_app).subs) options ≡ true
 unfolding clap_on_literals
-show_json = subs_by_test (codes "json") (codes "show") (built nbt_app).subs refl
+each_passes = refl
 
-pub show_brief : SubsFit (codes "brief") (codes "show") (built nbt_app).subs
-unfolding clap_on_literals
-show_brief = subs_by_test (codes "brief") (codes "show") (built nbt_app).subs refl
-
-pub show_partial : SubsFit (codes "partial") (codes "show") (built nbt_app).subs
-unfolding clap_on_literals
-show_partial = subs_by_test (codes "partial") (codes "show") (built nbt_app).subs refl
+-- its command has an option with this name, which has no value
+pub fits : (command option : Text) → Contains options (command, option) → SubsFit option command (built nbt_app).subs
+fits command option at =
+    subs_by_test option command (built nbt_app).subs
+    (All-contains (λ p. list_all (sub_passes p.1 p.0) (built nbt_app).subs ≡ true) options (command, option)
+    (AllPass-from_list_all (λ p. list_all (sub_passes p.1 p.0) (built nbt_app).subs) options each_passes) at)
 
 pub show_comments : SubsFit (codes "comments") (codes "show") (built nbt_app).subs
 unfolding clap_on_literals
 show_comments = subs_by_test (codes "comments") (codes "show") (built nbt_app).subs refl
 
-pub replay_json : SubsFit (codes "json") (codes "replay") (built nbt_app).subs
-unfolding clap_on_literals
-replay_json = subs_by_test (codes "json") (codes "replay") (built nbt_app).subs refl
-
 pub replay_comments : SubsFit (codes "comments") (codes "replay") (built nbt_app).subs
 unfolding clap_on_literals
 replay_comments = subs_by_test (codes "comments") (codes "replay") (built nbt_app).subs refl
-
-pub list_json : SubsFit (codes "json") (codes "list") (built nbt_app).subs
-unfolding clap_on_literals
-list_json = subs_by_test (codes "json") (codes "list") (built nbt_app).subs refl
-
-pub agree_list : SubsFit (codes "list") (codes "agree") (built nbt_app).subs
-unfolding clap_on_literals
-agree_list = subs_by_test (codes "list") (codes "agree") (built nbt_app).subs refl
-
-pub name_bytes : SubsFit (codes "bytes") (codes "name") (built nbt_app).subs
-unfolding clap_on_literals
-name_bytes = subs_by_test (codes "bytes") (codes "name") (built nbt_app).subs refl
-
-pub build_broadcast : SubsFit (codes "broadcast") (codes "build") (built nbt_app).subs
-unfolding clap_on_literals
-build_broadcast = subs_by_test (codes "broadcast") (codes "build") (built nbt_app).subs refl

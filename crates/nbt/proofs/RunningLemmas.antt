@@ -10,7 +10,7 @@ use Rattle.nbt.specs.ClapAnswer.{AreMisused}
 use Rattle.nbt.specs.CommandLine.{AreAlone, nbt_app}
 use Rattle.nbt.specs.Commands.{RanBy, Streams, streams}
 use Rattle.nbt.specs.Refusals.{AsksRefusal}
-use Rattle.nbt.specs.Running.{IsMisuse, RanOver, Runs}
+use Rattle.nbt.specs.Running.{Runs}
 use Rattle.nbt.specs.Status.{code_of}
 
 two_is_usage : (status : Status) → code_of status ≡ 2 → status ≡ BadUsage

@@ -179,9 +179,16 @@ shows_why C IsText most bytes left counts later old new fault (not_taken t) writ
     fails_from old.0.counts t.between.0.counts new.0.counts (calls_each C IsText 1 t.done old t.between t.taken) u.3
 
 -- the options that ask for it
-pub shows_capture : {S : Type 0} (AreAsked : CaptureOptions → Type 0) (IsText : CaptureOptions → ℕ → List ℕ → S → S → List ℕ → Type 0) (first : S) (options : CaptureOptions) (old_in new_in : Option (List ℕ)) (reads after : Counts)
-    (old new : Option (List ℕ)) (result : Result Unit Fault) → AreAsked options
+pub shows_capture : {S : Type 0} (AreAsked : CaptureOptions → Type 0) (IsText : CaptureOptions → ℕ → List ℕ → S → S → List ℕ → Type 0) (first begun : S) (options : CaptureOptions) (old_in new_in : Option (List ℕ)) (reads after : Counts)
+    (old new : Option (List ℕ)) (result : Result Unit Fault) → begun ≡ first → AreAsked options
     → (bytes : List ℕ) × Consumes old_in new_in bytes × ((result ≡ Err Read → ShowsUnread options.most bytes reads after)
-    × Shows (IsText options) options.most bytes new_in first old new result) → ShowsCapture AreAsked IsText first old_in new_in reads after old new result
-shows_capture AreAsked IsText first options old_in new_in reads after old new result asked s =
-    record { options = options; asked = asked; bytes = s.0; read = s.1; cut = s.2.0; shows = s.2.1 }
+    × Shows (IsText options) options.most bytes new_in begun old new result) → ShowsCapture AreAsked IsText first old_in new_in reads after old new result
+shows_capture {S} AreAsked IsText first begun options old_in new_in reads after old new result begins asked s =
+    record {
+      options = options;
+      asked = asked;
+      bytes = s.0;
+      read = s.1;
+      cut = s.2.0;
+      shows = subst (λ (at : S). Shows (IsText options) options.most s.0 new_in at old new result) begins s.2.1;
+    }

@@ -1,18 +1,14 @@
 -- What `nbt build` prints: a line of a capture for each packet that its words name (our choice).
-use Rattle.std.specs.Prelude.{◌≡◌, ℕ, Bool, true, false, List, [], Some, option_map, unwrap_or, codes}
-use Rattle.clap.specs.Words.{first_value, found_of, matched_of, one_text, raw_values}
+use Rattle.std.specs.Prelude.{◌≡◌, ℕ, Bool, List, [], Some, option_map, unwrap_or, codes}
+use Rattle.clap.specs.Words.{first_value, found_of, matched_of, raw_values}
 use Rattle.clap.specs.declared.parser.matches.ArgMatches.{ArgMatches}
 use Rattle.nb_building.specs.Building.{AreLinesOf}
 use Rattle.nb_building.specs.TooMuchData.{GiveTooMuch}
-
--- IsBroadcast matches broadcast: the matches hold this for `--broadcast`
-abbrev pub IsBroadcast : ArgMatches → Bool → Type 0
-IsBroadcast matches true = one_text (found_of matches) (codes "broadcast") ≡ Some (codes "true")
-IsBroadcast matches false = one_text (found_of matches) (codes "broadcast") ≡ Some (codes "false")
+use Rattle.nbt.specs.Settings.{IsGiven}
 
 -- AreWords matches broadcast what words: the matches hold these words, and `broadcast` is what they hold for `--broadcast`
 pub record AreWords (matches : ArgMatches) (broadcast : Bool) (what : List ℕ) (words : List (List ℕ)) : Type 0 where
-  pub has_flag : (given : Bool) → IsBroadcast matches given → broadcast ≡ given
+  pub has_flag : (given : Bool) → IsGiven matches (codes "broadcast") given → broadcast ≡ given
   pub has_what : first_value (found_of matches) (codes "WHAT") ≡ Some what
   pub has_words : unwrap_or (option_map raw_values (matched_of (found_of matches) (codes "ARG"))) [] ≡ words
 

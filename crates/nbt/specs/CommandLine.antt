@@ -1,5 +1,7 @@
 -- The program's command line, as clap reads it (our choice).
 use Rattle.std.specs.Prelude.{◌≡◌, ◌⊎◌, ℕ, List, [], ◌∷◌, Option, Some, true, false, codes, Result, IfOk, IsOkAnd}
+use Rattle.std.specs.Fmt.{decimal}
+use Rattle.nbt.specs.declared.limits.TheConstants.{KEYS, MOST_INPUT, MOST_KEYS}
 use Rattle.nbt.specs.declared.subcommand.Subcommand.{Subcommand}
 use Rattle.nbt.specs.declared.subcommand.Subcommand.TheVariants as commands
 use Rattle.clap.specs.Words.{App, Rule, Text, app_of, new_app, new_rule, with_rule, with_subcommand}
@@ -52,17 +54,17 @@ number_rule name most = record (new_rule name) {
   parser = Some (Unsigned 1 most);
 }
 
--- `--keys N`, to 65,535, and 1,024 where it isn't given
+-- `--keys N`, to the limit on keys, and the usual number of them where it isn't given
 abbrev pub keys_rule : Rule
-keys_rule = record (number_rule (codes "keys") 65535) { defaults = codes "1024" ∷ [] }
+keys_rule = record (number_rule (codes "keys") MOST_KEYS) { defaults = decimal KEYS ∷ [] }
 
--- `--per-source N`, to 65,535
+-- `--per-source N`, to the same limit
 abbrev pub per_source_rule : Rule
-per_source_rule = number_rule (codes "per-source") 65535
+per_source_rule = number_rule (codes "per-source") MOST_KEYS
 
--- `--input-limit BYTES`, to 18,446,744,073,709,551,615
+-- `--input-limit BYTES`, to the greatest number of 64 bits
 abbrev pub input_limit_rule : Rule
-input_limit_rule = number_rule (codes "input-limit") 18446744073709551615
+input_limit_rule = number_rule (codes "input-limit") MOST_INPUT
 
 -- a command that makes a table, with the options for its limits
 abbrev pub limited_app : Text → App

@@ -23,15 +23,16 @@ use Rattle.nbt.specs.Building.{Builds}
 use Rattle.nbt.specs.CommandLine.{IsCommand, nbt_app}
 use Rattle.nbt.specs.FaultTexts.{status_after}
 use Rattle.nbt.specs.Input.{WasCut}
-use Rattle.nbt.specs.NameCommand.{IsFlag, IsValue, OutcomeOf}
+use Rattle.nbt.specs.NameCommand.{IsValue, OutcomeOf}
 use Rattle.nbt.specs.Printing.{IsNameFault, IsNameOf, IsSpellingFault, IsSpellingOf, PrintsFront, PrintsLine, PrintsName, PrintsSpelling}
 use Rattle.nbt.specs.Replaying.{AreTexts, Begins, IsReplay, IsUnbegun, ReplaysCapture}
 use Rattle.nbt.specs.SaveFaults.{SaveFails}
 use Rattle.nbt.specs.Saved.{saved_line}
 use Rattle.nbt.specs.Saving.{SavesCapture}
-use Rattle.nbt.specs.Settings.{AreOptions, AsksBrief, AsksFronts, AsksJson, AsksPackets, AsksText, AsksWhole, IsCapacity, IsInputLimit, IsListed}
+use Rattle.nbt.specs.Settings.{AreOptions, IsCapacity, IsGiven, IsInputLimit}
 use Rattle.nb_member.specs.ObjectLines.{listed_objects}
-use Rattle.nbt.specs.Objects.{BriefFields, FrontFields, ObjectSaid, OutcomeFields, PacketFields}
+use Rattle.nb_member.specs.ReportFields.{OutcomeFields}
+use Rattle.nbt.specs.Objects.{BriefFields, FrontFields, ObjectSaid, PacketFields}
 use Rattle.nbt.specs.Showing.{IsBrief, PayloadText, ShowsCapture, ShowsLine, TellsLine}
 use Rattle.nbt.specs.Tables.{CompareFails, ComparesTables, FailsOn, PrintsJoin, Tells, TellsFront}
 
@@ -71,8 +72,8 @@ WritesShow s result = IfErr result (λ fault. fault ≡ Write → ShowsWriteFaul
 -- ShowsAs IsText AreFields first matches s result: the lines of the input were shown, payloads with these texts, or as objects
 -- with these fields, where this stands before the first
 pub record ShowsAs {S : Type 0} (IsText : PayloadText) (AreFields : Line → S → S → List Field → Type 0) (first : S) (matches : ArgMatches) (s : Streams) (result : Result Unit Fault) : Type 0 where
-  pub text : AsksText matches → ShowsCapture (AreOptions matches) (λ options. ShowsLine IsText options.comments) tt s.old_in s.new_in s.reads s.reads_after s.old_out s.new_out result
-  pub json : AsksJson matches → ShowsCapture (AreOptions matches) (λ options. TellsLine (ObjectSaid AreFields options.comments)) ([], first) s.old_in s.new_in s.reads s.reads_after s.old_out s.new_out result
+  pub text : IsGiven matches (codes "json") false → ShowsCapture (AreOptions matches) (λ options. ShowsLine IsText options.comments) tt s.old_in s.new_in s.reads s.reads_after s.old_out s.new_out result
+  pub json : IsGiven matches (codes "json") true → ShowsCapture (AreOptions matches) (λ options. TellsLine (ObjectSaid AreFields options.comments)) ([], first) s.old_in s.new_in s.reads s.reads_after s.old_out s.new_out result
   pub why : WritesShow s result
 
 -- options that do not go together are refused, and nothing is read or printed
@@ -81,10 +82,10 @@ IsUnshown s result = (result ≡ Err Arguments) × Keeps s.old_in s.new_in × Ke
 
 -- `nbt show`
 pub record ShowCommand (matches : ArgMatches) (s : Streams) (result : Result Unit Fault) : Type 0 where
-  pub whole : AsksWhole matches → AsksPackets matches → ShowsAs Shown PacketFields tt matches s result
-  pub brief : AsksBrief matches → AsksPackets matches → ShowsAs IsBrief BriefFields tt matches s result
-  pub fronts : AsksWhole matches → AsksFronts matches → ShowsAs ShowsFront FrontFields tt matches s result
-  pub both : AsksBrief matches → AsksFronts matches → IsUnshown s result
+  pub whole : IsGiven matches (codes "brief") false → IsGiven matches (codes "partial") false → ShowsAs Shown PacketFields tt matches s result
+  pub brief : IsGiven matches (codes "brief") true → IsGiven matches (codes "partial") false → ShowsAs IsBrief BriefFields tt matches s result
+  pub fronts : IsGiven matches (codes "brief") false → IsGiven matches (codes "partial") true → ShowsAs ShowsFront FrontFields tt matches s result
+  pub both : IsGiven matches (codes "brief") true → IsGiven matches (codes "partial") true → IsUnshown s result
   pub why : WritesShow s result
 
 -- why a replay doesn't begin: nothing is read or printed then
@@ -100,9 +101,9 @@ pub record TellsReplay (matches : ArgMatches) (s : Streams) (result : Result Uni
 
 -- `nbt replay`
 pub record ReplayCommand (matches : ArgMatches) (s : Streams) (result : Result Unit Fault) : Type 0 where
-  pub text : AsksText matches → IsReplay (ReplaysCapture (IsCapacity matches) (AreOptions matches) (AreTexts matches) s.old_in s.new_in s.old_out s.new_out)
+  pub text : IsGiven matches (codes "json") false → IsReplay (ReplaysCapture (IsCapacity matches) (AreOptions matches) (AreTexts matches) s.old_in s.new_in s.old_out s.new_out)
       (IsCapacity matches) (AreTexts matches) s.old_in s.new_in s.old_out s.new_out result
-  pub json : AsksJson matches → TellsReplay matches s result ⊎ IsUnstarted (IsCapacity matches) (AreTexts matches) s result
+  pub json : IsGiven matches (codes "json") true → TellsReplay matches s result ⊎ IsUnstarted (IsCapacity matches) (AreTexts matches) s result
   pub cut : IfErr result (λ fault. fault ≡ Read → (most : ℕ) × IsInputLimit matches most × WasCut most s.old_in s.new_in s.reads s.reads_after)
   pub why : WritesShow s result
 
@@ -126,25 +127,25 @@ MergeCommand matches s result = PrintsTables matches saved_line s result
 
 -- `nbt list`
 pub record ListCommand (matches : ArgMatches) (s : Streams) (result : Result Unit Fault) : Type 0 where
-  pub text : AsksText matches → PrintsTables matches listing s result
-  pub json : AsksJson matches → PrintsTables matches listed_objects s result
+  pub text : IsGiven matches (codes "json") false → PrintsTables matches listing s result
+  pub json : IsGiven matches (codes "json") true → PrintsTables matches listed_objects s result
   pub why : WritesShow s result
 
 -- `nbt agree`
 pub record AgreeCommand (matches : ArgMatches) (s : Streams) (result : Result Status Fault) : Type 0 where
-  pub printed : (list : Bool) → IsListed matches list → IfOk result (λ status. ComparesTables (λ t u. Tells list t u status s.old_out s.new_out) s.old_in s.new_in)
+  pub printed : (list : Bool) → IsGiven matches (codes "list") list → IfOk result (λ status. ComparesTables (λ t u. Tells list t u status s.old_out s.new_out) s.old_in s.new_in)
   pub status : IfOk result (λ status. status ≢ BadUsage)
   pub err : IfErr result (λ fault. fault ≢ Write → Keeps s.old_out s.new_out)
-  pub write : (list : Bool) → IsListed matches list → IfErr result (λ fault. fault ≡ Write → ComparesTables (λ t u. TellsFront list t u s.old_out s.new_out) s.old_in s.new_in)
+  pub write : (list : Bool) → IsGiven matches (codes "list") list → IfErr result (λ fault. fault ≡ Write → ComparesTables (λ t u. TellsFront list t u s.old_out s.new_out) s.old_in s.new_in)
   pub fault : IfErr result (FailsOn CompareFails s.old_in s.new_in)
   pub cut : IfErr result (λ fault. fault ≡ Read → WasCut MAX_INPUT s.old_in s.new_in s.reads s.reads_after)
   pub why : WritesShow s result
 
 -- `nbt name`
 pub record NameCommand (matches : ArgMatches) (s : Streams) (result : Result Unit Fault) : Type 0 where
-  pub spelling : (value : List ℕ) → IsValue matches value → IsFlag matches (codes "false")
+  pub spelling : (value : List ℕ) → IsValue matches value → IsGiven matches (codes "bytes") false
       → OutcomeOf PrintsSpelling IsSpellingFault IsSpellingOf value result s.old_out s.new_out
-  pub name : (value : List ℕ) → IsValue matches value → IsFlag matches (codes "true")
+  pub name : (value : List ℕ) → IsValue matches value → IsGiven matches (codes "bytes") true
       → OutcomeOf PrintsName IsNameFault IsNameOf value result s.old_out s.new_out
   pub why : WritesShow s result
 

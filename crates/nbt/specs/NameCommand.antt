@@ -1,6 +1,6 @@
 -- `nbt name [--bytes] VALUE` by what clap's matches of the words hold.
 use Rattle.std.specs.Prelude.{◌≡◌, ℕ, List, Option, Some, codes, Result, Ok, Err}
-use Rattle.clap.specs.Words.{first_value, found_of, one_text}
+use Rattle.clap.specs.Words.{first_value, found_of}
 use Rattle.clap.specs.declared.parser.matches.ArgMatches.{ArgMatches}
 use Rattle.nbt.specs.declared.fault.Fault.{Fault}
 use Rattle.nbt.specs.Printing.{Leaves}
@@ -8,10 +8,6 @@ use Rattle.nbt.specs.Printing.{Leaves}
 -- the matches hold this VALUE
 abbrev pub IsValue : ArgMatches → List ℕ → Type 0
 IsValue matches value = first_value (found_of matches) (codes "VALUE") ≡ Some value
-
--- the matches hold this text, `true` or `false`, for `--bytes`
-abbrev pub IsFlag : ArgMatches → List ℕ → Type 0
-IsFlag matches text = one_text (found_of matches) (codes "bytes") ≡ Some text
 
 -- OutcomeOf Prints IsFault IsText value result old new: the value's text is printed as a line, or
 -- refused for a fault of the value's

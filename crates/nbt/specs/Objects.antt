@@ -1,9 +1,7 @@
 -- The objects that `--json` prints (our choice): of a line of a capture, of a comment, and of a key of a table.
-use Rattle.std.specs.Prelude.{◌≡◌, ◌≢◌, ◌≤◌, ◌+◌, ℕ, Bool, true, false, List, [], ◌∷◌, ◌++◌, codes, Option, Some, None, Result, Err, fold}
-use Rattle.std.specs.FinMap as maps
+use Rattle.std.specs.Prelude.{◌≡◌, ◌≤◌, ℕ, Bool, true, false, List, [], ◌∷◌, ◌++◌, codes, Option, Some, None, fold}
 use Rattle.std.specs.List.{flat_map}
 use Rattle.nb_table.specs.Contents.{Contents}
-use Rattle.nb_table.specs.declared.fault.TableFault.TheVariants.{NoMemory}
 use Rattle.nb_telling.specs.Telling.{Field, FieldKey, Text, Number}
 use Rattle.nb_telling.specs.Members.{AreMembers}
 use Rattle.nb_text.specs.Keys.{kind_key}
@@ -14,15 +12,9 @@ use Rattle.nb_member.specs.declared.comments.Comments.{Comments}
 use Rattle.nb_member.specs.declared.comments.Comments.TheVariants.{LeftOut, Printed}
 use Rattle.nb_member.specs.declared.line.Line as capture
 use Rattle.nb_member.specs.declared.line.Line.TheVariants.{Packet, Tick}
-use Rattle.nb_member.specs.declared.member_fault.MemberFault.{MemberFault}
-use Rattle.nb_member.specs.declared.member_fault.MemberFault.TheVariants.{Table}
-use Rattle.nb_member.specs.declared.outcome.Outcome.{Outcome}
 use Rattle.nb_member.specs.Comments.{byte_text}
-use Rattle.nb_member.specs.Member.{MemberValue, after_clock, contents, with_timed}
-use Rattle.nb_member.specs.Taking.{Takes}
 use Rattle.nb_member.specs.Listing.{listing}
 use Rattle.nb_member.specs.ObjectLines.{IsObject, listed_objects}
-use Rattle.nb_member.specs.ReportFields.{dropped_fields, passed_fields, result_fields}
 
 -- ---- what objects of lines begin with
 
@@ -83,15 +75,6 @@ pub data FrontFields : capture.Line → Unit {0} → Unit {0} → List Field →
   in_part : (port moment : ℕ) (payload : List ℕ) (s t : Unit {0}) (fields : List Field) → TellsFront payload port fields
       → FrontFields (Packet port moment payload) s t fields
   of_tick : (now : ℕ) (s t : Unit {0}) → FrontFields (Tick now) s t (Text kind_key (codes "tick") ∷ [])
-
--- the fields that `replay` tells, by what its member m makes of the line; it becomes new. That memory ran out in it isn't told
-pub data OutcomeFields : capture.Line → MemberValue → MemberValue → List Field → Type 0 where
-  dropped : (now keys : ℕ) (m new : MemberValue) → new ≡ with_timed m (after_clock m.timed now)
-      → keys + maps.len (contents new) ≡ maps.len (contents m) → OutcomeFields (Tick now) m new (dropped_fields keys)
-  passed : (port moment : ℕ) (payload : List ℕ) (m new : MemberValue) → port ≢ 138 → new ≡ m
-      → OutcomeFields (Packet port moment payload) m new passed_fields
-  taken : (port moment : ℕ) (payload : List ℕ) (m new : MemberValue) (result : Result Outcome MemberFault) → port ≡ 138
-      → result ≢ Err (Table NoMemory) → Takes m moment payload new result → OutcomeFields (Packet port moment payload) m new (result_fields result)
 
 -- TellsFields AreFields after old new: what is seen of a sink after such fields
 pub record TellsFields {A : Type 0} (AreFields : List Field → Type 0) (after : A → Field → A) (old new : A) : Type 0 where

@@ -6,6 +6,7 @@ use Rattle.clap.specs.declared.parser.matches.ArgMatches.{ArgMatches}
 use Rattle.nb_names.specs.Name.{NetbiosName}
 use Rattle.nb_names.specs.NameText.{IsText, IsFaultOf}
 use Rattle.nb_member.specs.declared.event.Event.{Event}
+use Rattle.nb_member.specs.declared.limits.TheConstants.{MAX_NAMES}
 use Rattle.nb_member.specs.declared.replay_fault.ReplayFault.{ReplayFault}
 use Rattle.nb_member.specs.declared.replay_fault.ReplayFault.TheVariants as replay
 use Rattle.nb_member.specs.declared.capture_options.CaptureOptions.{CaptureOptions}
@@ -29,7 +30,7 @@ AreTexts matches texts = option_map raw_values (matched_of (found_of matches) (c
 pub record AddsName (old : List NetbiosName) (text : List ℕ) (new : List NetbiosName) : Type 0 where
   pub name : NetbiosName
   pub stands : IsText name text
-  pub held : (Contains old name × (new ≡ old)) ⊎ ((¬ Contains old name) × (length old < 254) × (new ≡ old ++ name ∷ []))
+  pub held : (Contains old name × (new ≡ old)) ⊎ ((¬ Contains old name) × (length old < MAX_NAMES) × (new ≡ old ++ name ∷ []))
 
 -- AddsEach texts names: the names of the texts, each once, in the order in which they first come
 pub data AddsEach : List (List ℕ) → List NetbiosName → Type 0 where
@@ -40,7 +41,7 @@ pub data AddsEach : List (List ℕ) → List NetbiosName → Type 0 where
 -- IsRefusedName old text fault: why a station that holds the old names can't have the name of the text
 abbrev pub IsRefusedName : List NetbiosName → List ℕ → Fault → Type 0
 IsRefusedName old text (Text fault) = IsFaultOf text fault
-IsRefusedName old text TooManyNames = (name : NetbiosName) × IsText name text × (¬ Contains old name) × (254 ≤ length old)
+IsRefusedName old text TooManyNames = (name : NetbiosName) × IsText name text × (¬ Contains old name) × (MAX_NAMES ≤ length old)
 IsRefusedName old text Memory = Unit {0}
 IsRefusedName old text _ = ⊥
 

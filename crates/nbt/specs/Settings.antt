@@ -42,34 +42,10 @@ abbrev pub IsInputLimit : ArgMatches → ℕ → Type 0
 IsInputLimit matches n =
     IsNumberOf 64 matches (codes "input-limit") n ⊎ (HasNoNumber 64 matches (codes "input-limit") × (n ≡ MAX_INPUT))
 
--- IsListed matches list: `--list` is given, or isn't: the matches hold this for it
-abbrev pub IsListed : ArgMatches → Bool → Type 0
-IsListed matches true = one_text (found_of matches) (codes "list") ≡ Some (codes "true")
-IsListed matches false = one_text (found_of matches) (codes "list") ≡ Some (codes "false")
-
--- the matches hold that `--json` isn't given
-abbrev pub AsksText : ArgMatches → Type 0
-AsksText matches = one_text (found_of matches) (codes "json") ≡ Some (codes "false")
-
--- the matches hold that `--json` is given
-abbrev pub AsksJson : ArgMatches → Type 0
-AsksJson matches = one_text (found_of matches) (codes "json") ≡ Some (codes "true")
-
--- the matches hold that `--brief` isn't given
-abbrev pub AsksWhole : ArgMatches → Type 0
-AsksWhole matches = one_text (found_of matches) (codes "brief") ≡ Some (codes "false")
-
--- the matches hold that `--brief` is given
-abbrev pub AsksBrief : ArgMatches → Type 0
-AsksBrief matches = one_text (found_of matches) (codes "brief") ≡ Some (codes "true")
-
--- the matches hold that `--partial` isn't given
-abbrev pub AsksPackets : ArgMatches → Type 0
-AsksPackets matches = one_text (found_of matches) (codes "partial") ≡ Some (codes "false")
-
--- the matches hold that `--partial` is given
-abbrev pub AsksFronts : ArgMatches → Type 0
-AsksFronts matches = one_text (found_of matches) (codes "partial") ≡ Some (codes "true")
+-- IsGiven matches option given: the matches hold this for an option that has no value
+abbrev pub IsGiven : ArgMatches → List ℕ → Bool → Type 0
+IsGiven matches option true = one_text (found_of matches) option ≡ Some (codes "true")
+IsGiven matches option false = one_text (found_of matches) option ≡ Some (codes "false")
 
 -- AreComments matches comments: comments are printed where the matches hold `true` for `--comments`, and left out where
 -- they hold `false` or nothing

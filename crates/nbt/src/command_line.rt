@@ -1,5 +1,5 @@
 //! The words that the program takes.
-ghost use Rattle.std.specs.Prelude.{◌≡◌, IfOk, IsOkAnd, false, codes};
+ghost use Rattle.std.specs.Prelude.{◌≡◌, IfOk, IsOkAnd, false};
 ghost use Rattle.clap.specs.Words.{AddsArg, AddsSubcommand, app_of, new_app, rule_of, with_rule};
 ghost use Rattle.clap.specs.declared.builder.command.Command.TheViews.{out-Command as fields_of};
 ghost use Rattle.nbt.specs.CommandLine.{name_app, show_app, build_app, replay_app, save_app, merge_app, list_app, agree_app, nbt_app, flag_rule, value_rule, words_rule, number_rule, valued_rule, input_limit_rule, keys_rule, limited_app, per_source_rule, IsMadeOf, capture_added, packets_added, tables_added};
@@ -8,6 +8,7 @@ use crate::help::{
     AGREE_HELP, BUILD_HELP, LIST_HELP, MERGE_HELP, NAME_HELP, REPLAY_HELP, SAVE_HELP, SHOW_HELP,
     STATUSES,
 };
+use crate::limits::{INPUT_HELP, KEYS_HELP, KEYS_WORD, MOST_INPUT, MOST_KEYS, PER_SOURCE_HELP};
 use clap::builder::ValueParser;
 use clap::{Arg, ArgAction, Command};
 use std::alloc::{AllocError, Global};
@@ -339,8 +340,7 @@ fn keys<'a>(alloc: Global) -> Arg<'a>
     ensures rule { rule_of result ≡ keys_rule }
     ensures local { result.global ≡ false }
 {
-    let help = "How many keys a table may hold, 1 to 65535";
-    number(alloc, "keys", "N", help, 65_535).default_value("1024")
+    number(alloc, "keys", "N", KEYS_HELP, MOST_KEYS).default_value(KEYS_WORD)
 }
 
 /// `--per-source N`.
@@ -348,8 +348,7 @@ fn per_source<'a>(alloc: Global) -> Arg<'a>
     ensures rule { rule_of result ≡ per_source_rule }
     ensures local { result.global ≡ false }
 {
-    let help = "How many keys of one address a table may hold, 1 to 65535; no limit if not given";
-    number(alloc, "per-source", "N", help, 65_535)
+    number(alloc, "per-source", "N", PER_SOURCE_HELP, MOST_KEYS)
 }
 
 /// `--input-limit BYTES`.
@@ -357,13 +356,5 @@ fn input_limit<'a>(alloc: Global) -> Arg<'a>
     ensures rule { rule_of result ≡ input_limit_rule }
     ensures local { result.global ≡ false }
 {
-    let help =
-        "How many bytes the input may have, 1 to 18446744073709551615; 16777216 if not given";
-    number(
-        alloc,
-        "input-limit",
-        "BYTES",
-        help,
-        18_446_744_073_709_551_615,
-    )
+    number(alloc, "input-limit", "BYTES", INPUT_HELP, MOST_INPUT)
 }

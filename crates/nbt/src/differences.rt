@@ -1,5 +1,5 @@
 //! The keys at which two tables differ, and what each of them has there.
-ghost use Rattle.std.specs.Prelude.{◌≡◌, ◌≢◌, ◌⊎◌, ◌++◌, true, map, codes, IfOk, IfErr, OnOk, string_bytes};
+ghost use Rattle.std.specs.Prelude.{◌≡◌, ◌≢◌, ◌⊎◌, ◌++◌, true, codes, IfOk, IfErr, OnOk, string_bytes};
 ghost use Rattle.std.specs.FinMap as maps;
 ghost use Rattle.std.specs.Io.KnownBytes.{Appends, Keeps};
 ghost use Rattle.nb_datagram.specs.Key.{key_cmp};

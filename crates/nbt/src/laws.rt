@@ -1,22 +1,29 @@
 //! Laws of the definitions that the contracts cite. Each is proved; a call does nothing.
-ghost use Rattle.std.specs.Prelude.{◌≡◌, ◌∷◌, [], ℕ, List, codes, true, false};
+ghost use Rattle.std.specs.Prelude.{◌≡◌, ◌∷◌, [], ℕ, List, Contains, codes, true, false};
 ghost use Rattle.clap.specs.Words.{Text};
 ghost use Rattle.clap.specs.declared.parser.matches.ArgMatches.{ArgMatches};
 ghost use Rattle.nb_member.specs.declared.comments.Comments.TheVariants.{LeftOut, Printed};
 ghost use Rattle.nb_member.specs.declared.line.Line.TheVariants.{Packet, Tick};
-ghost use Rattle.nb_telling.specs.Telling.{FieldKey, Number, Text as Said};
+ghost use Rattle.nb_telling.specs.Telling.{Number, Text as Said};
+ghost use Rattle.nbt.specs.CommandLine.{keys_rule};
+ghost use Rattle.nbt.specs.declared.limits.TheConstants.{KEYS, MOST_INPUT, MOST_KEYS};
 ghost use Rattle.nbt.specs.declared.status.Status.TheVariants.{Done, Refused, BadUsage, Failed};
-ghost use Rattle.nbt.specs.Building.{IsBroadcast};
-ghost use Rattle.nbt.specs.NameCommand.{IsFlag};
 ghost use Rattle.nbt.specs.Objects.{bare_key, head_fields};
-ghost use Rattle.nbt.specs.Options.{Enters, OneOf};
-ghost use Rattle.nbt.specs.Settings.{AreComments, AsksBrief, AsksFronts, AsksJson, AsksPackets, AsksText, AsksWhole, IsListed};
+ghost use Rattle.nbt.specs.Options.{Enters, OneOf, options};
+ghost use Rattle.nbt.specs.Settings.{AreComments, IsGiven};
 ghost use Rattle.nbt.specs.Status.{code_of};
 
 /// The exit statuses, as numbers.
 pub fn numbers()
     ensures { (code_of Done ≡ 0) × (code_of Refused ≡ 1) × (code_of BadUsage ≡ 2)
         × (code_of Failed ≡ 3) }
+{}
+
+/// The limits of the command line, as numbers, and the word for keys where none is given.
+pub fn limits_are_these_numbers()
+    ensures keys { MOST_KEYS ≡ 65535 }
+    ensures usual { (KEYS ≡ 1024) × (keys_rule.defaults ≡ codes "1024" ∷ []) }
+    ensures input { MOST_INPUT ≡ 18446744073709551615 }
 {}
 
 /// What the object of a line begins with, in this order: the line's number, the port of a payload,
@@ -35,23 +42,16 @@ pub fn objects_begin()
         ≡ Number (bare_key (codes "line")) n ∷ Number (bare_key (codes "moment")) now ∷ [] }
 {}
 
-/// Words that name `show`, `replay` or `list` ask for text or for JSON, and never for both.
-pub fn text_or_json()
-    ensures show { (words : List Text) (matches : ArgMatches) →
-        Enters words (codes "show") matches → OneOf (AsksText matches) (AsksJson matches) }
-    ensures replay { (words : List Text) (matches : ArgMatches) →
-        Enters words (codes "replay") matches → OneOf (AsksText matches) (AsksJson matches) }
-    ensures list { (words : List Text) (matches : ArgMatches) →
-        Enters words (codes "list") matches → OneOf (AsksText matches) (AsksJson matches) }
-{}
-
-/// Words that name `show` ask for packets as they are or for phrases, and for whole packets or for
-/// what still stands of others.
-pub fn how_packets_are_shown()
-    ensures brief { (words : List Text) (matches : ArgMatches) →
-        Enters words (codes "show") matches → OneOf (AsksWhole matches) (AsksBrief matches) }
-    ensures partial { (words : List Text) (matches : ArgMatches) →
-        Enters words (codes "show") matches → OneOf (AsksPackets matches) (AsksFronts matches) }
+/// Words that name a command give each of its options that have no value, or don't, and never both.
+pub fn each_option_is_given_or_not()
+    ensures these { options ≡ (codes "name", codes "bytes") ∷ (codes "show", codes "comments")
+        ∷ (codes "show", codes "brief") ∷ (codes "show", codes "partial")
+        ∷ (codes "show", codes "json") ∷ (codes "build", codes "broadcast")
+        ∷ (codes "replay", codes "comments") ∷ (codes "replay", codes "json")
+        ∷ (codes "list", codes "json") ∷ (codes "agree", codes "list") ∷ [] }
+    ensures given { (words : List Text) (command option : Text) (matches : ArgMatches) →
+        Contains options (command, option) → Enters words command matches
+        → OneOf (IsGiven matches option true) (IsGiven matches option false) }
 {}
 
 /// Words that name `show` or `replay` ask that comments be printed, or that they be left out.
@@ -62,18 +62,4 @@ pub fn comments_or_none()
     ensures replay { (words : List Text) (matches : ArgMatches) →
         Enters words (codes "replay") matches
         → OneOf (AreComments matches Printed) (AreComments matches LeftOut) }
-{}
-
-/// Words that name `agree` ask for the keys in which tables differ or don't, those that name `name`
-/// give a spelling or a text, and those that name `build` a packet that is broadcast or isn't.
-pub fn given_or_not()
-    ensures agree { (words : List Text) (matches : ArgMatches) →
-        Enters words (codes "agree") matches
-        → OneOf (IsListed matches true) (IsListed matches false) }
-    ensures name { (words : List Text) (matches : ArgMatches) →
-        Enters words (codes "name") matches
-        → OneOf (IsFlag matches (codes "true")) (IsFlag matches (codes "false")) }
-    ensures build { (words : List Text) (matches : ArgMatches) →
-        Enters words (codes "build") matches
-        → OneOf (IsBroadcast matches true) (IsBroadcast matches false) }
 {}

@@ -17,6 +17,7 @@ mod help;
 mod hints;
 mod joining_input;
 pub mod laws;
+mod limits;
 mod mistakes;
 mod objects;
 mod output;
@@ -31,6 +32,7 @@ mod streams;
 mod subcommand;
 mod tables;
 mod telling;
+mod texts;
 
 use crate::errors::{Audience, Errors};
 use crate::fault::Fault;

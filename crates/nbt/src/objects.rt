@@ -6,10 +6,76 @@ ghost use Rattle.nb_telling.specs.Telling.{Number, Text, key_of};
 ghost use Rattle.nb_member.specs.ObjectLines.{IsObject};
 ghost use Rattle.nbt.specs.Objects.{CommentObject, ObjectOf, PrintsComment, arrival_fields, bare_key, comment_fields, comment_key, comment_of, head_fields, line_key};
 
+use crate::printing_lines::LineText;
 use crate::telling::LineFields;
 use nb_member::{Comments, Line, push_comment_bytes};
 use nb_names::NoMemory;
 use nb_telling::{FieldKey, JsonRoom, JsonSink, Sink};
+use std::alloc::Global;
+use std::mem;
+
+/// The object of a line of a capture, with these fields of what it says, or of a comment.
+#[derive(Drop)]
+pub struct Objects<T> {
+    alloc: Global,
+    told: T,
+    /// The comment that the line before is, or nothing.
+    comment: String,
+    /// The object of the line that was made last.
+    room: JsonRoom,
+}
+
+impl<T> Objects<T> {
+    /// No object, and no line before. No memory is taken.
+    pub fn new(alloc: Global, told: T) -> Objects<T>
+        ensures told { result.told ≡ told }
+        ensures comment { string_bytes result.comment ≡ [] }
+    {
+        Objects {
+            alloc,
+            told,
+            comment: String::new(alloc),
+            room: JsonRoom::new(alloc),
+        }
+    }
+}
+
+impl<T: LineFields> LineText for Objects<T> {
+    ghost use Rattle.std.specs.Prelude.{ℕ, List, string_bytes};
+    ghost use Rattle.nbt.specs.Objects.{ObjectSaid};
+
+    ghost State = { List ℕ × T.State };
+
+    ghost state = { λ o. (string_bytes o.comment, T.state o.told) };
+
+    ghost is_text = { ObjectSaid T.are_fields };
+
+    ghost text = { λ o. o.room };
+
+    fn make(
+        &mut self,
+        number: u64,
+        line: &[u8],
+        said: &Option<Line>,
+        comments: Comments,
+    ) -> Result<(), NoMemory> {
+        let room = mem::replace(&mut self.room, JsonRoom::new(self.alloc));
+        self.room = match said {
+            Some(said) => {
+                let comment = self.comment.as_str();
+                let object = line_object(number, said, comment, &mut self.told, room)?;
+                self.comment.clear();
+                object
+            }
+            None => blank_object(number, line, comments, &mut self.comment, room)?,
+        };
+        Ok(())
+    }
+
+    fn bytes(&self) -> &[u8] {
+        self.room.as_slice()
+    }
+}
 
 /// A key of an object that no text has.
 pub fn bare(name: &'static str) -> FieldKey
@@ -23,7 +89,7 @@ pub fn bare(name: &'static str) -> FieldKey
 /// # Errors
 ///
 /// [`NoMemory`] where memory ran out.
-pub fn line_object<T: LineFields>(
+fn line_object<T: LineFields>(
     number: u64,
     said: &Line,
     comment: &str,
@@ -48,7 +114,7 @@ pub fn line_object<T: LineFields>(
 /// # Errors
 ///
 /// [`NoMemory`] where memory ran out.
-pub fn blank_object(
+fn blank_object(
     number: u64,
     line: &[u8],
     comments: Comments,

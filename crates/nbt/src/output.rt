@@ -1,5 +1,5 @@
 //! The program's output: what is written, and whether a write came to nothing.
-ghost use Rattle.std.specs.Prelude.{◌≡◌, ◌<◌, ◌≤◌, length, take, OnOk, OnErr, IfOk, IfErr};
+ghost use Rattle.std.specs.Prelude.{◌≡◌, ◌<◌, OnOk, OnErr, IfErr};
 ghost use Rattle.std.specs.Io.KnownBytes.{Appends};
 ghost use Rattle.nb_names.specs.Counted.{no_calls};
 ghost use Rattle.nb_names.specs.Devices.{AppendsFront, GrowTo, ShowsWriteFault};

@@ -1,5 +1,7 @@
 //! What the program may say where it refuses, and what to do then.
 
+use crate::limits::{FULL_ADVICE, MEMORY_ADVICE, NAMES_ADVICE};
+
 /// Why something is refused, and what to do then.
 pub struct Refusal {
     /// The words, without what stands before a colon, and without the number after them.
@@ -125,8 +127,7 @@ const REFUSALS: [Refusal; 29] = [
         words: "too many names",
         number: "",
         by: &["replay"],
-        advice: "more than a station's 254: replay the capture again for the others, as `nbt \
-                 replay 'FRED<20>'`",
+        advice: NAMES_ADVICE,
     },
     Refusal {
         words: "bad hex",
@@ -185,8 +186,7 @@ const REFUSALS: [Refusal; 29] = [
         words: "full",
         number: "",
         by: &["replay", "save", "merge", "list"],
-        advice: "more keys than --keys: allow more, as in `--keys 65535`, or have a tick each \
-                 second",
+        advice: FULL_ADVICE,
     },
     Refusal {
         words: "full source",
@@ -220,7 +220,6 @@ const REFUSALS: [Refusal; 29] = [
         words: "memory",
         number: "",
         by: &EACH,
-        advice: "memory ran out: allow fewer keys, as in `--keys 1024`, or save the capture in \
-                 parts and merge them",
+        advice: MEMORY_ADVICE,
     },
 ];

@@ -1,6 +1,6 @@
 //! What the program's members and tables are set up with.
-ghost use Rattle.std.specs.Prelude.{◌≡◌, Bool, true, false, IfOk, IfErr};
-ghost use Rattle.nbt.specs.Settings.{AreComments, AreOptions, AsksBrief, AsksFronts, AsksJson, AsksPackets, AsksText, AsksWhole, HasNoCapacity, IsCapacity, IsInputLimit, IsListed, program_settings};
+ghost use Rattle.std.specs.Prelude.{◌≡◌, Bool, IfOk, IfErr};
+ghost use Rattle.nbt.specs.Settings.{AreComments, AreOptions, HasNoCapacity, IsCapacity, IsGiven, IsInputLimit, program_settings};
 
 use crate::fault::Fault;
 use clap::ArgMatches;
@@ -50,35 +50,11 @@ pub fn input_limit_of(matches: &ArgMatches<'_>) -> u64
         .unwrap_or(MAX_INPUT as u64)
 }
 
-/// Whether `--list` is given.
-pub fn is_listed(matches: &ArgMatches<'_>) -> bool
-    ensures { (list : Bool) → IsListed matches.now list → result ≡ list }
+/// Whether an option that has no value is given.
+pub fn is_given(matches: &ArgMatches<'_>, option: &str) -> bool
+    ensures { (given : Bool) → IsGiven matches.now option.now given → result ≡ given }
 {
-    matches.get_flag("list")
-}
-
-/// Whether `--json` is given.
-pub fn is_json(matches: &ArgMatches<'_>) -> bool
-    ensures text { AsksText matches.now → result ≡ false }
-    ensures json { AsksJson matches.now → result ≡ true }
-{
-    matches.get_flag("json")
-}
-
-/// Whether `--brief` is given.
-pub fn is_brief(matches: &ArgMatches<'_>) -> bool
-    ensures whole { AsksWhole matches.now → result ≡ false }
-    ensures brief { AsksBrief matches.now → result ≡ true }
-{
-    matches.get_flag("brief")
-}
-
-/// Whether `--partial` is given.
-pub fn is_partial(matches: &ArgMatches<'_>) -> bool
-    ensures packets { AsksPackets matches.now → result ≡ false }
-    ensures fronts { AsksFronts matches.now → result ≡ true }
-{
-    matches.get_flag("partial")
+    matches.get_flag(option)
 }
 
 /// Whether comments are printed: where `--comments` is given.

@@ -1,15 +1,12 @@
 //! The fields of the lines of a capture.
 #![tactic(auto, using(nb_telling::proofs::FoldLemmas::told_both))]
 
-ghost use Rattle.std.specs.Prelude.{◌≡◌, ◌≢◌, Err, OnOk, fold};
-ghost use Rattle.nb_member.specs.ReportFields.{result_fields};
+ghost use Rattle.std.specs.Prelude.{OnOk};
 ghost use Rattle.nbt.specs.Objects.{TellsFields};
 
-use crate::settings::PORT;
 use nb_member::laws::fields_are_members as outcomes_are_members;
-use nb_member::{Line, Member, MemberFault, Outcome, tell_dropped, tell_passed, tell_result};
+use nb_member::{Line, Member, tell_line};
 use nb_names::NoMemory;
-use nb_table::TableFault;
 use nb_telling::Sink;
 use nb_text::keys::KIND;
 use nb_text::laws::fields_are_members;
@@ -75,7 +72,7 @@ pub struct Outcomes {
 
 impl LineFields for Outcomes {
     ghost use Rattle.nb_member.specs.Member.{MemberValue};
-    ghost use Rattle.nbt.specs.Objects.{OutcomeFields};
+    ghost use Rattle.nb_member.specs.ReportFields.{OutcomeFields};
 
     ghost State = { MemberValue };
 
@@ -86,38 +83,6 @@ impl LineFields for Outcomes {
     fn tell<S: Sink>(&mut self, said: &Line, sink: &mut S) -> Result<(), NoMemory> {
         // The law that makes the fields members; the call does nothing.
         outcomes_are_members();
-        match said {
-            Line::Tick { now } => tell_dropped(self.member.tick(*now), sink),
-            Line::Packet {
-                port,
-                moment,
-                payload,
-            } => {
-                if *port != PORT {
-                    return tell_passed(sink);
-                }
-                let taken = self.member.take(*moment, payload.as_slice());
-                tell_taken(self.alloc, &taken, sink)
-            }
-        }
+        tell_line(self.alloc, said, &mut self.member, sink)
     }
-}
-
-/// Tells what became of a payload.
-///
-/// # Errors
-///
-/// [`NoMemory`] where memory ran out, in the taking or after it.
-fn tell_taken<S: Sink>(
-    alloc: Global,
-    taken: &Result<Outcome, MemberFault>,
-    sink: &mut S,
-) -> Result<(), NoMemory>
-    ensures told { OnOk result ((taken.now ≢ Err (MemberFault.Table TableFault.NoMemory)) ×
-        (S.seen sink.new ≡ fold S.after (S.seen sink.old) (result_fields taken.now))) }
-{
-    if let Err(MemberFault::Table(TableFault::NoMemory)) = taken {
-        return Err(NoMemory);
-    }
-    tell_result(alloc, taken, sink)
 }

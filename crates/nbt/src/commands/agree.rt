@@ -10,7 +10,7 @@ ghost use Rattle.nbt.specs.Tables.{CompareFails, ComparesTables, FailsOn, Tells,
 use crate::differences::print_differences;
 use crate::fault::Fault;
 use crate::output::Output;
-use crate::settings::{Capacity, is_listed};
+use crate::settings::{Capacity, is_given};
 use crate::status::Status;
 use crate::tables::{count_lines, tables_of, whole_input};
 use clap::ArgMatches;
@@ -38,7 +38,7 @@ pub fn run_agree<R: Read, W: Write>(
     ensures { AgreeCommand matches.now (streams R.remaining W.contents
         input.old input.new output.old output.new) result }
 {
-    compare(alloc, is_listed(matches), input, output)
+    compare(alloc, is_given(matches, "list"), input, output)
 }
 
 /// Reads two tables, and prints whether they are equal, and where they aren't, if that is asked

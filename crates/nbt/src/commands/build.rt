@@ -1,12 +1,13 @@
 //! `nbt build`: packets as the lines of a capture.
-ghost use Rattle.std.specs.Prelude.{◌≡◌, ◌≢◌, Bool, [], map, option_map, unwrap_or, codes, IfOk, IfErr, OnOk, string_bytes};
+ghost use Rattle.std.specs.Prelude.{◌≡◌, ◌≢◌, [], map, option_map, unwrap_or, codes, IfOk, IfErr, OnOk, string_bytes};
 ghost use Rattle.std.specs.Io.KnownBytes.{Appends, Keeps};
 ghost use Rattle.clap.specs.Words.{found_of, matched_of, raw_values};
 ghost use Rattle.nb_names.specs.Devices.{AppendsFront, ShowsWriteFault};
-ghost use Rattle.nbt.specs.Building.{AreBuilt, AreTooMuch, Builds, IsBroadcast, NameNone};
+ghost use Rattle.nbt.specs.Building.{AreBuilt, AreTooMuch, Builds, NameNone};
 
 use crate::fault::Fault;
 use crate::output::Output;
+use crate::settings::is_given;
 use clap::ArgMatches;
 use nb_building::{BuildFault, capture_lines};
 use std::alloc::Global;
@@ -50,7 +51,12 @@ fn lines_of(alloc: Global, matches: &ArgMatches<'_>) -> Result<String, BuildFaul
     ensures refused { IfErr result (λ fault. fault ≢ BuildFault.Memory → NameNone matches.now) }
 {
     match matches.get_str("WHAT") {
-        Some(what) => capture_lines(alloc, what, words_of(matches), is_broadcast(matches)),
+        Some(what) => capture_lines(
+            alloc,
+            what,
+            words_of(matches),
+            is_given(matches, "broadcast"),
+        ),
         None => Err(BuildFault::Arguments),
     }
 }
@@ -61,11 +67,4 @@ pub fn words_of<'a>(matches: &'a ArgMatches<'_>) -> &'a [&'a str]
         unwrap_or (option_map raw_values (matched_of (found_of matches.now) (codes "ARG"))) [] }
 {
     matches.get_strs("ARG").unwrap_or(&[])
-}
-
-/// Whether `--broadcast` is given.
-fn is_broadcast(matches: &ArgMatches<'_>) -> bool
-    ensures { (given : Bool) → IsBroadcast matches.now given → result ≡ given }
-{
-    matches.get_flag("broadcast")
 }

@@ -8,7 +8,7 @@ ghost use Rattle.nbt.specs.Printing.{PrintsText};
 use crate::fault::Fault;
 use crate::joining_input::joined_input;
 use crate::output::Output;
-use crate::settings::is_json;
+use crate::settings::is_given;
 use clap::ArgMatches;
 use nb_member::{list_keys, list_objects};
 use nb_names::Counted;
@@ -35,7 +35,7 @@ pub fn run_list<R: Read, W: Write>(
     ensures { ListCommand matches.now (streams R.remaining W.contents
         input.old input.new output.old output.new) result }
 {
-    let json = is_json(matches);
+    let json = is_given(matches, "json");
     let table = joined_input(alloc, matches, input)?;
     print_keys(alloc, json, &table, output)
 }

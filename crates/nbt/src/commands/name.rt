@@ -1,7 +1,8 @@
 //! `nbt name`: the spelling of a name's text, and the text of a spelling.
-ghost use Rattle.std.specs.Prelude.{◌≡◌, ℕ, List, codes, IfOk, IfErr, OnOk, string_bytes};
+ghost use Rattle.std.specs.Prelude.{◌≡◌, ℕ, List, true, false, codes, IfOk, IfErr, OnOk, string_bytes};
 ghost use Rattle.nb_names.specs.Devices.{ShowsWriteFault};
-ghost use Rattle.nbt.specs.NameCommand.{IsValue, IsFlag, OutcomeOf};
+ghost use Rattle.nbt.specs.NameCommand.{IsValue, OutcomeOf};
+ghost use Rattle.nbt.specs.Settings.{IsGiven};
 ghost use Rattle.nbt.specs.Printing.{Leaves, PrintsSpelling, PrintsName, IsSpellingOf, IsSpellingFault, IsNameOf, IsNameFault, IsNoWrite, PrintsText, line};
 
 use crate::fault::Fault;
@@ -25,11 +26,11 @@ pub fn run_name<W: Write>(
     output: &mut Output<W>,
 ) -> Result<(), Fault>
     ensures spelling { (value : List ℕ) → IsValue matches.now value
-        → IsFlag matches.now (codes "false")
+        → IsGiven matches.now (codes "bytes") false
         → OutcomeOf PrintsSpelling IsSpellingFault IsSpellingOf value result
         (W.contents output.old.inner) (W.contents output.new.inner) }
     ensures name { (value : List ℕ) → IsValue matches.now value
-        → IsFlag matches.now (codes "true")
+        → IsGiven matches.now (codes "bytes") true
         → OutcomeOf PrintsName IsNameFault IsNameOf value result
         (W.contents output.old.inner) (W.contents output.new.inner) }
     ensures why { IfErr result (λ fault. fault ≡ Fault.Write →

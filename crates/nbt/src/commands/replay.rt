@@ -2,15 +2,15 @@
 ghost use Rattle.std.specs.Prelude.{◌≡◌, ℕ, List, Err, map, OnOk, IfOk, IfErr};
 ghost use Rattle.std.specs.Io.KnownBytes.{Consumes};
 ghost use Rattle.nb_names.specs.Devices.{ShowsUnread, ShowsWriteFault};
-ghost use Rattle.nb_names.specs.NameText.{IsFaultOf};
 ghost use Rattle.nbt.specs.Commands.{ReplayCommand, streams};
 ghost use Rattle.nbt.specs.Replaying.{AddsEach, AddsName, AreTexts, Begins, EndsWith, IsNamesFault, IsRefusedName, IsUnbegun, ReplaysIn};
 ghost use Rattle.nbt.specs.Settings.{IsCapacity};
 
 use crate::fault::Fault;
+use crate::objects::Objects;
 use crate::output::Output;
-use crate::printing_lines::print_objects;
-use crate::settings::{capacity_of, is_json, options_of, settings_with};
+use crate::printing_lines::print_lines;
+use crate::settings::{capacity_of, is_given, options_of, settings_with};
 use crate::telling::Outcomes;
 use clap::ArgMatches;
 use nb_member::{AddFault, CaptureOptions, LocalNames, Member, replay_with};
@@ -41,9 +41,9 @@ pub fn run_replay<R: Read, W: Write>(
 {
     let mut member = member_of(alloc, matches)?;
     let options = options_of(matches);
-    if is_json(matches) {
-        let told = Outcomes { alloc, member };
-        return print_objects(alloc, told, options, input, output);
+    if is_given(matches, "json") {
+        let objects = Objects::new(alloc, Outcomes { alloc, member });
+        return print_lines(alloc, objects, options, input, output);
     }
     replay_text(alloc, &mut member, options, input, output)
 }

@@ -1,22 +1,22 @@
 //! `nbt show`: the packets of a capture as text, or as JSON.
-ghost use Rattle.std.specs.Prelude.{◌≡◌, ◌++◌, ℕ, List, codes, OnOk, string_bytes};
-ghost use Rattle.std.specs.Fmt.{decimal};
+ghost use Rattle.std.specs.Prelude.{true, false, codes};
 ghost use Rattle.nbt.specs.Commands.{IsUnshown, ShowCommand, ShowsAs, WritesShow, streams};
 ghost use Rattle.nbt.specs.Objects.{BriefFields};
-ghost use Rattle.nbt.specs.Settings.{AsksFronts, AsksPackets};
-ghost use Rattle.nbt.specs.Showing.{IsBrief, ShowsSaid, ShowsValue};
+ghost use Rattle.nbt.specs.Settings.{IsGiven};
+ghost use Rattle.nbt.specs.Showing.{IsBrief};
 
 use crate::fault::Fault;
 use crate::fronts::Fronts;
+use crate::objects::Objects;
 use crate::output::Output;
 use crate::payload_text::PayloadText;
 use crate::phrases::Phrases;
-use crate::printing_lines::{print_objects, print_text};
-use crate::settings::{is_brief, is_json, is_partial, options_of};
+use crate::printing_lines::print_lines;
+use crate::settings::{is_given, options_of};
 use crate::telling::{LineFields, Packets};
+use crate::texts::Texts;
 use clap::ArgMatches;
-use nb_member::{Comments, Line, push_comment};
-use nb_names::{Counted, NoMemory, push_decimal};
+use nb_names::Counted;
 use std::alloc::Global;
 use std::io::{Read, Write};
 
@@ -40,10 +40,12 @@ pub fn run_show<R: Read, W: Write>(
     ensures { ShowCommand matches.now (streams R.remaining W.contents
         input.old input.new output.old output.new) result }
 {
-    if is_brief(matches) {
+    let brief = is_given(matches, "brief");
+    let partial = is_given(matches, "partial");
+    if brief {
         return show_brief(alloc, matches, input, output);
     }
-    if is_partial(matches) {
+    if partial {
         return show_as(alloc, Fronts, matches, input, output);
     }
     show_as(alloc, Packets, matches, input, output)
@@ -56,14 +58,15 @@ fn show_brief<R: Read, W: Write>(
     input: &mut Counted<R>,
     output: &mut Output<W>,
 ) -> Result<(), Fault>
-    ensures packets { AsksPackets matches.now → ShowsAs IsBrief BriefFields tt matches.now
+    ensures packets { IsGiven matches.now (codes "partial") false →
+        ShowsAs IsBrief BriefFields tt matches.now
         (streams R.remaining W.contents input.old input.new output.old output.new) result }
-    ensures fronts { AsksFronts matches.now → IsUnshown
+    ensures fronts { IsGiven matches.now (codes "partial") true → IsUnshown
         (streams R.remaining W.contents input.old input.new output.old output.new) result }
     ensures why { WritesShow
         (streams R.remaining W.contents input.old input.new output.old output.new) result }
 {
-    if is_partial(matches) {
+    if is_given(matches, "partial") {
         return Err(Fault::Arguments);
     }
     show_as(alloc, Phrases::new(alloc), matches, input, output)
@@ -81,74 +84,8 @@ fn show_as<R: Read, W: Write, P: PayloadText + LineFields + Drop>(
         (streams R.remaining W.contents input.old input.new output.old output.new) result }
 {
     let options = options_of(matches);
-    if is_json(matches) {
-        return print_objects(alloc, form, options, input, output);
+    if is_given(matches, "json") {
+        return print_lines(alloc, Objects::new(alloc, form), options, input, output);
     }
-    print_text(alloc, form, options, input, output)
-}
-
-/// Adds the text of what a line says, or of its comment.
-pub fn push_said<P: PayloadText>(
-    number: u64,
-    line: &[u8],
-    said: &Option<Line>,
-    comments: Comments,
-    form: &mut P,
-    text: &mut String,
-) -> Result<(), NoMemory>
-    ensures { OnOk result ((shown : List ℕ) ×
-        ShowsSaid P.is_text comments number line.now said.now shown ×
-        (string_bytes text.new ≡ string_bytes text.old ++ shown)) }
-{
-    match said {
-        Some(said) => push_line(number, said, form, text),
-        None => push_comment(comments, line, text),
-    }
-}
-
-/// Adds the text of what a line says.
-fn push_line<P: PayloadText>(
-    number: u64,
-    said: &Line,
-    form: &mut P,
-    text: &mut String,
-) -> Result<(), NoMemory>
-    ensures { OnOk result ((shown : List ℕ) × ShowsValue P.is_text number said.now shown ×
-        (string_bytes text.new ≡ string_bytes text.old ++ shown)) }
-{
-    match said {
-        Line::Tick { now } => push_tick(number, *now, text),
-        Line::Packet {
-            port,
-            moment: _,
-            payload,
-        } => {
-            push_front(number, *port, text)?;
-            form.push(*port, payload.as_slice(), text)
-        }
-    }
-}
-
-/// Adds the line of a look at the clock.
-fn push_tick(number: u64, now: u64, text: &mut String) -> Result<(), NoMemory>
-    ensures { OnOk result (string_bytes text.new ≡ string_bytes text.old
-        ++ (decimal number ++ (codes " tick " ++ (decimal now ++ codes "\n")))) }
-{
-    push_decimal(number, text)?;
-    text.push_str(" tick ")?;
-    push_decimal(now, text)?;
-    text.push_str("\n")?;
-    Ok(())
-}
-
-/// Adds what stands before the text of a payload: the line's number and its port.
-fn push_front(number: u64, port: u16, text: &mut String) -> Result<(), NoMemory>
-    ensures { OnOk result (string_bytes text.new ≡ string_bytes text.old
-        ++ (decimal number ++ (codes " " ++ (decimal port ++ codes " ")))) }
-{
-    push_decimal(number, text)?;
-    text.push_str(" ")?;
-    push_decimal(u64::from(port), text)?;
-    text.push_str(" ")?;
-    Ok(())
+    print_lines(alloc, Texts::new(alloc, form), options, input, output)
 }

@@ -9,8 +9,8 @@ use Rattle.nbt.proofs.commands.list.run_list.Goals as goal
 pub returns : goal.returns
 returns g c =
     let printed = c.print_keys.ensures.printed in
-    listed c.args.matches.now c.is_json-json.result _ c.print_keys.result c.is_json-json.ensures.text c.is_json-json.ensures.json (record {
-      prints = join_prints (IsCapacity c.args.matches.now) (listed_as c.is_json-json.result) _ _ _ _ _ c.print_keys.result
+    listed c.args.matches.now c.is_given-json.result _ c.print_keys.result c.is_given-json.ensures (record {
+      prints = join_prints (IsCapacity c.args.matches.now) (listed_as c.is_given-json.result) _ _ _ _ _ c.print_keys.result
           c.in_ok-table.ensures.joined printed;
       cut = prints_uncut _ _ _ _ c.print_keys.result printed;
       why = c.print_keys.ensures.why;

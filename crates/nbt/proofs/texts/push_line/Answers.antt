@@ -2,7 +2,7 @@ use Rattle.std.proofs.Common.{ap, sym, string_bytes, ◌∙◌}
 use Rattle.std.proofs.lemmas.Result.{on_ok_weaker}
 use Rattle.nb_member.specs.declared.line.Line.TheVariants.{Packet}
 use Rattle.nbt.proofs.ShowingTurns.{adds_packet, adds_tick}
-use Rattle.nbt.proofs.commands.show.push_line.Goals as goal
+use Rattle.nbt.proofs.texts.push_line.Goals as goal
 
 pub returns-in-Tick : goal.returns-in-Tick
 returns-in-Tick g c =
@@ -10,13 +10,13 @@ returns-in-Tick g c =
     (adds_tick _ c.args.number c.in-Tick.now (string_bytes c.args.text.now) (string_bytes c.push_tick.new.text) c.args.said.now c.in-Tick.is)
     c.push_tick.ensures
 
-pub returns-in_ok-push_front-in-Packet : goal.returns-in_ok-push_front-in-Packet
-returns-in_ok-push_front-in-Packet g c =
+pub returns-in_ok-push_arrival-in-Packet : goal.returns-in_ok-push_arrival-in-Packet
+returns-in_ok-push_arrival-in-Packet g c =
     let old = string_bytes c.args.text.now in
-    let mid = string_bytes c.push_front.new.text in
+    let mid = string_bytes c.push_arrival.new.text in
     let new = string_bytes c.push.new.text in
     let is = c.in-Packet.is ∙ ap (Packet c.in-Packet.port c.in-Packet.moment) (sym c.as_slice.ensures) in
     on_ok_weaker c.push.result
     (adds_packet _ c.args.number c.in-Packet.port c.in-Packet.moment c.as_slice.result.now old mid new c.args.said.now is
-    c.in_ok-push_front-in-Packet.ensures)
+    c.in_ok-push_arrival-in-Packet.ensures)
     c.push.ensures

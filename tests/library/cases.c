@@ -5,7 +5,7 @@
 #include <stdlib.h>
 #include <unistd.h>
 
-enum { MOST_SAMPLES = 1024, MOST_NAMES = 256, MOST_STATIONS = 16, LONGEST = 1 << 19 };
+enum { MOST_NAMES = 256, MOST_STATIONS = 16, LONGEST = 1 << 19 };
 
 static struct sample all[MOST_SAMPLES];
 const struct sample *const samples = all;

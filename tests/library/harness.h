@@ -68,6 +68,7 @@ struct sample {
     struct bytes answer;
 };
 
+enum { MOST_SAMPLES = 1024 };
 extern const struct sample *const samples;
 extern size_t sample_count;
 void read_samples(void);

@@ -58,8 +58,7 @@ fragment_words _ _ _ a b c e f are (fragments d most a' b' c' e' f' is_a is_b is
       short = short;
       fit = fit;
     }
-fragment_words _ _ _ a b c e f are (error key code d g is_d is_g) = absurd (cc are)
-fragment_words _ _ _ a b c e f are (queries kind key name d g is_d is_g) = absurd (cc are)
+fragment_words _ _ _ a b c e f are others = absurd (cc are)
 
 -- the first of two words is a key
 pub key_of_two : (what : List ℕ) (texts payloads : List (List ℕ)) (a b : List ℕ) → texts ≡ a ∷ b ∷ [] → NamesDatagrams what texts payloads

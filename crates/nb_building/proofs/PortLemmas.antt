@@ -29,29 +29,19 @@ port_of what =
 service_port : (broadcast : Bool) (what : List ℕ) (texts : List (List ℕ)) (packet : ServicePacket) → NamesService broadcast what texts packet
     → port_of what ≡ 137
 service_port broadcast _ _ _ (query id name a b is_a is_b) = refl
-service_port broadcast _ _ _ (status id name a b is_a is_b) = refl
-service_port broadcast _ _ _ (registration id ttl name entry a b c d e is_a is_b is_c is_d) = refl
-service_port broadcast _ _ _ (refresh id ttl name entry a b c d e is_a is_b is_c is_d) = refl
-service_port broadcast _ _ _ (release id name entry a b d e is_a is_b is_d) = refl
-service_port broadcast _ _ _ (response id word kind ttl name bytes rdata a b c d e f is_a is_b is_c is_d is_e is_f has) = refl
+service_port broadcast _ _ _ others = refl
 
 session_port : (what : List ℕ) (texts : List (List ℕ)) (packet : session.Packet) → NamesSession what texts packet → port_of what ≡ 139
 session_port _ _ _ (request called calling a b is_a is_b) = refl
-session_port _ _ _ (message bytes a h) = refl
-session_port _ _ _ positive = refl
-session_port _ _ _ (negative code a h) = refl
-session_port _ _ _ (retarget port address a b is_a is_b) = refl
-session_port _ _ _ keepalive = refl
+session_port _ _ _ others = refl
 
 kind_port : (kind : Kind) → port_of (kind_text kind) ≡ 138
 kind_port Unique = refl
-kind_port Group = refl
-kind_port Broadcast = refl
+kind_port others = refl
 
 query_port : (kind : QueryKind) → port_of (query_word kind) ≡ 138
 query_port query_kind.Request = refl
-query_port query_kind.Positive = refl
-query_port query_kind.Negative = refl
+query_port others = refl
 
 datagram_port : (what : List ℕ) (texts payloads : List (List ℕ)) → NamesDatagrams what texts payloads → port_of what ≡ 138
 datagram_port _ _ _ (fragments d most a b c e f is_a is_b is_c is_e is_f some short fit) = kind_port d.kind

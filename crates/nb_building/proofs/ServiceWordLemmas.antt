@@ -25,10 +25,7 @@ question_words broadcast _ _ _ a b are (query id name d e is_d is_e) =
     ((id, subst (WordText id) (ap (λ l. get_or l 0 []) are) is_d), (name, subst (IsText name) (ap (λ l. get_or l 1 []) are) is_e))
 question_words broadcast _ _ _ a b are (status id name d e is_d is_e) =
     ((id, subst (WordText id) (ap (λ l. get_or l 0 []) are) is_d), (name, subst (IsText name) (ap (λ l. get_or l 1 []) are) is_e))
-question_words broadcast _ _ _ a b are (registration id ttl name entry d e f g h is_d is_e is_f is_g) = absurd (cc are)
-question_words broadcast _ _ _ a b are (refresh id ttl name entry d e f g h is_d is_e is_f is_g) = absurd (cc are)
-question_words broadcast _ _ _ a b are (release id name entry d e g h is_d is_e is_g) = absurd (cc are)
-question_words broadcast _ _ _ a b are (response id word kind ttl name bytes rdata d e f g h i is_d is_e is_f is_g is_h is_i has) = absurd (cc are)
+question_words broadcast _ _ _ a b are others = absurd (cc are)
 
 pub record ClaimWords (a b c d e : List ℕ) : Type 0 where
   pub id : (id : ℕ) × WordText id a
@@ -52,28 +49,21 @@ claim_of id ttl name entry a b c d e f g h i j are is_f is_g is_h is_i =
 
 pub claim_words : (broadcast : Bool) (what : List ℕ) (texts : List (List ℕ)) (packet : ServicePacket) (a b c d e : List ℕ)
     → texts ≡ a ∷ b ∷ c ∷ d ∷ e ∷ [] → NamesService broadcast what texts packet → ClaimWords a b c d e
-claim_words broadcast _ _ _ a b c d e are (query id name f g is_f is_g) = absurd (cc are)
-claim_words broadcast _ _ _ a b c d e are (status id name f g is_f is_g) = absurd (cc are)
 claim_words broadcast _ _ _ a b c d e are (registration id ttl name entry f g h i j is_f is_g is_h is_i) =
     claim_of id ttl name entry a b c d e f g h i j are is_f is_g is_h is_i
 claim_words broadcast _ _ _ a b c d e are (refresh id ttl name entry f g h i j is_f is_g is_h is_i) =
     claim_of id ttl name entry a b c d e f g h i j are is_f is_g is_h is_i
-claim_words broadcast _ _ _ a b c d e are (release id name entry f g i j is_f is_g is_i) = absurd (cc are)
-claim_words broadcast _ _ _ a b c d e are (response id word kind ttl name bytes rdata f g h i j k is_f is_g is_h is_i is_j is_k has) = absurd (cc are)
+claim_words broadcast _ _ _ a b c d e are others = absurd (cc are)
 
 pub release_words : (broadcast : Bool) (what : List ℕ) (texts : List (List ℕ)) (packet : ServicePacket) (a b c d : List ℕ)
     → texts ≡ a ∷ b ∷ c ∷ d ∷ [] → NamesService broadcast what texts packet
     → ((id : ℕ) × WordText id a) × ((name : NetbiosName) × IsText name b) × ((entry : AddressEntry) × EntryTexts entry c d)
-release_words broadcast _ _ _ a b c d are (query id name f g is_f is_g) = absurd (cc are)
-release_words broadcast _ _ _ a b c d are (status id name f g is_f is_g) = absurd (cc are)
-release_words broadcast _ _ _ a b c d are (registration id ttl name entry f g h i j is_f is_g is_h is_i) = absurd (cc are)
-release_words broadcast _ _ _ a b c d are (refresh id ttl name entry f g h i j is_f is_g is_h is_i) = absurd (cc are)
 release_words broadcast _ _ _ a b c d are (release id name entry f g i j is_f is_g is_i) = (
   (id, subst (WordText id) (ap (λ l. get_or l 0 []) are) is_f),
   (name, subst (IsText name) (ap (λ l. get_or l 1 []) are) is_g),
   (entry, subst (λ (l : List (List ℕ)). EntryTexts entry (get_or l 2 []) (get_or l 3 [])) are is_i),
 )
-release_words broadcast _ _ _ a b c d are (response id word kind ttl name bytes rdata f g h i j k is_f is_g is_h is_i is_j is_k has) = absurd (cc are)
+release_words broadcast _ _ _ a b c d are others = absurd (cc are)
 
 pub record ResponseWords (a b c d e f : List ℕ) : Type 0 where
   pub id : (id : ℕ) × WordText id a
@@ -87,11 +77,6 @@ pub record ResponseWords (a b c d e f : List ℕ) : Type 0 where
 
 pub response_words : (broadcast : Bool) (what : List ℕ) (texts : List (List ℕ)) (packet : ServicePacket) (a b c d e f : List ℕ)
     → texts ≡ a ∷ b ∷ c ∷ d ∷ e ∷ f ∷ [] → NamesService broadcast what texts packet → ResponseWords a b c d e f
-response_words broadcast _ _ _ a b c d e f are (query id name g h is_g is_h) = absurd (cc are)
-response_words broadcast _ _ _ a b c d e f are (status id name g h is_g is_h) = absurd (cc are)
-response_words broadcast _ _ _ a b c d e f are (registration id ttl name entry g h i j k is_g is_h is_i is_j) = absurd (cc are)
-response_words broadcast _ _ _ a b c d e f are (refresh id ttl name entry g h i j k is_g is_h is_i is_j) = absurd (cc are)
-response_words broadcast _ _ _ a b c d e f are (release id name entry g h j k is_g is_h is_j) = absurd (cc are)
 response_words broadcast _ _ _ a b c d e f are (response id word kind ttl name bytes rdata g h i j k l is_g is_h is_i is_j is_k is_l has) =
     record {
       id = (id, subst (WordText id) (ap (λ t. get_or t 0 []) are) is_g);
@@ -103,6 +88,7 @@ response_words broadcast _ _ _ a b c d e f are (response id word kind ttl name b
       rdata = rdata;
       has = has;
     }
+response_words broadcast _ _ _ a b c d e f are others = absurd (cc are)
 
 -- ---- the answer of a response
 

@@ -36,22 +36,16 @@ pub request_parts : (what : List ℕ) (texts : List (List ℕ)) (a b : List ℕ)
     → ((called : NetbiosName) × IsText called a) × ((calling : NetbiosName) × IsText calling b)
 request_parts _ _ a b _ is are (request called calling d e is_d is_e) =
     ((called, subst (IsText called) (ap (λ l. get_or l 0 []) are) is_d), (calling, subst (IsText calling) (ap (λ l. get_or l 1 []) are) is_e))
-request_parts _ _ a b _ is are (message bytes d h) = absurd (cc are)
-request_parts _ _ a b _ is are positive = absurd (cc are)
-request_parts _ _ a b _ is are (negative code d h) = absurd (cc are)
 request_parts _ _ a b _ is are (retarget port address d e is_d is_e) = absurd (cc is)
-request_parts _ _ a b _ is are keepalive = absurd (cc are)
+request_parts _ _ a b _ is are others = absurd (cc are)
 
 pub retarget_parts : (what : List ℕ) (texts : List (List ℕ)) (a b : List ℕ) (packet : session.Packet) → what ≡ codes "retarget"
     → texts ≡ a ∷ b ∷ [] → NamesSession what texts packet
     → ((address : List ℕ) × AddressText address a) × ((port : ℕ) × NumberText 65535 port b)
 retarget_parts _ _ a b _ is are (request called calling d e is_d is_e) = absurd (cc is)
-retarget_parts _ _ a b _ is are (message bytes d h) = absurd (cc are)
-retarget_parts _ _ a b _ is are positive = absurd (cc are)
-retarget_parts _ _ a b _ is are (negative code d h) = absurd (cc are)
 retarget_parts _ _ a b _ is are (retarget port address d e is_d is_e) =
     ((address, subst (AddressText address) (ap (λ l. get_or l 0 []) are) is_d), (port, subst (NumberText 65535 port) (ap (λ l. get_or l 1 []) are) is_e))
-retarget_parts _ _ a b _ is are keepalive = absurd (cc are)
+retarget_parts _ _ a b _ is are others = absurd (cc are)
 
 -- a text stands for data of one length
 data_cases : (bytes text : List ℕ) → DataText bytes text → ((bytes ≡ []) × (text ≡ codes "empty")) ⊎ HexText bytes text
@@ -79,13 +73,10 @@ pub no_message : (what : List ℕ) (texts : List (List ℕ)) (a given : List ℕ
 no_message what texts a given is are is_data long bytes built = of_packet what texts built.packet is are built.named built.exact where
   of_packet : (what : List ℕ) (texts : List (List ℕ)) (packet : session.Packet) → what ≡ codes "message" → texts ≡ a ∷ [] → NamesSession what texts packet
       → ¬ IsPacket packet bytes
-  of_packet _ _ _ is are (request called calling d e is_d is_e) exact = absurd (cc are)
   of_packet _ _ _ is are (message other d h) exact =
       absurd (omega (arith, long, exact.formed, ap length (one_data given other a is_data (subst (DataText other) (ap (λ l. get_or l 0 []) are) h))))
-  of_packet _ _ _ is are positive exact = absurd (cc are)
   of_packet _ _ _ is are (negative code d h) exact = absurd (cc is)
-  of_packet _ _ _ is are (retarget port address d e is_d is_e) exact = absurd (cc are)
-  of_packet _ _ _ is are keepalive exact = absurd (cc are)
+  of_packet _ _ _ is are others exact = absurd (cc are)
 
 -- how many words a packet takes, by the letters of its name
 abbrev pub session_count : List ℕ → ℕ
@@ -95,11 +86,7 @@ session_count what = if get_or what 2 0 == 113 then 2 else if get_or what 2 0 ==
 session_counted : (what : List ℕ) (texts : List (List ℕ)) (packet : session.Packet) → NamesSession what texts packet
     → length texts ≡ session_count what
 session_counted _ _ _ (request called calling d e is_d is_e) = refl
-session_counted _ _ _ (message bytes d h) = refl
-session_counted _ _ _ positive = refl
-session_counted _ _ _ (negative code d h) = refl
-session_counted _ _ _ (retarget port address d e is_d is_e) = refl
-session_counted _ _ _ keepalive = refl
+session_counted _ _ _ others = refl
 
 pub bare_unnamed : {A T : Type 0} (f : A → List ℕ) (what : List ℕ) (words : List A) (r : Result T BuildFault)
     → session_count what ≡ 0 → IfErr r (λ fault. fault ≢ Memory → ¬ (length words ≡ 0))

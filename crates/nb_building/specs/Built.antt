@@ -1,7 +1,7 @@
 -- Which packets words name (our choice). WHAT is the first word, ARG.. are those after it.
 --
 -- A number is written in decimal without leading zeros; the digits of an identifier, of flags, a type, a code and of data
--- may be in either case. FLAGS of the packets of port 138 that are no fragments are 02.
+-- may be in either case. FLAGS of the packets of port 138 that are no fragments are F alone, 02.
 use Rattle.std.specs.Prelude.{◌≡◌, ◌<◌, ◌≤◌, ◌^◌, ◌++◌, ℕ, Bool, List, [], ◌∷◌, length, codes, map}
 use Rattle.std.specs.Fmt.{decimal}
 use Rattle.std.specs.Int.{w16, to_be_bytes}
@@ -20,6 +20,7 @@ use Rattle.nb_session.specs.Packet as session
 use Rattle.nb_session.specs.declared.packet.Packet.TheVariants.{Message, Request, Positive, Negative, Retarget, Keepalive}
 use Rattle.nb_session.specs.Packet.{IsPacket}
 use Rattle.nb_datagram.specs.declared.key.Key.{Key}
+use Rattle.nb_datagram.specs.declared.limits.TheConstants.{FIRST}
 use Rattle.nb_datagram.specs.declared.packet.Packet.TheVariants.{Direct, Error, Query}
 use Rattle.nb_datagram.specs.declared.packet.QueryKind.{QueryKind}
 use Rattle.nb_datagram.specs.Fragment.{DatagramParts}
@@ -119,10 +120,10 @@ pub data NamesDatagrams : List ℕ → List (List ℕ) → List (List ℕ) → T
       → DataText d.bytes e → NumberText 65535 most f → 1 ≤ most → length d.bytes ≤ 65535 → ¬ AreTooLong d most
       → NamesDatagrams (kind_text d.kind) (a ∷ b ∷ c ∷ e ∷ f ∷ []) (map (λ p. datagram.packet_bytes (Direct p)) (pieces d most))
   error : (key : Key) (code : ℕ) (a b : List ℕ) → KeyText key a → CodeText code b
-      → NamesDatagrams (codes "error") (a ∷ b ∷ []) (datagram.packet_bytes (Error (record { flags = 2; key = key; code = code })) ∷ [])
+      → NamesDatagrams (codes "error") (a ∷ b ∷ []) (datagram.packet_bytes (Error (record { flags = FIRST; key = key; code = code })) ∷ [])
   queries : (kind : QueryKind) (key : Key) (name : NetbiosName) (a b : List ℕ) → KeyText key a → IsText name b
       → NamesDatagrams (query_word kind) (a ∷ b ∷ [])
-      (datagram.packet_bytes (Query (record { kind = kind; flags = 2; key = key; destination = name })) ∷ [])
+      (datagram.packet_bytes (Query (record { kind = kind; flags = FIRST; key = key; destination = name })) ∷ [])
 
 -- ---- all
 

@@ -5,8 +5,10 @@ use Rattle.nb_names.specs.declared.pointers.Pointers.TheVariants.{Refused}
 use Rattle.nb_names.specs.Labels.{NameAt}
 use Rattle.nb_names.specs.Name.{NetbiosName, labels_of_name}
 use Rattle.nb_service.specs.declared.classes.TheConstants.{IN}
+use Rattle.nb_service.specs.declared.flags.TheConstants.NmFlags.{B}
 use Rattle.nb_service.specs.declared.kinds.TheConstants.{NS}
 use Rattle.nb_service.specs.Requests.{packet_of}
+use Rattle.nb_service.specs.Header.{nm_bits}
 use Rattle.nb_service.specs.Record.{ResourceData, of_bytes, of_domain, record_of}
 use Rattle.nb_service.specs.Packet.{ServicePacket}
 
@@ -19,7 +21,7 @@ pub data HasRdata (kind : ℕ) (bytes : List ℕ) : ResourceData → Type 0 wher
 
 -- with_flag word broadcast: the flag word, with B set where the packet is broadcast
 abbrev pub with_flag : ℕ → Bool → ℕ
-with_flag word true = bit_or word 16
+with_flag word true = bit_or word (nm_bits B)
 with_flag word false = word
 
 -- response_packet id word name kind ttl rdata: a packet with one answer, of class IN, and nothing else

@@ -10,14 +10,12 @@ ghost use Rattle.nb_building.specs.TooMuchData.{GiveTooMuch};
 
 use crate::arguments::{code, data, key, number};
 use crate::build_fault::BuildFault;
+use nb_datagram::limits::FIRST;
 use nb_datagram::{
     Datagram, ErrorPacket, Kind, Packet, Pieces, QueryKind, QueryPacket, cut, encode,
 };
 use nb_names::{Bytes, Items, name_from_text};
 use std::alloc::Global;
-
-/// FLAGS of the packets that are no fragments: the first of its datagram, and the last.
-const FLAGS: u8 = 0x02;
 
 /// The bytes of the packets that WHAT and its arguments give.
 ///
@@ -103,7 +101,7 @@ fn error(alloc: Global, words: &[&str]) -> Result<Items<Bytes>, BuildFault>
     };
     let key = key(alloc, place)?;
     let code = code(alloc, digits)?;
-    let flags = FLAGS;
+    let flags = FIRST;
     alone(alloc, Packet::Error(ErrorPacket { flags, key, code }))
 }
 
@@ -119,7 +117,7 @@ fn query(alloc: Global, kind: QueryKind, words: &[&str]) -> Result<Items<Bytes>,
     };
     let key = key(alloc, place)?;
     let destination = name_from_text(name)?;
-    let flags = FLAGS;
+    let flags = FIRST;
     alone(
         alloc,
         Packet::Query(QueryPacket {

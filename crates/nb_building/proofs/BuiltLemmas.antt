@@ -1,5 +1,5 @@
 -- Packets that words name, from what the calls that make them answer.
-use Rattle.std.proofs.Common.{◌≡◌, ℕ, Bool, List, [], ◌∷◌, map, ap, ap₂, ◌∙◌, refl, Result, Ok, Err}
+use Rattle.std.proofs.Common.{◌≡◌, ℕ, Bool, List, [], ◌∷◌, map, ap, ap₂, ◌∙◌, refl, Result, Ok, Err, ◌<◌, ◌+◌, ◌++◌, length, get_or, take, sym, append_assoc}
 use Rattle.std.specs.Prelude.{IfErr, IfOk, codes}
 use Rattle.nb_names.specs.Hexadecimal.{DataText}
 use Rattle.nb_names.specs.Name.{NetbiosName, labels_of_name}
@@ -11,9 +11,10 @@ use Rattle.nb_service.specs.Packet.{ServicePacket}
 use Rattle.nb_service.specs.Encoding as service
 use Rattle.nb_session.specs.Packet as session
 use Rattle.nb_session.specs.Packet.{IsPacket}
-use Rattle.nb_building.specs.Built.{IsServiceBuilt, IsSessionBuilt, NamesDatagrams, NamesService, NamesSession, NumberText, WordText, response}
-use Rattle.nb_building.specs.TooMuchData.{GiveTooMuch}
-use Rattle.nb_building.specs.Responses.{HasRdata, response_packet, with_flag}
+use Rattle.nb_building.specs.Built.{IsServiceBuilt, IsSessionBuilt, NamesDatagrams, NamesService, NamesSession, NumberText, WordText, response, HasRdata, response_packet, with_flag, of_service, of_session}
+use Rattle.nb_building.specs.Refusals.{GiveTooMuch}
+use Rattle.std.proofs.lemmas.List.{append-nil, take_more}
+use Rattle.nb_building.specs.Building.{AreLinesOf, payload_line, payload_lines}
 
 -- what is answered where a packet was made and encoded
 packet_of_ok : {E : Type 0} (r : Result ServicePacket E) (q p : ServicePacket) (bytes : List ℕ) → IfOk r (λ made. made ≡ q) → r ≡ Ok p
@@ -86,3 +87,33 @@ tells_too_much P what word words texts fault (Err e) is_what are much h = λ is.
 -- what a fault reports, where that is it
 pub told_of : {A E : Type 0} {P : Type 0} (fault : E) (r : Result A E) → r ≡ Err fault → IfErr r (λ e. e ≡ fault → P) → P
 told_of {P = P} fault r is h = let told : fault ≡ fault → P = rw is at h in told refl
+
+-- ---- what printing the lines of payloads keeps from turn to turn
+
+-- one line is the lines of one payload
+one_line : (port : ℕ) (payload bytes : List ℕ) → bytes ≡ payload_line port payload → bytes ≡ payload_lines port (payload ∷ [])
+one_line port payload bytes is = is ∙ sym (append-nil (payload_line port payload))
+
+pub service_lines : (broadcast : Bool) (what : List ℕ) (words : List (List ℕ)) (payload bytes : List ℕ)
+    → IsServiceBuilt broadcast what words payload → bytes ≡ payload_line 137 payload → AreLinesOf broadcast what words bytes
+service_lines broadcast what words payload bytes built is =
+    record { port = 137; payloads = payload ∷ []; named = of_service payload built; lines = one_line 137 payload bytes is }
+
+pub session_lines : (broadcast : Bool) (what : List ℕ) (words : List (List ℕ)) (payload bytes : List ℕ)
+    → IsSessionBuilt what words payload → bytes ≡ payload_line 139 payload → AreLinesOf broadcast what words bytes
+session_lines broadcast what words payload bytes built is =
+    record { port = 139; payloads = payload ∷ []; named = of_session payload built; lines = one_line 139 payload bytes is }
+
+lines-append : (port : ℕ) (xs ys : List (List ℕ)) → payload_lines port (xs ++ ys) ≡ payload_lines port xs ++ payload_lines port ys
+lines-append port [] ys = refl
+lines-append port (x ∷ xs) ys =
+    ap (λ l. payload_line port x ++ l) (lines-append port xs ys) ∙ sym (append_assoc (payload_line port x) (payload_lines port xs) (payload_lines port ys))
+
+-- a turn that added a line
+pub lines_more : (port : ℕ) (payloads : List (List ℕ)) (i : ℕ) (d payload old new : List ℕ) → i < length payloads
+    → payload ≡ get_or payloads i d → old ≡ payload_lines port (take i payloads) → new ≡ old ++ payload_line port payload
+    → new ≡ payload_lines port (take (i + 1) payloads)
+lines_more port payloads i d payload old new lt is before grown =
+    grown ∙ ap₂ (λ (a b : List ℕ). a ++ b) before (ap (payload_line port) is ∙ sym (append-nil (payload_line port (get_or payloads i d))))
+    ∙ sym (lines-append port (take i payloads) (get_or payloads i d ∷ []))
+    ∙ ap (payload_lines port) (sym (take_more payloads i d lt))

@@ -5,5 +5,4 @@ mod UnnamedLemmas
 mod DatagramWordLemmas
 mod ServiceWordLemmas
 mod BuiltLemmas
-mod BuildingTurns
 mod PortLemmas

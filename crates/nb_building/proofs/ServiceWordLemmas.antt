@@ -12,8 +12,7 @@ use Rattle.nb_service.specs.Packet.{ServicePacket}
 use Rattle.nb_service.specs.Record.{ResourceData, ResourceRecord}
 use Rattle.nb_building.specs.declared.build_fault.BuildFault.{BuildFault}
 use Rattle.nb_building.specs.declared.build_fault.BuildFault.TheVariants.{Memory}
-use Rattle.nb_building.specs.Built.{EntryTexts, IsServiceBuilt, NamesService, NumberText, WordText, query, refresh, registration, release, response, status}
-use Rattle.nb_building.specs.Responses.{HasRdata}
+use Rattle.nb_building.specs.Built.{EntryTexts, IsServiceBuilt, NamesService, NumberText, WordText, query, refresh, registration, release, response, status, HasRdata}
 use Rattle.nb_building.specs.Refusals.{Unnamed}
 use Rattle.nb_building.proofs.UnnamedLemmas.{one_data, one_hex}
 

@@ -2,19 +2,19 @@
 --
 -- A number is written in decimal without leading zeros; the digits of an identifier, of flags, a type, a code and of data
 -- may be in either case. FLAGS of the packets of port 138 that are no fragments are F alone, 02.
-use Rattle.std.specs.Prelude.{◌≡◌, ◌<◌, ◌≤◌, ◌^◌, ◌++◌, ℕ, Bool, List, [], ◌∷◌, length, codes, map}
+use Rattle.std.specs.Prelude.{◌≡◌, ◌<◌, ◌≤◌, ◌^◌, ◌++◌, ℕ, Bool, List, [], ◌∷◌, length, codes, map, ◌≢◌, true, false, bit_or}
 use Rattle.std.specs.Fmt.{decimal}
 use Rattle.std.specs.Int.{w16, to_be_bytes}
 use Rattle.nb_names.specs.Addresses.{address_text}
 use Rattle.nb_names.specs.DomainName.{AreBytes}
 use Rattle.nb_names.specs.Hexadecimal.{HexText, DataText}
-use Rattle.nb_names.specs.Name.{NetbiosName}
+use Rattle.nb_names.specs.Name.{NetbiosName, labels_of_name}
 use Rattle.nb_names.specs.NameText.{IsText}
 use Rattle.nb_service.specs.declared.address_entry.AddressEntry.{AddressEntry}
 use Rattle.nb_service.specs.Encoding as service
 use Rattle.nb_service.specs.Packet.{ServicePacket}
-use Rattle.nb_service.specs.Record.{ResourceData}
-use Rattle.nb_service.specs.Requests.{query_packet, status_packet, registration_packet, refresh_packet, release_packet}
+use Rattle.nb_service.specs.Record.{ResourceData, of_bytes, of_domain, record_of}
+use Rattle.nb_service.specs.Requests.{query_packet, status_packet, registration_packet, refresh_packet, release_packet, packet_of}
 use Rattle.nb_service.specs.Views.{entry_bytes}
 use Rattle.nb_session.specs.Packet as session
 use Rattle.nb_session.specs.declared.packet.Packet.TheVariants.{Message, Request, Positive, Negative, Retarget, Keepalive}
@@ -28,7 +28,32 @@ use Rattle.nb_datagram.specs.Packet as datagram
 use Rattle.nb_datagram.specs.Pieces.{AreTooLong, pieces}
 use Rattle.nb_datagram.specs.FaultTexts.{kind_text}
 use Rattle.nb_text.specs.Words.{query_word}
-use Rattle.nb_building.specs.Responses.{HasRdata, response_packet, with_flag}
+use Rattle.nb_names.specs.declared.pointers.Pointers.TheVariants.{Refused}
+use Rattle.nb_names.specs.Labels.{NameAt}
+use Rattle.nb_service.specs.declared.classes.TheConstants.{IN}
+use Rattle.nb_service.specs.declared.flags.TheConstants.NmFlags.{B}
+use Rattle.nb_service.specs.declared.kinds.TheConstants.{NS}
+use Rattle.nb_service.specs.Header.{nm_bits}
+
+-- ---- the responses that words name: packets with one answer, and no question (RFC 1002 sections 4.2.5 to 4.2.18)
+-- Of these sections all but 4.2.8 and 4.2.15 have such packets.
+
+-- HasRdata kind bytes rdata: these bytes stand where the RDATA of a record of this kind does, at most 65,535: of kind NS
+-- the spelling of a domain name
+pub data HasRdata (kind : ℕ) (bytes : List ℕ) : ResourceData → Type 0 where
+  plain : kind ≢ NS → length bytes ≤ 65535 → HasRdata kind bytes (of_bytes bytes)
+  domain : (labels : List (List ℕ)) → kind ≡ NS → NameAt bytes Refused 0 labels (length bytes)
+      → HasRdata kind bytes (of_domain labels)
+
+-- with_flag word broadcast: the flag word, with B set where the packet is broadcast
+abbrev pub with_flag : ℕ → Bool → ℕ
+with_flag word true = bit_or word (nm_bits B)
+with_flag word false = word
+
+-- response_packet id word name kind ttl rdata: a packet with one answer, of class IN, and nothing else
+abbrev pub response_packet : ℕ → ℕ → NetbiosName → ℕ → ℕ → ResourceData → ServicePacket
+response_packet id word name kind ttl rdata =
+    packet_of id word [] (record_of (labels_of_name name) kind IN ttl rdata ∷ []) [] []
 
 -- ---- one word
 

@@ -1,5 +1,3 @@
 pub mod Built
-pub mod Responses
 pub mod Refusals
-pub mod TooMuchData
 pub mod Building

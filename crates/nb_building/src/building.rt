@@ -2,8 +2,7 @@
 ghost use Rattle.std.specs.Prelude.{◌≡◌, ◌++◌, ℕ, Bool, List, map, IfErr, IfOk, OnOk, string_bytes};
 ghost use Rattle.nb_building.specs.Building.{AreLinesOf, payload_line, payload_lines};
 ghost use Rattle.nb_building.specs.Built.{IsServiceBuilt, IsSessionBuilt, Names, NamesDatagrams};
-ghost use Rattle.nb_building.specs.Refusals.{Unnamed};
-ghost use Rattle.nb_building.specs.TooMuchData.{GiveTooMuch};
+ghost use Rattle.nb_building.specs.Refusals.{Unnamed, GiveTooMuch};
 
 use crate::build_fault::BuildFault;
 use crate::{datagram, service, session};

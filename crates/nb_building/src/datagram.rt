@@ -5,8 +5,7 @@ ghost use Rattle.nb_datagram.specs.Pieces.{AreTooLong, pieces};
 ghost use Rattle.nb_datagram.specs.FaultTexts.{kind_text};
 ghost use Rattle.nb_text.specs.Words.{query_word};
 ghost use Rattle.nb_building.specs.Built.{NamesDatagrams};
-ghost use Rattle.nb_building.specs.Refusals.{Unnamed};
-ghost use Rattle.nb_building.specs.TooMuchData.{GiveTooMuch};
+ghost use Rattle.nb_building.specs.Refusals.{Unnamed, GiveTooMuch};
 
 use crate::arguments::{code, data, key, number};
 use crate::build_fault::BuildFault;

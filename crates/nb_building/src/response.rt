@@ -9,10 +9,8 @@ ghost use Rattle.nb_service.specs.declared.kinds.TheConstants.{NS};
 ghost use Rattle.nb_service.specs.Requests.{packet_of};
 ghost use Rattle.nb_service.specs.Encoding.{packet_bytes};
 ghost use Rattle.nb_service.specs.Record.{ResourceData, ResourceRecord, record_of};
-ghost use Rattle.nb_building.specs.Built.{IsServiceBuilt, NumberText, WordText};
-ghost use Rattle.nb_building.specs.Responses.{HasRdata, response_packet, with_flag};
-ghost use Rattle.nb_building.specs.Refusals.{IsRefused, NamesNone, Unnamed};
-ghost use Rattle.nb_building.specs.TooMuchData.{GiveTooMuch};
+ghost use Rattle.nb_building.specs.Built.{IsServiceBuilt, NumberText, WordText, HasRdata, response_packet, with_flag};
+ghost use Rattle.nb_building.specs.Refusals.{IsRefused, NamesNone, Unnamed, GiveTooMuch};
 
 use crate::arguments::{data, long_number, word};
 use crate::build_fault::BuildFault;

@@ -4,8 +4,7 @@ ghost use Rattle.nb_service.specs.declared.address_entry.AddressEntry as entries
 ghost use Rattle.nb_service.specs.Packet.{ServicePacket};
 ghost use Rattle.nb_service.specs.Encoding.{packet_bytes};
 ghost use Rattle.nb_building.specs.Built.{EntryTexts, IsServiceBuilt, NumberText};
-ghost use Rattle.nb_building.specs.Refusals.{IsRefused, Unnamed};
-ghost use Rattle.nb_building.specs.TooMuchData.{GiveTooMuch};
+ghost use Rattle.nb_building.specs.Refusals.{IsRefused, Unnamed, GiveTooMuch};
 
 use crate::arguments::{entry, long_number, word};
 use crate::build_fault::BuildFault;

@@ -2,8 +2,7 @@
 ghost use Rattle.std.specs.Prelude.{◌≡◌, ◌≢◌, [], map, codes, length, IfErr, IfOk};
 ghost use Rattle.nb_session.specs.Packet.{IsPacket};
 ghost use Rattle.nb_building.specs.Built.{IsSessionBuilt};
-ghost use Rattle.nb_building.specs.Refusals.{Unnamed};
-ghost use Rattle.nb_building.specs.TooMuchData.{GiveTooMuch};
+ghost use Rattle.nb_building.specs.Refusals.{Unnamed, GiveTooMuch};
 
 use crate::arguments::{address, code, data, number};
 use crate::build_fault::BuildFault;

@@ -5,6 +5,7 @@ use Rattle.nb_names.specs.declared.bytes.NoMemory.{NoMemory}
 use Rattle.nb_c.specs.declared.refusal.Refusal.{Refusal}
 use Rattle.nb_c.specs.declared.refusal.Refusal.TheVariants.{Memory, Fault, FaultAt}
 use Rattle.nb_c.specs.Outputs.{Alone, Answers, Does, DoesAtOnce, HasOne, Lent, MayLack, OrMemory, Ends, Filled, FilledAlone, Fills, FillsOrLacks, all_late, of_memory}
+use Rattle.nb_c.specs.ServiceParts.{Chosen}
 
 module _ (late : ℕ → Bool) (Says : Result (List ℕ) Refusal → Type 0) (one : HasOne Says) (old new : Lent) (status : ℕ) where
   told : (answer : Result (List ℕ) Refusal) → Says answer → Answers answer old new status
@@ -88,3 +89,22 @@ module _ (A : Type 0) (late : ℕ → Bool) (Says : Result A Refusal → Type 0)
   fills_or_lacks (Err Memory) j h = record { some = inl h; only = λ other said. inl (j other said, h) }
   fills_or_lacks (Err (Fault code)) j h = filled (Err (Fault code)) j h
   fills_or_lacks (Err (FaultAt code place)) j h = filled (Err (FaultAt code place)) j h
+
+-- ---- of two answers the one is given, and no other
+
+module _ {A : Type 0} (P : Type 0) (here others : Result A Refusal) where
+  pub chosen : P → Alone A (Chosen P here others) here
+  chosen is = record { said = inl (is, refl); only = one } where
+    one : (other : Result A Refusal) → Chosen P here others other → other ≡ here
+    one other said = elim said [
+      | inl x ↦ x.1
+      | inr x ↦ absurd (x.0 is)
+    ]
+
+  pub not_chosen : ¬ P → Alone A (Chosen P here others) others
+  not_chosen isnt = record { said = inr (isnt, refl); only = one } where
+    one : (other : Result A Refusal) → Chosen P here others other → other ≡ others
+    one other said = elim said [
+      | inl x ↦ absurd (isnt x.0)
+      | inr x ↦ x.1
+    ]

@@ -15,9 +15,8 @@ use Rattle.nb_table.specs.Contents.{Contents}
 use Rattle.nb_table.specs.Shared.TableLemmas.{same_table}
 use Rattle.nb_c.specs.declared.differing.NbtDifference.{NbtDifference}
 use Rattle.nb_c.specs.declared.refusal.Refusal.{Refusal}
-use Rattle.nb_c.specs.Differing.{AreSameAt, IsLeastDifference, Differs, difference_of, lower_by, lower_of, Narrows, same, differs, NarrowsBy, at_none, at_one}
+use Rattle.nb_c.specs.Tables.{AreSameAt, IsLeastDifference, Differs, difference_of, lower_by, lower_of, Narrows, same, differs, NarrowsBy, at_none, at_one, follow_the_first}
 use Rattle.nb_c.specs.Outputs.{HasOne, MayLack}
-use Rattle.nb_c.specs.Tables.{follow_the_first}
 
 -- the key isn't below the least so far, of which there is one
 abbrev IsAbove : Option Key → Key → Type 0

@@ -12,7 +12,7 @@ use Rattle.nb_session.specs.Header.{HasHeader, type_of, packet_length}
 use Rattle.nb_session.specs.Parsing.{Parsed, HeaderFails, unknown_type as unknown_header, reserved_flags, bad_length, RequestFails, called_fails, calling_fails, bytes_trail, Parses, header_lacks, header_fails, body_lacks, body_fails, whole}
 use Rattle.nb_c.specs.declared.refusal.Refusal.{Refusal}
 use Rattle.nb_c.specs.declared.refusal.Refusal.TheVariants.{Memory, Fault, FaultAt}
-use Rattle.nb_c.specs.Framing.{Stands, Writes, unknown_type, too_long, judged, frame, follow_the_type, unless_faulty}
+use Rattle.nb_c.specs.Sessions.{Stands, Writes, unknown_type, too_long, judged, frame, follow_the_type, unless_faulty}
 use Rattle.nb_c.specs.Outputs.{HasOne, MayLack, OrMemory, refused_status}
 use Rattle.nb_c.specs.declared.statuses.TheConstants.{NO_ROLE}
 use Rattle.nb_c.specs.Statuses.{name_refusal, session_refusal}

@@ -13,16 +13,12 @@ pub mod LoadLemmas
 pub mod MergeLemmas
 pub mod NameLemmas
 pub mod ObjectLemmas
-pub mod PartLemmas
 pub mod PlaceLemmas
 pub mod ReadLemmas
 pub mod ResponseLemmas
 pub mod ServiceLemmas
 pub mod SessionFrontLemmas
-pub mod ShowLemmas
-pub mod StationLemmas
 pub mod StationNameLemmas
-pub mod TellLemmas
 pub mod TextLemmas
 pub mod TwoLemmas
 pub mod WordLemmas

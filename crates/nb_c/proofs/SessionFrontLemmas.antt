@@ -8,7 +8,7 @@ use Rattle.nb_c.specs.declared.refusal.Refusal.TheVariants.{FaultAt}
 use Rattle.nb_c.specs.declared.session_fronts.NbtSessionFront.{NbtSessionFront}
 use Rattle.nb_c.specs.declared.statuses.TheConstants.{MORE}
 use Rattle.nb_c.specs.Outputs.{Alone}
-use Rattle.nb_c.specs.SessionFronts.{ReadsFront, numbers}
+use Rattle.nb_c.specs.Sessions.{ReadsFront, numbers}
 
 -- bytes begin with one header, and with none where there are fewer than four
 pub record HeaderLaws (bytes : List ℕ) : Type 0 where

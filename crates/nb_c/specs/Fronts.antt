@@ -1,17 +1,24 @@
 -- What the call that reads what stands at the front of a payload of port 138 answers, whether or not a packet does (RFC 1002
 -- sections 4.4.1 and 4.4.2). Places and lengths are in bytes of the payload; those of a name that isn't there whole are 0.
-use Rattle.std.specs.Prelude.{◌≡◌, ℕ, ◌+◌, List, length, Option, Some, None, Result, Ok, Err}
+use Rattle.std.specs.Prelude.{◌≡◌, ℕ, ◌+◌, List, length, Option, Some, None, Result, Ok, Err, ◌==◌, if◌then◌else◌}
 use Rattle.std.specs.Int.{w32, from_be_bytes}
 use Rattle.nb_names.specs.Name.{NetbiosName}
 use Rattle.nb_datagram.specs.declared.front.FragmentFront.{FragmentFront}
 use Rattle.nb_datagram.specs.declared.front.Front.{Front}
 use Rattle.nb_datagram.specs.declared.limits.TheConstants.{DIRECT_HEADER_LENGTH}
 use Rattle.nb_datagram.specs.Fronts.{HasFront, LacksHeader}
-use Rattle.nb_datagram.specs.Packet.{name_bytes}
+use Rattle.nb_datagram.specs.Packet.{name_bytes, packet_bytes}
 use Rattle.nb_c.specs.declared.fronts.NbtDatagramFront.{NbtDatagramFront}
 use Rattle.nb_c.specs.declared.refusal.Refusal.{Refusal}
-use Rattle.nb_c.specs.declared.refusal.Refusal.TheVariants.{FaultAt}
-use Rattle.nb_c.specs.declared.statuses.TheConstants.{TRUNCATED}
+use Rattle.nb_c.specs.declared.refusal.Refusal.TheVariants.{FaultAt, Fault}
+use Rattle.nb_c.specs.declared.statuses.TheConstants.{TRUNCATED, UNKNOWN_TYPE, NO_ROLE}
+use Rattle.nb_names.specs.declared.text_fault.TextFault.{TextFault}
+use Rattle.nb_datagram.specs.declared.key.Key.{Key}
+use Rattle.nb_datagram.specs.declared.packet.Packet.TheVariants.{Error, Query}
+use Rattle.nb_datagram.specs.declared.packet.QueryKind.{QueryKind}
+use Rattle.nb_datagram.specs.declared.packet.QueryKind.TheVariants.{Request, Positive, Negative}
+use Rattle.nb_c.specs.Names.{IsRead}
+use Rattle.nb_c.specs.Statuses.{text_refusal}
 
 -- how many bytes the spelling of a name has that may be there
 abbrev pub spelled_length : Option NetbiosName → ℕ
@@ -51,3 +58,31 @@ front_places front = places_after front front.fragment
 abbrev pub ReadsFront : List ℕ → Result NbtDatagramFront Refusal → Type 0
 ReadsFront payload (Ok found) = (front : Front) × HasFront payload front × (found ≡ front_places front)
 ReadsFront payload (Err refusal) = LacksHeader payload × (refusal ≡ FaultAt TRUNCATED (length payload))
+
+-- ---- what the calls that write packets of port 138 without data answer (RFC 1002 sections 4.4.3 and 4.4.4)
+-- Their FLAGS are 02, the first fragment and no more of them (our choice).
+
+-- the bytes of an error packet of this key, with this code
+abbrev pub error_packet : Key → ℕ → List ℕ
+error_packet key code = packet_bytes (Error (record { flags = 2; key = key; code = code }))
+
+-- the kind of query with this MSG_TYPE: hexadecimal 14, 15 and 16
+abbrev pub query_with : ℕ → Option QueryKind
+query_with type =
+    if type == 20 then Some Request else if type == 21 then Some Positive else if type == 22 then Some Negative else None
+
+-- query_kind kind key read: what is answered where the type is of this kind, or of none, and where the name's text is read so
+abbrev pub query_kind : Option QueryKind → Key → Result NetbiosName TextFault → Result (List ℕ) Refusal
+query_kind None key read = Err (Fault UNKNOWN_TYPE)
+query_kind (Some kind) key (Err fault) = Err (text_refusal NO_ROLE fault)
+query_kind (Some kind) key (Ok name) =
+    Ok (packet_bytes (Query (record { kind = kind; flags = 2; key = key; destination = name })))
+
+-- the same, by the type's number
+abbrev pub query_answer : ℕ → Key → Result NetbiosName TextFault → Result (List ℕ) Refusal
+query_answer type = query_kind (query_with type)
+
+-- Queries type key text answer: this is answered where the name has this text
+abbrev pub Queries : ℕ → Key → List ℕ → Result (List ℕ) Refusal → Type 0
+Queries type key text answer =
+    (read : Result NetbiosName TextFault) × IsRead text read × (answer ≡ query_answer type key read)

@@ -1,7 +1,7 @@
 -- What the call that writes responses of port 137 answers: packets with one answer, of class IN, and nothing else (RFC 1002
 -- sections 4.2.5 to 4.2.18, all but 4.2.8 and 4.2.15). RDATA of type NS is a domain name (section 4.2.1.3), here without
 -- pointers; places count from the front of its bytes.
-use Rattle.std.specs.Prelude.{◌≡◌, ◌≢◌, ◌<◌, ◌≤◌, ℕ, List, length, Result, Ok, Err}
+use Rattle.std.specs.Prelude.{◌≡◌, ◌≢◌, ◌<◌, ◌≤◌, ℕ, List, length, Result, Ok, Err, ◌==◌, nat_lt, if◌then◌else◌}
 use Rattle.nb_names.specs.declared.fault.NameFault.{NameFault}
 use Rattle.nb_names.specs.declared.pointers.Pointers.TheVariants.{Refused}
 use Rattle.nb_names.specs.declared.text_fault.TextFault.{TextFault}
@@ -14,12 +14,18 @@ use Rattle.nb_service.specs.declared.kinds.TheConstants.{NS}
 use Rattle.nb_service.specs.declared.limits.TheConstants.{MAX_RDATA}
 use Rattle.nb_service.specs.Encoding.{packet_bytes}
 use Rattle.nb_service.specs.Record.{ResourceData, ResourceRecord, of_bytes, of_domain, record_of}
-use Rattle.nb_service.specs.Requests.{one_answer}
+use Rattle.nb_service.specs.Requests.{one_answer, query_packet, status_packet, registration_packet, refresh_packet, release_packet}
 use Rattle.nb_c.specs.declared.refusal.Refusal.{Refusal}
 use Rattle.nb_c.specs.declared.refusal.Refusal.TheVariants.{Fault, FaultAt}
 use Rattle.nb_c.specs.declared.responses.Answered.{Answered}
-use Rattle.nb_c.specs.declared.statuses.TheConstants.{LONG_DATA, NAME_TRAILING_BYTES, NO_ROLE}
+use Rattle.nb_c.specs.declared.statuses.TheConstants.{LONG_DATA, NAME_TRAILING_BYTES, NO_ROLE, UNKNOWN_REQUEST}
 use Rattle.nb_c.specs.Statuses.{text_refusal, name_refusal}
+use Rattle.std.specs.Int.{w32, to_be_bytes}
+use Rattle.nb_service.specs.declared.address_entry.AddressEntry.{AddressEntry}
+use Rattle.nb_service.specs.Packet.{ServicePacket}
+use Rattle.nb_service.specs.Views.{entry_bytes}
+use Rattle.nb_c.specs.declared.service.Asked.{Asked}
+use Rattle.nb_c.specs.Names.{IsRead}
 
 -- IsDomain bytes read: the bytes are the spelling of a domain name with these labels, or why they aren't: no name can be
 -- read, or bytes follow it
@@ -58,3 +64,33 @@ pub data Responds (answered : Answered) (text bytes : List ℕ) : Result (List �
   no_name_text : (fault : TextFault) → IsFaultOf text fault → Responds answered text bytes (Err (text_refusal NO_ROLE fault))
   named : (name : NetbiosName) (rdata : Result ResourceData Refusal) → IsText name text → IsRdata answered.kind bytes rdata
       → Responds answered text bytes (response_answer answered name rdata)
+
+-- ---- what the call that writes requests of port 137 answers (RFC 1002 sections 4.2.2, 4.2.4, 4.2.9, 4.2.12 and
+-- 4.2.17)
+
+-- the address that is asked for, with its flags
+abbrev pub entry_of : Asked → AddressEntry
+entry_of asked = record { flags = asked.nb_flags; address = to_be_bytes w32 asked.address }
+
+-- requested asked name entry: the request about a name, with these bytes of an address; a number over 3 is a release's
+abbrev pub requested : Asked → NetbiosName → List ℕ → ServicePacket
+requested asked name entry =
+    if asked.request == 0 then query_packet asked.identifier name asked.broadcast
+    else if asked.request == 1 then status_packet asked.identifier name asked.broadcast
+    else if asked.request == 2 then registration_packet asked.identifier name asked.broadcast asked.time_to_live entry
+    else if asked.request == 3 then refresh_packet asked.identifier name asked.broadcast asked.time_to_live entry
+    else release_packet asked.identifier name asked.broadcast entry
+
+-- named_answer asked read: what is answered where the name's text is read so
+abbrev pub named_answer : Asked → Result NetbiosName TextFault → Result (List ℕ) Refusal
+named_answer asked (Ok name) = Ok (packet_bytes (requested asked name (entry_bytes (entry_of asked))))
+named_answer asked (Err fault) = Err (text_refusal NO_ROLE fault)
+
+-- the same, where no request has a number over 4
+abbrev pub request_answer : Asked → Result NetbiosName TextFault → Result (List ℕ) Refusal
+request_answer asked read = if nat_lt 4 asked.request then Err (Fault UNKNOWN_REQUEST) else named_answer asked read
+
+-- Requests asked text answer: this is answered where the name has this text
+abbrev pub Requests : Asked → List ℕ → Result (List ℕ) Refusal → Type 0
+Requests asked text answer =
+    (read : Result NetbiosName TextFault) × IsRead text read × (answer ≡ request_answer asked read)

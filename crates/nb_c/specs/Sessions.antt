@@ -1,12 +1,12 @@
 -- What the calls that read packets of port 139 answer (RFC 1002 section 4.3).
-use Rattle.std.specs.Prelude.{◌≡◌, ℕ, ◌-◌, List, length, Result, Ok, Err}
+use Rattle.std.specs.Prelude.{◌≡◌, ℕ, ◌-◌, List, length, Result, Ok, Err, ◌<◌, ◌==◌, Bool, not, ◌≤◌, ◌++◌}
 use Rattle.std.specs.Int.{w32, from_be_bytes}
 use Rattle.nb_names.specs.DomainName.{spelling}
 use Rattle.nb_names.specs.Name.{NetbiosName, labels_of_name}
-use Rattle.nb_session.specs.declared.limits.TheConstants.{HEADER_LENGTH}
+use Rattle.nb_session.specs.declared.limits.TheConstants.{HEADER_LENGTH, MAX_MESSAGE}
 use Rattle.nb_session.specs.declared.packet.Packet.TheVariants.{Message, Request, Positive, Negative, Retarget, Keepalive}
 use Rattle.nb_session.specs.declared.parsing.Parsed.TheVariants.{Whole, More, Refused}
-use Rattle.nb_session.specs.Header.{type_of}
+use Rattle.nb_session.specs.Header.{type_of, HasHeader, body_length, header_bytes}
 use Rattle.nb_session.specs.Packet.{Packet, kind_of}
 use Rattle.nb_session.specs.Parsing.{Parsed, Parses}
 use Rattle.nb_c.specs.declared.refusal.Refusal.{Refusal}
@@ -17,6 +17,10 @@ use Rattle.nb_c.specs.declared.sessions.NbtSession.{NbtSession}
 use Rattle.nb_c.specs.declared.statuses.TheConstants as statuses
 use Rattle.nb_c.specs.Names.{spelled_in_place}
 use Rattle.nb_c.specs.Statuses.{session_refusal}
+use Rattle.nb_session.specs.declared.header.Header.{Header}
+use Rattle.nb_c.specs.declared.session_fronts.NbtSessionFront.{NbtSessionFront}
+use Rattle.nb_c.specs.declared.statuses.TheConstants.{MORE}
+use Rattle.nb_session.specs.declared.kind.Kind.{Kind}
 
 -- answer_by told parsed: what is told of the packet that stands at the front, with the bytes it takes up, or why none does
 abbrev pub answer_by : {A : Type 0} → (Packet → ℕ → Result A Refusal) → Parsed → Result A Refusal
@@ -87,3 +91,47 @@ retarget_answer Keepalive = Err (Fault statuses.OTHER_TYPE)
 -- ReadsRetarget bytes answer: this is answered of where the retarget leads that stands at the front
 abbrev pub ReadsRetarget : List ℕ → Result NbtSessionRetarget Refusal → Type 0
 ReadsRetarget = ReadsBy (λ packet used. retarget_answer packet)
+
+-- ---- what the call that reads the header at the front of what came over a connection to port 139 answers, whether
+-- or not a packet stands there (RFC 1002 section 4.3.1)
+
+-- what a header says
+abbrev pub numbers : Header → NbtSessionFront
+numbers header = record {
+  packet_type = header.packet_type;
+  flags = header.flags;
+  body_length = body_length header;
+}
+
+-- ReadsFront bytes answer: this header stands at the front of the bytes, or so many of its four are missing
+abbrev pub ReadsFront : List ℕ → Result NbtSessionFront Refusal → Type 0
+ReadsFront bytes (Ok found) = (header : Header) × HasHeader bytes header × (found ≡ numbers header)
+ReadsFront bytes (Err refusal) = (length bytes < HEADER_LENGTH) × (refusal ≡ FaultAt MORE (HEADER_LENGTH - length bytes))
+
+-- ---- what the call that writes packets of port 139 answers (RFC 1002 section 4.3)
+
+-- a header of this kind, and the body after it
+abbrev pub frame : Kind → List ℕ → List ℕ
+frame kind body = header_bytes kind (length body) ++ body
+
+-- unless_faulty bytes parsed: the bytes, where a packet stands at their front, else why none does
+abbrev pub unless_faulty : List ℕ → Parsed → Result (List ℕ) Refusal
+unless_faulty bytes (Whole packet used) = Ok bytes
+unless_faulty bytes (More needed) = Err (FaultAt statuses.MORE needed)
+unless_faulty bytes (Refused fault) = Err (session_refusal fault)
+
+-- Stands bytes answer: the bytes are answered, where a packet stands at their front, else why none does
+abbrev pub Stands : List ℕ → Result (List ℕ) Refusal → Type 0
+Stands bytes answer = (parsed : Parsed) × Parses bytes parsed × (answer ≡ unless_faulty bytes parsed)
+
+-- Writes type body answer: the packet with this type and this body is answered, if it is read as one, else why it isn't
+pub data Writes (type : ℕ) (body : List ℕ) : Result (List ℕ) Refusal → Type 0 where
+  unknown_type : ((kind : Kind) → ¬ (type_of kind ≡ type)) → Writes type body (Err (Fault statuses.UNKNOWN_TYPE))
+  too_long : (kind : Kind) → type_of kind ≡ type → MAX_MESSAGE < length body
+      → Writes type body (Err (Fault statuses.BAD_LENGTH))
+  judged : (kind : Kind) (answer : Result (List ℕ) Refusal) → type_of kind ≡ type → length body ≤ MAX_MESSAGE
+      → Stands (frame kind body) answer → Writes type body answer
+
+-- the statuses that come once memory is taken for the packet: all but that of an unknown type
+abbrev pub follow_the_type : ℕ → Bool
+follow_the_type status = not (status == statuses.UNKNOWN_TYPE)

@@ -1,7 +1,7 @@
 //! Packets of the datagram service without data, written.
 ghost use Rattle.std.specs.Prelude.{◌≡◌, IfOk, Ok};
 ghost use Rattle.nb_c.specs.Cutting.{key_from};
-ghost use Rattle.nb_c.specs.Dataless.{Queries, error_packet, query_answer, query_with};
+ghost use Rattle.nb_c.specs.Fronts.{Queries, error_packet, query_answer, query_with};
 ghost use Rattle.nb_c.specs.Outputs.{Does, HasOne, OrMemory, none_late};
 ghost use Rattle.nb_datagram.specs.declared.packet.Packet.TheVariants.{Query};
 ghost use Rattle.nb_datagram.specs.Packet.{packet_bytes};

@@ -2,9 +2,8 @@
 ghost use Rattle.std.specs.Prelude.{◌≡◌};
 ghost use Rattle.std.specs.FinMap as maps;
 ghost use Rattle.nb_c.specs.declared.differing.NbtDifference.{NbtDifference};
-ghost use Rattle.nb_c.specs.Differing.{Compares, IsLeastDifference, Narrows, NarrowsBy, difference_of, lower_of};
+ghost use Rattle.nb_c.specs.Tables.{Compares, IsLeastDifference, Narrows, NarrowsBy, difference_of, lower_of, follow_the_first};
 ghost use Rattle.nb_c.specs.Outputs.{FillsOrLacks, OrMemory};
-ghost use Rattle.nb_c.specs.Tables.{follow_the_first};
 
 use crate::laws::a_comparison_has_one_answer;
 use crate::loading::loaded;

@@ -1,6 +1,6 @@
 //! Packets of the session service, written.
 ghost use Rattle.std.specs.Prelude.{◌≡◌, ◌++◌, ◌≤◌, List, ℕ, length, IfOk};
-ghost use Rattle.nb_c.specs.Framing.{Stands, Writes, follow_the_type, frame};
+ghost use Rattle.nb_c.specs.Sessions.{Stands, Writes, follow_the_type, frame};
 ghost use Rattle.nb_c.specs.Outputs.{Alone, Does, HasOne, OrMemory};
 ghost use Rattle.nb_session.specs.declared.limits.TheConstants.{MAX_MESSAGE};
 

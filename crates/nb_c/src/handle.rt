@@ -2,8 +2,7 @@
 ghost use Rattle.std.specs.Prelude.{◌≡◌, MatchOption};
 ghost use Rattle.std.specs.declared.alloc.Global.{Global as Heap};
 ghost use Rattle.nb_c.specs.declared.kept.Kept.{Kept};
-ghost use Rattle.nb_c.specs.KeptCode.{kept_code};
-ghost use Rattle.nb_c.specs.Handles.{IsHere, IsNone, IsTold};
+ghost use Rattle.nb_c.specs.Handles.{kept_code, IsHere, IsNone, IsTold};
 
 use crate::kept::Kept;
 use crate::parts::Parts;

@@ -1,7 +1,7 @@
 //! Requests of the name service, written.
 ghost use Rattle.std.specs.Prelude.{◌≡◌, IfOk};
 ghost use Rattle.nb_c.specs.Outputs.{Does, HasOne, OrMemory, none_late};
-ghost use Rattle.nb_c.specs.Requests.{Requests, entry_of, request_answer, requested};
+ghost use Rattle.nb_c.specs.Responses.{Requests, entry_of, request_answer, requested};
 ghost use Rattle.nb_service.specs.Encoding.{packet_bytes};
 ghost use Rattle.nb_service.specs.Packet.{ServicePacket};
 ghost use Rattle.nb_service.specs.Views.{entry_bytes};

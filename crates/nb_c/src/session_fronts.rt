@@ -2,7 +2,7 @@
 ghost use Rattle.std.specs.Prelude.{◌≡◌};
 ghost use Rattle.nb_c.specs.declared.session_fronts.NbtSessionFront.{NbtSessionFront};
 ghost use Rattle.nb_c.specs.Outputs.{Alone, Fills};
-ghost use Rattle.nb_c.specs.SessionFronts.{ReadsFront, numbers};
+ghost use Rattle.nb_c.specs.Sessions.{ReadsFront, numbers};
 
 use crate::output::fill;
 use crate::refusal::Refusal;

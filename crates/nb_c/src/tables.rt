@@ -3,7 +3,7 @@ ghost use Rattle.std.specs.Prelude.{◌≡◌, IfOk};
 ghost use Rattle.nb_c.specs.Tables.{Joins, Lists, ListsObjects, Merges, follow_the_first};
 ghost use Rattle.nb_c.specs.Outputs.{Does, OrMemory, none_late};
 ghost use Rattle.nb_member.specs.Listing.{listing};
-ghost use Rattle.nb_member.specs.ObjectLines.{listed_objects};
+ghost use Rattle.nb_member.specs.ListingFields.{listed_objects};
 
 use crate::laws::{a_merge_has_one_answer, a_table_has_one_list};
 use crate::loading::loaded;

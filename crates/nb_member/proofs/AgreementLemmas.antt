@@ -1,4 +1,3 @@
 -- Two members that are given the same.
 pub mod SameTable
 pub mod SameDeliveries
-pub mod Pairs

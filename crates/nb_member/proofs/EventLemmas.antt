@@ -1,3 +1,2 @@
 -- What events say: something, and one thing.
 pub mod OneSaying
-pub mod SomeSaying

@@ -10,8 +10,7 @@ use Rattle.nb_member.specs.declared.line_read_fault.LineReadFault.TheVariants as
 use Rattle.nb_member.specs.declared.replay_fault.ReplayFault.{ReplayFault}
 use Rattle.nb_member.specs.declared.replay_fault.ReplayFault.TheVariants.{Line, Read, NoMemory}
 use Rattle.nb_member.specs.Code.LineTurns.{LineFails, malformed as line_malformed, no_memory as line_unheld, not_taken as line_not_taken}
-use Rattle.nb_member.specs.LineReading.{ReadsLine}
-use Rattle.nb_member.specs.LineRoom.{RoomValue, nothing_within}
+use Rattle.nb_member.specs.LineReading.{ReadsLine, RoomValue, nothing_within}
 use Rattle.nb_member.specs.LineTaking.{TakesLine, TakesEach, none, more, EndsEarly, malformed, unread as not_read, no_memory, not_taken, TakesLines}
 use Rattle.nb_member.specs.LinesCame.{lines_held, comes_malformed}
 use Rattle.nb_member.specs.Replaying.{AreLines, ComesMalformed, finished, ended, looked_at}

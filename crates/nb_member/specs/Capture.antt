@@ -1,6 +1,6 @@
 -- The lines of a capture (our choice), each without its line feed. Numbers of bytes count from the
 -- line's first. A moment is in milliseconds.
-use Rattle.std.specs.Prelude.{ℕ, List, codes, ◌≡◌, ◌<◌, ◌≤◌, ◌^◌, length, [], ◌∷◌, ◌++◌, Contains, Result, Ok, Err, Option, Some, None}
+use Rattle.std.specs.Prelude.{ℕ, List, codes, ◌≡◌, ◌<◌, ◌≤◌, ◌^◌, length, [], ◌∷◌, ◌++◌, Contains, Result, Ok, Err, Option, Some, None, Bool, ◌&&◌, nat_le, if◌then◌else◌}
 use Rattle.std.specs.Str.Parse.{IsNumeral, digits_value}
 use Rattle.nb_names.specs.Hexadecimal.{DataText}
 use Rattle.nb_member.specs.declared.limits.TheConstants.{MAX_MOMENT_DIGITS, MAX_LINE}
@@ -8,6 +8,11 @@ use Rattle.nb_member.specs.declared.line.Line.{Line}
 use Rattle.nb_member.specs.declared.line.Line.TheVariants.{Packet, Tick}
 use Rattle.nb_member.specs.declared.line_fault.LineFault.{LineFault}
 use Rattle.nb_member.specs.declared.line_fault.LineFault.TheVariants.{BadLine, NoMemory}
+use Rattle.std.specs.List.{flat_map}
+use Rattle.nb_names.specs.Ascii.{backslash}
+use Rattle.nb_names.specs.NameText.{digits_of}
+use Rattle.nb_member.specs.declared.comments.Comments.{Comments}
+use Rattle.nb_member.specs.declared.comments.Comments.TheVariants.{LeftOut, Printed}
 
 -- ---- characters
 
@@ -89,3 +94,23 @@ Reads line (Ok None) = SaysNothing line
 Reads line (Ok (Some value)) = HasValue line value
 Reads line (Err BadLine) = IsMalformed line
 Reads line (Err NoMemory) = (value : Line) × HasValue line value × NeedsMemory value
+
+-- ---- how the comments of a capture are printed (our choice)
+
+-- whether a byte of a comment is printed as it stands: one from 20 to 7e, in hexadecimal
+abbrev pub is_printable : ℕ → Bool
+is_printable byte = nat_le 32 byte && nat_le byte 126
+
+-- what is printed of a byte of a comment: the byte itself, or `\` and its two digits
+abbrev pub byte_text : ℕ → List ℕ
+byte_text byte = if is_printable byte then byte ∷ [] else backslash ∷ digits_of byte
+
+-- what is printed of a line that is a comment or empty: its bytes, and a line feed; nothing of an empty one
+abbrev pub comment_text : List ℕ → List ℕ
+comment_text [] = []
+comment_text (first ∷ others) = flat_map byte_text (first ∷ others) ++ line_feed ∷ []
+
+-- blank_text comments line: the same, where comments are printed; nothing where they are left out
+abbrev pub blank_text : Comments → List ℕ → List ℕ
+blank_text LeftOut line = []
+blank_text Printed line = comment_text line

@@ -8,14 +8,11 @@ pub mod Taking
 pub mod Deliveries
 pub mod Running
 pub mod Agreement
-pub mod Comments
 pub mod Report
 pub mod Listing
 pub mod Keys
 pub mod ReportFields
 pub mod ListingFields
-pub mod ObjectLines
-pub mod LineRoom
 pub mod LineReading
 pub mod Replaying
 pub mod LinesCame

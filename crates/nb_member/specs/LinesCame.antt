@@ -4,7 +4,7 @@ use Rattle.std.proofs.lemmas.List.{append-nil, take_all}
 use Rattle.nb_names.specs.Counted.{Counts}
 use Rattle.nb_names.specs.LineFacts.{any_cut}
 use Rattle.nb_names.specs.Lines.{CutInto, rest, line, with_rest}
-use Rattle.nb_member.specs.LineRoom.{RoomValue}
+use Rattle.nb_member.specs.LineReading.{RoomValue}
 use Rattle.nb_member.specs.Shared.LinesSoFar.{HandedOut, cut_both, LongFirst, open_end, with_feed, long_line}
 use Rattle.nb_member.specs.Replaying.{AreLines, finished, whole, ComesMalformed, ended, too_long, looked_at}
 

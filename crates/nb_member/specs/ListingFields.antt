@@ -1,5 +1,5 @@
 -- The fields of what a table knows of a key (our choice). Their texts are the lines of `nbt list`.
-use Rattle.std.specs.Prelude.{ℕ, List, [], ◌∷◌, ◌++◌, map, codes, Option, None, Some}
+use Rattle.std.specs.Prelude.{ℕ, List, [], ◌∷◌, ◌++◌, map, codes, Option, None, Some, ◌≡◌}
 use Rattle.nb_names.specs.NameText.{written}
 use Rattle.nb_datagram.specs.declared.key.Key.{Key}
 use Rattle.nb_datagram.specs.Fragment.{DatagramParts}
@@ -10,6 +10,10 @@ use Rattle.nb_table.specs.Contents.{Contents, outline_at, ranges_at, datagram_at
 use Rattle.nb_telling.specs.Telling.{Field, Text, Number, Known, Range, Words, Begins, Ends, LineEnds}
 use Rattle.nb_member.specs.Keys.{kind_key, source_key, destination_key, listed_key, state_key, held_key, end_key, runs_key, more_key}
 use Rattle.nb_member.specs.ReportFields.{parts_fields}
+use Rattle.std.specs.FinMap as maps
+use Rattle.nb_telling.specs.Members.{IsJson}
+use Rattle.nb_telling.specs.Tokens.{object_of}
+use Rattle.nb_member.specs.Capture.{line_feed}
 
 -- a further range
 abbrev pub further_range : PlaceRange → Field
@@ -46,3 +50,23 @@ known_fields None None rs = Text state_key (codes "spoilt") ∷ []
 abbrev pub key_fields : Contents → Key → List Field
 key_fields t k =
     Text listed_key (key_text k) ∷ (known_fields (datagram_at t k) (outline_at t k) (ranges_at t k) ++ LineEnds ∷ [])
+
+-- ---- JSON objects as lines, and those of a table's keys, as `nbt list --json` prints them (our choice)
+
+-- an object with these members as a line
+abbrev pub object_line : List Field → List ℕ
+object_line fields = object_of fields ++ line_feed ∷ []
+
+-- IsObject fields text: the text is the object with these members as a line, one value of RFC 8259
+pub record IsObject (fields : List Field) (text : List ℕ) : Type 0 where
+  pub json : IsJson (object_of fields)
+  pub is : text ≡ object_line fields
+
+-- objects of such keys, in order
+abbrev pub key_objects : Contents → List Key → List ℕ
+key_objects t [] = []
+key_objects t (k ∷ ks) = object_line (key_fields t k) ++ key_objects t ks
+
+-- those of all keys of a table, ascending
+abbrev pub listed_objects : Contents → List ℕ
+listed_objects t = key_objects t (maps.keys t)

@@ -27,8 +27,7 @@ use Rattle.nb_member.specs.Deliveries.{error_of}
 use Rattle.nb_member.specs.Events.{clock, Saying, Says}
 use Rattle.nb_member.specs.Live.{Timed, table_from, live_after}
 use Rattle.nb_member.specs.Taking.{Answers}
-use Rattle.nb_member.specs.Comments.{blank_text}
-use Rattle.nb_member.specs.Capture.{line_feed, space, HasValue, SaysNothing}
+use Rattle.nb_member.specs.Capture.{blank_text, line_feed, space, HasValue, SaysNothing}
 
 -- ---- texts of values
 

@@ -4,7 +4,7 @@
 ghost use Rattle.std.specs.Prelude.{◌≡◌, ◌++◌, [], IsOk, OnOk, string_bytes};
 ghost use Rattle.std.specs.List.{flat_map};
 ghost use Rattle.nb_names.specs.Growth.{OnlyAdds};
-ghost use Rattle.nb_member.specs.Comments.{blank_text, byte_text, comment_text, is_printable as is_printable_byte};
+ghost use Rattle.nb_member.specs.Capture.{blank_text, byte_text, comment_text, is_printable as is_printable_byte};
 
 use crate::comments::Comments;
 use nb_names::{NoMemory, push_digits};

@@ -4,8 +4,7 @@ ghost use Rattle.std.specs.Borrow.{sem};
 ghost use Rattle.std.specs.Io.BufRead.{Rests};
 ghost use Rattle.nb_member.specs.contracts.line_room.LineRoom.{the_row};
 ghost use Rattle.nb_member.specs.declared.line_room.standing.Standing.TheVariants as standing;
-ghost use Rattle.nb_member.specs.LineReading.{ReadsLine, lent_line};
-ghost use Rattle.nb_member.specs.LineRoom.{IsOpen};
+ghost use Rattle.nb_member.specs.LineReading.{ReadsLine, lent_line, IsOpen};
 ghost use Rattle.nb_member.specs.Code.LineSteps.{HandsFirst, handed_out, line_of_size, stopped_by, with_standing};
 
 mod searching;

@@ -2,8 +2,7 @@
 ghost use Rattle.std.specs.Prelude.{◌≡◌, ◌≢◌, ◌++◌, ◌∷◌, [], Ok, Err, IsOk, OnOk, OnErr, fold, List, string_bytes};
 ghost use Rattle.std.specs.Fmt.{decimal};
 ghost use Rattle.nb_telling.specs.Telling.{Grows};
-ghost use Rattle.nb_member.specs.Capture.{Reads, space};
-ghost use Rattle.nb_member.specs.Comments.{blank_text};
+ghost use Rattle.nb_member.specs.Capture.{Reads, space, blank_text};
 ghost use Rattle.nb_member.specs.Code.ReplayLines.{ReportsLine, MayReportLine, WritesOutcome};
 ghost use Rattle.nb_member.specs.Code.Members.{KeepsStation};
 ghost use Rattle.nb_member.specs.Code.Outcomes.{answer_of};

@@ -2,7 +2,7 @@
 ghost use Rattle.std.specs.Prelude.{◌≡◌, ◌<◌, ◌≤◌, ◌+◌, [], length, take};
 ghost use Rattle.nb_member.specs.declared.limits.TheConstants.{MAX_HELD, MAX_READ};
 ghost use Rattle.nb_member.specs.declared.line_room.standing.Standing.TheVariants as standing;
-ghost use Rattle.nb_member.specs.LineRoom.{nothing_held, nothing_within, IsOpen};
+ghost use Rattle.nb_member.specs.LineReading.{nothing_held, nothing_within, IsOpen};
 ghost use Rattle.nb_member.specs.Code.LineSteps.{Suits, let_go_of, with_standing, handed_out, ReadsMore};
 
 mod moving;
@@ -40,7 +40,7 @@ pub struct LineRoom {
 }
 
 impl Model for LineRoom {
-    ghost use Rattle.nb_member.specs.LineRoom.{RoomValue};
+    ghost use Rattle.nb_member.specs.LineReading.{RoomValue};
     ghost use Rattle.nb_member.specs.Code.LineSteps.{IsRoom};
     ghost use Rattle.std.specs.Prelude.{drop, take};
 

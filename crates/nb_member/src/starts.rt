@@ -6,7 +6,7 @@ ghost use Rattle.nb_datagram.specs.Key.{key_cmp};
 ghost use Rattle.nb_member.specs.Taking.{start_after};
 ghost use Rattle.nb_member.specs.Live.{is_over};
 ghost use Rattle.nb_member.specs.Member.{begun, lasts};
-ghost use Rattle.nb_member.specs.Code.Timers.{begun_each, HaveOneSetOfKeys, StandOnce};
+ghost use Rattle.nb_member.specs.Code.Members.{begun_each, HaveOneSetOfKeys, StandOnce};
 
 use crate::limits::FRAGMENT_TIMEOUT;
 use nb_datagram::Key;
@@ -26,7 +26,7 @@ impl Model for Starts {
     ghost use Rattle.std.specs.FinMap as maps;
     ghost use Rattle.nb_datagram.specs.Key.{key_cmp};
     ghost use Rattle.nb_member.specs.Member.{Moments};
-    ghost use Rattle.nb_member.specs.Code.Timers.{moments_code, StandOnce};
+    ghost use Rattle.nb_member.specs.Code.Members.{moments_code, StandOnce};
 
     ghost Value = { Moments };
 

@@ -23,7 +23,7 @@ pub struct TimedTable {
 
 impl Model for TimedTable {
     ghost use Rattle.nb_member.specs.Member.{TimedValue};
-    ghost use Rattle.nb_member.specs.Code.Timers.{timed_code, HaveOneSetOfKeys};
+    ghost use Rattle.nb_member.specs.Code.Members.{timed_code, HaveOneSetOfKeys};
 
     ghost Value = { TimedValue };
 

@@ -1,5 +1,3 @@
-mod CommandShapes
-pub mod AloneWords
 pub mod MisusedWords
 pub mod CommandRows
 pub mod SavingTurns
@@ -16,5 +14,4 @@ pub mod FlagWalks
 pub mod FlagValues
 pub mod FlagTests
 pub mod OptionLaws
-pub mod ProgramOptions
 pub mod RunningLemmas

@@ -8,8 +8,7 @@ use Rattle.clap.proofs.OnLiterals.{clap_on_literals}
 use Rattle.clap.specs.declared.error.Error.{Error}
 use Rattle.clap.specs.declared.error.kind.ErrorKind.{ErrorKind}
 use Rattle.clap.specs.declared.error.kind.ErrorKind.TheVariants as kind
-use Rattle.nbt.specs.CommandLine.{nbt_app}
-use Rattle.nbt.specs.ClapAnswer.{AreMisused, Reports, answer_to}
+use Rattle.nbt.specs.CommandLine.{nbt_app, AreMisused, Reports, answer_to}
 use Rattle.nbt.specs.Refusals.{AsksRefusal}
 use Rattle.nbt.specs.declared.status.Status.{Status}
 use Rattle.nbt.specs.declared.status.Status.TheVariants.{BadUsage, Failed}

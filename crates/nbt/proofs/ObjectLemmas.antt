@@ -13,7 +13,7 @@ use Rattle.nb_text.specs.TellsFront.{TellsFront, IsFrontTold}
 use Rattle.nb_member.specs.declared.member_fault.MemberFault.{MemberFault}
 use Rattle.nb_member.specs.declared.outcome.Outcome.{Outcome}
 use Rattle.nb_member.specs.Member.{MemberValue}
-use Rattle.nb_member.specs.ObjectLines.{IsObject}
+use Rattle.nb_member.specs.ListingFields.{IsObject}
 use Rattle.nb_member.specs.Shared.ObjectLemmas.{adds, told_object}
 use Rattle.nb_member.specs.ReportFields.{OutcomeFields, TellsOutcome, dropped, dropped_fields, passed, passed_fields, result_fields, taken}
 use Rattle.nb_member.specs.declared.line.Line as capture

@@ -7,10 +7,14 @@ use Rattle.clap.specs.Simple.{built}
 use Rattle.clap.specs.declared.parser.matches.ArgMatches.{ArgMatches}
 use Rattle.clap.proofs.WalkLemmas.{one_text-rows}
 use Rattle.nb_member.specs.declared.comments.Comments.TheVariants.{LeftOut, Printed}
-use Rattle.nbt.specs.CommandLine.{nbt_app}
-use Rattle.nbt.specs.Options.{Enters, OneOf}
+use Rattle.nbt.specs.CommandLine.{nbt_app, Enters, OneOf, options}
 use Rattle.nbt.specs.Settings.{AreComments}
 use Rattle.nbt.proofs.FlagValues.{IsAsked, SubsFit, is_asked}
+use Rattle.std.specs.List.{Contains, list_all}
+use Rattle.std.proofs.lemmas.List.Elements.{All-contains}
+use Rattle.std.proofs.lemmas.List.Sums.{AllPass-from_list_all}
+use Rattle.clap.proofs.OnLiterals.{clap_on_literals}
+use Rattle.nbt.proofs.FlagTests.{sub_passes, subs_by_test}
 
 abbrev pub IsHeld : Text → ArgMatches → Text → Type 0
 IsHeld id matches text = one_text (found_of matches) id ≡ Some text
@@ -49,3 +53,24 @@ printed_or_not name fit words matches is = go (asked (codes "comments") name wor
       (λ (printed : AreComments matches Printed). let clash = printed.not_given none in absurd (cc clash)),
       record { given = λ is. absurd (true_is_another (sym is ∙ none)); not_given = λ no. refl; not_held = λ no. absurd (cc (none, no)) },
     )
+
+-- ---- the program's options that have no value
+
+each_passes : list_all (λ p. list_all (sub_passes p.1 p.0) (built nbt_app).subs) options ≡ true
+unfolding clap_on_literals
+each_passes = refl
+
+-- its command has an option with this name, which has no value
+pub fits : (command option : Text) → Contains options (command, option) → SubsFit option command (built nbt_app).subs
+fits command option at =
+    subs_by_test option command (built nbt_app).subs
+    (All-contains (λ p. list_all (sub_passes p.1 p.0) (built nbt_app).subs ≡ true) options (command, option)
+    (AllPass-from_list_all (λ p. list_all (sub_passes p.1 p.0) (built nbt_app).subs) options each_passes) at)
+
+pub show_comments : SubsFit (codes "comments") (codes "show") (built nbt_app).subs
+unfolding clap_on_literals
+show_comments = subs_by_test (codes "comments") (codes "show") (built nbt_app).subs refl
+
+pub replay_comments : SubsFit (codes "comments") (codes "replay") (built nbt_app).subs
+unfolding clap_on_literals
+replay_comments = subs_by_test (codes "comments") (codes "replay") (built nbt_app).subs refl

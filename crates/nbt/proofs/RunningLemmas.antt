@@ -6,8 +6,7 @@ use Rattle.nb_names.specs.Counted.{CountedOf, Counts, no_calls}
 use Rattle.nb_names.specs.DeviceFacts.{Keeps-same}
 use Rattle.nbt.specs.declared.status.Status.{Status}
 use Rattle.nbt.specs.declared.status.Status.TheVariants.{BadUsage, Done, Failed, Refused}
-use Rattle.nbt.specs.ClapAnswer.{AreMisused}
-use Rattle.nbt.specs.CommandLine.{AreAlone, nbt_app}
+use Rattle.nbt.specs.CommandLine.{AreMisused, AreAlone, nbt_app}
 use Rattle.nbt.specs.Commands.{RanBy, Streams, streams}
 use Rattle.nbt.specs.Refusals.{AsksRefusal}
 use Rattle.nbt.specs.Running.{Runs}

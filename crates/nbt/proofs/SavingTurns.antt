@@ -20,8 +20,7 @@ use Rattle.nbt.specs.declared.fault.Fault.{Fault}
 use Rattle.nbt.specs.declared.fault.Fault.TheVariants.{FullSource, Full, Memory, Read, Write}
 use Rattle.nbt.specs.Reported.{of_replay}
 use Rattle.nbt.specs.SaveFaults.{PayloadStops, SaidStops, StopsSaving, UnsavedLine}
-use Rattle.nbt.specs.Saved.{saved_digits}
-use Rattle.nbt.specs.Saving.{SavesCapture, SavesLine, TakesInput, new_saver}
+use Rattle.nbt.specs.Saving.{saved_digits, SavesCapture, SavesLine, TakesInput, new_saver}
 
 -- ---- what a line says
 

@@ -3,7 +3,7 @@ use Rattle.std.specs.Prelude.{◌≡◌, ℕ, Bool, List, [], Some, option_map, 
 use Rattle.clap.specs.Words.{first_value, found_of, matched_of, raw_values}
 use Rattle.clap.specs.declared.parser.matches.ArgMatches.{ArgMatches}
 use Rattle.nb_building.specs.Building.{AreLinesOf}
-use Rattle.nb_building.specs.TooMuchData.{GiveTooMuch}
+use Rattle.nb_building.specs.Refusals.{GiveTooMuch}
 use Rattle.nbt.specs.Settings.{IsGiven}
 
 -- AreWords matches broadcast what words: the matches hold these words, and `broadcast` is what they hold for `--broadcast`

@@ -1,15 +1,28 @@
 -- The program's command line, as clap reads it (our choice).
-use Rattle.std.specs.Prelude.{◌≡◌, ◌⊎◌, ℕ, List, [], ◌∷◌, Option, Some, true, false, codes, Result, IfOk, IsOkAnd}
+use Rattle.std.specs.Prelude.{◌≡◌, ◌⊎◌, ℕ, List, [], ◌∷◌, Option, Some, true, false, codes, Result, IfOk, IsOkAnd, Bool, filter, map, ◌≢◌}
 use Rattle.std.specs.Fmt.{decimal}
 use Rattle.nbt.specs.declared.limits.TheConstants.{KEYS, MOST_INPUT, MOST_KEYS}
 use Rattle.nbt.specs.declared.subcommand.Subcommand.{Subcommand}
 use Rattle.nbt.specs.declared.subcommand.Subcommand.TheVariants as commands
-use Rattle.clap.specs.Words.{App, Rule, Text, app_of, new_app, new_rule, with_rule, with_subcommand}
+use Rattle.clap.specs.Words.{App, Rule, Text, app_of, new_app, new_rule, with_rule, with_subcommand, found_of, rows_of, subcommand_of}
 use Rattle.clap.specs.declared.builder.command.Command.{Command}
 use Rattle.clap.specs.declared.builder.command.Command.TheViews.{out-Command as fields_of}
-use Rattle.clap.specs.Simple.{on_top}
+use Rattle.clap.specs.Simple.{on_top, Shape, built}
 use Rattle.clap.specs.declared.builder.action.ArgAction.TheVariants.{Set, SetTrue, Append}
 use Rattle.clap.specs.declared.builder.value_parser.ValueParser.TheVariants.{Unsigned}
+use Rattle.std.specs.List.{flat_map}
+use Rattle.clap.specs.Walk.{action_of}
+use Rattle.clap.specs.declared.builder.action.ArgAction.{ArgAction}
+use Rattle.clap.specs.declared.parser.matches.ArgMatches.{ArgMatches}
+use Rattle.std.specs.Io.KnownBytes.{Keeps}
+use Rattle.clap.specs.Faults.{fault_of}
+use Rattle.clap.specs.Kinds.{IsAmong}
+use Rattle.clap.specs.declared.error.kind.ErrorKind.{ErrorKind}
+use Rattle.clap.specs.declared.error.kind.ErrorKind.TheVariants.{DisplayHelp, DisplayVersion, OutOfMemory}
+use Rattle.nbt.specs.declared.clap_answer.ClapAnswer.{ClapAnswer}
+use Rattle.nbt.specs.declared.clap_answer.ClapAnswer.TheVariants.{Asked, Misused, NoMemory}
+use Rattle.nbt.specs.declared.status.Status.{Status}
+use Rattle.nbt.specs.declared.status.Status.TheVariants.{Done, BadUsage, Failed}
 
 -- an option that is given or not
 abbrev pub flag_rule : Text → Rule
@@ -163,3 +176,49 @@ word_of commands.Agree = codes "agree"
 -- the program's name and one word more, which is a subcommand that may stand alone
 abbrev pub AreAlone : List Text → Type 0
 AreAlone words = (program : Text) × (word : Text) × (words ≡ program ∷ word ∷ []) × IsAlone word
+
+-- ---- the program's options that have no value, and what the matches of words that name a command hold of them (our
+-- choice)
+
+-- what an option that has no value does
+abbrev pub is_set : ArgAction → Bool
+is_set SetTrue = true
+is_set _ = false
+
+-- the options of a command that have no value, each after the command's name
+abbrev pub options_of : Shape → List (Text × Text)
+options_of s = map (λ a. (s.name, a.id)) (filter (λ a. is_set (action_of a)) s.rules)
+
+-- those of all commands
+abbrev pub options : List (Text × Text)
+options = flat_map options_of (built nbt_app).subs
+
+-- Enters words name matches: the words name this subcommand, and these are its own matches of them
+abbrev pub Enters : List Text → Text → ArgMatches → Type 0
+Enters words name matches = subcommand_of nbt_app words ≡ Some (name, rows_of (found_of matches))
+
+-- OneOf A B: one of the two holds, and not both
+abbrev pub OneOf : Type 0 → Type 0 → Type 0
+OneOf A B = (A × ¬ B) ⊎ (¬ A × B)
+
+-- ---- what the program makes of clap's answer, where it has no matches of the words (our choice)
+
+-- help and the version are asked for; all else is a bad command line, unless memory ran out
+abbrev pub answer_to : ErrorKind → ClapAnswer
+answer_to DisplayHelp = Asked
+answer_to DisplayVersion = Asked
+answer_to OutOfMemory = NoMemory
+answer_to _ = Misused
+
+-- Reports answer status old new: the answer leaves this status, and these bytes on the output that
+-- held the old ones
+abbrev pub Reports : ClapAnswer → Status → Option (List ℕ) → Option (List ℕ) → Type 0
+Reports Asked status old new = (status ≡ Done) ⊎ (status ≡ Failed)
+Reports Misused status old new = (status ≡ BadUsage) × Keeps old new
+Reports NoMemory status old new = (status ≡ Failed) × Keeps old new
+
+-- clap refuses the words, and they ask for no help and no version
+pub record AreMisused (words : List Text) : Type 0 where
+  pub refused : fault_of nbt_app words ≢ []
+  pub no_help : ¬ IsAmong DisplayHelp (fault_of nbt_app words)
+  pub no_version : ¬ IsAmong DisplayVersion (fault_of nbt_app words)

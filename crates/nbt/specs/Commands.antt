@@ -2,7 +2,7 @@
 use Rattle.std.specs.Prelude.{◌≡◌, ◌≢◌, ◌⊎◌, ℕ, Bool, List, [], codes, Some, Option, Result, Ok, Err, IfOk, IfErr, OnOk}
 use Rattle.std.specs.Io.KnownBytes.{Appends, Keeps}
 use Rattle.std.specs.Result.{IsErrAnd}
-use Rattle.clap.specs.Words.{Text, found_of, rows_of, subcommand_name_of, subcommand_of, subcommand_rows_of}
+use Rattle.clap.specs.Words.{Text, found_of, rows_of, subcommand_name_of, subcommand_of, subcommand_rows_of, first_value}
 use Rattle.clap.specs.declared.parser.matches.ArgMatches.{ArgMatches}
 use Rattle.nb_names.specs.declared.limits.TheConstants.{MAX_INPUT}
 use Rattle.nb_names.specs.Counted.{Counts, CountedOf}
@@ -23,18 +23,29 @@ use Rattle.nbt.specs.Building.{Builds}
 use Rattle.nbt.specs.CommandLine.{IsCommand, nbt_app}
 use Rattle.nbt.specs.FaultTexts.{status_after}
 use Rattle.nbt.specs.Input.{WasCut}
-use Rattle.nbt.specs.NameCommand.{IsValue, OutcomeOf}
-use Rattle.nbt.specs.Printing.{IsNameFault, IsNameOf, IsSpellingFault, IsSpellingOf, PrintsFront, PrintsLine, PrintsName, PrintsSpelling}
+use Rattle.nbt.specs.Printing.{IsNameFault, IsNameOf, IsSpellingFault, IsSpellingOf, PrintsFront, PrintsLine, PrintsName, PrintsSpelling, Leaves}
 use Rattle.nbt.specs.Replaying.{AreTexts, Begins, IsReplay, IsUnbegun, ReplaysCapture}
 use Rattle.nbt.specs.SaveFaults.{SaveFails}
-use Rattle.nbt.specs.Saved.{saved_line}
-use Rattle.nbt.specs.Saving.{SavesCapture}
+use Rattle.nbt.specs.Saving.{saved_line, SavesCapture}
 use Rattle.nbt.specs.Settings.{AreOptions, IsCapacity, IsGiven, IsInputLimit}
-use Rattle.nb_member.specs.ObjectLines.{listed_objects}
+use Rattle.nb_member.specs.ListingFields.{listed_objects}
 use Rattle.nb_member.specs.ReportFields.{OutcomeFields}
 use Rattle.nbt.specs.Objects.{BriefFields, FrontFields, ObjectSaid, PacketFields}
 use Rattle.nbt.specs.Showing.{IsBrief, PayloadText, ShowsCapture, ShowsLine, TellsLine}
 use Rattle.nbt.specs.Tables.{CompareFails, ComparesTables, FailsOn, PrintsJoin, Tells, TellsFront}
+
+-- ---- `nbt name [--bytes] VALUE` by what clap's matches of the words hold
+
+-- the matches hold this VALUE
+abbrev pub IsValue : ArgMatches → List ℕ → Type 0
+IsValue matches value = first_value (found_of matches) (codes "VALUE") ≡ Some value
+
+-- OutcomeOf Prints IsFault IsText value result old new: the value's text is printed as a line, or
+-- refused for a fault of the value's
+abbrev pub OutcomeOf : (List ℕ → Option (List ℕ) → Option (List ℕ) → Type 0) → (List ℕ → Fault → Type 0)
+    → (List ℕ → List ℕ → Type 0) → List ℕ → Result Unit Fault → Option (List ℕ) → Option (List ℕ) → Type 0
+OutcomeOf Prints IsFault IsText value (Ok _) old new = Prints value old new
+OutcomeOf Prints IsFault IsText value (Err fault) old new = IsFault value fault × Leaves (IsText value) old new fault
 
 -- ---- streams
 

@@ -2,13 +2,10 @@ pub mod Printing
 pub mod Status
 pub mod FaultTexts
 pub mod Reported
-pub mod ClapAnswer
-pub mod NameCommand
 pub mod Input
 pub mod CommandLine
 pub mod Settings
 pub mod Building
-pub mod Saved
 pub mod Saving
 pub mod SaveFaults
 pub mod Replaying
@@ -20,4 +17,3 @@ pub mod Objects
 pub mod Commands
 pub mod Refusals
 pub mod Running
-pub mod Options

@@ -12,9 +12,9 @@ use Rattle.nb_member.specs.declared.comments.Comments.{Comments}
 use Rattle.nb_member.specs.declared.comments.Comments.TheVariants.{LeftOut, Printed}
 use Rattle.nb_member.specs.declared.line.Line as capture
 use Rattle.nb_member.specs.declared.line.Line.TheVariants.{Packet, Tick}
-use Rattle.nb_member.specs.Comments.{byte_text}
+use Rattle.nb_member.specs.Capture.{byte_text}
 use Rattle.nb_member.specs.Listing.{listing}
-use Rattle.nb_member.specs.ObjectLines.{IsObject, listed_objects}
+use Rattle.nb_member.specs.ListingFields.{IsObject, listed_objects}
 
 -- ---- what objects of lines begin with
 

@@ -6,8 +6,7 @@ use Rattle.nb_names.specs.Counted.{Counts, no_calls}
 use Rattle.nbt.specs.declared.errors.Audience.{Audience}
 use Rattle.nbt.specs.declared.errors.Audience.TheVariants.{Programs}
 use Rattle.nbt.specs.declared.status.Status.{Status}
-use Rattle.nbt.specs.ClapAnswer.{AreMisused}
-use Rattle.nbt.specs.CommandLine.{AreAlone, nbt_app}
+use Rattle.nbt.specs.CommandLine.{AreMisused, AreAlone, nbt_app}
 use Rattle.nbt.specs.Commands.{RanBy}
 use Rattle.nbt.specs.Refusals.{AsksRefusal}
 use Rattle.nbt.specs.Status.{code_of}

@@ -12,12 +12,24 @@ use Rattle.nb_member.specs.declared.member_fault.MemberFault.TheVariants.{Packet
 use Rattle.nb_member.specs.declared.outcome.Outcome.{Outcome}
 use Rattle.nb_member.specs.LineTaking.{TakesEach}
 use Rattle.nb_member.specs.Events.{limits_of}
-use Rattle.nb_member.specs.Member.{MemberValue, contents, with_timed}
+use Rattle.nb_member.specs.Member.{MemberValue, contents, with_timed, after_clock}
 use Rattle.nb_member.specs.Taking.{Takes}
-use Rattle.nb_member.specs.Member.{after_clock}
 use Rattle.nbt.specs.declared.settings.Capacity.{Capacity}
-use Rattle.nbt.specs.Saved.{saved_digits}
 use Rattle.nbt.specs.Settings.{program_settings}
+use Rattle.nb_names.specs.Hexadecimal.{digits_text}
+use Rattle.nb_table.specs.Contents.{Contents}
+use Rattle.nb_table.specs.Saved.{saved}
+use Rattle.nbt.specs.Printing.{line}
+
+-- ---- what the program prints of tables (our choice)
+
+-- the saved table in hexadecimal
+abbrev pub saved_digits : Contents → List ℕ
+saved_digits contents = digits_text (saved contents)
+
+-- the same, as a line
+abbrev pub saved_line : Contents → List ℕ
+saved_line contents = line (saved_digits contents)
 
 -- new_saver c: the member before the first line
 abbrev pub new_saver : Capacity → MemberValue

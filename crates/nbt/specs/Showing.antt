@@ -11,8 +11,7 @@ use Rattle.nb_member.specs.declared.capture_options.CaptureOptions.{CaptureOptio
 use Rattle.nb_member.specs.declared.comments.Comments.{Comments}
 use Rattle.nb_member.specs.declared.line.Line as capture
 use Rattle.nb_member.specs.declared.line.Line.TheVariants.{Packet, Tick}
-use Rattle.nb_member.specs.Capture.{Reads}
-use Rattle.nb_member.specs.Comments.{blank_text}
+use Rattle.nb_member.specs.Capture.{Reads, blank_text}
 use Rattle.nb_member.specs.Replaying.{AreLines, ComesMalformed, IsWhole, looked_at}
 use Rattle.nb_text.specs.Lines.{line_end}
 use Rattle.nb_text.specs.SaysPacket.{IsSaid}

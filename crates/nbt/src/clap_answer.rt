@@ -14,7 +14,7 @@ pub enum ClapAnswer {
 }
 
 impl ClapAnswer {
-    ghost use Rattle.nbt.specs.ClapAnswer.{answer_to};
+    ghost use Rattle.nbt.specs.CommandLine.{answer_to};
 
     /// The answer that goes with a kind of clap's error.
     pub fn to(kind: ErrorKind) -> ClapAnswer

@@ -3,7 +3,7 @@
 
 ghost use Rattle.std.specs.Prelude.{◌≡◌, ◌∷◌, [], OnOk, IfOk, fold, string_bytes};
 ghost use Rattle.nb_telling.specs.Telling.{Number, Text, key_of};
-ghost use Rattle.nb_member.specs.ObjectLines.{IsObject};
+ghost use Rattle.nb_member.specs.ListingFields.{IsObject};
 ghost use Rattle.nbt.specs.Objects.{CommentObject, ObjectOf, PrintsComment, arrival_fields, bare_key, comment_fields, comment_key, comment_of, head_fields, line_key};
 
 use crate::printing_lines::LineText;

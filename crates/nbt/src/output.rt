@@ -4,7 +4,7 @@ ghost use Rattle.std.specs.Io.KnownBytes.{Appends};
 ghost use Rattle.nb_names.specs.Counted.{no_calls};
 ghost use Rattle.nb_names.specs.Devices.{AppendsFront, GrowTo, ShowsWriteFault};
 ghost use Rattle.nbt.specs.Printing.{PrintsText};
-ghost use Rattle.nbt.specs.Saved.{saved_line};
+ghost use Rattle.nbt.specs.Saving.{saved_line};
 
 use crate::fault::Fault;
 use nb_names::Counted;

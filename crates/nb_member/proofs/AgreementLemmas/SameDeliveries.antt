@@ -1,5 +1,5 @@
 -- What members hand over that are given the same fragments.
-use Rattle.std.proofs.Common.{◌≡◌, ◌↔◌, Bool, cond, List, [], ◌∷◌, Option, Some, None, refl, sym, ap, ◌∙◌, inl, inr}
+use Rattle.std.proofs.Common.{◌≡◌, ◌↔◌, Bool, cond, List, [], ◌∷◌, Option, Some, None, refl, sym, ap, ◌∙◌, inl, inr, subst}
 use Rattle.std.proofs.lemmas.Bool.{cases_Bool}
 use Rattle.std.specs.Option.{option_to_list}
 use Rattle.std.specs.FinMap as maps
@@ -20,6 +20,9 @@ use Rattle.nb_member.specs.Events.{Saying}
 use Rattle.nb_member.specs.Live.{table_from, live, cores}
 use Rattle.nb_member.specs.Deliveries.{deliveries}
 use Rattle.nb_member.specs.Agreement.{of_key, heard, whole_of, HandsOverOnce, HandOverTheSame, HandsOverTheSenders, valid, NoneDropped, GiveTheSame}
+use Rattle.nb_member.specs.declared.event.Event.{Event}
+use Rattle.nb_member.specs.declared.pair.Pair.{Pair}
+use Rattle.nb_member.proofs.AgreementLemmas.SameTable.{BothDid}
 
 -- a table has a key spoilt where its fragments disagree about it
 abbrev pub SpoiltKnown : Type 0
@@ -97,3 +100,39 @@ pub senders : ((L : List Core) (d : DatagramParts) → HasPartsAlone L d → IsS
     → (names : List NetbiosName) (L : List Core) (ds : List DatagramParts) → HandsOverOnce names L ds → HandsOverTheSenders names L ds
 senders sound gives names L ds once d parts all hears =
     once_whole names L ds once d.key (sound L d parts) d (gives L d parts all) ∙ heard_is names d hears
+
+-- ---- what two members hand over that are given the same fragments
+
+-- each hands over the datagram of a key once
+pub each_once : {settings : Settings} {names_a names_b : List NetbiosName} {events_a events_b : List Event} {pair : Pair} {S T : List Saying}
+    → BothDid settings names_a names_b events_a events_b pair S T
+    → HandsOverOnce names_a (cores (valid S)) (deliveries settings names_a [] S)
+    → HandsOverOnce names_b (cores (valid S)) (deliveries settings names_b [] T)
+    → HandsOverOnce names_a (cores (valid S)) pair.report_a.deliveries
+    × HandsOverOnce names_b (cores (valid S)) pair.report_b.deliveries
+each_once {names_a = names_a} {names_b = names_b} {S = S} did here there = (
+  subst (HandsOverOnce names_a (cores (valid S))) (sym did.a.deliveries_are) here,
+  subst (HandsOverOnce names_b (cores (valid S))) (sym did.b.deliveries_are) there,
+)
+
+-- what both hear is the same
+pub both_same : {settings : Settings} {names_a names_b : List NetbiosName} {events_a events_b : List Event} {pair : Pair} {S T : List Saying}
+    → BothDid settings names_a names_b events_a events_b pair S T
+    → HandOverTheSame names_a names_b (cores (valid S)) (deliveries settings names_a [] S) (deliveries settings names_b [] T)
+    → HandOverTheSame names_a names_b (cores (valid S)) pair.report_a.deliveries pair.report_b.deliveries
+both_same {settings = settings} {names_a = names_a} {names_b = names_b} {pair = pair} {S = S} did same =
+    subst (λ (ds : List DatagramParts). HandOverTheSame names_a names_b (cores (valid S)) ds pair.report_b.deliveries)
+    (sym did.a.deliveries_are)
+    (subst (HandOverTheSame names_a names_b (cores (valid S)) (deliveries settings names_a [] S)) (sym did.b.deliveries_are) same)
+
+-- and it is the sender's
+pub both_senders : {settings : Settings} {names_a names_b : List NetbiosName} {events_a events_b : List Event} {pair : Pair} {S T : List Saying}
+    → BothDid settings names_a names_b events_a events_b pair S T
+    → HandsOverTheSenders names_a (cores (valid S)) (deliveries settings names_a [] S)
+    → HandsOverTheSenders names_b (cores (valid S)) (deliveries settings names_b [] T)
+    → HandsOverTheSenders names_a (cores (valid S)) pair.report_a.deliveries
+    × HandsOverTheSenders names_b (cores (valid S)) pair.report_b.deliveries
+both_senders {names_a = names_a} {names_b = names_b} {S = S} did here there = (
+  subst (HandsOverTheSenders names_a (cores (valid S))) (sym did.a.deliveries_are) here,
+  subst (HandsOverTheSenders names_b (cores (valid S))) (sym did.b.deliveries_are) there,
+)

@@ -1,22 +1,51 @@
 -- Lines: one value at most, and one of three kinds.
-use Rattle.std.proofs.Common.{◌≡◌, ◌≢◌, ℕ, zero, ◌%◌, ◌^◌, Bool, true, false, List, [], ◌∷◌, ◌++◌, length, refl, sym, ap, ◌∙◌, arith, Some, None, ◌⊎◌, inl, inr}
-use Rattle.std.specs.Prelude.{Contains, codes, slice_get}
+use Rattle.std.proofs.Common.{◌≡◌, ◌≢◌, ℕ, zero, ◌%◌, ◌^◌, Bool, true, false, List, [], ◌∷◌, ◌++◌, length, refl, sym, ap, ◌∙◌, arith, Some, None, ◌⊎◌, inl, inr, ◌≤◌, Result, Ok, Err}
+use Rattle.std.specs.Prelude.{Contains, codes, slice_get, MatchOption}
 use Rattle.std.specs.List.{list_all}
 use Rattle.std.specs.Char.{is_ascii_digit, is_ascii_hexdigit}
-use Rattle.std.specs.Str.{bytes_eq}
-use Rattle.std.specs.Str.Parse.{digits_value}
+use Rattle.std.specs.Str.{bytes_eq, IsAscii}
+use Rattle.std.specs.Str.Parse.{digits_value, AllDigits, ParsesUnsigned}
 use Rattle.std.proofs.lemmas.Bool.{false≢true, cases_lt, cases_eq}
 use Rattle.std.proofs.lemmas.List.Elements.{Contains-append_right}
 use Rattle.std.proofs.lemmas.Slice.Eq.{bytes_eq-Decides}
 use Rattle.nb_member.specs.declared.line.Line.{Line}
 use Rattle.nb_member.specs.declared.line.Line.TheVariants.{Packet, Tick}
 use Rattle.nb_member.specs.declared.limits.TheConstants.{MAX_LINE, MAX_MOMENT_DIGITS}
-use Rattle.nb_member.proofs.CaptureLemmas.Digits.{AllDigits-from_test, test-from_AllDigits}
-use Rattle.nb_names.specs.HexadecimalFacts.{HexText-from_test, test-from_HexText, DataText-cases}
-use Rattle.nb_member.proofs.CaptureLemmas.Payloads.{no_odd_hex, one_payload}
-use Rattle.nb_member.proofs.CaptureLemmas.Words.{Contains-behind, Contains-before, Blank-cases, Says-cases, packet_behind, packet_at_space, packet_has_space, tick_behind, moment_no_space, port_no_space, tick_no_space, one_split}
+use Rattle.nb_member.proofs.CaptureLemmas.Words.{AllDigits-from_test, test-from_AllDigits, IsAscii-from_digits, Contains-behind, Contains-before, Blank-cases, Says-cases, packet_behind, packet_at_space, packet_has_space, tick_behind, moment_no_space, port_no_space, tick_no_space, one_split}
+use Rattle.nb_names.specs.HexadecimalFacts.{HexText-from_test, test-from_HexText, DataText-cases, length-HexText, one_HexText}
 use Rattle.nb_member.specs.Capture.{PortText, names, datagrams, sessions, MomentText, HasWords, packet, tick, Blank, nothing, comment, HasValue, SaysNothing, IsMalformed}
-use Rattle.nb_names.specs.Hexadecimal.{DataText, empty, digits}
+use Rattle.nb_names.specs.Hexadecimal.{DataText, empty, digits, HexText}
+use Rattle.std.specs.Result.{result_ok}
+use Rattle.std.proofs.lemmas.Str.Parse.{parse_digits, numerals_by_value, tells_digits}
+
+-- ---- payloads: what a word stands for
+
+-- an odd number of digits gives no bytes
+pub no_odd_hex : (text : List ℕ) → length text % 2 ≢ 0 → ¬ ((bytes : List ℕ) × HexText bytes text)
+no_odd_hex text odd h =
+    let len = length-HexText h.0 text h.1 in
+    odd (omega (arith, len))
+
+-- `empty` is no row of digits
+empty_no_hex : (bytes text : List ℕ) → HexText bytes text → text ≢ codes "empty"
+empty_no_hex bytes text h e =
+    let len = length-HexText bytes text h in
+    let five : length text ≡ 5 = ap length e in
+    absurd (omega (arith, len, five))
+
+-- a word stands for one payload
+pub one_payload : (text payload other : List ℕ) → DataText payload text → DataText other text → payload ≡ other
+one_payload text payload other p q =
+    elim (DataText-cases payload text p) [
+      | inl a ↦ elim (DataText-cases other text q) [
+        | inl b ↦ a.0 ∙ sym b.0
+        | inr b ↦ absurd (empty_no_hex other text b.1 a.1)
+      ]
+      | inr a ↦ elim (DataText-cases other text q) [
+        | inl b ↦ absurd (empty_no_hex payload text a.1 b.1)
+        | inr b ↦ one_HexText text payload other a.1 b.1
+      ]
+    ]
 
 -- ---- one value
 
@@ -291,3 +320,32 @@ one_of_three line =
         ]
       ]
     ]
+
+-- ---- moments: what parsing their digits gives
+
+-- a word that isn't all digits is no moment
+pub no_moment_from_test : (text : List ℕ) → list_all is_ascii_digit text ≡ false → (moment : ℕ) → ¬ MomentText moment text
+no_moment_from_test text h moment m =
+    false≢true (sym h ∙ test-from_AllDigits text m.digits.1)
+
+-- digits are ASCII
+pub digits_are_ascii : (text : List ℕ) → list_all is_ascii_digit text ≡ true → IsAscii text
+digits_are_ascii text h = IsAscii-from_digits text (AllDigits-from_test text h)
+
+-- what is parsed of digits is their moment, and nothing is where they have none
+pub moment_from_parse : {E : Type 0} (text : List ℕ) (r : Result ℕ E) → list_all is_ascii_digit text ≡ true
+    → length text ≤ MAX_MOMENT_DIGITS → ParsesUnsigned 64 10 text r
+    → MatchOption (result_ok r) ((moment : ℕ) → ¬ MomentText moment text) (λ moment. MomentText moment text)
+moment_from_parse {E} text (Ok moment) h most parsed =
+    let all = AllDigits-from_test text h in
+    let is = parse_digits (numerals_by_value (AllDigits 10) tells_digits) {E = E} 64 text (Ok moment) parsed all in
+    record {
+      digits = (is.0.0, all);
+      most = most;
+      value = is.1;
+      fits = rw is.1 is.0.1;
+    }
+moment_from_parse {E} text (Err e) h most parsed =
+    let all = AllDigits-from_test text h in
+    let is = parse_digits (numerals_by_value (AllDigits 10) tells_digits) 64 text (Err e) parsed all in
+    λ moment m. is (m.digits.0, rw m.value at m.fits)

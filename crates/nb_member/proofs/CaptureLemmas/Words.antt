@@ -1,10 +1,10 @@
 -- The words of a line, and what stands between spaces.
 use Rattle.std.proofs.Common.{◌≡◌, ◌≢◌, ℕ, zero, suc, ◌+◌, ◌<◌, ◌==◌, Bool, true, false, not, List, [], ◌∷◌, ◌++◌, get_or, refl, sym, ap, ◌∙◌, arith, Err, Some, None, ◌⊎◌, inl, inr}
 use Rattle.std.specs.Prelude.{IsTrue, Contains, codes, slice_get}
-use Rattle.std.specs.List.{IsAnyAnswer}
-use Rattle.std.specs.Char.{digit_value}
+use Rattle.std.specs.List.{IsAnyAnswer, list_all}
+use Rattle.std.specs.Char.{digit_value, is_ascii_digit}
 use Rattle.std.specs.Str.Parse.{AllDigits}
-use Rattle.std.proofs.lemmas.Bool.{false≢true}
+use Rattle.std.proofs.lemmas.Bool.{false≢true, and_parts}
 use Rattle.std.proofs.lemmas.Bool.Decides.{Decides-eqb, nat_tests}
 use Rattle.std.proofs.lemmas.List.Elements.{contains_decides, Decides-contains, Contains-append_right, Contains-append_cases}
 pub use Rattle.nb_names.specs.LineFacts.{one_split}
@@ -16,6 +16,8 @@ use Rattle.nb_names.specs.declared.hexadecimal.DigitsFault.{DigitsFault}
 use Rattle.nb_names.specs.declared.hexadecimal.DigitsFault.TheVariants.{BadDigits, NoMemory}
 use Rattle.nb_member.specs.Capture.{PortText, names, datagrams, sessions, MomentText, HasWords, packet, tick, Blank, nothing, comment, ReadsBy, NeedsMemory, for_payload}
 use Rattle.nb_names.specs.Hexadecimal.{DataText, ReadsData}
+use Rattle.std.specs.Str.{IsAscii}
+use Rattle.std.proofs.lemmas.Str.Ascii.{IsAscii-nil, IsAscii-cons}
 
 -- ---- comments
 
@@ -215,3 +217,33 @@ payload_refused port moment text words front behind BadDigits fault is p e no_sp
     none parts.1 parts.3)
 payload_refused port moment text words front behind NoMemory fault is p e no_space m some =
     rw (is, e) (Packet port moment some.0, packet port moment some.0 text front behind p m some.1, for_payload port moment some.0 some.2)
+
+-- ---- decimal digits: tests of them
+
+-- ---- decimal digits
+
+digit_at : (c : ℕ) → is_ascii_digit c ≡ true → digit_value c < 10
+digit_at c h = grind (arith, nat_tests)
+
+at_digit : (c : ℕ) → digit_value c < 10 → is_ascii_digit c ≡ true
+at_digit c h = grind (arith, nat_tests)
+
+digit_ascii : (c : ℕ) → digit_value c < 10 → c < 128
+digit_ascii c h = grind (arith, nat_tests)
+
+-- a text of bytes that pass the test is digits
+pub AllDigits-from_test : (text : List ℕ) → list_all is_ascii_digit text ≡ true → AllDigits 10 text
+AllDigits-from_test [] h = tt
+AllDigits-from_test (c ∷ cs) h =
+    let parts = and_parts (is_ascii_digit c) (list_all is_ascii_digit cs) h in
+    (digit_at c parts.0, AllDigits-from_test cs parts.1)
+
+-- digits pass the test
+pub test-from_AllDigits : (text : List ℕ) → AllDigits 10 text → list_all is_ascii_digit text ≡ true
+test-from_AllDigits [] h = refl
+test-from_AllDigits (c ∷ cs) h = rw (at_digit c h.0) (test-from_AllDigits cs h.1)
+
+-- digits are ASCII
+pub IsAscii-from_digits : (text : List ℕ) → AllDigits 10 text → IsAscii text
+IsAscii-from_digits [] h = IsAscii-nil
+IsAscii-from_digits (c ∷ cs) h = IsAscii-cons c cs (digit_ascii c h.0) (IsAscii-from_digits cs h.1)

@@ -1,8 +1,7 @@
 -- Calls for lines, one after another.
 use Rattle.std.proofs.Common.{◌≡◌, ◌++◌, ℕ, List, sym, ◌∙◌, ap, append_assoc}
 use Rattle.std.proofs.lemmas.List.{append-nil}
-use Rattle.nb_member.specs.LineReading.{ManyCalls, no_call, one_more}
-use Rattle.nb_member.specs.LineRoom.{RoomValue}
+use Rattle.nb_member.specs.LineReading.{ManyCalls, no_call, one_more, RoomValue}
 
 -- what was held and what came is what was handed out and what is held
 pub nothing_lost : (old new : RoomValue) (handed got : List ℕ) → ManyCalls old handed got new → old.rest ++ got ≡ handed ++ new.rest

@@ -7,9 +7,8 @@ use Rattle.nb_member.specs.declared.line_reading.First.TheVariants as first
 use Rattle.nb_member.specs.declared.line_read_fault.LineReadFault.{LineReadFault}
 use Rattle.nb_member.specs.declared.line_read_fault.LineReadFault.TheVariants.{Read, TooLong, NoMemory}
 use Rattle.nb_member.specs.declared.line_room.standing.Standing.TheVariants as standing
-use Rattle.nb_member.specs.LineReading.{ReadsLine}
+use Rattle.nb_member.specs.LineReading.{ReadsLine, RoomValue, IsOpen}
 use Rattle.nb_member.specs.Code.LineSteps.{HandsFirst, ReadsBehind, ReadsMore, let_go_of, handed_out, line_of_size, stopped_by, with_bytes, with_standing}
-use Rattle.nb_member.specs.LineRoom.{RoomValue, IsOpen}
 use Rattle.nb_member.proofs.LineLemmas.Seeking.{IsSeeking, empty_is, seeking_first, turn_unreadable, turn_unheld, turn_none, turn_last}
 
 -- what a room reads that let go of the last line

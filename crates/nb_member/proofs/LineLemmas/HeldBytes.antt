@@ -7,7 +7,7 @@ use Rattle.std.proofs.lemmas.List.Elements.{Contains-append_left, Contains-appen
 use Rattle.std.proofs.Math.Seq.{take-append-add, take-add}
 use Rattle.nb_member.specs.declared.limits.TheConstants.{MAX_LINE}
 use Rattle.nb_member.specs.Code.LineSteps.{IsFeedAt}
-use Rattle.nb_member.specs.LineRoom.{IsTooLong}
+use Rattle.nb_member.specs.LineReading.{IsTooLong}
 
 -- the front of a buffer whose part from a on was written
 pub take-written : (a k n : ℕ) (xs ys : List ℕ) → a ≤ length xs → n ≤ length ys → take (a + n) (put_mid a k xs ys) ≡ take a xs ++ take n ys

@@ -12,9 +12,8 @@ use Rattle.nb_member.specs.declared.line_room.standing.Standing.TheVariants as s
 use Rattle.nb_names.specs.Devices.{GrowTo}
 use Rattle.nb_member.specs.Code.LineSteps.{IsFeedAt}
 use Rattle.nb_member.specs.declared.limits.TheConstants.{MAX_LINE, MAX_READ}
-use Rattle.nb_member.specs.LineReading.{LastRead, ReadsLine}
+use Rattle.nb_member.specs.LineReading.{LastRead, ReadsLine, RoomValue, IsOpen, IsTooLong}
 use Rattle.nb_member.specs.Code.LineSteps.{HandsFirst, ReadsMore, let_go_of, handed_out, with_standing, with_bytes}
-use Rattle.nb_member.specs.LineRoom.{RoomValue, IsOpen, IsTooLong}
 use Rattle.nb_names.specs.DeviceFacts.{Consumes-nil, Consumes-more, Consumes-kept, grows_on, cut_from}
 
 -- these bytes were read, and none so far seen is a line feed

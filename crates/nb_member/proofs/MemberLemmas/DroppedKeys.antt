@@ -15,7 +15,7 @@ use Rattle.nb_member.proofs.LiveLemmas.KeyCounts.{fewer_keys}
 use Rattle.nb_member.proofs.MemberLemmas.Timers.{none_is}
 use Rattle.nb_member.specs.Live.{is_over}
 use Rattle.nb_member.specs.Member.{Moments, lasts}
-use Rattle.nb_member.specs.Code.Timers.{HaveOneSetOfKeys, StandOnce}
+use Rattle.nb_member.specs.Code.Members.{HaveOneSetOfKeys, StandOnce}
 
 -- a table without one key
 abbrev pub without : TableValue → Key → TableValue

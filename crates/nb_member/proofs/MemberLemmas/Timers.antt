@@ -15,7 +15,7 @@ use Rattle.nb_table.specs.Insert.{Takes as TableTakes, NeedsNoMemory, Passes, wi
 use Rattle.nb_table.specs.Shared.TableLemmas.{same_table}
 use Rattle.nb_table.specs.Shared.FragmentLemmas.{join_one, needs_new}
 use Rattle.nb_member.specs.Member.{Moments, begun}
-use Rattle.nb_member.specs.Code.Timers.{HaveOneSetOfKeys}
+use Rattle.nb_member.specs.Code.Members.{HaveOneSetOfKeys}
 
 put_has : {X : Type 0} (b : Bool) (v : X) (o : Option X) → is_some (cond b (Some v) o) ≡ (b || is_some o)
 put_has true v o = refl

@@ -22,8 +22,7 @@ use Rattle.nb_member.proofs.FieldTexts.{dropped_same, result_same}
 use Rattle.nb_member.proofs.TakingLemmas.Payloads.{refused_keeps}
 use Rattle.nb_member.specs.Taking.{Does, Takes, TakesFragment, fragment, error, query, no_packet}
 use Rattle.nb_member.specs.Code.Members.{KeepsStation}
-use Rattle.nb_member.specs.Capture.{HasValue, SaysNothing, line_feed, space}
-use Rattle.nb_member.specs.Comments.{blank_text}
+use Rattle.nb_member.specs.Capture.{HasValue, SaysNothing, line_feed, space, blank_text}
 use Rattle.nb_member.specs.Events.{Saying, clock, Says}
 use Rattle.nb_member.specs.Live.{Timed, live_after}
 use Rattle.nb_member.specs.Member.{MemberValue, StandsOver, contents, with_timed, after_clock}

@@ -17,7 +17,7 @@ use Rattle.nb_entries.specs.Shared.MapsLemmas.{get-joined, lt_not_eq, T_left, T_
 use Rattle.nb_member.proofs.MemberLemmas.Timers.{has_begun}
 use Rattle.nb_member.specs.Taking.{start_after}
 use Rattle.nb_member.specs.Member.{Moments, begun}
-use Rattle.nb_member.specs.Code.Timers.{begun_each, HaveOneSetOfKeys}
+use Rattle.nb_member.specs.Code.Members.{begun_each, HaveOneSetOfKeys}
 
 first_alone : (a : Option ℕ) → a ≡ first_of a None
 first_alone None = refl

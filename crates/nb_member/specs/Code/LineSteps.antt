@@ -12,7 +12,7 @@ use Rattle.nb_member.specs.declared.line_read_fault.LineReadFault.{LineReadFault
 use Rattle.nb_member.specs.declared.line_read_fault.LineReadFault.TheVariants as fault
 use Rattle.nb_member.specs.declared.line_room.standing.Standing.{Standing}
 use Rattle.nb_member.specs.declared.line_room.standing.Standing.TheVariants as standing
-use Rattle.nb_member.specs.LineRoom.{RoomValue, IsOpen, IsTooLong}
+use Rattle.nb_member.specs.LineReading.{RoomValue, IsOpen, IsTooLong}
 
 -- ---- rooms
 

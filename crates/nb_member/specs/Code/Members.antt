@@ -1,6 +1,6 @@
 -- How a member is kept, what no call changes of it, and how it finds a payload for whose key there is no room
 -- (our choice).
-use Rattle.std.specs.Prelude.{ℕ, List, refl, ◌≡◌, Option, Some, None}
+use Rattle.std.specs.Prelude.{ℕ, List, refl, ◌≡◌, Option, Some, None, [], ◌∷◌}
 use Rattle.std.specs.Coded.{Coded, code_by, coded×, coded_ℕ, coded_list}
 use Rattle.nb_names.specs.Name.{NetbiosName, name_code}
 use Rattle.nb_datagram.specs.declared.key.Key.{Key}
@@ -9,13 +9,42 @@ use Rattle.nb_datagram.specs.Fragment.{FragmentParts}
 use Rattle.nb_datagram.specs.Packet.{IsPacket}
 use Rattle.nb_table.specs.declared.fault.TableFault.{TableFault}
 use Rattle.nb_table.specs.declared.fault.TableFault.TheVariants as table_fault
-use Rattle.nb_table.specs.Limits.{IsFull, IsFullSource}
+use Rattle.nb_table.specs.Limits.{IsFull, IsFullSource, TableValue}
 use Rattle.nb_table.specs.Insert.{Passes}
 use Rattle.nb_member.specs.declared.run_report.RunStop.{RunStop}
 use Rattle.nb_member.specs.declared.run_report.RunStop.TheVariants.{Full, FullSource, NoMemory}
 use Rattle.nb_member.specs.declared.settings.Settings.{Settings}
-use Rattle.nb_member.specs.Member.{TimedValue, MemberValue, contents}
-use Rattle.nb_member.specs.Code.Timers.{timed_code}
+use Rattle.nb_member.specs.Member.{TimedValue, MemberValue, contents, Moments, begun}
+use Rattle.std.specs.FinMap as maps
+use Rattle.nb_datagram.specs.Key.{key_code, key_cmp}
+use Rattle.nb_table.specs.Codes.{table_code}
+use Rattle.nb_table.specs.Contents.{Contents}
+
+-- ---- how a table and the timers of its keys are kept (our choice)
+
+-- the moments as the list of them with their keys
+abbrev pub moments_code : Coded Moments
+moments_code = maps.code key_code coded_ℕ
+
+-- the two as a pair
+abbrev pub timed_code : Coded TimedValue
+timed_code =
+    code_by (TableValue × Moments) (coded× table_code moments_code) (λ t. (t.table, t.moments))
+    (λ p. record { table = p.0; moments = p.1 }) (λ _. refl)
+
+-- the two have the same keys
+abbrev pub HaveOneSetOfKeys : Contents → Moments → Type 0
+HaveOneSetOfKeys t m = (k : Key) → maps.contains_key m k ≡ maps.contains_key t k
+
+-- each key stands once in the list
+abbrev pub StandOnce : List (Key × ℕ) → Type 0
+StandOnce [] = Unit {0}
+StandOnce (e ∷ es) = (maps.find key_cmp e.0 es ≡ None) × StandOnce es
+
+-- begun_each moments ks moment: the moments, with this one for each of the keys ks that has none
+abbrev pub begun_each : Moments → List Key → ℕ → Moments
+begun_each moments [] moment = moments
+begun_each moments (k ∷ ks) moment = begun_each (begun moments k moment) ks moment
 
 -- settings as the tuple of their fields
 abbrev pub settings_code : Coded Settings

@@ -16,8 +16,7 @@ use Rattle.nb_member.specs.declared.line_read_fault.LineReadFault.TheVariants.{R
 use Rattle.nb_member.specs.declared.line_room.standing.Standing.{Standing}
 use Rattle.nb_member.specs.declared.line_room.standing.Standing.TheVariants as standing
 use Rattle.nb_member.specs.Capture.{IsMalformed}
-use Rattle.nb_member.specs.LineRoom.{RoomValue, IsTooLong, nothing_within}
-use Rattle.nb_member.specs.LineReading.{ReadsLine, Repeats, lent_line}
+use Rattle.nb_member.specs.LineReading.{RoomValue, IsTooLong, nothing_within, ReadsLine, Repeats, lent_line}
 
 -- ---- what is handed out
 

@@ -6,7 +6,7 @@ use Rattle.nb_telling.specs.Telling.{Field}
 use Rattle.nb_telling.specs.Members.{AreMembers, IsJson}
 use Rattle.nb_telling.specs.Tokens.{field_tokens, object_of, tokens_of}
 use Rattle.nb_telling.proofs.FoldLemmas.{appended}
-use Rattle.nb_member.specs.ObjectLines.{IsObject, object_line}
+use Rattle.nb_member.specs.ListingFields.{IsObject, object_line}
 
 -- what a field adds to an object
 abbrev pub adds : List Token → Field → List Token

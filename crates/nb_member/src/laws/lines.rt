@@ -1,7 +1,6 @@
 //! Laws of the lines that are read one after another.
 ghost use Rattle.std.specs.Prelude.{◌≡◌, ◌++◌, ℕ, List};
-ghost use Rattle.nb_member.specs.LineReading.{ManyCalls};
-ghost use Rattle.nb_member.specs.LineRoom.{RoomValue, nothing_within};
+ghost use Rattle.nb_member.specs.LineReading.{ManyCalls, RoomValue, nothing_within};
 
 /// What calls for lines got from a reader is what they handed out, and then what the room still
 /// holds: no byte is lost, and none is handed out twice.

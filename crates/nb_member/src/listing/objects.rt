@@ -1,7 +1,6 @@
 //! The JSON objects of a table's keys.
 ghost use Rattle.std.specs.Prelude.{◌≡◌, IfOk};
-ghost use Rattle.nb_member.specs.ListingFields.{key_fields};
-ghost use Rattle.nb_member.specs.ObjectLines.{IsObject, listed_objects};
+ghost use Rattle.nb_member.specs.ListingFields.{key_fields, IsObject, listed_objects};
 
 use crate::laws::fields_are_members;
 use crate::listing::tell_key;

@@ -1,7 +1,7 @@
 //! `nbt name`: the spelling of a name's text, and the text of a spelling.
 ghost use Rattle.std.specs.Prelude.{◌≡◌, ℕ, List, true, false, codes, IfOk, IfErr, OnOk, string_bytes};
 ghost use Rattle.nb_names.specs.Devices.{ShowsWriteFault};
-ghost use Rattle.nbt.specs.NameCommand.{IsValue, OutcomeOf};
+ghost use Rattle.nbt.specs.Commands.{IsValue, OutcomeOf};
 ghost use Rattle.nbt.specs.Settings.{IsGiven};
 ghost use Rattle.nbt.specs.Printing.{Leaves, PrintsSpelling, PrintsName, IsSpellingOf, IsSpellingFault, IsNameOf, IsNameFault, IsNoWrite, PrintsText, line};
 

@@ -1,4 +1,4 @@
-use Rattle.nb_building.proofs.BuildingTurns.{lines_more}
+use Rattle.nb_building.proofs.BuiltLemmas.{lines_more}
 use Rattle.nb_building.proofs.building.lines.Goals as goal
 
 pub loop-payload-preserved : goal.loop-payload-preserved

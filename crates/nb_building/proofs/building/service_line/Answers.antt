@@ -1,4 +1,4 @@
-use Rattle.nb_building.proofs.BuildingTurns.{service_lines}
+use Rattle.nb_building.proofs.BuiltLemmas.{service_lines}
 use Rattle.nb_building.proofs.building.service_line.Goals as goal
 
 pub returns-clause-built : goal.returns-clause-built

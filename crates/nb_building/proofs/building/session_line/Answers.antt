@@ -1,4 +1,4 @@
-use Rattle.nb_building.proofs.BuildingTurns.{session_lines}
+use Rattle.nb_building.proofs.BuiltLemmas.{session_lines}
 use Rattle.nb_building.proofs.building.session_line.Goals as goal
 
 pub returns-clause-built : goal.returns-clause-built

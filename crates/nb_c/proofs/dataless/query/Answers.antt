@@ -2,7 +2,7 @@ use Rattle.std.proofs.Common.{refl}
 use Rattle.nb_c.proofs.AnswerLemmas.{or_said}
 use Rattle.nb_c.specs.Outputs.{none_late}
 use Rattle.nb_c.proofs.NameLemmas.{TextLaws, read_one}
-use Rattle.nb_c.specs.Dataless.{query_answer}
+use Rattle.nb_c.specs.Fronts.{query_answer}
 use Rattle.nb_c.proofs.dataless.query.Goals as goal
 
 pub returns-clause-answer : goal.returns-clause-answer

@@ -1,5 +1,5 @@
 use Rattle.std.proofs.Common.{Ok}
-use Rattle.nb_c.specs.Differing.{difference_of}
+use Rattle.nb_c.specs.Tables.{difference_of}
 use Rattle.nb_c.proofs.DifferLemmas.{differ_said, late_difference}
 use Rattle.nb_c.proofs.LoadLemmas.{InputLaws}
 use Rattle.nb_c.proofs.TwoLemmas.{first_failed, second_failed, done}

@@ -1,7 +1,7 @@
 use Rattle.std.proofs.Common.{Option}
 use Rattle.std.specs.FinMap as maps
 use Rattle.nb_datagram.specs.declared.key.Key.{Key}
-use Rattle.nb_c.specs.Differing.{NarrowsBy}
+use Rattle.nb_c.specs.Tables.{NarrowsBy}
 use Rattle.nb_c.proofs.differing.least_of.Given as goal
 
 abbrev pub invariant-loop-key : goal.invariant-loop-key

@@ -1,5 +1,5 @@
 use Rattle.std.proofs.Common.{◌∙◌, sym, true≢false}
-use Rattle.nb_c.specs.Differing.{same, differs}
+use Rattle.nb_c.specs.Tables.{same, differs}
 use Rattle.nb_c.proofs.differing.narrowed.Goals as goal
 
 pub returns-then-same_at : goal.returns-then-same_at

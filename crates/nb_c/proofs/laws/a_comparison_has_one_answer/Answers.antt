@@ -2,8 +2,7 @@ use Rattle.std.proofs.Common.{ℕ, List}
 use Rattle.nb_c.proofs.DifferLemmas.{one_difference}
 use Rattle.nb_c.proofs.LoadLemmas.{InputLaws}
 use Rattle.nb_c.proofs.TwoLemmas.{one_of_two}
-use Rattle.nb_c.specs.Differing.{Differs}
-use Rattle.nb_c.specs.Tables.{widest}
+use Rattle.nb_c.specs.Tables.{Differs, widest}
 use Rattle.nb_c.proofs.laws.a_comparison_has_one_answer.Goals as goal
 
 pub returns : goal.returns

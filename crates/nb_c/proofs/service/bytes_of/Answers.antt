@@ -1,7 +1,7 @@
 use Rattle.std.proofs.Common.{◌≡◌, ◌∙◌, List, ℕ, IfOk, ap, subst}
 use Rattle.nb_service.specs.Packet.{ServicePacket}
 use Rattle.nb_service.specs.Views.{entry_bytes}
-use Rattle.nb_c.specs.Requests.{requested}
+use Rattle.nb_c.specs.Responses.{requested}
 use Rattle.nb_c.proofs.service.bytes_of.Goals as goal
 
 pub returns : goal.returns

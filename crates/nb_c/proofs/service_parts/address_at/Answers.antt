@@ -1,4 +1,4 @@
-use Rattle.nb_c.proofs.PartLemmas.{chosen, not_chosen}
+use Rattle.nb_c.proofs.AnswerLemmas.{chosen, not_chosen}
 use Rattle.nb_c.proofs.service_parts.address_at.Goals as goal
 
 pub returns-in-Some : goal.returns-in-Some

@@ -1,5 +1,5 @@
 use Rattle.nb_c.proofs.AnswerLemmas.{does}
-use Rattle.nb_c.proofs.ShowLemmas.{judged_text, one_shown}
+use Rattle.nb_c.proofs.ObjectLemmas.{judged_text, one_shown}
 use Rattle.nb_c.proofs.showing.nbt_show.Goals as goal
 
 pub returns : goal.returns

@@ -1,6 +1,6 @@
 use Rattle.std.proofs.Common.{ap, sym, ◌∙◌}
 use Rattle.nb_c.specs.declared.kept.Kept.{Kept}
-use Rattle.nb_c.proofs.StationLemmas.{station_done}
+use Rattle.nb_c.proofs.ObjectLemmas.{station_done}
 use Rattle.nb_c.proofs.taking.nbt_station_take.Goals as goal
 
 pub returns-in-Some : goal.returns-in-Some

@@ -1,5 +1,5 @@
 use Rattle.std.proofs.Common.{ℕ, ◌/◌, ◌%◌, List, ◌∷◌, [], ◌∙◌, sym, ap, append_assoc}
-use Rattle.nb_c.proofs.TellLemmas.{four}
+use Rattle.nb_c.proofs.ObjectLemmas.{four}
 use Rattle.nb_c.proofs.telling.packet_of.Goals as goal
 
 pub returns-clause-bytes : goal.returns-clause-bytes

@@ -1,5 +1,5 @@
 use Rattle.std.proofs.Common.{sym, ◌∙◌}
-use Rattle.nb_member.proofs.CaptureLemmas.Moments.{no_moment_from_test, digits_are_ascii, moment_from_parse}
+use Rattle.nb_member.proofs.CaptureLemmas.LineValues.{no_moment_from_test, digits_are_ascii, moment_from_parse}
 use Rattle.nb_member.proofs.capture.moment_of.Goals as goal
 
 pub returns-then-not-are_digits : goal.returns-then-not-are_digits

@@ -1,7 +1,7 @@
 use Rattle.std.proofs.Common.{◌≡◌, ◌++◌, drop, string_bytes}
 use Rattle.std.specs.List.{flat_map}
 use Rattle.nb_names.specs.Growth.{OnlyAdds}
-use Rattle.nb_member.specs.Comments.{byte_text}
+use Rattle.nb_member.specs.Capture.{byte_text}
 use Rattle.nb_member.proofs.comment_writing.push_comment_bytes.Given as goal
 
 abbrev pub invariant-loop-byte : goal.invariant-loop-byte

@@ -1,5 +1,5 @@
 use Rattle.std.proofs.Common.{◌∙◌, ap, inl, inr, subst, sym}
-use Rattle.nb_member.specs.LineRoom.{RoomValue, IsOpen}
+use Rattle.nb_member.specs.LineReading.{RoomValue, IsOpen}
 use Rattle.nb_member.proofs.LineLemmas.Seeking.{turn_ended, turn_unread, turn_long}
 use Rattle.nb_member.proofs.LineLemmas.Ending.{let_go_first}
 use Rattle.nb_member.proofs.line_reading.advance.Goals as goal

@@ -1,5 +1,5 @@
 use Rattle.std.proofs.Common.{◌-◌, ◌≡◌, ◌⊎◌}
-use Rattle.nb_member.specs.LineRoom.{IsOpen}
+use Rattle.nb_member.specs.LineReading.{IsOpen}
 use Rattle.nb_member.proofs.LineLemmas.Seeking.{IsSeeking}
 use Rattle.nb_member.proofs.line_reading.seek.Given as goal
 

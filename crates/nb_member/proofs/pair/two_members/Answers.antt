@@ -1,7 +1,7 @@
 use Rattle.std.proofs.Common.{subst}
 use Rattle.nb_member.specs.declared.pair.Pair.{Pair}
 use Rattle.nb_member.proofs.AgreementLemmas.SameTable.{BothDid, both_did, agree}
-use Rattle.nb_member.proofs.AgreementLemmas.Pairs.{each_once, both_same, both_senders}
+use Rattle.nb_member.proofs.AgreementLemmas.SameDeliveries.{each_once, both_same, both_senders}
 use Rattle.nb_member.proofs.pair.two_members.Goals as goal
 use Rattle.nb_member.specs.Agreement.{AreGivenTheSame, StoppedForMemory}
 use Rattle.nb_member.specs.Member.{MemberValue}

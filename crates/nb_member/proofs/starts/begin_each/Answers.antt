@@ -4,7 +4,7 @@ use Rattle.nb_datagram.specs.declared.key.Key.{Key}
 use Rattle.nb_member.proofs.TakingLemmas.MergedMoments.{AreAnswered, answered, answered_on}
 use Rattle.nb_member.proofs.starts.begin_each.Goals as goal
 use Rattle.nb_member.specs.Member.{Moments}
-use Rattle.nb_member.specs.Code.Timers.{begun_each}
+use Rattle.nb_member.specs.Code.Members.{begun_each}
 
 pub loop-key-init : goal.loop-key-init
 loop-key-init c =

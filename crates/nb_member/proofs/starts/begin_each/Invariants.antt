@@ -2,7 +2,7 @@ use Rattle.std.proofs.Common.{◌≡◌}
 use Rattle.std.specs.FinMap as maps
 use Rattle.nb_member.proofs.TakingLemmas.MergedMoments.{AreAnswered}
 use Rattle.nb_member.proofs.starts.begin_each.Given as goal
-use Rattle.nb_member.specs.Code.Timers.{begun_each}
+use Rattle.nb_member.specs.Code.Members.{begun_each}
 
 abbrev pub invariant-loop-key : goal.invariant-loop-key
 invariant-loop-key l =

@@ -1,5 +1,5 @@
 use Rattle.std.specs.Prelude.{Ok}
-use Rattle.nbt.proofs.CommandShapes.{HasShape, with_arg, with_shape}
+use Rattle.nbt.proofs.CommandRows.{HasShape, with_arg, with_shape}
 use Rattle.nbt.proofs.command_line.build_command.Goals as goal
 
 pub returns : goal.returns

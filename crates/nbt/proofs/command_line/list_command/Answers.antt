@@ -1,4 +1,4 @@
-use Rattle.nbt.proofs.CommandShapes.{HasShape, with_shape}
+use Rattle.nbt.proofs.CommandRows.{HasShape, with_shape}
 use Rattle.nbt.proofs.command_line.list_command.Goals as goal
 
 pub returns : goal.returns

@@ -1,4 +1,4 @@
-use Rattle.nbt.proofs.CommandShapes.{arg_made, in_turn}
+use Rattle.nbt.proofs.CommandRows.{arg_made, in_turn}
 use Rattle.nbt.proofs.command_line.of_capture.Goals as goal
 
 pub returns : goal.returns

@@ -1,6 +1,6 @@
 use Rattle.std.proofs.Common.{ap, ◌∙◌, true}
 use Rattle.clap.specs.Words.{Rule, rule_of}
-use Rattle.nbt.proofs.CommandShapes.{HasShape, with_arg, with_shape}
+use Rattle.nbt.proofs.CommandRows.{HasShape, with_arg, with_shape}
 use Rattle.nbt.proofs.command_line.replay_command.Goals as goal
 
 pub returns : goal.returns

@@ -1,4 +1,4 @@
-use Rattle.nbt.proofs.CommandShapes.{HasShape, with_arg}
+use Rattle.nbt.proofs.CommandRows.{HasShape, with_arg}
 use Rattle.nbt.proofs.command_line.save_command.Goals as goal
 
 pub returns : goal.returns

@@ -1,4 +1,4 @@
-use Rattle.nbt.proofs.CommandShapes.{arg_made}
+use Rattle.nbt.proofs.CommandRows.{arg_made}
 use Rattle.nbt.proofs.command_line.with_flag.Goals as goal
 
 pub returns : goal.returns

@@ -1,4 +1,4 @@
-use Rattle.nbt.proofs.CommandShapes.{HasShape, in_turn, more_made}
+use Rattle.nbt.proofs.CommandRows.{HasShape, in_turn, more_made}
 use Rattle.nbt.proofs.command_line.with_tables.Goals as goal
 
 pub returns : goal.returns

@@ -1,7 +1,6 @@
 use Rattle.std.proofs.Common.{refl}
 use Rattle.clap.proofs.OnLiterals.{clap_on_literals}
-use Rattle.nbt.proofs.OptionLaws.{given_or_not}
-use Rattle.nbt.proofs.ProgramOptions.{fits}
+use Rattle.nbt.proofs.OptionLaws.{given_or_not, fits}
 use Rattle.nbt.proofs.laws.each_option_is_given_or_not.Goals as goal
 
 pub returns-clause-these : goal.returns-clause-these

@@ -1,4 +1,4 @@
-use Rattle.nb_member.proofs.EventLemmas.SomeSaying.{each_says, all_say}
+use Rattle.nb_member.proofs.EventLemmas.OneSaying.{each_says, all_say}
 use Rattle.nb_member.proofs.laws.events.each_event_says_something.Goals as goal
 
 pub returns-clause-event : goal.returns-clause-event

@@ -1,4 +1,4 @@
-use Rattle.nb_member.specs.LineRoom.{nothing_within}
+use Rattle.nb_member.specs.LineReading.{nothing_within}
 use Rattle.nb_member.proofs.LineLemmas.Calls.{nothing_lost}
 use Rattle.nb_member.proofs.laws.lines.what_came_is_handed_out_or_held.Goals as goal
 

@@ -1,5 +1,5 @@
 use Rattle.std.proofs.Common.{◌≡◌, [], take, drop, ap, sym}
-use Rattle.nb_member.specs.LineRoom.{RoomValue}
+use Rattle.nb_member.specs.LineReading.{RoomValue}
 use Rattle.nb_member.proofs.LineLemmas.Ending.{no_more}
 use Rattle.nb_member.proofs.line_room.LineRoom.read_more.Goals as goal
 

@@ -1,5 +1,5 @@
 use Rattle.std.proofs.Common.{◌≡◌, ◌++◌}
-use Rattle.nb_member.specs.ObjectLines.{key_objects, listed_objects}
+use Rattle.nb_member.specs.ListingFields.{key_objects, listed_objects}
 use Rattle.nb_member.proofs.listing.objects.list_objects.Given as goal
 
 abbrev pub invariant-loop-key : goal.invariant-loop-key

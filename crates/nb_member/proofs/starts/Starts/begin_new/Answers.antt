@@ -4,7 +4,7 @@ use Rattle.nb_datagram.specs.Key.{key_cmp, key_cmp_total, key_cmp_exact}
 use Rattle.nb_member.proofs.MemberLemmas.DroppedKeys.{not_found, once_pushed}
 use Rattle.nb_member.proofs.starts.Starts.begin_new.Goals as goal
 use Rattle.nb_member.specs.Member.{Moments}
-use Rattle.nb_member.specs.Code.Timers.{StandOnce}
+use Rattle.nb_member.specs.Code.Members.{StandOnce}
 
 pub invariant_of-self-2 : goal.invariant_of-self-2
 invariant_of-self-2 c =

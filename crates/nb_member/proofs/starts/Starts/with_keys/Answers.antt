@@ -4,7 +4,7 @@ use Rattle.nb_datagram.specs.Key.{key_cmp}
 use Rattle.nb_member.proofs.TakingLemmas.MergedMoments.{begun_of}
 use Rattle.nb_member.proofs.starts.Starts.with_keys.Goals as goal
 use Rattle.nb_member.specs.Member.{Moments}
-use Rattle.nb_member.specs.Code.Timers.{begun_each}
+use Rattle.nb_member.specs.Code.Members.{begun_each}
 
 pub returns : goal.returns
 returns c =

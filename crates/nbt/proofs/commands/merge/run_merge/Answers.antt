@@ -1,7 +1,7 @@
 use Rattle.std.proofs.lemmas.Result.{err_from_is_err_and}
 use Rattle.nb_names.specs.DeviceFacts.{Keeps-same}
 use Rattle.nbt.specs.Settings.{IsCapacity}
-use Rattle.nbt.specs.Saved.{saved_line}
+use Rattle.nbt.specs.Saving.{saved_line}
 use Rattle.nbt.proofs.JoinedLemmas.{join_prints}
 use Rattle.nbt.proofs.PrintedLemmas.{prints_uncut}
 use Rattle.nbt.proofs.commands.merge.run_merge.Goals as goal

@@ -108,29 +108,34 @@ function answer(name, asked) {
 }
 
 /** What all calls answer, where a request is refused, and how many requests were made. */
-function run(lines, refused) {
+function run(refused) {
     [out, number, refusals] = [[], 0, 0];
     look();
     for (let which = 0; which < 3; which++) view.setBigUint64(stationAt(which), 0n, true);
     nbt.heap_refuse(big(refused));
-    for (const line of lines) {
-        if (line === 'line') {
-            number += 1;
-            names.clear();
-            continue;
-        }
-        const [name, ...given] = wordsOf(line, names) ?? [];
-        if (name) answer(name, askedOf(rows.get(name), given));
+    for (const step of steps) {
+        if (step) answer(...step);
+        else number += 1;
     }
     for (let which = 0; which < 3; which++) nbt.nbt_station_free(view.getBigInt64(stationAt(which), true));
     return [out.join(''), Number(nbt.heap_refuse(0n))];
 }
 
-const lines = readFileSync(0, 'latin1').split('\n').filter((line) => line !== '');
-const [answered, requests] = run(lines, 0);
+/** What a line asks, null of one that begins with names of its own; undefined of one that gives a name. */
+function stepOf(line) {
+    if (line !== 'line') {
+        const [name, ...given] = wordsOf(line, names) ?? [];
+        return name && [name, askedOf(rows.get(name), given)];
+    }
+    names.clear();
+    return null;
+}
+
+const steps = readFileSync(0, 'latin1').split('\n').map(stepOf).filter((step) => step !== undefined);
+const [answered, requests] = run(0);
 if (every) {
     const answers = readFileSync(wanted, 'latin1'), bytes = nbt.memory.buffer.byteLength;
-    const isRight = (refused) => run(lines, refused)[0] === answers && refusals === 1 && nbt.memory.buffer.byteLength === bytes;
+    const isRight = (refused) => run(refused)[0] === answers && refusals === 1 && nbt.memory.buffer.byteLength === bytes;
     for (let each = 1; each <= requests; each += 1) console.log(`${isRight(each) ? 'ok' : 'failed'}: request ${each}`);
 } else {
     writeFileSync(1, answered);

@@ -14,7 +14,8 @@ use std::mem::replace;
 use std::num::ParseIntError;
 use std::str::FromStr;
 
-/// For how many bytes the text has room that is made right before a call (tests/lib/refuse_memory.c).
+/// For how many bytes the text has room that is made right before a call
+/// (tests/lib/refuse_memory.c).
 const MARK: usize = 50_021;
 
 /// Words that haven't been taken, and what stands between two of them.

@@ -86,7 +86,7 @@ test('what is left out has a usual value', () => {
     assert.equal(nbt.readDatagram(nbt.writeDatagramQuery({ type: 0x14, identifier: 1, address: 5, name: 'FRED<20>' })).port, 138);
     assert.deepEqual(nbt.writeSession(0x85), hex('85000000'));
     const plain = { identifier: 3, name: 'FRED<20>' }, none = { broadcast: false, timeToLive: 0, flags: 0, address: 0 };
-    assert.deepEqual(nbt.request('release', plain), nbt.request('release', { ...plain, ...none }));
+    assert.deepEqual(nbt.request('registration', plain), nbt.request('registration', { ...plain, ...none }));
     assert.deepEqual(nbt.response({ ...plain, word: 0x8503, type: 10 }), nbt.response({ ...plain, word: 0x8503, type: 10, timeToLive: 0, data: new Uint8Array() }));
     const keys = (count) => Array.from({ length: count }, (_, i) => `0a000005008a${i.toString(16).padStart(4, '0')}00`);
     const table = (count) => hex(`4e425432${count.toString(16).padStart(8, '0')}${keys(count).join('')}`), station = new nbt.Station([], '10.0.0.9');

@@ -1,5 +1,6 @@
 -- The subcommand that clap entered, by the rows of its matches.
 use Rattle.std.proofs.Common.{◌≡◌, ◌≤◌, ◌<◌, ℕ, [], ◌∷◌, inl, inr, length, map, codes, arith, true, refl, sym, ap, subst, ◌∙◌, Bor, List, Option, Some, None, IfSome, Result, ap₂, false, ◌≢◌}
+use Rattle.std.specs.Fmt.{digits}
 use Rattle.clap.specs.Words.{HasMatchesOf, Row, Text, found_of, is_simple, rows_of, subcommand_name_of, subcommand_of, subcommand_rows_of, AddsArg, AddsSubcommand, Rule, rule_of, with_rule, takes}
 use Rattle.clap.proofs.OnLiterals.{clap_on_literals}
 use Rattle.clap.specs.Simple.{subcommand_rows, App, app_of, with_subcommand}
@@ -181,15 +182,15 @@ unfolding clap_on_literals
 show_is_taken program = refl
 
 save_is_taken : (program : Text) → takes nbt_app (program ∷ codes "save" ∷ []) ≡ true
-unfolding clap_on_literals
+unfolding clap_on_literals digits
 save_is_taken program = refl
 
 merge_is_taken : (program : Text) → takes nbt_app (program ∷ codes "merge" ∷ []) ≡ true
-unfolding clap_on_literals
+unfolding clap_on_literals digits
 merge_is_taken program = refl
 
 list_is_taken : (program : Text) → takes nbt_app (program ∷ codes "list" ∷ []) ≡ true
-unfolding clap_on_literals
+unfolding clap_on_literals digits
 list_is_taken program = refl
 
 agree_is_taken : (program : Text) → takes nbt_app (program ∷ codes "agree" ∷ []) ≡ true

@@ -150,7 +150,3 @@ outcome_told after value m new old seen drops passes results t = record {
   members = outcome_members value m new t.fields drops passes results t.are;
   seen = t.told;
 }
-
--- before the first line
-pub objects_begin : {T S : Type 0} (state : T → S) {told made : T} {comment : List ℕ} → made ≡ told → comment ≡ [] → (comment, state made) ≡ ([], state told)
-objects_begin state is empty = λ i. (empty i, state (is i))

@@ -2,7 +2,6 @@ use Rattle.nbt.specs.Replaying.{AreTexts, ReplaysCapture}
 use Rattle.nbt.specs.Settings.{AreOptions, IsCapacity}
 use Rattle.std.proofs.Common.{true, false, inl, inr}
 use Rattle.std.proofs.lemmas.Result.{err_from_is_err_and}
-use Rattle.nbt.proofs.ObjectLemmas.{objects_begin}
 use Rattle.nbt.proofs.ReplayingTurns.{not_begun, not_cut, not_written, replays_capture, unread_cut}
 use Rattle.nb_names.specs.DeviceFacts.{Keeps-same}
 use Rattle.nbt.proofs.ShowingTurns.{shows_capture}
@@ -25,7 +24,7 @@ returns-then-is_given g c = record {
   json = λ json. inl (record {
     member = c.in_ok-member.member;
     begins = c.in_ok-member.ensures.made;
-    tells = shows_capture _ _ _ _ c.options_of-options.result _ _ _ _ _ _ _ (objects_begin _ c.new-objects.ensures.told c.new-objects.ensures.comment) c.options_of-options.ensures c.print_lines.ensures.printed;
+    tells = shows_capture _ _ _ _ c.options_of-options.result _ _ _ _ _ _ _ (λ i. (c.new-objects.ensures.comment i, (c.new-objects.ensures.told i).member)) c.options_of-options.ensures c.print_lines.ensures.printed;
   });
   cut = unread_cut _ _ _ _ c.args.input.now.counts c.print_lines.new.input.counts _ c.print_lines.result c.options_of-options.ensures.limited c.print_lines.ensures.printed.1 c.print_lines.ensures.printed.2.0;
   why = c.print_lines.ensures.why;

@@ -10,7 +10,7 @@ OF_HEADER = ((r'(\* NBT_BAD_LINE for any other line, and for one of more than )[
 OF_PACKAGE = (r'((?:^version = |^  "version": )")[^"]+', '{VERSION}'),
 OF_PAGES = {
     'CHANGELOG.md': ((r'(a table at most )[\d,]+(?= keys)', '{MOST_KEYS:,}'),),
-    'README.md': ((r'(a table at most )[\d,]+(?= keys)', '{MOST_KEYS:,}'),),
+    'README.md': ((r'(a table has at most )[\d,]+(?= keys)', '{MOST_KEYS:,}'),),
     'docs/ATTACKS.md': ((r'(`--input-limit`; )[\d,]+( of a line, )[\d,]+(?= held)', '{MOST_LINE:,}', '{MOST_HELD:,}'),
                         (r'(`nbt replay --keys )\d+', '{MOST_KEYS}')),
     'docs/CALLING.md': ((r'(into a room of at most )[\d,]+', '{MOST_HELD:,}'),),

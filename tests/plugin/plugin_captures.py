@@ -96,10 +96,10 @@ class Made:
         self.frames.append((self.now, frame, 42 + rng.randrange(len(payload)) if cut else None))
         if cut:
             return
-        before = self.capture.next_second
+        before = self.capture.ticks.next
         self.capture.payload(port, (self.now - self.frames[0][0]) // 1_000 if self.now > self.frames[0][0] else 0, payload.hex(), None)
-        if self.capture.next_second != before:
-            self.drops.append((number, self.capture.next_second - 1_000))
+        if self.capture.ticks.next != before:
+            self.drops.append((number, self.capture.ticks.next - 1_000))
         if port == 138:
             self.datagrams[number] = len(self.lines)
             self.note(number, payload)

@@ -12,7 +12,7 @@ import { keyOf } from '../src/model/keys.js';
 import { LEFT_OUT, Packets } from '../src/model/packets.js';
 import { place_of } from '../src/made/places.js';
 import { momentOf, since, utc } from '../src/model/times.js';
-import { MOST_LINE } from '../src/model/vocabulary.js';
+import { MOST_LINE } from '../src/made/vocabulary.js';
 import { Advice, placed } from '../src/view/advice.js';
 import { Filter } from '../src/view/filter.js';
 import { outcome, summary } from '../src/view/conflicts.js';

@@ -4,6 +4,8 @@
 # left out.
 set -uo pipefail
 . "$(dirname "$0")/lib/counting.sh"
+# The page reads captures beside the tools: some of its modules are made of theirs.
+"$here/../tools/lists.py" --made || exit
 program=$(realpath "${1:-$here/../crates/nbt/out/nbt}")
 
 if ! command -v tshark >/dev/null; then

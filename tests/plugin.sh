@@ -8,6 +8,8 @@ set -uo pipefail
 # What stands last in a pipe counts its cases here.
 shopt -s lastpipe
 . "$(dirname "$0")/lib/counting.sh"
+# The package for Python begins with what is made of nbt.h.
+"$here/../tools/lists.py" --made || exit
 . "$here/plugin/plugin_cases.sh"
 top=$(realpath "$here/..")
 library=$(realpath "${1:-$top/out/lib}")

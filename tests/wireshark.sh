@@ -4,6 +4,8 @@
 # 'N passed, M failed, K skipped'. Where tshark isn't installed all of it is left out.
 set -uo pipefail
 . "$(dirname "$0")/lib/counting.sh"
+# The page reads captures beside the tools: some of its modules are made of theirs.
+"$here/../tools/lists.py" --made || exit
 . "$here/wireshark/pcap_cases.sh"
 . "$here/wireshark/live_cases.sh"
 program=$(realpath "${1:-$here/../crates/nbt/out/nbt}")

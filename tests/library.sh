@@ -8,6 +8,8 @@ set -uo pipefail
 # What stands last in a pipe counts its cases here.
 shopt -s lastpipe
 . "$(dirname "$0")/lib/counting.sh"
+# The bindings begin with what is made of nbt.h.
+"$here/../tools/lists.py" --made || exit
 program=$(realpath "${1:-$here/../crates/nbt/out/nbt}")
 . "$here/library/shared.sh"
 page=$top/docs/CALLING.md

@@ -7,7 +7,7 @@ ORDER = {ast.Lt: '<', ast.LtE: '<=', ast.Gt: '>', ast.GtE: '>=', ast.Is: '===', 
 # Methods that JavaScript has by another name, and those that python.js has as functions.
 RENAMED = {'append': 'push', 'startswith': 'startsWith', 'endswith': 'endsWith'}
 METHODS = {'clear', 'extend', 'get', 'hex', 'insert', 'isdigit', 'items', 'partition', 'pop', 'removeprefix', 'rpartition', 'setdefault', 'strip', 'values'}
-AS_OTHERS = {'bool': 'is', 'iter': 'list', 'tuple': 'list'}
+AS_OTHERS = {'bool': 'is', 'tuple': 'list'}
 BUILT_IN = {'all', 'any', 'bool', 'bytearray', 'int', 'iter', 'len', 'list', 'max', 'min', 'next', 'sorted', 'str', 'sum', 'tuple', 'zip'}
 
 

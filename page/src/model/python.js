@@ -4,7 +4,7 @@ import { digitsOf } from '../containers/digits.js';
 import { Growing } from '../containers/growing.js';
 
 /** A key as a Map tells it apart: of several words their text. */
-const keyOf = (key) => (Array.isArray(key) ? key.map(keyOf).join('\0') : key);
+const keyOf = (key) => (typeof key === 'object' && key !== null ? key.map(keyOf).join('\0') : key);
 
 /** Entries by keys, which may be lists, in the order in which they came. */
 export class Dict {
@@ -67,7 +67,13 @@ export function list(it) {
     return it[Symbol.iterator] ? Array.from(it) : Object.keys(it);
 }
 
-export const next = (items) => items[0];
+export const iter = (it) => it;
+
+/** The first key of a Dict, without a list of all, or the first of a list. */
+export function next(it) {
+    return isDict(it) ? it.pairs.values().next().value?.[0] : list(it)[0];
+}
+
 export const items = (it) => (isDict(it) ? it.items() : Object.entries(it));
 export const values = (it) => (isDict(it) ? it.values() : Object.values(it));
 export const zip = (one, other) => list(one).map((each, at) => [each, other[at]]);

@@ -80,7 +80,8 @@ export class Tap {
         const said = this.library.brief(port, bytes);
         /** @type {import('../model/fronts.js').Told} */
         const told = JSON.parse(text);
-        const standing = { ...(told.refused !== undefined && this.standing(port, bytes)), ...told, brief: said };
+        const standing = told.refused === undefined ? told : { ...this.standing(port, bytes), ...told };
+        standing.brief = said;
         const isConflict = this.seen.take(standing, itemOf(mark, port, mac));
         this.packets.add(mark, { port, mac, vlan, bytes });
         const kinds = kindsOf(port, told);

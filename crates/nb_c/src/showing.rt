@@ -9,7 +9,7 @@ use crate::output::{put, write_bytes};
 use crate::statuses::NO_MEMORY;
 use nb_names::{Bytes, NoMemory};
 use nb_telling::JsonRoom;
-use nb_text::laws::{one_list_of_fields, one_phrase, one_text};
+use nb_text::laws::one_telling;
 use nb_text::{packet_object, push_brief, push_packet};
 use std::alloc::Global;
 
@@ -29,7 +29,7 @@ pub extern "C" fn nbt_show(
         (record { buffer = into.new; used = used.new; place = 0 }) result }
 {
     // For the clause: a payload has one text. The call does nothing.
-    one_text();
+    one_telling();
     write_bytes(shown(alloc, port, payload), into, used)
 }
 
@@ -58,7 +58,7 @@ pub extern "C" fn nbt_brief(
         (record { buffer = into.new; used = used.new; place = 0 }) result }
 {
     // For the clause: a payload has one phrase. The call does nothing.
-    one_phrase();
+    one_telling();
     write_bytes(phrase(alloc, port, payload), into, used)
 }
 
@@ -88,7 +88,7 @@ pub extern "C" fn nbt_json(
         (record { buffer = into.new; used = used.new; place = 0 }) result }
 {
     // For the clause: a payload has one list of fields. The call does nothing.
-    one_list_of_fields();
+    one_telling();
     write_object(
         packet_object(port, payload, JsonRoom::new(alloc)),
         into,

@@ -25,28 +25,19 @@ ghost use Rattle.nb_service.specs.Views.{StatusParts, entries_in, entry_bytes, n
 
 use nb_names::laws::{name_or_fault, one_fault, one_reading, spelling_is_read};
 
-/// The numbers that the definitions cite.
+/// The numbers that the definitions cite, those of flags by their bits in a packet's flag word (RFC
+/// 1002 section 4.2.1.1) and in the word of one of a node's names (section 4.2.18).
 pub fn numbers()
     ensures kinds { (A ≡ 1) × (NS ≡ 2) × (NULL ≡ 10) × (NB ≡ 32) × (NBSTAT ≡ 33) }
     ensures class { IN ≡ 1 }
     ensures header { HEADER_LENGTH ≡ 12 }
     ensures entries { MAX_ENTRIES ≡ 65535 }
     ensures rdata { MAX_RDATA ≡ 65535 }
+    ensures packet_flags { (nm_bits AA ≡ 1024) × (nm_bits TC ≡ 512) × (nm_bits RD ≡ 256)
+        × (nm_bits RA ≡ 128) × (nm_bits B ≡ 16) }
+    ensures name_flags { (node_bits G ≡ 32768) × (node_bits DRG ≡ 4096) × (node_bits CNF ≡ 2048)
+        × (node_bits ACT ≡ 1024) × (node_bits PRM ≡ 512) }
     ensures views { (ENTRY_LENGTH ≡ 6) × (NODE_NAME_LENGTH ≡ 18) × (UNIT_ID_LENGTH ≡ 6) }
-{}
-
-/// Each flag of a packet, by its bit in the flag word (RFC 1002 section 4.2.1.1).
-pub fn nm_flags()
-    ensures answer { (nm_bits AA ≡ 1024) × (nm_bits TC ≡ 512) }
-    ensures recursion { (nm_bits RD ≡ 256) × (nm_bits RA ≡ 128) }
-    ensures broadcast { nm_bits B ≡ 16 }
-{}
-
-/// Each flag of one of a node's names, by its bit in the name's word (RFC 1002 section 4.2.18).
-pub fn node_flags()
-    ensures group { node_bits G ≡ 32768 }
-    ensures state { (node_bits DRG ≡ 4096) × (node_bits CNF ≡ 2048) }
-    ensures active { (node_bits ACT ≡ 1024) × (node_bits PRM ≡ 512) }
 {}
 
 /// A flag word is the sum of its fields: R, OPCODE, the seven bits of NM_FLAGS, and RCODE.

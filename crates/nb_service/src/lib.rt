@@ -18,6 +18,7 @@ pub mod limits;
 mod node_name;
 mod node_status;
 mod packet;
+mod plain_question;
 mod question;
 mod rdata;
 mod record;

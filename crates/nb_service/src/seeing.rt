@@ -1,11 +1,7 @@
 //! Questions, records and items of a packet, judged where they stand.
 //!
 //! They are judged in line with their callers: a walk then keeps no more than it needs.
-ghost use Rattle.std.specs.Prelude.{◌≡◌, ◌+◌, ◌^◌, ◌<◌, ◌≤◌, ℕ, List, length, IfOk, IfErr, OnOk, IsOkAnd, IfSome, IsSomeAnd, MatchOption};
-ghost use Rattle.nb_names.specs.declared.pointers.Pointers.TheVariants.{Followed};
-ghost use Rattle.nb_names.specs.Labels.{NameAt};
-ghost use Rattle.nb_names.specs.NameFaults.{FaultAt};
-ghost use Rattle.nb_names.specs.Skipped.{IsSkipped};
+ghost use Rattle.std.specs.Prelude.{◌≡◌, ◌+◌, ◌^◌, ◌<◌, ◌≤◌, ℕ, length, IfOk, IfErr, OnOk, IsOkAnd, IfSome, IsSomeAnd, MatchOption};
 ghost use Rattle.nb_service.specs.declared.question.Question.{Question as QuestionValue};
 ghost use Rattle.nb_service.specs.Items.{SeesQuestion, SeesRecord, IsRecordOf, ItemAt, ItemFails, PacketItem, Sees, section_of};
 ghost use Rattle.nb_service.specs.Packet.{QuestionAt, RdataAt, RecordAt};
@@ -19,48 +15,18 @@ use crate::fields::Fields;
 use crate::header::Header;
 use crate::kinds::NS;
 use crate::laws::{one_item, one_question, one_record};
+use crate::limits::HEADER_LENGTH;
+use crate::plain_question::see_plain_question;
 use crate::section::Section;
 use crate::seen::Seen;
-use nb_names::laws::one_reading;
-use nb_names::limits::LETTERS;
 use nb_names::numbers::{number_16, number_32};
-use nb_names::{NameFault, NameReader, Pointers, Skipped};
+use nb_names::{NameReader, Pointers};
 
 /// The bytes of a question after its name: QUESTION_TYPE, QUESTION_CLASS.
-const QUESTION_FIELDS: usize = 4;
+pub(crate) const QUESTION_FIELDS: usize = 4;
 
 /// The bytes of a record between its name and its RDATA: RR_TYPE, RR_CLASS, TTL, RDLENGTH.
 const RECORD_FIELDS: usize = 10;
-
-/// Where the name stands that is at an offset of a packet, as [`NameReader::skip_domain`] answers.
-/// Nearly all names are one label, as long as the letters of a NetBIOS name, and the root right
-/// after it: those are seen at once, without the walk.
-#[inline(always)]
-fn skip_name(names: &NameReader<'_, '_>, at: usize) -> Result<Skipped, NameFault>
-    ensures found { IfOk result (λ seen.
-        (labels : List (List ℕ)) × IsSkipped names.now Followed at labels seen) }
-    ensures only { (labels : List (List ℕ)) (next : ℕ) → NameAt names.now Followed at labels next →
-        IsOkAnd result (λ seen. IsSkipped names.now Followed at labels seen
-        × (seen.next ≡ next)) }
-    ensures within { IfOk result (λ seen. seen.next ≤ length names.now) }
-    ensures fault { IfErr result (FaultAt names.now Followed at) }
-{
-    // The law on which the clause `only` stands; the call does nothing.
-    one_reading();
-    let packet = names.packet();
-    if at < packet.len() && packet[at] as usize == LETTERS && packet.len() - at > LETTERS + 1 {
-        let root = at + 1 + LETTERS;
-        if packet[root] == 0 {
-            return Ok(Skipped {
-                next: root + 1,
-                spelled_len: LETTERS + 2,
-                run: at,
-                run_end: root + 1,
-            });
-        }
-    }
-    names.skip_domain(at, Pointers::Followed)
-}
 
 /// What is seen of the question that stands at an offset of a packet. No memory is taken.
 ///
@@ -86,7 +52,12 @@ pub fn see_question(names: &NameReader<'_, '_>, at: usize) -> Result<Seen, Servi
     // The law on which the clause `only` stands; the call does nothing.
     one_question();
     let packet = names.packet();
-    let name = skip_name(names, at)?;
+    if at == HEADER_LENGTH {
+        if let Some(first) = see_plain_question(packet) {
+            return Ok(first);
+        }
+    }
+    let name = names.skip_domain(at, Pointers::Followed)?;
     let after = name.next;
     if packet.len() - after < QUESTION_FIELDS {
         return Err(ServiceFault::Truncated(packet.len()));
@@ -149,7 +120,7 @@ pub fn see_record(names: &NameReader<'_, '_>, at: usize) -> Result<Seen, Service
     // The law on which the clause `only` stands; the call does nothing.
     one_record();
     let packet = names.packet();
-    let name = skip_name(names, at)?;
+    let name = names.skip_domain(at, Pointers::Followed)?;
     let after = name.next;
     if packet.len() - after < RECORD_FIELDS {
         return Err(ServiceFault::Truncated(packet.len()));

@@ -4,7 +4,7 @@ use Rattle.std.specs.Prelude.{IsErrAnd, OnOk}
 use Rattle.std.proofs.lemmas.Bool.Decides.{nat_tests}
 use Rattle.std.proofs.lemmas.List.{append_assoc, append-nil}
 use Rattle.std.proofs.lemmas.List.Sums.{fold-append}
-use Rattle.nb_text.specs.Said.{follow_said, phrase, said_after, bytes_word, follow_word, kind_words, offset_said, parsed_said, session_said}
+use Rattle.nb_text.specs.Said.{follow_said, fragment_said, phrase, said_after, bytes_word, follow_word, kind_words, offset_said, parsed_said, session_said}
 use Rattle.nb_text.specs.SaysPacket.{AddsSaid, IsSaid}
 use Rattle.std.specs.Fmt.{decimal}
 use Rattle.std.specs.Int.{w16, from_be_bytes, to_be_bytes}
@@ -12,7 +12,7 @@ use Rattle.std.proofs.lemmas.Nat.{from_be_bytes-to_be_bytes_2}
 use Rattle.nb_names.specs.Addresses.{address_text}
 use Rattle.nb_names.specs.Name.{NetbiosName, IsName, labels_of_name}
 use Rattle.nb_names.specs.NameText.{labels_written, written}
-use Rattle.nb_datagram.specs.declared.kind.Kind.{Kind}
+use Rattle.nb_datagram.specs.Fragment.{FragmentParts, has_more}
 use Rattle.nb_service.specs.declared.question.Question.{Question}
 use Rattle.nb_service.specs.declared.kinds.TheConstants.{NBSTAT}
 use Rattle.nb_service.specs.Packet.{ServicePacket, records_of}
@@ -21,6 +21,7 @@ use Rattle.nb_session.specs.Packet.{Packet as SessionPacket}
 use Rattle.nb_session.specs.declared.parsing.Parsed.TheVariants.{Whole}
 use Rattle.nb_text.proofs.LabelLemmas.{name_written}
 use Rattle.nb_text.specs.Forms.{form_of, is_type}
+use Rattle.nb_text.specs.Sentences.{claimed, entry_for, holder, lasting, sent}
 use Rattle.nb_text.specs.ServiceSaid.{about_first, ending_said, said_of, service_said, told_of, type_of}
 use Rattle.nb_text.specs.Words.{is_set}
 
@@ -84,22 +85,6 @@ pub held : (lead group one ending : List ℕ) (name : NetbiosName) (flags : ℕ)
 held lead group one ending name flags is low =
     ap₂ (λ (t : List ℕ) (n : ℕ). lead ++ (t ++ (by_group group one n ++ ending))) (name_written name is) (from_be_bytes-to_be_bytes_2 flags low)
 
--- the bytes of an address entry
-abbrev pub entry_for : ℕ → ℕ → ℕ → ℕ → ℕ → List ℕ
-entry_for flags a b c d = to_be_bytes w16 flags ++ a ∷ b ∷ c ∷ d ∷ []
-
--- for whom a name is registered
-abbrev pub holder : ℕ → List ℕ
-holder = by_group (codes " as a group for ") (codes " for ")
-
--- an address, and for how long it holds
-abbrev pub lasting : List ℕ → ℕ → List ℕ
-lasting address ttl = address_text address ++ (codes ", for " ++ (decimal ttl ++ codes " s"))
-
--- registered lead name flags address ttl: a name that is registered
-abbrev pub registered : List ℕ → NetbiosName → ℕ → List ℕ → ℕ → List ℕ
-registered lead name flags address ttl = lead ++ (written name ++ (holder flags ++ lasting address ttl))
-
 pub query_said : (id : ℕ) (name : NetbiosName) (broadcast : Bool) → IsName name
     → phrase (service_said (query_packet id name broadcast)) ≡ codes "asks for " ++ written name
 query_said id name true is = named_last (codes "asks for ") name is
@@ -111,14 +96,14 @@ status_said id name true is = named_last (codes "asks for the node status of ") 
 status_said id name false is = named_last (codes "asks for the node status of ") name is
 
 pub registration_said : (id ttl flags a b c d : ℕ) (name : NetbiosName) (broadcast : Bool) → IsName name → flags < 2 ^ 16
-    → phrase (service_said (registration_packet id name broadcast ttl (entry_for flags a b c d))) ≡ registered (codes "claims ") name flags (a ∷ b ∷ c ∷ d ∷ []) ttl
-registration_said id ttl flags a b c d name true is low = held (codes "claims ") _ _ (lasting (a ∷ b ∷ c ∷ d ∷ []) ttl) name flags is low
-registration_said id ttl flags a b c d name false is low = held (codes "claims ") _ _ (lasting (a ∷ b ∷ c ∷ d ∷ []) ttl) name flags is low
+    → phrase (service_said (registration_packet id name broadcast ttl (entry_for flags a b c d))) ≡ codes "claims " ++ claimed name flags (a ∷ b ∷ c ∷ d ∷ []) ttl
+registration_said id ttl flags a b c d name true is low = held (codes "claims ") _ _ (address_text (a ∷ b ∷ c ∷ d ∷ []) ++ lasting ttl) name flags is low
+registration_said id ttl flags a b c d name false is low = held (codes "claims ") _ _ (address_text (a ∷ b ∷ c ∷ d ∷ []) ++ lasting ttl) name flags is low
 
 pub refresh_said : (id ttl flags a b c d : ℕ) (name : NetbiosName) (broadcast : Bool) → IsName name → flags < 2 ^ 16
-    → phrase (service_said (refresh_packet id name broadcast ttl (entry_for flags a b c d))) ≡ registered (codes "refreshes ") name flags (a ∷ b ∷ c ∷ d ∷ []) ttl
-refresh_said id ttl flags a b c d name true is low = held (codes "refreshes ") _ _ (lasting (a ∷ b ∷ c ∷ d ∷ []) ttl) name flags is low
-refresh_said id ttl flags a b c d name false is low = held (codes "refreshes ") _ _ (lasting (a ∷ b ∷ c ∷ d ∷ []) ttl) name flags is low
+    → phrase (service_said (refresh_packet id name broadcast ttl (entry_for flags a b c d))) ≡ codes "refreshes " ++ claimed name flags (a ∷ b ∷ c ∷ d ∷ []) ttl
+refresh_said id ttl flags a b c d name true is low = held (codes "refreshes ") _ _ (address_text (a ∷ b ∷ c ∷ d ∷ []) ++ lasting ttl) name flags is low
+refresh_said id ttl flags a b c d name false is low = held (codes "refreshes ") _ _ (address_text (a ∷ b ∷ c ∷ d ∷ []) ++ lasting ttl) name flags is low
 
 pub release_said : (id flags a b c d : ℕ) (name : NetbiosName) (broadcast : Bool) → IsName name → flags < 2 ^ 16
     → phrase (service_said (release_packet id name broadcast (entry_for flags a b c d)))
@@ -141,11 +126,16 @@ first_said packet question questions is =
 -- ---- ports 138 and 139
 
 -- a datagram, or a part of one, of which this is said besides
-pub part_said : (kind : Kind) (source destination : NetbiosName) (bytes : List ℕ) (place behind : List (List ℕ)) → place ≡ behind
-    → phrase (kind_words kind ∷ written source ∷ codes " to " ∷ written destination ∷ codes ", " ∷ decimal (length bytes) ∷ bytes_word (length bytes) ∷ place)
-    ≡ phrase (kind_words kind ∷ written source ∷ codes " to " ∷ written destination ∷ codes ", " ∷ decimal (length bytes) ∷ bytes_word (length bytes) ∷ behind)
-part_said kind source destination bytes place behind same =
-    ap (λ (ps : List (List ℕ)). phrase (kind_words kind ∷ written source ∷ codes " to " ∷ written destination ∷ codes ", " ∷ decimal (length bytes) ∷ bytes_word (length bytes) ∷ ps)) same
+pub part_said : (datagram : FragmentParts) (behind : List (List ℕ)) → offset_said (has_more datagram.flags) datagram.offset ≡ behind
+    → phrase (fragment_said datagram) ≡ sent datagram (phrase behind)
+part_said datagram behind same =
+    let front = λ (t : List ℕ). kind_words datagram.kind ++ (written datagram.source ++ (codes " to " ++ (written datagram.destination ++ (codes ", " ++ (decimal (length datagram.bytes) ++ t))))) in
+    ap (λ (ps : List (List ℕ)). front (phrase (bytes_word (length datagram.bytes) ∷ ps))) same ∙ ap front (phrase_more (bytes_word (length datagram.bytes)) behind)
+
+-- a part that others follow
+pub front_place : (more : Bool) (offset : ℕ) → more ≡ true
+    → offset_said more offset ≡ codes " at offset " ∷ decimal offset ∷ codes " of one that goes on" ∷ []
+front_place more offset is = ap (λ (m : Bool). offset_said m offset) is
 
 -- the last part of one
 pub last_place : (more : Bool) (offset : ℕ) → more ≡ false → 0 < offset

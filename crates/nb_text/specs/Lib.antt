@@ -15,5 +15,6 @@ pub mod FrontFields
 pub mod TellsFront
 pub mod Forms
 pub mod Said
+pub mod Sentences
 pub mod ServiceSaid
 pub mod SaysPacket

@@ -5,49 +5,37 @@ ghost use Rattle.nb_text.specs.Words.{datagram_word, operation_word, query_word,
 
 use nb_datagram::{Kind, QueryKind, kind_name};
 
-/// OPCODE of a query (RFC 1002 section 4.2.1.1).
+// OPCODEs (RFC 1002 section 4.2.1.1). That 8 is a refresh too, and 15 the registration of a host of
+// several addresses, is our choice.
 pub const QUERY: u8 = 0;
 
-/// OPCODE of a registration.
 pub const REGISTRATION: u8 = 5;
 
-/// OPCODE of a release.
 pub const RELEASE: u8 = 6;
 
-/// OPCODE of a response that another one follows.
 pub const WACK: u8 = 7;
 
-/// OPCODE of a refresh; that 8 is one too is our choice.
 pub const REFRESH: u8 = 8;
 
-/// The other OPCODE of a refresh.
 pub const OTHER_REFRESH: u8 = 9;
 
-/// OPCODE of the registration of a host of several addresses, which is our choice.
 pub const MULTI_HOMED: u8 = 15;
 
-/// RCODE of what was done.
+// RCODEs (RFC 1002 sections 4.2.6, 4.2.11 and 4.2.14).
 pub const OK: u8 = 0;
 
-/// RCODE of a request of a wrong form (RFC 1002 sections 4.2.6, 4.2.11 and 4.2.14).
 pub const FMT_ERR: u8 = 1;
 
-/// RCODE of a name server that failed.
 pub const SRV_ERR: u8 = 2;
 
-/// RCODE of a name that isn't known.
 pub const NAM_ERR: u8 = 3;
 
-/// RCODE of a request that isn't supported.
 pub const IMP_ERR: u8 = 4;
 
-/// RCODE of a refusal by policy.
 pub const RFS_ERR: u8 = 5;
 
-/// RCODE of a name that another node owns.
 pub const ACT_ERR: u8 = 6;
 
-/// RCODE of a name in conflict.
 pub const CFT_ERR: u8 = 7;
 
 /// The name of an operation (RFC 1002 section 4.2.1.1).
@@ -111,22 +99,17 @@ pub fn datagram_name(message_type: u8) -> Option<&'static str>
     }
 }
 
-/// The word for a message of port 139.
+// The words for packets of port 139, by TYPE (RFC 1002 section 4.3.1).
 pub const MESSAGE: &str = "message";
 
-/// The word for a session request of port 139.
 pub const REQUEST: &str = "request";
 
-/// The word for a positive response of port 139.
 pub const POSITIVE: &str = "positive";
 
-/// The word for a negative response of port 139.
 pub const NEGATIVE: &str = "negative";
 
-/// The word for a retarget response of port 139.
 pub const RETARGET: &str = "retarget";
 
-/// The word for a session keep alive of port 139.
 pub const KEEPALIVE: &str = "keepalive";
 
 /// The word for packets of port 139 of a TYPE.

@@ -40,51 +40,29 @@ ghost use Rattle.nb_text.specs.Tells.{Tells};
 ghost use Rattle.nb_text.specs.Words.{flag, name_flags, operation_word, packet_flags, query_word, rcode_word, set_text};
 
 mod endings;
-mod first_names;
 mod fronts;
-mod listed;
 mod phrases;
 mod responses;
 mod texts;
 
-pub use endings::{codes_in_words, redirects_in_words, refusals_in_words, relays_in_words};
-pub use first_names::names_in_words;
+pub use endings::{codes_in_words, refusals_in_words, relays_in_words};
 pub use fronts::{fronts_are_members, fronts_of_packets, one_front};
-pub use listed::numbers;
 use nb_datagram::laws as datagrams;
 use nb_service::laws as names;
 use nb_session::laws as sessions;
-pub use phrases::{datagrams_in_words, requests_in_words, sessions_in_words};
-pub use responses::{answers_in_words, outcomes_in_words};
+pub use phrases::{
+    datagrams_in_words, names_in_words, numbers, requests_in_words, sessions_in_words,
+};
+pub use responses::{answers_in_words, outcomes_in_words, redirects_in_words};
 pub use texts::{lines_of_datagrams, lines_of_names, lines_of_sessions};
 
-/// A payload has one text for a port.
-pub fn one_text()
-    ensures { (payload : List ℕ) (port : ℕ) (text other : List ℕ) →
+/// A payload has one text for a port, one list of fields, and one phrase.
+pub fn one_telling()
+    ensures text { (payload : List ℕ) (port : ℕ) (text other : List ℕ) →
         Shown payload port text → Shown payload port other → text ≡ other }
-{
-    names::one_packet();
-    names::one_service_fault();
-    datagrams::one_packet();
-    datagrams::one_datagram_fault();
-    sessions::one_answer();
-}
-
-/// A payload has one list of fields for a port.
-pub fn one_list_of_fields()
-    ensures { (payload : List ℕ) (port : ℕ) (fields others : List Field) →
+    ensures fields { (payload : List ℕ) (port : ℕ) (fields others : List Field) →
         Tells payload port fields → Tells payload port others → fields ≡ others }
-{
-    names::one_packet();
-    names::one_service_fault();
-    datagrams::one_packet();
-    datagrams::one_datagram_fault();
-    sessions::one_answer();
-}
-
-/// A payload has one phrase for a port.
-pub fn one_phrase()
-    ensures { (payload : List ℕ) (port : ℕ) (text other : List ℕ) →
+    ensures phrase { (payload : List ℕ) (port : ℕ) (text other : List ℕ) →
         IsSaid payload port text → IsSaid payload port other → text ≡ other }
 {
     names::one_packet();
@@ -239,20 +217,16 @@ pub fn words_for_numbers()
         × (query_word Negative ≡ codes "missing") }
 {}
 
-/// The words for flags stand for the bits of the flags of nb_service that have these names, in the
-/// order in which they are shown, and no others are shown; the numbers beside them are parts of the
-/// same words (RFC 1002 sections 4.2.1.1, 4.2.13 and 4.2.18).
+/// The words for flags stand for the bits of the flags of nb_service that have these names, whose
+/// numbers are laws there, in the order in which they are shown, and no others are shown; the
+/// numbers beside them are parts of the same words (RFC 1002 sections 4.2.1.1, 4.2.13 and 4.2.18).
 pub fn words_for_flags()
     ensures packets { packet_flags ≡ flag (codes "AA") (nm_bits AA) ∷ flag (codes "TC") (nm_bits TC)
         ∷ flag (codes "RD") (nm_bits RD) ∷ flag (codes "RA") (nm_bits RA)
         ∷ flag (codes "B") (nm_bits B) ∷ [] }
-    ensures packet_bits { packet_flags ≡ flag (codes "AA") 1024 ∷ flag (codes "TC") 512
-        ∷ flag (codes "RD") 256 ∷ flag (codes "RA") 128 ∷ flag (codes "B") 16 ∷ [] }
     ensures names { name_flags ≡ flag (codes "G") (node_bits G) ∷ flag (codes "DRG") (node_bits DRG)
         ∷ flag (codes "CNF") (node_bits CNF) ∷ flag (codes "ACT") (node_bits ACT)
         ∷ flag (codes "PRM") (node_bits PRM) ∷ [] }
-    ensures name_bits { name_flags ≡ flag (codes "G") 32768 ∷ flag (codes "DRG") 4096
-        ∷ flag (codes "CNF") 2048 ∷ flag (codes "ACT") 1024 ∷ flag (codes "PRM") 512 ∷ [] }
     ensures fields { (word : ℕ) → (opcode_of word ≡ word / 2048 % 16) × (rcode_of word ≡ word % 16)
         × (ont_of word ≡ word / 8192 % 4) }
 {}

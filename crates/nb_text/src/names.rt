@@ -6,9 +6,8 @@ ghost use Rattle.nb_service.specs.Items.{Walks};
 ghost use Rattle.nb_telling.specs.Telling.{Grows};
 ghost use Rattle.nb_text.specs.FrontFields.{names_header_fields};
 ghost use Rattle.nb_text.specs.Keys.{key_named, id_key};
-ghost use Rattle.nb_text.specs.ServiceFields.{count_fields, header_fields, lists_fields, named_field, state_fields, word_field};
+ghost use Rattle.nb_text.specs.ServiceFields.{count_fields, header_fields, lists_fields, state_fields, word_field};
 ghost use Rattle.nb_text.specs.TellsFront.{ServiceTold};
-ghost use Rattle.nb_text.specs.Words.{operation_word, rcode_word};
 
 use crate::codes::{operation_name, rcode_name};
 use crate::faults::tell_refusal;
@@ -113,24 +112,17 @@ fn tell_lists<S: Sink>(
         ≡ fold S.after (S.seen sink.old) (lists_fields seen.part)) }
     ensures front { Grows S.is_front (S.seen sink.old) (S.seen sink.new) }
 {
-    let at = tell_questions(names, HEADER_LENGTH, walked.questions, sink)?;
-    let at = tell_section("answers", "  answer", names, at, walked.answers, sink)?;
-    let at = tell_section(
-        "authorities",
-        "  authority",
-        names,
-        at,
-        walked.authorities,
-        sink,
-    )?;
-    tell_section(
-        "additional",
-        "  additional",
-        names,
-        at,
-        walked.additional,
-        sink,
-    )?;
+    let Walked {
+        questions,
+        answers,
+        authorities,
+        additional,
+        ..
+    } = *walked;
+    let at = tell_questions(names, HEADER_LENGTH, questions, sink)?;
+    let at = tell_section("answers", "  answer", names, at, answers, sink)?;
+    let at = tell_section("authorities", "  authority", names, at, authorities, sink)?;
+    tell_section("additional", "  additional", names, at, additional, sink)?;
     Ok(())
 }
 
@@ -175,26 +167,9 @@ fn tell_state<S: Sink>(word: u16, sink: &mut S) -> Result<(), NoMemory>
         (S.seen sink.new ≡ fold S.after (S.seen sink.old) (state_fields word)) }
     ensures front { Grows S.is_front (S.seen sink.old) (S.seen sink.new) }
 {
-    tell_operation(opcode(word), sink)?;
+    let (operation, outcome) = (opcode(word), rcode(word));
+    tell_named(OP, operation_name(operation), operation, sink)?;
     sink.set(FLAGS, &packet_flags_of(word))?;
-    tell_outcome(rcode(word), sink)
-}
-
-/// Tells an operation, by its name where it has one.
-fn tell_operation<S: Sink>(operation: u8, sink: &mut S) -> Result<(), NoMemory>
-    ensures told { OnOk result (S.seen sink.new ≡ S.after (S.seen sink.old)
-        (named_field (key_named "op") (operation_word operation) operation)) }
-    ensures front { Grows S.is_front (S.seen sink.old) (S.seen sink.new) }
-{
-    tell_named(OP, operation_name(operation), operation, sink)
-}
-
-/// Tells an outcome, by its name where it has one.
-fn tell_outcome<S: Sink>(outcome: u8, sink: &mut S) -> Result<(), NoMemory>
-    ensures told { OnOk result (S.seen sink.new ≡ S.after (S.seen sink.old)
-        (named_field (key_named "rcode") (rcode_word outcome) outcome)) }
-    ensures front { Grows S.is_front (S.seen sink.old) (S.seen sink.new) }
-{
     tell_named(RCODE, rcode_name(outcome), outcome, sink)
 }
 

@@ -2,18 +2,15 @@
 
 ghost use Rattle.std.specs.Prelude.{◌≡◌, [], OnOk, codes, fold};
 ghost use Rattle.std.specs.List.{flat_map};
-ghost use Rattle.nb_names.specs.NameText.{written};
 ghost use Rattle.nb_service.specs.Record.{of_bytes};
 ghost use Rattle.nb_service.specs.Views.{status_of_data};
-ghost use Rattle.nb_telling.specs.Telling.{Text, Grows};
-ghost use Rattle.nb_text.specs.Keys.{name_key};
+ghost use Rattle.nb_telling.specs.Telling.{Grows};
 ghost use Rattle.nb_text.specs.Fields.{list_fields};
 ghost use Rattle.nb_text.specs.ServiceFields.{node_name_fields, status_fields, unit_fields};
 
 use crate::flags::name_flags_of;
 use crate::keys::{NAME, SET, UNIT};
 use crate::words::{end_part, tell_owner};
-use nb_names::limits::NAME_LENGTH;
 use nb_names::{Name, NoMemory, Scope};
 use nb_service::kinds::NBSTAT;
 use nb_service::{NodeName, NodeStatus};
@@ -27,7 +24,10 @@ pub fn tell_status<S: Sink>(bytes: &[u8], sink: &mut S) -> Result<(), NoMemory>
     ensures front { Grows S.is_front (S.seen sink.old) (S.seen sink.new) }
 {
     match NodeStatus::of_rdata(NBSTAT, bytes) {
-        Some(status) => tell_names_and_unit(&status, sink),
+        Some(status) => {
+            tell_list(&status, sink)?;
+            tell_unit(&status, sink)
+        }
         None => tell_none(sink),
     }
 }
@@ -40,16 +40,6 @@ fn tell_none<S: Sink>(sink: &mut S) -> Result<(), NoMemory>
 {
     sink.begins("names")?;
     sink.ends()
-}
-
-/// Tells a node status.
-fn tell_names_and_unit<S: Sink>(status: &NodeStatus<'_>, sink: &mut S) -> Result<(), NoMemory>
-    ensures told { OnOk result
-        (S.seen sink.new ≡ fold S.after (S.seen sink.old) (status_fields status.now)) }
-    ensures front { Grows S.is_front (S.seen sink.old) (S.seen sink.new) }
-{
-    tell_list(status, sink)?;
-    tell_unit(status, sink)
 }
 
 /// Tells the list of a node's names.
@@ -98,18 +88,8 @@ fn tell_node_name<S: Sink>(name: NodeName, sink: &mut S) -> Result<(), NoMemory>
     ensures front { Grows S.is_front (S.seen sink.old) (S.seen sink.new) }
 {
     sink.part("    name")?;
-    tell_plain(name.bytes, sink)?;
+    sink.shown(NAME, &Name::new(name.bytes, Scope::empty()))?;
     tell_owner(name.flags, sink)?;
     sink.set(SET, &name_flags_of(name.flags))?;
     end_part(sink)
-}
-
-/// Tells a name without a scope.
-fn tell_plain<S: Sink>(bytes: [u8; NAME_LENGTH], sink: &mut S) -> Result<(), NoMemory>
-    ensures told { OnOk result (S.seen sink.new ≡ S.after (S.seen sink.old)
-        (Text name_key (written (record { bytes = bytes; scope = [] })))) }
-    ensures front { Grows S.is_front (S.seen sink.old) (S.seen sink.new) }
-{
-    let plain = Name::new(bytes, Scope::empty());
-    sink.shown(NAME, &plain)
 }

@@ -1,35 +1,20 @@
 //! Laws of the phrases of codes, of refusals and of what follows a packet.
-ghost use Rattle.std.specs.Prelude.{◌≡◌, ◌==◌, ℕ, ◌<◌, ◌-◌, List, [], ◌∷◌, ◌++◌, codes, if◌then◌else◌};
+ghost use Rattle.std.specs.Prelude.{◌≡◌, ◌==◌, ℕ, ◌<◌, ◌-◌, ◌++◌, codes, if◌then◌else◌};
 ghost use Rattle.std.specs.Fmt.{decimal};
-ghost use Rattle.nb_names.specs.Addresses.{address_text};
-ghost use Rattle.nb_names.specs.Name.{NetbiosName, IsName, labels_of_name};
-ghost use Rattle.nb_names.specs.NameText.{labels_written, written};
+ghost use Rattle.nb_names.specs.NameText.{written};
 ghost use Rattle.nb_names.specs.declared.fault.NameFault.TheVariants.{BadPointer, NotNetbios};
 ghost use Rattle.nb_service.specs.declared.fault.ServiceFault.TheVariants.{NoMemory, Truncated};
 ghost use Rattle.nb_session.specs.declared.fault.SessionFault.TheVariants.{Name, TrailingBytes, UnknownType};
 ghost use Rattle.nb_datagram.specs.declared.fault.DatagramFault.TheVariants.{DestinationName, SourceName};
-ghost use Rattle.nb_service.specs.Requests.{packet_of};
-ghost use Rattle.nb_service.specs.Record.{of_bytes, of_domain, record_of};
 ghost use Rattle.nb_session.specs.Packet.{Packet as SessionPacket};
 ghost use Rattle.nb_session.specs.declared.packet.Packet.TheVariants as sessions;
 ghost use Rattle.nb_session.specs.declared.parsing.Parsed.TheVariants.{More, Whole};
 ghost use Rattle.nb_datagram.specs.declared.key.Key.{Key};
 ghost use Rattle.nb_datagram.specs.declared.packet.Packet.TheVariants.{Error, Query};
 ghost use Rattle.nb_datagram.specs.declared.packet.QueryKind.TheVariants as queries;
-ghost use Rattle.nb_text.specs.Said.{datagram_refused_said, datagram_said, parsed_said, phrase, session_refused_said, session_said};
+ghost use Rattle.nb_datagram.specs.Packet.{QueryPacket};
+ghost use Rattle.nb_text.specs.Said.{datagram_refused_said, datagram_said, parsed_said, phrase, query_words, session_refused_said, session_said};
 ghost use Rattle.nb_text.specs.ServiceSaid.{service_refused_said, service_said};
-
-/// The response of a name server that another is to be asked (RFC 1002 section 4.2.15; its flag
-/// word is 8100 in hexadecimal): the name, and the other server's name and address.
-pub fn redirects_in_words()
-    ensures { (id ttl other a b c d : ℕ) (name : NetbiosName) (server : List (List ℕ)) →
-        IsName name →
-        phrase (service_said (packet_of id 33024 []
-        [] (record_of (labels_of_name name) 2 1 ttl (of_domain server) ∷ [])
-        (record_of server 1 1 other (of_bytes (a ∷ b ∷ c ∷ d ∷ [])) ∷ [])))
-        ≡ codes "answers: " ++ (written name ++ (codes " is known to "
-        ++ (labels_written server ++ (codes " at " ++ address_text (a ∷ b ∷ c ∷ d ∷ []))))) }
-{}
 
 /// Codes in words: of an error of port 138 (RFC 1002 section 4.4.3), and of a refused session
 /// (4.3.4).
@@ -57,30 +42,11 @@ pub fn codes_in_words()
 
 /// Queries of port 138 (RFC 1002 section 4.4.4).
 pub fn relays_in_words()
-    ensures asked { (flags : ℕ) (key : Key) (destination : NetbiosName) →
-        phrase (datagram_said (Query (record {
-          kind = queries.Request;
-          flags = flags;
-          key = key;
-          destination = destination;
-        })))
-        ≡ codes "asks whether datagrams are relayed to " ++ written destination }
-    ensures relayed { (flags : ℕ) (key : Key) (destination : NetbiosName) →
-        phrase (datagram_said (Query (record {
-          kind = queries.Positive;
-          flags = flags;
-          key = key;
-          destination = destination;
-        })))
-        ≡ codes "answers: datagrams are relayed to " ++ written destination }
-    ensures not_relayed { (flags : ℕ) (key : Key) (destination : NetbiosName) →
-        phrase (datagram_said (Query (record {
-          kind = queries.Negative;
-          flags = flags;
-          key = key;
-          destination = destination;
-        })))
-        ≡ codes "answers: no datagrams are relayed to " ++ written destination }
+    ensures said { (query : QueryPacket) → phrase (datagram_said (Query query))
+        ≡ query_words query.kind ++ written query.destination }
+    ensures words { (query_words queries.Request ≡ codes "asks whether datagrams are relayed to ")
+        × (query_words queries.Positive ≡ codes "answers: datagrams are relayed to ")
+        × (query_words queries.Negative ≡ codes "answers: no datagrams are relayed to ") }
 {}
 
 /// A payload that begins with no packet: which name is wrong, what is wrong, and its place, which

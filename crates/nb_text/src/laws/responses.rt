@@ -1,13 +1,12 @@
 //! Laws of the phrases of responses of port 137.
-ghost use Rattle.std.specs.Prelude.{◌≡◌, ℕ, ◌<◌, [], ◌∷◌, ◌++◌, codes, if◌then◌else◌};
-ghost use Rattle.std.specs.Fmt.{decimal};
-ghost use Rattle.std.specs.Int.{w16, to_be_bytes};
+ghost use Rattle.std.specs.Prelude.{◌≡◌, ℕ, ◌<◌, List, [], ◌∷◌, ◌++◌, codes, if◌then◌else◌};
 ghost use Rattle.nb_names.specs.Addresses.{address_text};
 ghost use Rattle.nb_names.specs.Name.{NetbiosName, IsName, labels_of_name};
-ghost use Rattle.nb_names.specs.NameText.{written};
+ghost use Rattle.nb_names.specs.NameText.{labels_written, written};
 ghost use Rattle.nb_service.specs.Requests.{packet_of};
-ghost use Rattle.nb_service.specs.Record.{of_bytes, record_of};
+ghost use Rattle.nb_service.specs.Record.{of_bytes, of_domain, record_of};
 ghost use Rattle.nb_text.specs.Said.{phrase};
+ghost use Rattle.nb_text.specs.Sentences.{claimed, entry_for, lasting, response};
 ghost use Rattle.nb_text.specs.ServiceSaid.{service_said};
 ghost use Rattle.nb_text.specs.Words.{is_set};
 
@@ -17,18 +16,27 @@ ghost use Rattle.nb_text.specs.Words.{is_set};
 /// no address.
 pub fn answers_in_words()
     ensures found { (id ttl flags others a b c d e f g h : ℕ) (name : NetbiosName) →
-        IsName name → flags < 65536 →
-        phrase (service_said (packet_of id 34176 [] (record_of (labels_of_name name) 32 1 ttl
-        (of_bytes ((to_be_bytes w16 flags ++ a ∷ b ∷ c ∷ d ∷ [])
-        ++ (to_be_bytes w16 others ++ e ∷ f ∷ g ∷ h ∷ []))) ∷ []) [] []))
+        IsName name → flags < 65536 → phrase (service_said
+        (response id 34176 name 32 ttl (entry_for flags a b c d ++ entry_for others e f g h)))
         ≡ codes "answers: " ++ (written name
         ++ ((if is_set flags 32768 then codes " is a group at " else codes " is at ")
         ++ (address_text (a ∷ b ∷ c ∷ d ∷ []) ++ (codes ", "
         ++ address_text (e ∷ f ∷ g ∷ h ∷ []))))) }
     ensures absent { (id ttl : ℕ) (name : NetbiosName) → IsName name →
-        phrase (service_said (packet_of id 34179 [] (record_of (labels_of_name name) 10 1 ttl
-        (of_bytes []) ∷ []) [] []))
+        phrase (service_said (response id 34179 name 10 ttl []))
         ≡ codes "answers: " ++ (written name ++ codes " is not found: no such name (NAM_ERR)") }
+{}
+
+/// The response of a name server that another is to be asked (RFC 1002 section 4.2.15; its flag
+/// word is 8100 in hexadecimal): the name, and the other server's name and address.
+pub fn redirects_in_words()
+    ensures { (id ttl other a b c d : ℕ) (name : NetbiosName) (server : List (List ℕ)) →
+        IsName name →
+        phrase (service_said (packet_of id 33024 []
+        [] (record_of (labels_of_name name) 2 1 ttl (of_domain server) ∷ [])
+        (record_of server 1 1 other (of_bytes (a ∷ b ∷ c ∷ d ∷ [])) ∷ [])))
+        ≡ codes "answers: " ++ (written name ++ (codes " is known to "
+        ++ (labels_written server ++ (codes " at " ++ address_text (a ∷ b ∷ c ∷ d ∷ []))))) }
 {}
 
 /// Responses to a registration and a release, with one record, told apart
@@ -39,37 +47,26 @@ pub fn answers_in_words()
 pub fn outcomes_in_words()
     ensures granted { (id ttl flags a b c d : ℕ) (name : NetbiosName) → IsName name →
         flags < 65536 →
-        phrase (service_said (packet_of id 44416 [] (record_of (labels_of_name name) 32 1 ttl
-        (of_bytes (to_be_bytes w16 flags ++ a ∷ b ∷ c ∷ d ∷ [])) ∷ []) [] []))
-        ≡ codes "grants " ++ (written name
-        ++ ((if is_set flags 32768 then codes " as a group for " else codes " for ")
-        ++ (address_text (a ∷ b ∷ c ∷ d ∷ [])
-        ++ (codes ", for " ++ (decimal ttl ++ codes " s"))))) }
+        phrase (service_said (response id 44416 name 32 ttl (entry_for flags a b c d)))
+        ≡ codes "grants " ++ claimed name flags (a ∷ b ∷ c ∷ d ∷ []) ttl }
     ensures refused { (id ttl flags a b c d : ℕ) (name : NetbiosName) → IsName name →
-        phrase (service_said (packet_of id 44422 [] (record_of (labels_of_name name) 32 1 ttl
-        (of_bytes (to_be_bytes w16 flags ++ a ∷ b ∷ c ∷ d ∷ [])) ∷ []) [] []))
+        phrase (service_said (response id 44422 name 32 ttl (entry_for flags a b c d)))
         ≡ codes "refuses " ++ (written name ++ codes ": owned by another node (ACT_ERR)") }
     ensures challenged { (id ttl flags a b c d : ℕ) (name : NetbiosName) → IsName name →
-        phrase (service_said (packet_of id 44288 [] (record_of (labels_of_name name) 32 1 ttl
-        (of_bytes (to_be_bytes w16 flags ++ a ∷ b ∷ c ∷ d ∷ [])) ∷ []) [] []))
+        phrase (service_said (response id 44288 name 32 ttl (entry_for flags a b c d)))
         ≡ codes "asks to challenge " ++ (written name
         ++ (codes " at " ++ address_text (a ∷ b ∷ c ∷ d ∷ []))) }
     ensures conflicts { (id ttl flags a b c d : ℕ) (name : NetbiosName) → IsName name →
-        phrase (service_said (packet_of id 44423 [] (record_of (labels_of_name name) 32 1 ttl
-        (of_bytes (to_be_bytes w16 flags ++ a ∷ b ∷ c ∷ d ∷ [])) ∷ []) [] []))
+        phrase (service_said (response id 44423 name 32 ttl (entry_for flags a b c d)))
         ≡ codes "conflict about " ++ written name }
     ensures released { (id ttl flags a b c d : ℕ) (name : NetbiosName) → IsName name →
-        phrase (service_said (packet_of id 46080 [] (record_of (labels_of_name name) 32 1 ttl
-        (of_bytes (to_be_bytes w16 flags ++ a ∷ b ∷ c ∷ d ∷ [])) ∷ []) [] []))
+        phrase (service_said (response id 46080 name 32 ttl (entry_for flags a b c d)))
         ≡ codes "grants the release of " ++ written name }
     ensures kept { (id ttl flags a b c d : ℕ) (name : NetbiosName) → IsName name →
-        phrase (service_said (packet_of id 46085 [] (record_of (labels_of_name name) 32 1 ttl
-        (of_bytes (to_be_bytes w16 flags ++ a ∷ b ∷ c ∷ d ∷ [])) ∷ []) [] []))
+        phrase (service_said (response id 46085 name 32 ttl (entry_for flags a b c d)))
         ≡ codes "refuses the release of " ++ (written name
         ++ codes ": refused by policy (RFS_ERR)") }
     ensures waits { (id ttl high low : ℕ) (name : NetbiosName) → IsName name →
-        phrase (service_said (packet_of id 48128 [] (record_of (labels_of_name name) 32 1 ttl
-        (of_bytes (high ∷ low ∷ [])) ∷ []) [] []))
-        ≡ codes "asks to wait for " ++ (written name
-        ++ (codes ", for " ++ (decimal ttl ++ codes " s"))) }
+        phrase (service_said (response id 48128 name 32 ttl (high ∷ low ∷ [])))
+        ≡ codes "asks to wait for " ++ (written name ++ lasting ttl) }
 {}

@@ -4,4 +4,4 @@ use Rattle.nb_c.proofs.showing.nbt_brief.Goals as goal
 
 pub returns : goal.returns
 returns c =
-    does _ _ (one_said _ _ (c.one_phrase.ensures _ _)) _ _ _ _ (judged_phrase _ _ _ c.phrase.ensures) c.write_bytes.ensures
+    does _ _ (one_said _ _ (c.one_telling.ensures.phrase _ _)) _ _ _ _ (judged_phrase _ _ _ c.phrase.ensures) c.write_bytes.ensures

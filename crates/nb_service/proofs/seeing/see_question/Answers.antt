@@ -1,9 +1,11 @@
-use Rattle.std.proofs.Common.{◌+◌, ℕ, List, length, refl, ap, arith, subst}
+use Rattle.std.proofs.Common.{◌≡◌, ◌+◌, ◌∙◌, ℕ, List, length, refl, sym, ap, arith, subst}
 use Rattle.std.proofs.lemmas.Result.{err_from_is_err_and}
 use Rattle.std.specs.Int.{w16}
 use Rattle.nb_names.specs.Labels.{NumberAt}
 use Rattle.nb_service.specs.declared.question.Question.{Question}
+use Rattle.nb_service.specs.declared.seen.Seen.{Seen}
 use Rattle.nb_service.specs.Items.{SeesQuestion}
+use Rattle.nb_service.specs.Packet.{QuestionAt}
 use Rattle.nb_service.specs.ServiceFaults.{question_name, question_cut}
 use Rattle.nb_service.proofs.ItemLemmas.{same_question}
 use Rattle.nb_service.proofs.seeing.see_question.Goals as goal
@@ -51,3 +53,21 @@ pub returns-then-packet-after-lt-QUESTION_FIELDS-clause-only : goal.returns-then
 returns-then-packet-after-lt-QUESTION_FIELDS-clause-only c question next there =
     let named = c.in_ok-name.ensures.found in
     absurd (c.one_question.ensures.alone _ _ _ question next (question_cut named.0 _ named.1.name (omega (arith, ap length c.packet-packet.ensures))) there)
+
+-- what is seen of a question at the end of the header
+there_first : (packet bytes : List ℕ) (at : ℕ) (first : Seen) → bytes ≡ packet → at ≡ 12 → (first.at ≡ 12) × ((question : Question) × SeesQuestion bytes question first)
+    → (first.at ≡ at) × ((question : Question) × SeesQuestion packet question first × QuestionAt packet at question first.fields.extent.next)
+there_first packet bytes at first same begins is =
+    let place = is.0 ∙ sym begins in
+    let sees = subst (λ (p : List ℕ). SeesQuestion p is.1.0 first) same is.1.1 in
+    (place, (is.1.0, sees, subst (λ (n : ℕ). QuestionAt packet n is.1.0 first.fields.extent.next) place sees.stands))
+
+pub returns-in-Some-clause-found : goal.returns-in-Some-clause-found
+returns-in-Some-clause-found c =
+    let first = there_first _ _ _ _ c.packet-packet.ensures c.if-at-eq-HEADER_LENGTH.true c.in-Some.ensures.found in (first.0, (first.1.0, first.1.1))
+
+pub returns-in-Some-clause-only : goal.returns-in-Some-clause-only
+returns-in-Some-clause-only c question next there =
+    let first = there_first _ _ _ _ c.packet-packet.ensures c.if-at-eq-HEADER_LENGTH.true c.in-Some.ensures.found in
+    let one = c.one_question.ensures.one _ _ _ question _ next first.1.2 there in
+    (first.0, same_question _ _ _ _ one.0 first.1.1, one.1)

@@ -4,11 +4,11 @@ use Rattle.std.proofs.lemmas.Result.{on_ok_weaker}
 use Rattle.nb_telling.proofs.FoldLemmas.{and_then}
 use Rattle.nb_text.specs.Fields.{list_fields}
 use Rattle.nb_text.specs.ServiceFields.{node_name_fields, unit_fields}
-use Rattle.nb_text.proofs.statuses.tell_names_and_unit.Goals as goal
+use Rattle.nb_text.proofs.statuses.tell_status.Goals as goal
 
-pub returns-clause-told : goal.returns-clause-told
-returns-clause-told g c =
-    let status = c.args.status.now in
+pub returns-in-Some-clause-told : goal.returns-in-Some-clause-told
+returns-in-Some-clause-told g c =
+    let status = c.in-Some.status.now in
     on_ok_weaker c.tell_unit.result
     (and_then g.S.Sink.after _ (list_fields (codes "names") (flat_map node_name_fields status.names)) (unit_fields status.statistics)
     c.in_ok-tell_list.ensures.told)

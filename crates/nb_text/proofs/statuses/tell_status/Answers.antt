@@ -9,7 +9,7 @@ use Rattle.nb_text.proofs.statuses.tell_status.Goals as goal
 pub returns-in_ok-tell_list-in-Some-clause-told : goal.returns-in_ok-tell_list-in-Some-clause-told
 returns-in_ok-tell_list-in-Some-clause-told g c =
     let status = c.in-Some.status in
-    on_ok_weaker c.tell_unit.result
+    rw (← c.in-Some.ensures.value) (on_ok_weaker c.tell_unit.result
     (and_then g.S.Sink.after _ (list_fields (codes "names") (flat_map node_name_fields status.names)) (unit_fields status.statistics)
     c.in_ok-tell_list-in-Some.ensures.told)
-    c.tell_unit.ensures.told
+    c.tell_unit.ensures.told)

@@ -6,8 +6,8 @@ ghost use Rattle.nb_names.specs.Growth.{OnlyAdds};
 ghost use Rattle.nb_telling.specs.Telling.{Field, Grows};
 ghost use Rattle.nb_text.specs.TellsFront.{FrontOf, IsFrontTold, ShowsFront};
 
-use crate::names::tell_service;
 use crate::packet_fronts::{tell_datagram_front, tell_session_front};
+use crate::services::tell_service;
 use crate::showing::tell_packet;
 use nb_names::NoMemory;
 use nb_telling::Sink;

@@ -9,7 +9,7 @@ ghost use Rattle.nb_text.specs.Tells.{IsTold};
 
 use crate::datagrams::tell_datagram;
 use crate::laws::texts_of_fields;
-use crate::names::tell_service;
+use crate::services::tell_service;
 use crate::sessions::tell_session;
 use nb_names::NoMemory;
 use nb_telling::Sink;

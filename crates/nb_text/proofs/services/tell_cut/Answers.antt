@@ -4,7 +4,7 @@ use Rattle.nb_telling.proofs.FoldLemmas.{and_then}
 use Rattle.nb_text.specs.FrontFields.{names_header_fields}
 use Rattle.nb_text.specs.ServiceFields.{lists_fields}
 use Rattle.nb_text.proofs.TellsLemmas.{refused_told, front_told}
-use Rattle.nb_text.proofs.names.tell_cut.Goals as goal
+use Rattle.nb_text.proofs.services.tell_cut.Goals as goal
 
 pub returns-clause-told : goal.returns-clause-told
 returns-clause-told g c =

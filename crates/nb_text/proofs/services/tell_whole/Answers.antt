@@ -5,7 +5,7 @@ use Rattle.nb_service.specs.Packet.{header_of}
 use Rattle.nb_telling.proofs.FoldLemmas.{and_then}
 use Rattle.nb_text.specs.ServiceFields.{header_fields, lists_fields}
 use Rattle.nb_text.proofs.TellsLemmas.{whole_told}
-use Rattle.nb_text.proofs.names.tell_whole.Goals as goal
+use Rattle.nb_text.proofs.services.tell_whole.Goals as goal
 
 pub returns-clause-told : goal.returns-clause-told
 returns-clause-told g c more =

@@ -5,7 +5,7 @@ use Rattle.nb_telling.proofs.FoldLemmas.{and_then}
 use Rattle.nb_text.specs.Fields.{list_fields}
 use Rattle.nb_text.specs.ServiceFields.{question_fields, record_fields}
 use Rattle.nb_text.proofs.WalkLemmas.{row_from}
-use Rattle.nb_text.proofs.names.tell_lists.Goals as goal
+use Rattle.nb_text.proofs.services.tell_lists.Goals as goal
 
 pub tell_questions-requires : goal.tell_questions-requires
 tell_questions-requires g c = let seen = c.requires.1 in (_, (_, seen.questions))

@@ -2,7 +2,7 @@ use Rattle.std.proofs.Common.{ℕ, ◌<◌, List, length, subst}
 use Rattle.std.proofs.lemmas.Result.{on_ok_weaker}
 use Rattle.nb_service.specs.ServiceFaults.{cut_header}
 use Rattle.nb_text.proofs.TellsLemmas.{headless_told}
-use Rattle.nb_text.proofs.names.tell_judged.Goals as goal
+use Rattle.nb_text.proofs.services.tell_judged.Goals as goal
 
 pub returns-in-None-clause-told : goal.returns-in-None-clause-told
 returns-in-None-clause-told g c = c.tell_whole.ensures.told c.args.more

@@ -1,15 +1,7 @@
 -- What is told of a saved table is what is answered of it.
-use Rattle.std.proofs.Common.{◌≡◌, ℕ, List, Result, Ok, Err, IfOk, ap, subst, sym}
-use Rattle.nb_names.specs.declared.bytes.NoMemory.{NoMemory}
-use Rattle.nb_entries.specs.declared.load_fault.LoadFault.{LoadFault}
+use Rattle.nb_c.proofs.Common.{◌≡◌, ℕ, List, Result, Ok, Err, IfOk, ap, subst, sym, NoMemory, LoadFault, Contents, TableValue, LoadFails, Refusal, HasOne, MayLack, OrMemory, none_late, of_memory, NO_ROLE}
 use Rattle.nb_entries.specs.declared.load_fault.LoadFault.TheVariants as loads
-use Rattle.nb_table.specs.Contents.{Contents}
-use Rattle.nb_table.specs.Limits.{TableValue}
-use Rattle.nb_table.specs.Saved.{LoadFails}
-use Rattle.nb_c.specs.declared.refusal.Refusal.{Refusal}
-use Rattle.nb_c.specs.Outputs.{HasOne, MayLack, OrMemory, none_late, of_memory}
 use Rattle.nb_c.specs.Tables.{IsLoaded, OfOne, not_read, read, widest}
-use Rattle.nb_c.specs.declared.statuses.TheConstants.{NO_ROLE}
 use Rattle.nb_c.specs.Statuses.{load_refusal}
 use Rattle.nb_c.proofs.LoadLemmas.{InputLaws, one_fault, as_memory, no_other, loaded_apart}
 

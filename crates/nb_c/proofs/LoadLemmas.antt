@@ -1,14 +1,8 @@
 -- What stands in an input is one table or one fault, also under limits.
-use Rattle.std.proofs.Common.{◌≡◌, ◌≢◌, ℕ, ◌≤◌, List, Ok, Err, refl, subst, arith}
+use Rattle.nb_c.proofs.Common.{◌≡◌, ◌≢◌, ℕ, ◌≤◌, List, Ok, Err, refl, subst, arith, Key, LoadFault, Contents, FewOfEach, Limits, TableValue, IsReadAs, LoadFails, ill_formed, too_long, full_source, full, no_memory, IsRead, AllShort}
 use Rattle.std.specs.FinMap as maps
-use Rattle.nb_datagram.specs.declared.key.Key.{Key}
-use Rattle.nb_entries.specs.declared.load_fault.LoadFault.{LoadFault}
 use Rattle.nb_entries.specs.declared.load_fault.LoadFault.TheVariants.{NoMemory}
-use Rattle.nb_table.specs.Contents.{Contents}
 use Rattle.nb_entries.specs.Entry.{EntryValue}
-use Rattle.nb_table.specs.Limits.{FewOfEach, Limits, TableValue}
-use Rattle.nb_table.specs.Saved.{IsReadAs, LoadFails, ill_formed, too_long, full_source, full, no_memory, IsRead}
-use Rattle.nb_table.specs.Merging.{AllShort}
 use Rattle.nb_entries.specs.SavedReading.{Outcome}
 use Rattle.nb_c.specs.Tables.{IsLoaded}
 

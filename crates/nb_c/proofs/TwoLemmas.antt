@@ -1,15 +1,7 @@
 -- Of two saved tables one thing is answered, where one thing is said of both.
-use Rattle.std.proofs.Common.{◌≡◌, ◌≢◌, ℕ, nat_le, true, List, Result, Ok, Err, refl, ap, subst}
-use Rattle.nb_entries.specs.declared.load_fault.LoadFault.{LoadFault}
+use Rattle.nb_c.proofs.Common.{◌≡◌, ◌≢◌, ℕ, nat_le, true, List, Result, Ok, Err, refl, ap, subst, LoadFault, Contents, Limits, TableValue, LoadFails, Refusal, Memory, Fault, FaultAt, HasOne, MayLack, OrMemory, refused_status, NO_ROLE, SECOND}
 use Rattle.nb_entries.specs.declared.load_fault.LoadFault.TheVariants as loads
-use Rattle.nb_table.specs.Contents.{Contents}
-use Rattle.nb_table.specs.Limits.{Limits, TableValue}
-use Rattle.nb_table.specs.Saved.{LoadFails}
-use Rattle.nb_c.specs.declared.refusal.Refusal.{Refusal}
-use Rattle.nb_c.specs.declared.refusal.Refusal.TheVariants.{Memory, Fault, FaultAt}
-use Rattle.nb_c.specs.Outputs.{HasOne, MayLack, OrMemory, refused_status}
 use Rattle.nb_c.specs.Tables.{IsLoaded, OfTwo, first_fails, second_fails, both, follow_the_first}
-use Rattle.nb_c.specs.declared.statuses.TheConstants.{NO_ROLE, SECOND}
 use Rattle.nb_c.specs.Statuses.{load_refusal}
 use Rattle.nb_c.proofs.LoadLemmas.{InputLaws, one_fault, as_memory, no_other, loaded_apart}
 

@@ -1,5 +1,5 @@
 -- What the calls on saved tables answer (our choice).
-use Rattle.std.specs.Prelude.{◌≡◌, ◌≢◌, ℕ, Bool, nat_le, List, Result, Ok, Err, [], ◌∷◌, Option, Some, None}
+use Rattle.std.specs.Prelude.{◌≡◌, ◌≢◌, ◌+◌, ℕ, Bool, nat_le, List, Result, Ok, Err, [], ◌∷◌, Option, Some, None}
 use Rattle.nb_entries.specs.declared.load_fault.LoadFault.{LoadFault}
 use Rattle.nb_entries.specs.declared.load_fault.LoadFault.TheVariants as loads
 use Rattle.nb_table.specs.declared.fault.TableFault.{TableFault}
@@ -52,7 +52,7 @@ Merges first second limits = OfTwo first second limits (Joins limits)
 
 -- the statuses of the second table and of the join, which come after memory is taken for the first
 abbrev pub follow_the_first : ℕ → Bool
-follow_the_first status = nat_le statuses.SECOND_BAD_MAGIC status
+follow_the_first status = nat_le (statuses.SECOND + statuses.TABLE_BAD_MAGIC) status
 
 -- the limits of a table that is only listed: as many keys as a saved one can have, and the longest datagrams
 abbrev pub widest : Limits

@@ -1,7 +1,7 @@
 //! Saved tables, joined and listed, in lines and in objects.
 ghost use Rattle.std.specs.Prelude.{◌≡◌, IfOk};
 ghost use Rattle.nb_c.specs.Tables.{Joins, Lists, ListsObjects, Merges, follow_the_first};
-ghost use Rattle.nb_c.specs.Outputs.{Does, OrMemory, none_late};
+ghost use Rattle.nb_c.specs.Outputs.{Does, OrMemory, none_late, lent};
 ghost use Rattle.nb_member.specs.Listing.{listing};
 ghost use Rattle.nb_member.specs.ListingFields.{listed_objects};
 
@@ -36,9 +36,7 @@ pub extern "C" fn nbt_table_merge(
       keys = keys;
       per_source = per_source;
       longest = 65535;
-    }))
-        (record { buffer = into.old; used = used.old; place = at.old })
-        (record { buffer = into.new; used = used.new; place = at.new }) result }
+    })) (lent into.old used.old at.old) (lent into.new used.new at.new) result }
 {
     // For the clause; the call does nothing.
     a_merge_has_one_answer();
@@ -98,9 +96,8 @@ pub extern "C" fn nbt_table_list(
     used: &mut usize,
     at: &mut usize,
 ) -> u32
-    ensures { Does none_late (Lists table.now)
-        (record { buffer = into.old; used = used.old; place = at.old })
-        (record { buffer = into.new; used = used.new; place = at.new }) result }
+    ensures { Does none_late (Lists table.now) (lent into.old used.old at.old)
+        (lent into.new used.new at.new) result }
 {
     // For the clause; the call does nothing.
     a_table_has_one_list();
@@ -139,9 +136,8 @@ pub extern "C" fn nbt_table_json(
     used: &mut usize,
     at: &mut usize,
 ) -> u32
-    ensures { Does none_late (ListsObjects table.now)
-        (record { buffer = into.old; used = used.old; place = at.old })
-        (record { buffer = into.new; used = used.new; place = at.new }) result }
+    ensures { Does none_late (ListsObjects table.now) (lent into.old used.old at.old)
+        (lent into.new used.new at.new) result }
 {
     // For the clause; the call does nothing.
     a_table_has_one_list();

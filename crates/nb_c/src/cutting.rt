@@ -64,12 +64,8 @@ pub extern "C" fn nbt_datagram_write(
         port,
         most,
     };
-    write_answer(
-        answer(alloc, sent, source, destination, contents),
-        into,
-        used,
-        at,
-    )
+    let packets = answer(alloc, sent, source, destination, contents);
+    write_answer(packets, into, used, at)
 }
 
 /// The packets of the datagram between the names with these texts.

@@ -132,8 +132,6 @@ fn domain_of(bytes: &[u8]) -> Result<DomainName, Refusal>
 fn bytes_of(alloc: Global, answered: Answered, made: Record<'_>) -> Result<Bytes, NoMemory>
     ensures { IfOk result (λ bytes. bytes ≡ response_of answered made.entry) }
 {
-    bytes_if_made(
-        alloc,
-        response(alloc, answered.identifier, answered.word, made),
-    )
+    let made = response(alloc, answered.identifier, answered.word, made);
+    bytes_if_made(alloc, made)
 }

@@ -86,11 +86,8 @@ pub extern "C" fn nbt_json(
 {
     // For the clause: a payload has one list of fields. The call does nothing.
     one_list_of_fields();
-    write_object(
-        packet_object(port, payload, JsonRoom::new(alloc)),
-        into,
-        used,
-    )
+    let object = packet_object(port, payload, JsonRoom::new(alloc));
+    write_object(object, into, used)
 }
 
 /// Writes an object, unless memory ran out.

@@ -4,6 +4,8 @@ import re
 from .header import TOP
 
 CONSTANT = re.compile(r'const (\w+)(?:: \w+)? = (\w+(?: \+ \w+)*);')
+# A row of words: the status of a fault in a role.
+IN_ROLE = re.compile(r'\(\s*(\w+?)(?:_TEXT)? \+ ((?:NAME_|TABLE_)?(\w+)),\s*"')
 # By enumeration the files with its constants. Those that have other names there stand below.
 FILES = {'status': 'nb_c/src/statuses.rt', 'line_kind': 'nb_c/src/captures.rt', 'outcome': 'nb_c/src/taken.rt', 'record_type': 'nb_service/src/kinds.rt',
          'datagram_flag': 'nb_datagram/src/limits.rt', 'datagram_type': 'nb_datagram/src/limits.rt', 'word': 'nb_service/src/flags.rt',
@@ -30,6 +32,8 @@ def constants(path):
     found = {}
     for name, parts in CONSTANT.findall(text_of(path)):
         found[name] = sum(found[it] if it in found else int(it, 0) for it in parts.split(' + '))
+    for role, fault, short in IN_ROLE.findall(text_of(path)):
+        found[f'{role}_{short}'] = found[f'{role}_TEXT' if fault.endswith('_TEXT') else role] + found[fault]
     return found
 
 

@@ -4,9 +4,8 @@ import re
 from .header import TOP
 
 FORMS = 'crates/nbt/src/forms.rt'
-NAME = re.compile(r'Field::(\w+)(?: \| Field::(\w+))? => "([A-Z]+)",')
-CONSTANT = re.compile(r'const (\w+): \[Field; \d+\] = \[([^\]]*)\];')
-FORM = re.compile(r'what: "(\w+)",\s*fields: &(?:(\w+)|\[([^\]]*)\]),')
+NAME = re.compile(r'const (\w+): Field = Field\("([A-Z]+)",')
+FORM = re.compile(r'Form\("(\w+)", &\[([^\]]*)\]\)')
 # By file the head of its table.
 TABLES = {'crates/nb_building/src/building.rt': '/// | `what` | `words` |\n', 'docs/FORMATS.md': '| WHAT | ARG.. |\n'}
 ROW = re.compile(r'\| ((?:`\w+`(?:, )?)+) \|((?: [A-Z]+)*) \|')
@@ -27,13 +26,8 @@ def text_of(path):
 def forms():
     """By the word of each packet the words after it, in order."""
     text = text_of(FORMS)
-    names = {variant: name for *variants, name in NAME.findall(text) for variant in variants}
-
-    def words(variants):
-        return [names[each] for each in re.findall(r'Field::(\w+)', variants)]
-
-    lists = {name: words(variants) for name, variants in CONSTANT.findall(text)}
-    return {what: lists[constant] if constant else words(variants) for what, constant, variants in FORM.findall(text)}
+    names = dict(NAME.findall(text))
+    return {what: [names[each] for each in re.findall(r'\w+', fields)] for what, fields in FORM.findall(text)}
 
 
 def of_table(path):

@@ -1,19 +1,11 @@
 -- Packets that words name, from what the calls that make them answer.
-use Rattle.std.proofs.Common.{◌≡◌, ℕ, Bool, List, [], ◌∷◌, map, ap, ap₂, ◌∙◌, refl, Result, Ok, Err, ◌<◌, ◌+◌, ◌++◌, length, get_or, take, sym, append_assoc}
-use Rattle.std.specs.Prelude.{IfErr, IfOk, codes}
-use Rattle.nb_names.specs.Hexadecimal.{DataText}
-use Rattle.nb_names.specs.Name.{NetbiosName, labels_of_name}
-use Rattle.nb_names.specs.NameText.{IsText}
+use Rattle.nb_building.proofs.Common.{◌≡◌, ℕ, Bool, List, [], ◌∷◌, map, ap, ap₂, ◌∙◌, refl, Result, Ok, Err, ◌<◌, ◌+◌, ◌++◌, length, get_or, take, sym, append_assoc, IfOk, codes, DataText, NetbiosName, labels_of_name, IsText, ResourceData, ResourceRecord, record_of, ServicePacket, IsServiceBuilt, IsSessionBuilt, NamesDatagrams, NamesService, NamesSession, NumberText, WordText, response, HasRdata, response_packet, with_flag, of_service, of_session, GiveTooMuch, append-nil, take_more}
+use Rattle.std.specs.Prelude.{IfErr}
 use Rattle.nb_service.specs.declared.classes.TheConstants.{IN}
 use Rattle.nb_service.specs.Requests.{packet_of}
-use Rattle.nb_service.specs.Record.{ResourceData, ResourceRecord, record_of}
-use Rattle.nb_service.specs.Packet.{ServicePacket}
 use Rattle.nb_service.specs.Encoding as service
 use Rattle.nb_session.specs.Packet as session
 use Rattle.nb_session.specs.Packet.{IsPacket}
-use Rattle.nb_building.specs.Built.{IsServiceBuilt, IsSessionBuilt, NamesDatagrams, NamesService, NamesSession, NumberText, WordText, response, HasRdata, response_packet, with_flag, of_service, of_session}
-use Rattle.nb_building.specs.Refusals.{GiveTooMuch}
-use Rattle.std.proofs.lemmas.List.{append-nil, take_more}
 use Rattle.nb_building.specs.Building.{AreLinesOf, payload_line, payload_lines}
 
 -- what is answered where a packet was made and encoded

@@ -1,12 +1,5 @@
 -- Words that name no packets of port 138.
-use Rattle.std.proofs.Common.{◌≡◌, ◌≢◌, ◌<◌, ◌≤◌, ℕ, ◌+◌, ◌*◌, List, [], ◌∷◌, length, map, get_or, refl, sym, ap, ◌∙◌, subst, arith, Result, Ok, Err}
-use Rattle.std.specs.Prelude.{codes, ◌==◌, if◌then◌else◌, slice_range}
-use Rattle.std.specs.Result.{IfErr}
-use Rattle.std.specs.List.{range_with_len}
-use Rattle.std.proofs.lemmas.List.{length-map, get_or-map}
-use Rattle.nb_names.specs.Hexadecimal.{DataText}
-use Rattle.nb_names.specs.Name.{NetbiosName}
-use Rattle.nb_names.specs.NameText.{IsText}
+use Rattle.nb_building.proofs.Common.{◌≡◌, ◌≢◌, ◌<◌, ◌≤◌, ℕ, ◌+◌, ◌*◌, List, [], ◌∷◌, length, map, get_or, refl, sym, ap, ◌∙◌, subst, arith, Result, Ok, Err, codes, ◌==◌, if◌then◌else◌, slice_range, IfErr, range_with_len, length-map, get_or-map, DataText, NetbiosName, IsText, Unnamed, CodeText, KeyText, NamesDatagrams, NumberText, error, fragments, queries}
 use Rattle.nb_datagram.specs.declared.key.Key.{Key}
 use Rattle.nb_datagram.specs.declared.kind.Kind.{Kind}
 use Rattle.nb_datagram.specs.declared.kind.Kind.TheVariants.{Unique, Group, Broadcast}
@@ -20,8 +13,6 @@ use Rattle.nb_datagram.specs.Pieces.{AreTooLong, piece, piece_count}
 use Rattle.std.proofs.lemmas.Fmt.{decimal_injective}
 use Rattle.nb_building.specs.declared.build_fault.BuildFault.{BuildFault}
 use Rattle.nb_building.specs.declared.build_fault.BuildFault.TheVariants.{Memory}
-use Rattle.nb_building.specs.Refusals.{Unnamed}
-use Rattle.nb_building.specs.Built.{CodeText, KeyText, NamesDatagrams, NumberText, error, fragments, queries}
 use Rattle.nb_building.proofs.UnnamedLemmas.{one_data}
 
 pub query_letter : (kind : QueryKind) → get_or (query_word kind) 0 0 ≢ 101

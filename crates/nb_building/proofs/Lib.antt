@@ -1,8 +1,9 @@
 mod ArgumentLemmas
-mod MarkLemmas
-mod RefusalLemmas
-mod UnnamedLemmas
-mod DatagramWordLemmas
-mod ServiceWordLemmas
 mod BuiltLemmas
+pub mod Common
+mod DatagramWordLemmas
+mod MarkLemmas
 mod PortLemmas
+mod RefusalLemmas
+mod ServiceWordLemmas
+mod UnnamedLemmas

@@ -1,20 +1,13 @@
 -- Texts that a mark divides: the parts of an address, and of a key.
-use Rattle.std.proofs.Common.{◌≡◌, ◌≢◌, ℕ, zero, suc, ◌<◌, ◌^◌, Bool, eqb, List, [], ◌∷◌, ◌++◌, length, get_or, Bor, Option, Some, None, Result, Ok, Err, refl, sym, ap, ap₂, ◌∙◌, subst, arith, length-append}
+use Rattle.nb_building.proofs.Common.{◌≡◌, ◌≢◌, ℕ, zero, suc, ◌<◌, ◌^◌, Bool, eqb, List, [], ◌∷◌, ◌++◌, length, get_or, Bor, Option, Some, None, Result, Ok, Err, refl, sym, ap, ap₂, ◌∙◌, subst, arith, length-append, AllByRecursion, before_first, after_first, position_or_len, IsInRange, eqb-true, eq-eqb, false≢true, get_or-take, length-take, IsErrAnd, MatchResult, AddressText, NumberText, NamesNone, SplitsAt}
 use Rattle.std.specs.Str.Pattern.{FindsChar, SplitsAtFirstByte}
-use Rattle.std.specs.List.{AllByRecursion, before_first, after_first, position_or_len}
 use Rattle.std.specs.Fmt.{decimal}
-use Rattle.std.specs.Int.{IsInRange}
 use Rattle.std.specs.Str.Parse.{AllDigits}
-use Rattle.std.proofs.lemmas.Bool.{eqb-true, eq-eqb, false≢true}
-use Rattle.std.proofs.lemmas.List.{get_or-take, length-take}
 use Rattle.std.proofs.lemmas.List.Sums.{fails_before_first, passes_at_first, split_at_first}
 use Rattle.std.proofs.lemmas.Str.Parse.{digit_from_value}
 use Rattle.std.proofs.Math.Seq.{get_or-append_seam}
-use Rattle.std.specs.Result.{IsErrAnd, MatchResult}
 use Rattle.nb_building.specs.declared.build_fault.BuildFault.{BuildFault}
 use Rattle.nb_building.specs.declared.build_fault.BuildFault.TheVariants.{Arguments}
-use Rattle.nb_building.specs.Built.{AddressText, NumberText}
-use Rattle.nb_building.specs.Refusals.{NamesNone, SplitsAt}
 use Rattle.nb_building.proofs.ArgumentLemmas.{AllDigits-decimal}
 
 -- a refusal that is passed on

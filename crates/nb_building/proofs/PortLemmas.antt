@@ -1,18 +1,13 @@
 -- Which port the packets that words name are of, by the first word.
-use Rattle.std.proofs.Common.{◌≡◌, ◌⊎◌, inl, inr, ap, Bool, ℕ, List, get_or, Result, Ok, Err, refl, sym, ◌∙◌, arith}
-use Rattle.std.specs.Prelude.{codes, ◌==◌, if◌then◌else◌}
-use Rattle.std.specs.Result.{IfErr}
-use Rattle.nb_service.specs.Packet.{ServicePacket}
+use Rattle.nb_building.proofs.Common.{◌≡◌, ◌⊎◌, inl, inr, ap, Bool, ℕ, List, get_or, Result, Ok, Err, refl, sym, ◌∙◌, arith, codes, ◌==◌, if◌then◌else◌, IfErr, ServicePacket, IsServiceBuilt, IsSessionBuilt, Names, NamesDatagrams, NamesService, NamesSession, query, status, registration, refresh, release, response, request, message, positive, negative, retarget, keepalive, fragments, error, queries, of_service, of_session, of_datagrams, Unnamed}
 use Rattle.nb_session.specs.Packet as session
 use Rattle.nb_datagram.specs.declared.kind.Kind.{Kind}
-use Rattle.nb_datagram.specs.declared.kind.Kind.TheVariants.{Unique, Group, Broadcast}
+use Rattle.nb_datagram.specs.declared.kind.Kind.TheVariants.{Unique}
 use Rattle.nb_datagram.specs.declared.packet.QueryKind.{QueryKind}
 use Rattle.nb_datagram.specs.declared.packet.QueryKind.TheVariants as query_kind
 use Rattle.nb_datagram.specs.FaultTexts.{kind_text}
 use Rattle.nb_text.specs.Words.{query_word}
 use Rattle.nb_building.specs.declared.build_fault.BuildFault.{BuildFault}
-use Rattle.nb_building.specs.Built.{IsServiceBuilt, IsSessionBuilt, Names, NamesDatagrams, NamesService, NamesSession, query, status, registration, refresh, release, response, request, message, positive, negative, retarget, keepalive, fragments, error, queries, of_service, of_session, of_datagrams}
-use Rattle.nb_building.specs.Refusals.{Unnamed}
 
 -- the port, by the first letter of the word, or the third of those that begin with `r`, or the second of those with `m`
 abbrev pub port_of : List ℕ → ℕ

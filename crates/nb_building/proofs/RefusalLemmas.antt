@@ -1,14 +1,9 @@
 -- Why words are refused, from why their parts are.
-use Rattle.std.proofs.Common.{◌≡◌, ◌≢◌, inl, inr, ℕ, ◌<◌, ◌^◌, List, [], ◌∷◌, ◌++◌, length, Result, Ok, Err, sym, ◌∙◌, subst, arith, append_assoc}
-use Rattle.std.specs.Int.{IsInRange, w16, to_be_bytes}
-use Rattle.std.specs.Result.{IsErrAnd, MatchResult}
-use Rattle.nb_names.specs.Hexadecimal.{HexText}
+use Rattle.nb_building.proofs.Common.{◌≡◌, ◌≢◌, inl, inr, ℕ, ◌<◌, ◌^◌, List, [], ◌∷◌, ◌++◌, length, Result, Ok, Err, sym, ◌∙◌, subst, arith, append_assoc, IsInRange, w16, to_be_bytes, IsErrAnd, MatchResult, HexText, AddressText, CodeText, KeyText, NumberText, WordText, IsRefused, SplitsAt}
 use Rattle.nb_names.specs.HexadecimalFacts.{length-HexText}
 use Rattle.nb_datagram.specs.declared.key.Key.{Key}
 use Rattle.nb_building.specs.declared.build_fault.BuildFault.{BuildFault}
 use Rattle.nb_building.specs.declared.build_fault.BuildFault.TheVariants.{Arguments}
-use Rattle.nb_building.specs.Built.{AddressText, CodeText, KeyText, NumberText, WordText}
-use Rattle.nb_building.specs.Refusals.{IsRefused, SplitsAt}
 use Rattle.nb_building.proofs.MarkLemmas.{address_lacks, lacks-append, number_lacks, one_split, Lacks}
 
 -- ---- one word

@@ -1,19 +1,9 @@
 -- Words that name no packets of port 137.
-use Rattle.std.proofs.Common.{◌≡◌, ◌≢◌, Bool, ℕ, List, [], ◌∷◌, get_or, Result, Ok, Err, sym, ap, ◌∙◌, subst}
-use Rattle.std.specs.Prelude.{codes}
-use Rattle.std.specs.Int.{w16, from_be_bytes, to_be_bytes}
-use Rattle.std.specs.Result.{IfErr}
+use Rattle.nb_building.proofs.Common.{◌≡◌, ◌≢◌, Bool, ℕ, List, [], ◌∷◌, get_or, Result, Ok, Err, sym, ap, ◌∙◌, subst, codes, w16, from_be_bytes, to_be_bytes, IfErr, DataText, NetbiosName, IsText, ServicePacket, ResourceData, ResourceRecord, EntryTexts, IsServiceBuilt, NamesService, NumberText, WordText, query, refresh, registration, release, response, status, HasRdata, Unnamed}
 use Rattle.std.proofs.lemmas.Nat.{from_be_bytes-to_be_bytes_2}
-use Rattle.nb_names.specs.Hexadecimal.{DataText}
-use Rattle.nb_names.specs.Name.{NetbiosName}
-use Rattle.nb_names.specs.NameText.{IsText}
 use Rattle.nb_service.specs.declared.address_entry.AddressEntry.{AddressEntry}
-use Rattle.nb_service.specs.Packet.{ServicePacket}
-use Rattle.nb_service.specs.Record.{ResourceData, ResourceRecord}
 use Rattle.nb_building.specs.declared.build_fault.BuildFault.{BuildFault}
 use Rattle.nb_building.specs.declared.build_fault.BuildFault.TheVariants.{Memory}
-use Rattle.nb_building.specs.Built.{EntryTexts, IsServiceBuilt, NamesService, NumberText, WordText, query, refresh, registration, release, response, status, HasRdata}
-use Rattle.nb_building.specs.Refusals.{Unnamed}
 use Rattle.nb_building.proofs.UnnamedLemmas.{one_data, one_hex}
 
 -- ---- the words of each packet

@@ -1,18 +1,11 @@
 -- Words that name nothing, from their parts.
-use Rattle.std.proofs.Common.{◌≡◌, ◌≢◌, ◌<◌, ◌⊎◌, inl, inr, ℕ, List, [], ◌∷◌, length, map, get_or, Result, Ok, Err, refl, sym, ap, ◌∙◌, subst, arith}
-use Rattle.std.specs.Prelude.{IfErr, codes, ◌==◌, if◌then◌else◌}
-use Rattle.std.specs.Result.{IsErrAnd}
-use Rattle.std.proofs.lemmas.List.{length-map}
-use Rattle.nb_names.specs.Hexadecimal.{DataText, HexText, no_byte, one_more, empty, digits}
+use Rattle.nb_building.proofs.Common.{◌≡◌, ◌≢◌, ◌<◌, ◌⊎◌, inl, inr, ℕ, List, [], ◌∷◌, length, map, get_or, Result, Ok, Err, refl, sym, ap, ◌∙◌, subst, arith, codes, ◌==◌, if◌then◌else◌, IsErrAnd, length-map, DataText, HexText, no_byte, one_more, empty, digits, NetbiosName, IsText, byte_of, AddressText, IsSessionBuilt, NamesSession, NumberText, message, negative, request, retarget, IsRefused, Unnamed}
+use Rattle.std.specs.Prelude.{IfErr}
 use Rattle.nb_names.specs.HexadecimalFacts.{length-HexText}
-use Rattle.nb_names.specs.Name.{NetbiosName}
-use Rattle.nb_names.specs.NameText.{IsText, byte_of}
 use Rattle.nb_session.specs.Packet as session
 use Rattle.nb_session.specs.Packet.{IsPacket}
 use Rattle.nb_building.specs.declared.build_fault.BuildFault.{BuildFault}
 use Rattle.nb_building.specs.declared.build_fault.BuildFault.TheVariants.{Memory}
-use Rattle.nb_building.specs.Built.{AddressText, IsSessionBuilt, NamesSession, NumberText, keepalive, message, negative, positive, request, retarget}
-use Rattle.nb_building.specs.Refusals.{IsRefused, Unnamed}
 
 -- ---- faults
 

@@ -1,17 +1,11 @@
 -- What a member hands over of another table is what was said of it before.
-use Rattle.std.proofs.Common.{◌≡◌, ℕ, ◌≤◌, List, length, Result, Ok, Err, IfOk, refl, subst, sym}
-use Rattle.nb_datagram.specs.Fragment.{DatagramParts}
+use Rattle.nb_c.proofs.Common.{◌≡◌, ℕ, ◌≤◌, List, length, Result, Ok, Err, IfOk, refl, subst, sym, DatagramParts, Contents, IsRefused, Refusal, Memory, Fault, FaultAt, OrMemory, all_late, of_memory}
 use Rattle.nb_names.specs.declared.bytes.NoMemory as bytes
 use Rattle.nb_table.specs.declared.fault.TableFault.{TableFault}
 use Rattle.nb_table.specs.declared.fault.TableFault.TheVariants.{MisplacedFirst, TooLong, FullSource, Full, NoMemory}
-use Rattle.nb_table.specs.Contents.{Contents}
-use Rattle.nb_table.specs.Merging.{IsRefused}
 use Rattle.nb_member.specs.Member.{MemberValue, contents}
 use Rattle.nb_member.specs.Taking.{Absorbs, Previews}
-use Rattle.nb_c.specs.declared.refusal.Refusal.{Refusal}
-use Rattle.nb_c.specs.declared.refusal.Refusal.TheVariants.{Memory, Fault, FaultAt}
 use Rattle.nb_c.specs.Absorbing.{Hears, hears, takes_not, Joined, done, refused, no_memory, all_heard}
-use Rattle.nb_c.specs.Outputs.{OrMemory, all_late, of_memory}
 use Rattle.nb_c.specs.Stations.{table_refusal}
 use Rattle.nb_c.proofs.AnswerLemmas.{all_lack}
 

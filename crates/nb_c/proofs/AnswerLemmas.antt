@@ -1,10 +1,5 @@
 -- What is judged and answered is done.
-use Rattle.std.proofs.Common.{◌≡◌, ◌∙◌, ℕ, Bool, List, Result, Ok, Err, inl, inr, refl, subst, sym}
-use Rattle.std.specs.Prelude.{IfOk}
-use Rattle.nb_names.specs.declared.bytes.NoMemory.{NoMemory}
-use Rattle.nb_c.specs.declared.refusal.Refusal.{Refusal}
-use Rattle.nb_c.specs.declared.refusal.Refusal.TheVariants.{Memory, Fault, FaultAt}
-use Rattle.nb_c.specs.Outputs.{Alone, Answers, Does, DoesAtOnce, HasOne, Lent, MayLack, OrMemory, Ends, Filled, FilledAlone, Fills, FillsOrLacks, all_late, of_memory}
+use Rattle.nb_c.proofs.Common.{◌≡◌, ◌∙◌, ℕ, Bool, List, Result, Ok, Err, inl, inr, refl, subst, sym, IfOk, NoMemory, Refusal, Memory, Fault, FaultAt, Alone, Answers, Does, DoesAtOnce, HasOne, Lent, MayLack, OrMemory, Ends, Filled, FilledAlone, Fills, FillsOrLacks, all_late, of_memory}
 use Rattle.nb_c.specs.ServiceParts.{Chosen}
 
 module _ (late : ℕ → Bool) (Says : Result (List ℕ) Refusal → Type 0) (one : HasOne Says) (old new : Lent) (status : ℕ) where

@@ -1,22 +1,16 @@
 -- The least of all keys at which two tables differ is found among the keys of both.
-use Rattle.std.proofs.Common.{◌≡◌, ◌≢◌, ◌∙◌, ◌||◌, Bool, true, false, List, [], ◌∷◌, Option, Some, None, is_some, Result, Ok, Err, inl, inr, ◌⊎◌, refl, sym, ap, subst, true≢false}
-use Rattle.std.specs.Prelude.{⊤}
+use Rattle.nb_c.proofs.Common.{◌≡◌, ◌≢◌, ◌∙◌, ◌||◌, Bool, true, false, List, [], ◌∷◌, Option, Some, None, is_some, Result, Ok, Err, inl, inr, ◌⊎◌, refl, sym, ap, subst, true≢false, ⊤, list_any, Key, Contents, Refusal, HasOne, MayLack}
 use Rattle.std.specs.Cmp.{tied_itself}
 use Rattle.std.specs.FinMap as maps
-use Rattle.std.specs.List.{list_any}
 use Rattle.std.specs.Ordering.{eq_by_cmp, ordering_reverse}
 use Rattle.std.specs.declared.cmp.Ordering.{Ordering}
 use Rattle.std.specs.declared.cmp.Ordering.TheVariants.{Less, Equal, Greater}
-use Rattle.nb_datagram.specs.declared.key.Key.{Key}
 use Rattle.nb_datagram.specs.Key.{key_cmp, key_cmp_total, key_cmp_exact}
 use Rattle.nb_entries.specs.Entry.{EntryValue}
 use Rattle.nb_entries.specs.Shared.MapsLemmas.{one_key}
-use Rattle.nb_table.specs.Contents.{Contents}
 use Rattle.nb_table.specs.Shared.TableLemmas.{same_table}
 use Rattle.nb_c.specs.declared.differing.NbtDifference.{NbtDifference}
-use Rattle.nb_c.specs.declared.refusal.Refusal.{Refusal}
 use Rattle.nb_c.specs.Tables.{AreSameAt, IsLeastDifference, Differs, difference_of, lower_by, lower_of, Narrows, same, differs, NarrowsBy, at_none, at_one, follow_the_first}
-use Rattle.nb_c.specs.Outputs.{HasOne, MayLack}
 
 -- the key isn't below the least so far, of which there is one
 abbrev IsAbove : Option Key → Key → Type 0

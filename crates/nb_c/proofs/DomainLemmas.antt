@@ -1,19 +1,8 @@
 -- A domain name in RDATA is answered by its one spelling, or by its one fault.
-use Rattle.std.proofs.Common.{◌≡◌, ◌≢◌, ◌∙◌, ◌==◌, ℕ, ◌+◌, ◌-◌, ◌≤◌, true, false, List, Option, Some, None, Result, Ok, Err, refl, ap, arith, eq-eqb, eqb-true}
-use Rattle.std.proofs.lemmas.Bool.{not-false}
+use Rattle.nb_c.proofs.Common.{◌≡◌, ◌≢◌, ◌∙◌, ◌==◌, ℕ, ◌+◌, ◌-◌, ◌≤◌, true, false, List, Option, Some, None, Result, Ok, Err, refl, ap, arith, eq-eqb, eqb-true, not-false, not, SomeIff, Followed, spelling, NameAt, NameLaws, domain_no_fault, one_domain_fault, domain_there, of_domain, DomainFails, Refusal, Alone}
 use Rattle.std.specs.Option.{option_eq}
-use Rattle.std.specs.Prelude.{not, SomeIff}
-use Rattle.nb_names.specs.declared.pointers.Pointers.TheVariants.{Followed}
-use Rattle.nb_names.specs.DomainName.{spelling}
-use Rattle.nb_names.specs.Labels.{NameAt}
 use Rattle.nb_service.specs.declared.fault.ServiceFault.{ServiceFault}
 use Rattle.nb_service.specs.declared.kinds.TheConstants.{NS}
-use Rattle.nb_service.proofs.ItemLemmas.{NameLaws, domain_no_fault, one_domain_fault}
-use Rattle.nb_service.specs.Packet.{domain_there}
-use Rattle.nb_service.specs.Record.{of_domain}
-use Rattle.nb_service.specs.ServiceFaults.{DomainFails}
-use Rattle.nb_c.specs.declared.refusal.Refusal.{Refusal}
-use Rattle.nb_c.specs.Outputs.{Alone}
 use Rattle.nb_c.specs.ServiceParts.{ReadsDomain}
 use Rattle.nb_c.specs.Statuses.{service_refusal}
 

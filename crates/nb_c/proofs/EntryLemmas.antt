@@ -1,36 +1,13 @@
 -- Of a payload of port 137 one run of items is answered, with the names in their RDATA.
-use Rattle.std.proofs.Common.{◌≡◌, ◌∙◌, ◌⊎◌, ℕ, ◌+◌, ◌<◌, ◌≤◌, ◌≢◌, List, [], ◌∷◌, ◌++◌, length, take, drop, set, min, Result, Ok, Err, inl, inr, refl, ap, sym, subst, arith, length-append}
-use Rattle.std.proofs.lemmas.Bool.{cases_lt}
-use Rattle.std.proofs.lemmas.List.{drop-drop, drop-set-lt, length-set, length-take-le, take-append-drop, take_more_set}
-use Rattle.nb_c.specs.declared.refusal.Refusal.{Refusal}
-use Rattle.nb_c.specs.declared.refusal.Refusal.TheVariants.{Fault}
+use Rattle.nb_c.proofs.Common.{◌≡◌, ◌∙◌, ℕ, ◌+◌, ◌<◌, ◌≤◌, ◌≢◌, List, [], ◌∷◌, ◌++◌, length, take, drop, set, min, Result, Ok, Err, inl, inr, refl, ap, sym, subst, arith, length-append, cases_lt, drop-drop, drop-set-lt, length-set, length-take-le, take-append-drop, take_more_set, Refusal, DONE, Alone, HasOne, at_refused, refused_status}
 use Rattle.nb_c.specs.declared.service_entries.NbtServiceEntry.{NbtServiceEntry}
 use Rattle.nb_c.specs.declared.service_entries.TheConstants.{MOST_ITEMS}
 use Rattle.nb_c.specs.declared.service_reading.NbtServiceItem.{NbtServiceItem}
-use Rattle.nb_c.specs.declared.statuses.TheConstants as statuses
-use Rattle.nb_c.specs.Entries.{Ends, FilledFront, FillsFront, Fronted, IsEntry, IsServer, room_of, ReadsEntries, ReadsEntry, ReadsServer, Run, begins, goes_on, entry_numbers}
-use Rattle.nb_c.specs.Outputs.{Alone, HasOne, at_refused, refused_status}
-use Rattle.nb_c.specs.ServiceParts.{ReadsDomain}
+use Rattle.nb_c.specs.Entries.{Ends, FilledFront, FillsFront, Fronted, IsEntry, room_of, ReadsEntries, ReadsEntry, Run, begins, goes_on, entry_numbers}
 use Rattle.nb_c.specs.Services.{ReadsItem}
 use Rattle.nb_c.proofs.ServiceLemmas.{HeaderLaws, ItemLaws, item_read}
 
 -- ---- one item
-
--- the RDATA of an item that is no record of type NS has no name
-pub no_server : (payload : List ℕ) (item : NbtServiceItem) → ¬ IsServer item
-    → Alone (List ℕ) (ReadsServer payload item) (Err (Fault statuses.OTHER_RDATA))
-no_server payload item none = record { said = inr (none, refl); only = others } where
-  others : (other : Result (List ℕ) Refusal) → ReadsServer payload item other → other ≡ Err (Fault statuses.OTHER_RDATA)
-  others other (inl h) = absurd (none h.0)
-  others other (inr h) = h.1
-
--- that of a record of type NS has one name, or none
-pub one_server : (payload : List ℕ) (item : NbtServiceItem) (answer : Result (List ℕ) Refusal) → IsServer item
-    → Alone (List ℕ) (ReadsDomain payload item.contents item.contents_length) answer → Alone (List ℕ) (ReadsServer payload item) answer
-one_server payload item answer is read = record { said = inl (is, read.said); only = others } where
-  others : (other : Result (List ℕ) Refusal) → ReadsServer payload item other → other ≡ answer
-  others other (inl h) = read.only other h.1
-  others other (inr h) = absurd (h.0 is)
 
 -- an item has one name in its RDATA
 same_entry : (payload : List ℕ) (item : NbtServiceItem) (entry other : NbtServiceEntry) → IsEntry payload item entry → IsEntry payload item other
@@ -49,13 +26,6 @@ entry_read payload number at item entry read is = record { said = (item, read.sa
       ap (λ (e : NbtServiceEntry). Ok e)
       (same_entry payload item found entry (subst (λ (i : NbtServiceItem). IsEntry payload i found) same also) is)
   others (Err refusal) there = absurd (cc (read.only (Err refusal) there))
-
-pub entry_refused : (payload : List ℕ) (number at : ℕ) (refusal : Refusal) → Alone NbtServiceItem (ReadsItem payload number at) (Err refusal)
-    → Alone NbtServiceEntry (ReadsEntry payload number at) (Err refusal)
-entry_refused payload number at refusal read = record { said = read.said; only = others } where
-  others : (other : Result NbtServiceEntry Refusal) → ReadsEntry payload number at other → other ≡ Err refusal
-  others (Ok found) (seen, there, also) = absurd (cc (read.only (Ok seen) there))
-  others (Err found) there = cc (read.only (Err found) there)
 
 -- of an item one thing is answered, its RDATA included
 pub entry_one : (payload : List ℕ) → HeaderLaws payload → ItemLaws payload → (k at : ℕ) → HasOne (ReadsEntry payload k at)
@@ -229,7 +199,7 @@ module _ (payload : List ℕ) (number place : ℕ) (one : (k at : ℕ) → HasOn
 -- ---- what is done
 
 pub fills_front : (A : Type 0) (Says : Result (List A) Refusal → Type 0) (old new : List A) (count used used' at at' status : ℕ)
-    → FilledFront A Says old new (Ok count) → used' ≡ count → at' ≡ at → status ≡ statuses.DONE
+    → FilledFront A Says old new (Ok count) → used' ≡ count → at' ≡ at → status ≡ DONE
     → FillsFront A Says old new used used' at at' status
 fills_front A Says old new count used used' at at' status (values, said, is, long) u a s = record {
   some = (Ok values, said.said, done);

@@ -1,5 +1,5 @@
 -- What is asked to be written on port 139 has one answer.
-use Rattle.std.proofs.Common.{◌≡◌, ◌==◌, ◌∙◌, ℕ, Bool, true, false, ◌≤◌, List, length, take, Result, Ok, Err, if◌then◌else◌, refl, sym, ap, subst, arith}
+use Rattle.nb_c.proofs.Common.{◌≡◌, ◌==◌, ◌∙◌, ℕ, Bool, true, false, ◌≤◌, List, length, take, Result, Ok, Err, if◌then◌else◌, refl, sym, ap, subst, arith, Refusal, Memory, Fault, FaultAt, HasOne, MayLack, OrMemory, refused_status, NO_ROLE}
 use Rattle.nb_names.specs.declared.fault.NameFault.{NameFault}
 use Rattle.nb_names.specs.declared.fault.NameFault.TheVariants as names
 use Rattle.nb_session.specs.declared.fault.SessionFault.{SessionFault}
@@ -10,11 +10,7 @@ use Rattle.nb_session.specs.declared.kind.Kind.TheVariants.{Message, Request, Po
 use Rattle.nb_session.specs.declared.limits.TheConstants.{MAX_MESSAGE}
 use Rattle.nb_session.specs.Header.{HasHeader, type_of, packet_length}
 use Rattle.nb_session.specs.Parsing.{Parsed, HeaderFails, unknown_type as unknown_header, reserved_flags, bad_length, RequestFails, called_fails, calling_fails, bytes_trail, Parses, header_lacks, header_fails, body_lacks, body_fails, whole}
-use Rattle.nb_c.specs.declared.refusal.Refusal.{Refusal}
-use Rattle.nb_c.specs.declared.refusal.Refusal.TheVariants.{Memory, Fault, FaultAt}
 use Rattle.nb_c.specs.Sessions.{Stands, Writes, unknown_type, too_long, judged, frame, follow_the_type, unless_faulty}
-use Rattle.nb_c.specs.Outputs.{HasOne, MayLack, OrMemory, refused_status}
-use Rattle.nb_c.specs.declared.statuses.TheConstants.{NO_ROLE}
 use Rattle.nb_c.specs.Statuses.{name_refusal, session_refusal}
 
 -- a kind by its number, any other number being that of a message

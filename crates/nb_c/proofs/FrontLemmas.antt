@@ -1,20 +1,11 @@
 -- What stands at the front of a payload of port 138 has one answer, and its names stand at the places that are answered.
-use Rattle.std.proofs.Common.{◌≡◌, ◌∙◌, ℕ, ◌+◌, ◌-◌, ◌≤◌, List, length, take, drop, Option, Some, Result, Ok, Err, refl, ap, sym, subst, arith}
-use Rattle.std.proofs.lemmas.List.{length-take, take-take, drop-take}
+use Rattle.nb_c.proofs.Common.{◌≡◌, ◌∙◌, ℕ, ◌+◌, ◌-◌, ◌≤◌, List, length, take, drop, Option, Some, Result, Ok, Err, refl, ap, sym, subst, arith, length-take, take-take, drop-take, Refused, StandsAt, NameAt, NetbiosName, labels_of_name, name_bytes, Refusal, FaultAt, TRUNCATED, Alone}
 use Rattle.nb_names.proofs.LabelsLemmas.{next_within, spelled_there}
-use Rattle.nb_names.specs.declared.pointers.Pointers.TheVariants.{Refused}
-use Rattle.nb_names.specs.Labels.{StandsAt, NameAt}
-use Rattle.nb_names.specs.Name.{NetbiosName, labels_of_name}
 use Rattle.nb_datagram.specs.declared.front.FragmentFront.{FragmentFront}
 use Rattle.nb_datagram.specs.declared.front.Front.{Front}
 use Rattle.nb_datagram.specs.Fronts.{FragmentStands, HasFront, LacksHeader, NamesStand, RestStands, of_fragment, of_another, no_name, source_alone, both_names}
-use Rattle.nb_datagram.specs.Packet.{name_bytes}
 use Rattle.nb_c.specs.declared.fronts.NbtDatagramFront.{NbtDatagramFront}
-use Rattle.nb_c.specs.declared.refusal.Refusal.{Refusal}
-use Rattle.nb_c.specs.declared.refusal.Refusal.TheVariants.{FaultAt}
-use Rattle.nb_c.specs.declared.statuses.TheConstants.{TRUNCATED}
 use Rattle.nb_c.specs.Fronts.{ReadsFront, front_places, places_after, numbers}
-use Rattle.nb_c.specs.Outputs.{Alone}
 
 -- a payload has one front, and none where its header isn't there whole
 pub record FrontLaws (payload : List ℕ) : Type 0 where

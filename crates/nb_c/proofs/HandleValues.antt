@@ -1,28 +1,10 @@
 -- The machine values of parts of a box and of a handle. Assumes `Logic`.
-use Rattle.std.proofs.Common.{◌≡◌, ℕ, Bool, true, false, List, [], ◌∷◌, ◌++◌, refl, subst, lit<}
-use lib.Dec.{T}
-use seplogic.Ra.Ura.{Ura}
-use mir.Syntax.{impl, tnil, dnil, ptr_eq, ty_ptr}
-use mir.Raw.{raw as bare}
-use mir.Val.{Val, vptr, vnull, vbool, vstruct, vcons, vnil, of_list, op2_val, has_ty, WT}
+use Rattle.nb_c.proofs.Steps.{◌≡◌, ℕ, Bool, true, false, List, [], ◌∷◌, ◌++◌, refl, subst, lit<, T, Ura, impl, tnil, dnil, ptr_eq, ty_ptr, bare, Val, vptr, vnull, vbool, vstruct, vcons, vnil, of_list, op2_val, has_ty, WT, Fml, SProp, ent, guard, guard_i, never, fst∗, snd∗, via, fact_use, Logic, sem, Item, Goal, Seq, Step, step, ‵, ◌$◌, move, drop, fsplit, fjoin, fpick, fpack, feq_i, feq_l, rewrite, RattleType, Valss, RawPtr, layout, Ptr, block_ptr, null_ptr, ptr_val, in_a_block, InBlock, Testable, at_block, block_of, count_of, lies_at, nothing, Al, Fits, handle_tells, MatchBool, box_owns}
 use base.Fraction.{full_share}
-use base.Fml.{Fml}
-use base.Logic.{SProp, ent, guard, guard_i, never, fst∗, snd∗, via}
-use contract.Monad.{fact_use}
-use types.Logic.{Logic, sem}
-use types.Kit.{Item, Goal, Seq, Step, step, ‵, ◌$◌, move, drop, fsplit, fjoin, fpick, fpack, feq_i, feq_l, rewrite}
-use denote.RattleType.{RattleType, Valss}
-use denote.Builtin.{RawPtr}
 use denote.Memory.{lone}
-use denote.Param.{layout}
-use denote.RawPtr.{Ptr, block_ptr, null_ptr, ptr_val, in_a_block, InBlock, Testable, at_block, block_of, count_of, lies_at}
-use denote.Steps.{nothing}
 use denote.Struct.Struct.{within}
 use denote.Struct.Owning.{shape}
-use Rattle.core.proofs.alloc.Calls.{Al, Fits, handle_tells}
-use Rattle.core.specs.Bool.{MatchBool}
 use Rattle.core.specs.Ptr.{if_non_null}
-use Rattle.std_alloc.specs.Box.Ownership.{box_owns}
 use Rattle.std_heap.proofs.GlobalToken.{dealloc_token-Testable}
 use Rattle.std_heap.specs.contracts.Global as heap
 use Rattle.std_heap.proofs.Global.TheLaws as heap_laws

@@ -1,12 +1,7 @@
 -- How long the packets of a datagram are.
-use Rattle.std.proofs.Common.{◌≡◌, ◌∙◌, ◌<◌, ◌≤◌, ◌+◌, ◌-◌, ◌*◌, ◌↔◌, IsTrue, ℕ, List, min, length, drop, ap, arith, length-append}
-use Rattle.std.specs.List.{slice_range}
-use Rattle.std.proofs.lemmas.Bool.Decides.{nat_tests}
-use Rattle.std.proofs.lemmas.List.{length-take, length-drop}
+use Rattle.nb_c.proofs.Common.{◌≡◌, ◌∙◌, ◌<◌, ◌≤◌, ◌+◌, ◌-◌, ◌*◌, ◌↔◌, IsTrue, ℕ, List, min, length, drop, ap, arith, length-append, slice_range, nat_tests, length-take, length-drop, DatagramParts, FragmentParts, name_bytes}
 use Rattle.std.proofs.Math.Nat.{add-mul, one-mul}
-use Rattle.nb_datagram.specs.Fragment.{DatagramParts, FragmentParts}
 use Rattle.nb_datagram.specs.Header.{IsKey}
-use Rattle.nb_datagram.specs.Packet.{name_bytes}
 use Rattle.nb_datagram.specs.Pieces.{piece}
 use Rattle.nb_c.specs.Cutting.{are_long, packet_of}
 

@@ -1,6 +1,7 @@
 pub mod AbsorbLemmas
 pub mod AnswerLemmas
 pub mod CaptureLemmas
+pub mod Common
 pub mod DifferLemmas
 pub mod DomainLemmas
 pub mod EntryLemmas
@@ -19,6 +20,7 @@ pub mod ResponseLemmas
 pub mod ServiceLemmas
 pub mod SessionFrontLemmas
 pub mod StationNameLemmas
+pub mod Steps
 pub mod TextLemmas
 pub mod TwoLemmas
 pub mod WordLemmas

@@ -1,17 +1,9 @@
 -- What is told of a saved table is what is answered of it.
-use Rattle.std.proofs.Common.{◌≡◌, ℕ, List, Result, Ok, Err, IfOk, ap, subst, sym}
-use Rattle.nb_names.specs.declared.bytes.NoMemory.{NoMemory}
-use Rattle.nb_entries.specs.declared.load_fault.LoadFault.{LoadFault}
+use Rattle.nb_c.proofs.Common.{◌≡◌, ℕ, List, Result, Ok, Err, IfOk, ap, subst, sym, NoMemory, LoadFault, Contents, TableValue, LoadFails, Refusal, HasOne, MayLack, OrMemory, none_late, of_memory, NO_ROLE}
 use Rattle.nb_entries.specs.declared.load_fault.LoadFault.TheVariants as loads
-use Rattle.nb_table.specs.Contents.{Contents}
-use Rattle.nb_table.specs.Limits.{TableValue}
-use Rattle.nb_table.specs.Saved.{LoadFails}
-use Rattle.nb_c.specs.declared.refusal.Refusal.{Refusal}
-use Rattle.nb_c.specs.Outputs.{HasOne, MayLack, OrMemory, none_late, of_memory}
 use Rattle.nb_c.specs.Tables.{IsLoaded, OfOne, not_read, read, widest}
-use Rattle.nb_c.specs.declared.statuses.TheConstants.{NO_ROLE}
 use Rattle.nb_c.specs.Statuses.{load_refusal}
-use Rattle.nb_c.proofs.LoadLemmas.{InputLaws, one_fault, as_memory, no_other, loaded_apart}
+use Rattle.nb_c.proofs.LoadLemmas.{InputLaws, one_fault, as_memory, load_failed, no_other, loaded_apart}
 
 module _ (table : List ℕ) (told_of : Contents → List ℕ) (laws : InputLaws table) where
   pub one_list : HasOne (OfOne table told_of)
@@ -25,13 +17,8 @@ module _ (table : List ℕ) (told_of : Contents → List ℕ) (laws : InputLaws 
   lacks q _ (read t is) = tt
 
   pub list_failed : (fault : LoadFault) → LoadFails table widest fault → OrMemory none_late (OfOne table told_of) (Err (load_refusal NO_ROLE fault))
-  list_failed loads.BadMagic p = not_read loads.BadMagic (λ e. absurd (cc e)) p
-  list_failed loads.Truncated p = not_read loads.Truncated (λ e. absurd (cc e)) p
-  list_failed (loads.NotCanonical at) p = not_read (loads.NotCanonical at) (λ e. absurd (cc e)) p
-  list_failed loads.TooLong p = not_read loads.TooLong (λ e. absurd (cc e)) p
-  list_failed loads.FullSource p = not_read loads.FullSource (λ e. absurd (cc e)) p
-  list_failed loads.Full p = not_read loads.Full (λ e. absurd (cc e)) p
-  list_failed loads.NoMemory p = lacks p
+  list_failed fault p =
+      load_failed none_late (OfOne table told_of) NO_ROLE fault (λ h. not_read fault h p) (λ e. lacks (subst (LoadFails table widest) e p))
 
   -- what a table that was read comes to, in lines
   pub lists : (t : TableValue) (told : Result (List ℕ) NoMemory) → IsLoaded table widest t

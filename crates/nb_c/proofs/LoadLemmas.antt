@@ -1,16 +1,25 @@
 -- What stands in an input is one table or one fault, also under limits.
-use Rattle.std.proofs.Common.{◌≡◌, ◌≢◌, ℕ, ◌≤◌, List, Ok, Err, refl, subst, arith}
+use Rattle.nb_c.proofs.Common.{◌≡◌, ◌≢◌, ℕ, ◌≤◌, Bool, List, Result, Ok, Err, Refusal, MayLack, OrMemory, refl, subst, arith, Key, LoadFault, Contents, FewOfEach, Limits, TableValue, IsReadAs, LoadFails, ill_formed, too_long, full_source, full, no_memory, IsRead, AllShort}
 use Rattle.std.specs.FinMap as maps
-use Rattle.nb_datagram.specs.declared.key.Key.{Key}
-use Rattle.nb_entries.specs.declared.load_fault.LoadFault.{LoadFault}
 use Rattle.nb_entries.specs.declared.load_fault.LoadFault.TheVariants.{NoMemory}
-use Rattle.nb_table.specs.Contents.{Contents}
 use Rattle.nb_entries.specs.Entry.{EntryValue}
-use Rattle.nb_table.specs.Limits.{FewOfEach, Limits, TableValue}
-use Rattle.nb_table.specs.Saved.{IsReadAs, LoadFails, ill_formed, too_long, full_source, full, no_memory, IsRead}
-use Rattle.nb_table.specs.Merging.{AllShort}
 use Rattle.nb_entries.specs.SavedReading.{Outcome}
+use Rattle.nb_entries.specs.declared.load_fault.LoadFault.TheVariants as loads
+use Rattle.nb_c.specs.Statuses.{load_refusal}
 use Rattle.nb_c.specs.Tables.{IsLoaded}
+
+-- a fault is answered, but for want of memory, before all that may lack it
+pub load_failed : {A : Type 0} (late : ℕ → Bool) (Says : Result A Refusal → Type 0) (role : ℕ) (fault : LoadFault)
+    → (fault ≢ NoMemory → Says (Err (load_refusal role fault)))
+    → (fault ≡ NoMemory → (answer : Result A Refusal) → Says answer → MayLack late answer)
+    → OrMemory late Says (Err (load_refusal role fault))
+load_failed late Says role loads.BadMagic said lacks = said (λ e. absurd (cc e))
+load_failed late Says role loads.Truncated said lacks = said (λ e. absurd (cc e))
+load_failed late Says role (loads.NotCanonical at) said lacks = said (λ e. absurd (cc e))
+load_failed late Says role loads.TooLong said lacks = said (λ e. absurd (cc e))
+load_failed late Says role loads.FullSource said lacks = said (λ e. absurd (cc e))
+load_failed late Says role loads.Full said lacks = said (λ e. absurd (cc e))
+load_failed late Says role loads.NoMemory said lacks = lacks refl
 
 -- what stands in an input is one
 pub record InputLaws (input : List ℕ) : Type 0 where

@@ -1,15 +1,8 @@
 -- The join of two tables, or why there is none.
-use Rattle.std.proofs.Common.{◌≡◌, ◌≢◌, ◌∙◌, ℕ, nat_le, true, List, Result, Ok, Err, IfOk, refl, ap, sym, subst}
-use Rattle.nb_names.specs.declared.bytes.NoMemory.{NoMemory}
+use Rattle.nb_c.proofs.Common.{◌≡◌, ◌≢◌, ◌∙◌, ℕ, nat_le, true, List, Result, Ok, Err, IfOk, refl, ap, sym, subst, NoMemory, Contents, Limits, TableValue, Fits, IsRefused, saved, Refusal, HasOne, MayLack, OrMemory, of_memory, refused_status}
 use Rattle.nb_table.specs.declared.fault.TableFault.{TableFault}
 use Rattle.nb_table.specs.declared.fault.TableFault.TheVariants as tables
-use Rattle.nb_table.specs.Contents.{Contents}
 use Rattle.nb_table.specs.Join.{join}
-use Rattle.nb_table.specs.Limits.{Limits, TableValue}
-use Rattle.nb_table.specs.Merging.{Fits, IsRefused}
-use Rattle.nb_table.specs.Saved.{saved}
-use Rattle.nb_c.specs.declared.refusal.Refusal.{Refusal}
-use Rattle.nb_c.specs.Outputs.{HasOne, MayLack, OrMemory, of_memory, refused_status}
 use Rattle.nb_c.specs.Stations.{table_refusal}
 use Rattle.nb_c.specs.Tables.{IsLoaded, Joins, Merges, follow_the_first}
 use Rattle.nb_c.proofs.LoadLemmas.{InputLaws}

@@ -1,13 +1,10 @@
 -- The parts of a packet stand at the places that are answered of them.
-use Rattle.std.proofs.Common.{◌≡◌, ◌∙◌, ℕ, List, [], ◌∷◌, ◌++◌, length, refl, sym, ap, subst, arith, append_assoc, length-append}
+use Rattle.nb_c.proofs.Common.{◌≡◌, ◌∙◌, ℕ, List, [], ◌∷◌, ◌++◌, length, refl, sym, ap, subst, arith, append_assoc, length-append, StandsAt, FragmentParts, named_length, type_of, QueryPacket, IsPacket, name_bytes}
 use Rattle.std.specs.Int.{w16, to_be_bytes}
 use Rattle.nb_names.proofs.LabelsLemmas.{stands_at_seam}
-use Rattle.nb_names.specs.Labels.{StandsAt}
 use Rattle.nb_datagram.specs.declared.packet.Packet.TheVariants.{Direct, Error, Query}
 use Rattle.nb_datagram.specs.declared.packet.ErrorPacket.{ErrorPacket}
-use Rattle.nb_datagram.specs.Fragment.{FragmentParts, named_length}
 use Rattle.nb_datagram.specs.Header.{header_bytes, error_type, query_type}
-use Rattle.nb_datagram.specs.Packet.{type_of, QueryPacket, IsPacket, name_bytes}
 use Rattle.nb_c.specs.Datagrams.{fragment_places, error_places, query_places}
 
 stands : (whole front bytes rest : List ℕ) (at : ℕ) → whole ≡ front ++ (bytes ++ rest) → at ≡ length front → StandsAt whole at bytes

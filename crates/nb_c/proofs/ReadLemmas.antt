@@ -1,14 +1,9 @@
--- A payload of port 138 and a stream of port 139 have one answer each.
-use Rattle.std.proofs.Common.{◌≡◌, ℕ, List, Result, Ok, Err, refl}
+-- A payload of port 138 has one answer.
+use Rattle.nb_c.proofs.Common.{◌≡◌, ℕ, List, Result, Ok, Err, refl, Packet, IsPacket, Refusal, Alone}
 use Rattle.nb_datagram.specs.declared.fault.DatagramFault.{DatagramFault}
 use Rattle.nb_datagram.specs.DatagramFaults.{PacketFails}
-use Rattle.nb_datagram.specs.Packet.{Packet, IsPacket}
-use Rattle.nb_session.specs.Parsing.{Parsed}
 use Rattle.nb_c.specs.declared.datagrams.NbtDatagram.{NbtDatagram}
-use Rattle.nb_c.specs.declared.refusal.Refusal.{Refusal}
 use Rattle.nb_c.specs.Datagrams as datagrams
-use Rattle.nb_c.specs.Outputs.{Alone}
-use Rattle.nb_c.specs.Sessions as sessions
 use Rattle.nb_c.specs.Statuses.{datagram_refusal}
 
 -- a payload has one packet or one fault

@@ -1,23 +1,12 @@
 -- Of a response that is asked for one thing is answered.
-use Rattle.std.proofs.Common.{◌≡◌, ◌∙◌, ℕ, Bool, List, length, Result, Ok, Err, IfOk, refl, ap, subst, arith}
-use Rattle.std.specs.Prelude.{⊤}
+use Rattle.nb_c.proofs.Common.{◌≡◌, ◌∙◌, ℕ, Bool, List, length, Result, Ok, Err, IfOk, refl, ap, subst, arith, ⊤, Refused, TextFault, NameAt, NoMemory, NetbiosName, ResourceData, ResourceRecord, Refusal, Memory, Fault, FaultAt, NAME_TRAILING_BYTES, NO_ROLE, HasOne, OrMemory, none_late, of_memory}
 use Rattle.nb_names.specs.declared.fault.NameFault.{NameFault}
 use Rattle.nb_names.specs.declared.fault.NameFault.TheVariants as names
-use Rattle.nb_names.specs.declared.pointers.Pointers.TheVariants.{Refused}
-use Rattle.nb_names.specs.declared.text_fault.TextFault.{TextFault}
 use Rattle.nb_names.specs.declared.text_fault.TextFault.TheVariants as texts
-use Rattle.nb_names.specs.Labels.{NameAt}
 use Rattle.nb_names.specs.NameFaults.{FaultAt as NameFaultAt}
-use Rattle.nb_names.specs.declared.bytes.NoMemory.{NoMemory}
-use Rattle.nb_names.specs.Name.{NetbiosName}
-use Rattle.nb_service.specs.Record.{ResourceData, ResourceRecord}
 use Rattle.nb_c.proofs.AnswerLemmas.{bytes_said, has_one_value}
 use Rattle.nb_c.proofs.NameLemmas.{TextLaws}
-use Rattle.nb_c.specs.declared.refusal.Refusal.{Refusal}
-use Rattle.nb_c.specs.declared.refusal.Refusal.TheVariants.{Memory, Fault, FaultAt}
 use Rattle.nb_c.specs.declared.responses.Answered.{Answered}
-use Rattle.nb_c.specs.declared.statuses.TheConstants.{NAME_TRAILING_BYTES, NO_ROLE}
-use Rattle.nb_c.specs.Outputs.{HasOne, OrMemory, none_late, of_memory}
 use Rattle.nb_c.specs.Responses.{IsDomain, whole, no_name, bytes_trail, IsRdata, plain, too_long, domain, domain_data, Responds, no_name_text, named, answer_of, response_of, response_answer}
 use Rattle.nb_c.specs.Statuses.{name_refusal, text_refusal}
 

@@ -1,23 +1,17 @@
 -- A payload of port 137 has one answer for its header, for its packet, and for each item.
-use Rattle.std.proofs.Common.{◌≡◌, ◌∙◌, ℕ, ◌<◌, ◌≤◌, List, length, Option, Some, None, Result, Ok, Err, refl, ap, sym, subst, arith}
-use Rattle.std.specs.Prelude.{MatchOption}
+use Rattle.nb_c.proofs.Common.{◌≡◌, ◌∙◌, ℕ, ◌<◌, ◌≤◌, List, length, Option, Some, None, Result, Ok, Err, refl, ap, sym, subst, arith, MatchOption, PacketHeader, HasHeader, seen_extent, ServicePacket, HasOutline, PacketFails, item_count, Refusal, Alone}
 use Rattle.nb_service.specs.declared.extent.Extent.{Extent}
 use Rattle.nb_service.specs.declared.fault.ServiceFault.{ServiceFault}
 use Rattle.nb_service.specs.declared.fault.ServiceFault.TheVariants.{Truncated}
 use Rattle.nb_service.specs.declared.fields.Fields.{Fields}
 use Rattle.nb_service.specs.declared.limits.TheConstants.{HEADER_LENGTH}
 use Rattle.nb_service.specs.declared.section.Section.{Section}
-use Rattle.nb_service.specs.Header.{PacketHeader, HasHeader}
 use Rattle.nb_service.specs.declared.seen.Seen.{Seen}
 use Rattle.nb_service.specs.Items.{PacketItem, asked, told, ItemAt, ItemFails, IsExtent, Sees}
-use Rattle.nb_service.proofs.ItemLemmas.{seen_extent}
 use Rattle.nb_service.proofs.WalkedLemmas.{fails_counted}
-use Rattle.nb_service.specs.Packet.{ServicePacket, IsPacket, HasOutline}
-use Rattle.nb_service.specs.ServiceFaults.{PacketFails, item_count}
-use Rattle.nb_c.specs.declared.refusal.Refusal.{Refusal}
+use Rattle.nb_service.specs.Packet.{IsPacket}
 use Rattle.nb_c.specs.declared.service_reading.NbtServiceHeader.{NbtServiceHeader}
 use Rattle.nb_c.specs.declared.service_reading.NbtServiceItem.{NbtServiceItem}
-use Rattle.nb_c.specs.Outputs.{Alone}
 use Rattle.nb_c.specs.Services.{ReadsHeader, ReadsPacket, ReadsItem, headless, uncounted, fails, stands, header_numbers, section_number, numbers, item_numbers, cut_header}
 use Rattle.nb_c.specs.Statuses.{service_refusal}
 

@@ -1,13 +1,9 @@
 -- What stands at the front of what came over a connection has one answer.
-use Rattle.std.proofs.Common.{◌≡◌, ℕ, ◌-◌, ◌≤◌, ◌<◌, List, length, Result, Ok, Err, refl, ap, arith}
+use Rattle.nb_c.proofs.Common.{◌≡◌, ℕ, ◌-◌, ◌≤◌, ◌<◌, List, length, Result, Ok, Err, refl, ap, arith, Refusal, FaultAt, MORE, Alone}
 use Rattle.nb_session.specs.declared.header.Header.{Header}
 use Rattle.nb_session.specs.declared.limits.TheConstants.{HEADER_LENGTH}
 use Rattle.nb_session.specs.Header.{HasHeader}
-use Rattle.nb_c.specs.declared.refusal.Refusal.{Refusal}
-use Rattle.nb_c.specs.declared.refusal.Refusal.TheVariants.{FaultAt}
 use Rattle.nb_c.specs.declared.session_fronts.NbtSessionFront.{NbtSessionFront}
-use Rattle.nb_c.specs.declared.statuses.TheConstants.{MORE}
-use Rattle.nb_c.specs.Outputs.{Alone}
 use Rattle.nb_c.specs.Sessions.{ReadsFront, numbers}
 
 -- bytes begin with one header, and with none where there are fewer than four

@@ -1,15 +1,10 @@
 -- Texts of names are ASCII, so what isn't UTF-8 leaves their form.
-use Rattle.std.proofs.Common.{◌≡◌, ◌⊎◌, inl, inr, ℕ, ◌<◌, ◌≤◌, List, [], ◌∷◌, ◌++◌, length, take, sym, subst, arith}
+use Rattle.nb_c.proofs.Common.{◌≡◌, ◌⊎◌, inl, inr, ℕ, ◌<◌, ◌≤◌, List, [], ◌∷◌, ◌++◌, length, take, sym, subst, arith, cases_lt, nat_tests, take-take, length-take-le, append-nil, IsHexDigit, Item, plain, escaped, Items, no_item, more_items, ScopeText, no_label, more_labels, IsFormed, IsFront, IsBad, IsFaultOf, TextFault}
 use Rattle.std.specs.Str.{IsAscii, IsUtf8, IsValidUpTo}
-use Rattle.std.proofs.lemmas.Bool.{cases_lt}
-use Rattle.std.proofs.lemmas.Bool.Decides.{nat_tests}
-use Rattle.std.proofs.lemmas.List.{take-take, length-take-le, append-nil}
 use Rattle.std.proofs.Math.Seq.{take-append_seam}
 use Rattle.std.proofs.lemmas.Str.{IsUtf8-from_ascii, IsAscii-append, IsAscii-take}
 use Rattle.std.proofs.lemmas.Str.Ascii.{IsAscii-nil, IsAscii-cons}
 use Rattle.nb_names.proofs.PushingLemmas.{plain_one}
-use Rattle.nb_names.specs.NameText.{IsHexDigit, Item, plain, escaped, Items, no_item, more_items, ScopeText, no_label, more_labels, IsFormed, IsFront, IsBad, IsFaultOf}
-use Rattle.nb_names.specs.declared.text_fault.TextFault.{TextFault}
 use Rattle.nb_names.specs.declared.text_fault.TextFault.TheVariants.{BadText, TooLong}
 use Rattle.nb_c.specs.Statuses.{place_of}
 

@@ -1,17 +1,9 @@
 -- Of two saved tables one thing is answered, where one thing is said of both.
-use Rattle.std.proofs.Common.{◌≡◌, ◌≢◌, ℕ, nat_le, true, List, Result, Ok, Err, refl, ap, subst}
-use Rattle.nb_entries.specs.declared.load_fault.LoadFault.{LoadFault}
+use Rattle.nb_c.proofs.Common.{◌≡◌, ◌≢◌, ℕ, nat_le, true, List, Result, Ok, Err, refl, ap, subst, LoadFault, Contents, Limits, TableValue, LoadFails, Refusal, Memory, Fault, FaultAt, HasOne, MayLack, OrMemory, refused_status, NO_ROLE, SECOND}
 use Rattle.nb_entries.specs.declared.load_fault.LoadFault.TheVariants as loads
-use Rattle.nb_table.specs.Contents.{Contents}
-use Rattle.nb_table.specs.Limits.{Limits, TableValue}
-use Rattle.nb_table.specs.Saved.{LoadFails}
-use Rattle.nb_c.specs.declared.refusal.Refusal.{Refusal}
-use Rattle.nb_c.specs.declared.refusal.Refusal.TheVariants.{Memory, Fault, FaultAt}
-use Rattle.nb_c.specs.Outputs.{HasOne, MayLack, OrMemory, refused_status}
 use Rattle.nb_c.specs.Tables.{IsLoaded, OfTwo, first_fails, second_fails, both, follow_the_first}
-use Rattle.nb_c.specs.declared.statuses.TheConstants.{NO_ROLE, SECOND}
 use Rattle.nb_c.specs.Statuses.{load_refusal}
-use Rattle.nb_c.proofs.LoadLemmas.{InputLaws, one_fault, as_memory, no_other, loaded_apart}
+use Rattle.nb_c.proofs.LoadLemmas.{InputLaws, one_fault, as_memory, load_failed, no_other, loaded_apart}
 
 second_late : (fault : LoadFault) → fault ≢ loads.NoMemory → nat_le 80 (refused_status (load_refusal SECOND fault)) ≡ true
 second_late loads.BadMagic h = refl
@@ -36,23 +28,15 @@ module _ {A : Type 0} (first second : List ℕ) (limits : Limits) (Then : Conten
 
     pub first_failed : (fault : LoadFault) → LoadFails first limits fault
         → OrMemory follow_the_first (OfTwo first second limits Then) (Err (load_refusal NO_ROLE fault))
-    first_failed loads.BadMagic p = first_fails loads.BadMagic (λ e. absurd (cc e)) p
-    first_failed loads.Truncated p = first_fails loads.Truncated (λ e. absurd (cc e)) p
-    first_failed (loads.NotCanonical at) p = first_fails (loads.NotCanonical at) (λ e. absurd (cc e)) p
-    first_failed loads.TooLong p = first_fails loads.TooLong (λ e. absurd (cc e)) p
-    first_failed loads.FullSource p = first_fails loads.FullSource (λ e. absurd (cc e)) p
-    first_failed loads.Full p = first_fails loads.Full (λ e. absurd (cc e)) p
-    first_failed loads.NoMemory p = lacks p
+    first_failed fault p =
+        load_failed follow_the_first (OfTwo first second limits Then) NO_ROLE fault (λ h. first_fails fault h p)
+        (λ e. lacks (subst (LoadFails first limits) e p))
 
     pub second_failed : (one : TableValue) (fault : LoadFault) → IsLoaded first limits one → LoadFails second limits fault
         → OrMemory follow_the_first (OfTwo first second limits Then) (Err (load_refusal SECOND fault))
-    second_failed one loads.BadMagic is p = second_fails one loads.BadMagic is (λ e. absurd (cc e)) p
-    second_failed one loads.Truncated is p = second_fails one loads.Truncated is (λ e. absurd (cc e)) p
-    second_failed one (loads.NotCanonical at) is p = second_fails one (loads.NotCanonical at) is (λ e. absurd (cc e)) p
-    second_failed one loads.TooLong is p = second_fails one loads.TooLong is (λ e. absurd (cc e)) p
-    second_failed one loads.FullSource is p = second_fails one loads.FullSource is (λ e. absurd (cc e)) p
-    second_failed one loads.Full is p = second_fails one loads.Full is (λ e. absurd (cc e)) p
-    second_failed one loads.NoMemory is p = lacks (as_memory first limits laws one is)
+    second_failed one fault is p =
+        load_failed follow_the_first (OfTwo first second limits Then) SECOND fault (λ h. second_fails one fault is h p)
+        (λ e. lacks (as_memory first limits laws one is))
 
     -- what two tables that were read come to
     pub done : (one other : TableValue) (answer : Result A Refusal) → IsLoaded first limits one

@@ -1,6 +1,5 @@
 -- What is found in a list stands in the list that is made of it.
-use Rattle.std.proofs.Common.{◌≡◌, refl, List, [], ◌∷◌, map, Option, Some, option_map, Bool, true, false, if◌then◌else◌}
-use Rattle.std.specs.List.{find}
+use Rattle.nb_c.proofs.Common.{◌≡◌, refl, List, [], ◌∷◌, map, Option, Some, option_map, Bool, true, false, if◌then◌else◌, find}
 
 module _ {A B : Type 0} (f : A → B) where
   here_or_later : (is_here : Bool) (x : A) (rest : Option A) (made : Option B) → made ≡ option_map f rest

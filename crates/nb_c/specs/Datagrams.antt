@@ -35,12 +35,7 @@ header_places type flags key used = record {
 
 -- a fragment's: both names behind the fourteen bytes, then the data
 abbrev pub fragment_places : FragmentParts → ℕ → NbtDatagram
-fragment_places f used = record {
-  packet_type = type_of f.kind;
-  flags = f.flags;
-  identifier = f.key.id;
-  address = from_be_bytes w32 f.key.ip;
-  port = f.key.port;
+fragment_places f used = record (header_places (type_of f.kind) f.flags f.key used) {
   offset = f.offset;
   source = DIRECT_HEADER_LENGTH;
   source_length = length (name_bytes f.source);
@@ -48,43 +43,17 @@ fragment_places f used = record {
   destination_length = length (name_bytes f.destination);
   contents = DIRECT_HEADER_LENGTH + length (name_bytes f.source) + length (name_bytes f.destination);
   contents_length = length f.bytes;
-  used = used;
 }
 
 -- an error packet's: its code behind the header
 abbrev pub error_places : ErrorPacket → ℕ → NbtDatagram
-error_places e used = record {
-  packet_type = error_type;
-  flags = e.flags;
-  identifier = e.key.id;
-  address = from_be_bytes w32 e.key.ip;
-  port = e.key.port;
-  offset = 0;
-  source = 0;
-  source_length = 0;
-  destination = 0;
-  destination_length = 0;
-  contents = HEADER_LENGTH;
-  contents_length = 1;
-  used = used;
-}
+error_places e used = record (header_places error_type e.flags e.key used) { contents = HEADER_LENGTH; contents_length = 1 }
 
 -- a query packet's: the name behind the header
 abbrev pub query_places : QueryPacket → ℕ → NbtDatagram
-query_places q used = record {
-  packet_type = query_type q.kind;
-  flags = q.flags;
-  identifier = q.key.id;
-  address = from_be_bytes w32 q.key.ip;
-  port = q.key.port;
-  offset = 0;
-  source = 0;
-  source_length = 0;
+query_places q used = record (header_places (query_type q.kind) q.flags q.key used) {
   destination = HEADER_LENGTH;
   destination_length = length (name_bytes q.destination);
-  contents = 0;
-  contents_length = 0;
-  used = used;
 }
 
 -- places_of packet used: the numbers of a packet that has so many bytes, and where its parts stand

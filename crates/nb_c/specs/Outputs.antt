@@ -41,6 +41,10 @@ pub record Lent : Type 0 where
   pub used : ℕ
   pub place : ℕ
 
+-- lent buffer used place: these
+abbrev pub lent : List ℕ → ℕ → ℕ → Lent
+lent buffer used place = record { buffer = buffer; used = used; place = place }
+
 -- Answers answer old new status: a call with this answer leaves what was lent so, and has this status
 abbrev pub Answers : Result (List ℕ) Refusal → Lent → Lent → ℕ → Type 0
 Answers (Ok bytes) old new status =

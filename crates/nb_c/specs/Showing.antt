@@ -5,17 +5,19 @@ use Rattle.nb_text.specs.Shown.{Shown}
 use Rattle.nb_text.specs.Tells.{IsObject}
 use Rattle.nb_c.specs.declared.refusal.Refusal.{Refusal}
 
+-- Only Is answer: a value is answered of which this holds, and no fault
+abbrev pub Only : (List ℕ → Type 0) → Result (List ℕ) Refusal → Type 0
+Only Is (Ok value) = Is value
+Only Is (Err refusal) = ⊥
+
 -- Shows payload port answer: this is the text of a payload that came to the port, which has one
 abbrev pub Shows : List ℕ → ℕ → Result (List ℕ) Refusal → Type 0
-Shows payload port (Ok text) = Shown payload port text
-Shows payload port (Err refusal) = ⊥
+Shows payload port = Only (Shown payload port)
 
 -- Phrases payload port answer: this is the phrase of a payload that came to the port, which has one
 abbrev pub Phrases : List ℕ → ℕ → Result (List ℕ) Refusal → Type 0
-Phrases payload port (Ok phrase) = IsSaid payload port phrase
-Phrases payload port (Err refusal) = ⊥
+Phrases payload port = Only (IsSaid payload port)
 
 -- Objects payload port answer: this is the JSON object of a payload that came to the port, which has one
 abbrev pub Objects : List ℕ → ℕ → Result (List ℕ) Refusal → Type 0
-Objects payload port (Ok object) = IsObject payload port object
-Objects payload port (Err refusal) = ⊥
+Objects payload port = Only (IsObject payload port)

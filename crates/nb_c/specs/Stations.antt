@@ -101,22 +101,6 @@ pub data Creates (bytes : List ℕ) (at at' status : ℕ) : Type 0 where
 
 -- ---- what became of a payload
 
--- of_key outcome k: this became of a fragment of the key k
-abbrev pub of_key : ℕ → Key → NbtTaken
-of_key outcome k = record {
-  outcome = outcome;
-  address = from_be_bytes w32 k.ip;
-  port = k.port;
-  identifier = k.id;
-  packet_type = 0;
-  source_length = 0;
-  destination_length = 0;
-  contents_length = 0;
-  error_length = 0;
-  refusal = 0;
-  refused_at = 0;
-}
-
 -- another packet came
 abbrev pub of_other : NbtTaken
 of_other = record {
@@ -133,37 +117,22 @@ of_other = record {
   refused_at = 0;
 }
 
+-- of_key outcome k: this became of a fragment of the key k
+abbrev pub of_key : ℕ → Key → NbtTaken
+of_key outcome k = record of_other { outcome = outcome; address = from_be_bytes w32 k.ip; port = k.port; identifier = k.id }
+
 -- the datagram is handed over
 abbrev pub of_delivered : DatagramParts → NbtTaken
-of_delivered d = record {
-  outcome = outcomes.DELIVERED;
-  address = from_be_bytes w32 d.key.ip;
-  port = d.key.port;
-  identifier = d.key.id;
+of_delivered d = record (of_key outcomes.DELIVERED d.key) {
   packet_type = type_of d.kind;
   source_length = length (name_bytes d.source);
   destination_length = length (name_bytes d.destination);
   contents_length = length d.bytes;
-  error_length = 0;
-  refusal = 0;
-  refused_at = 0;
 }
 
 -- of_unheard k error: a datagram of the key k isn't heard; the packet to send has so many bytes
 abbrev pub of_unheard : Key → ℕ → NbtTaken
-of_unheard k size = record {
-  outcome = outcomes.UNHEARD;
-  address = from_be_bytes w32 k.ip;
-  port = k.port;
-  identifier = k.id;
-  packet_type = 0;
-  source_length = 0;
-  destination_length = 0;
-  contents_length = 0;
-  error_length = size;
-  refusal = 0;
-  refused_at = 0;
-}
+of_unheard k size = record (of_key outcomes.UNHEARD k) { error_length = size }
 
 -- the place of a refusal, or 0
 abbrev pub place_in : Refusal → ℕ
@@ -171,15 +140,8 @@ place_in refusal = at_refused refusal 0
 
 -- of_refused refusal size: the payload is refused so; the packet to send has so many bytes
 abbrev pub of_refused : Refusal → ℕ → NbtTaken
-of_refused refusal size = record {
+of_refused refusal size = record of_other {
   outcome = outcomes.REFUSED;
-  address = 0;
-  port = 0;
-  identifier = 0;
-  packet_type = 0;
-  source_length = 0;
-  destination_length = 0;
-  contents_length = 0;
   error_length = size;
   refusal = refused_status refusal;
   refused_at = place_in refusal;

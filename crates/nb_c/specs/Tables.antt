@@ -1,5 +1,5 @@
 -- What the calls on saved tables answer (our choice).
-use Rattle.std.specs.Prelude.{◌≡◌, ◌≢◌, ℕ, Bool, nat_le, List, Result, Ok, Err, [], ◌∷◌, Option, Some, None}
+use Rattle.std.specs.Prelude.{◌≡◌, ◌≢◌, ◌+◌, ℕ, Bool, true, false, nat_le, List, Result, Ok, Err, [], ◌∷◌, Option, Some, None}
 use Rattle.nb_entries.specs.declared.load_fault.LoadFault.{LoadFault}
 use Rattle.nb_entries.specs.declared.load_fault.LoadFault.TheVariants as loads
 use Rattle.nb_table.specs.declared.fault.TableFault.{TableFault}
@@ -52,7 +52,7 @@ Merges first second limits = OfTwo first second limits (Joins limits)
 
 -- the statuses of the second table and of the join, which come after memory is taken for the first
 abbrev pub follow_the_first : ℕ → Bool
-follow_the_first status = nat_le statuses.SECOND_BAD_MAGIC status
+follow_the_first status = nat_le (statuses.SECOND + statuses.TABLE_BAD_MAGIC) status
 
 -- the limits of a table that is only listed: as many keys as a saved one can have, and the longest datagrams
 abbrev pub widest : Limits
@@ -64,13 +64,18 @@ pub data OfOne (table : List ℕ) (told : Contents → List ℕ) : Result (List 
       → OfOne table told (Err (load_refusal statuses.NO_ROLE fault))
   read : (t : TableValue) → IsLoaded table widest t → OfOne table told (Ok (told t.contents))
 
+-- listed_as json: what is told of a table: the JSON objects of its keys, each a line, or their lines
+abbrev pub listed_as : Bool → Contents → List ℕ
+listed_as true = listed_objects
+listed_as false = listing
+
 -- Lists table answer: this is answered of the lines of a saved table's keys
 abbrev pub Lists : List ℕ → Result (List ℕ) Refusal → Type 0
-Lists table = OfOne table listing
+Lists table = OfOne table (listed_as false)
 
--- ListsObjects table answer: this is answered of their JSON objects, each a line
+-- ListsObjects table answer: this is answered of their JSON objects
 abbrev pub ListsObjects : List ℕ → Result (List ℕ) Refusal → Type 0
-ListsObjects table = OfOne table listed_objects
+ListsObjects table = OfOne table (listed_as true)
 
 -- ---- what the call that compares two saved tables answers (our choice)
 

@@ -1,7 +1,7 @@
 //! Tables of other stations, taken in by a station.
 ghost use Rattle.std.specs.Prelude.{◌≡◌, ◌++◌, IfOk, OnOk, Ok, Err};
 ghost use Rattle.nb_c.specs.Absorbing.{Absorbed, AbsorbsInto, Hears, Joined, all_heard, heard_bytes};
-ghost use Rattle.nb_c.specs.Outputs.{Answers, OrMemory, all_late};
+ghost use Rattle.nb_c.specs.Outputs.{Answers, OrMemory, all_late, lent};
 ghost use Rattle.nb_c.specs.Stations.{OnStation};
 ghost use Rattle.nb_c.specs.declared.refusal.Refusal.TheVariants.{Fault};
 ghost use Rattle.nb_c.specs.declared.statuses.TheConstants.{NO_STATION};
@@ -34,12 +34,10 @@ pub extern "C" fn nbt_station_absorb(
     at: &mut usize,
 ) -> u32
     ensures { OnStation station.old station.new
-        (λ m after. AbsorbsInto m moment table.now after
-        (record { buffer = into.old; used = used.old; place = at.old })
-        (record { buffer = into.new; used = used.new; place = at.new }) result)
-        (Answers (Err (Fault NO_STATION))
-        (record { buffer = into.old; used = used.old; place = at.old })
-        (record { buffer = into.new; used = used.new; place = at.new }) result) }
+        (λ m after. AbsorbsInto m moment table.now after (lent into.old used.old at.old)
+        (lent into.new used.new at.new) result)
+        (Answers (Err (Fault NO_STATION)) (lent into.old used.old at.old)
+        (lent into.new used.new at.new) result) }
 {
     match taken(alloc, station) {
         None => NO_STATION,
@@ -61,9 +59,8 @@ fn absorb(
     used: &mut usize,
     at: &mut usize,
 ) -> u32
-    ensures { AbsorbsInto member.old moment table.now member.new
-        (record { buffer = into.old; used = used.old; place = at.old })
-        (record { buffer = into.new; used = used.new; place = at.new }) result }
+    ensures { AbsorbsInto member.old moment table.now member.new (lent into.old used.old at.old)
+        (lent into.new used.new at.new) result }
 {
     let answer = absorb_saved(alloc, member, moment, table, into.len());
     write_answer(answer, into, used, at)

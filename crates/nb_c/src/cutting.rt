@@ -2,7 +2,7 @@
 ghost use Rattle.std.specs.Prelude.{◌≡◌, ◌++◌, ◌≤◌, length, IfOk, OnOk, MatchOption};
 ghost use Rattle.std.specs.List.{flat_map};
 ghost use Rattle.nb_c.specs.Cutting.{Cuts, are_long, cut_answer, cut_names, key_from, key_of, kind_with, packet_of, packets_of, counted};
-ghost use Rattle.nb_c.specs.Outputs.{Does, HasOne, OrMemory, none_late};
+ghost use Rattle.nb_c.specs.Outputs.{Does, HasOne, OrMemory, none_late, lent};
 ghost use Rattle.nb_datagram.specs.declared.limits.TheConstants.{MAX_LENGTH};
 
 use crate::output::{answer_of, write_answer};
@@ -54,9 +54,8 @@ pub extern "C" fn nbt_datagram_write(
       address = address;
       port = port;
       most = most;
-    }) source.now destination.now contents.now)
-        (record { buffer = into.old; used = used.old; place = at.old })
-        (record { buffer = into.new; used = used.new; place = at.new }) result }
+    }) source.now destination.now contents.now) (lent into.old used.old at.old)
+        (lent into.new used.new at.new) result }
 {
     let sent = Sent {
         packet_type,
@@ -65,12 +64,8 @@ pub extern "C" fn nbt_datagram_write(
         port,
         most,
     };
-    write_answer(
-        answer(alloc, sent, source, destination, contents),
-        into,
-        used,
-        at,
-    )
+    let packets = answer(alloc, sent, source, destination, contents);
+    write_answer(packets, into, used, at)
 }
 
 /// The packets of the datagram between the names with these texts.

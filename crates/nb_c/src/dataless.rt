@@ -2,7 +2,7 @@
 ghost use Rattle.std.specs.Prelude.{◌≡◌, IfOk, Ok};
 ghost use Rattle.nb_c.specs.Cutting.{key_from};
 ghost use Rattle.nb_c.specs.Fronts.{Queries, error_packet, query_answer, query_with};
-ghost use Rattle.nb_c.specs.Outputs.{Does, HasOne, OrMemory, none_late};
+ghost use Rattle.nb_c.specs.Outputs.{Does, HasOne, OrMemory, none_late, lent};
 ghost use Rattle.nb_datagram.specs.declared.packet.Packet.TheVariants.{Query};
 ghost use Rattle.nb_datagram.specs.Packet.{packet_bytes};
 
@@ -34,8 +34,7 @@ pub extern "C" fn nbt_datagram_error(
 ) -> u32
     ensures { Does none_late
         (λ answer. answer ≡ Ok (error_packet (key_from identifier address port) code))
-        (record { buffer = into.old; used = used.old; place = 0 })
-        (record { buffer = into.new; used = used.new; place = 0 }) result }
+        (lent into.old used.old 0) (lent into.new used.new 0) result }
 {
     let key = key_from(identifier, address, port);
     write_bytes(error_packet(alloc, key, code), into, used)
@@ -65,8 +64,7 @@ pub extern "C" fn nbt_datagram_query(
     at: &mut usize,
 ) -> u32
     ensures { Does none_late (Queries packet_type (key_from identifier address port) name.now)
-        (record { buffer = into.old; used = used.old; place = at.old })
-        (record { buffer = into.new; used = used.new; place = at.new }) result }
+        (lent into.old used.old at.old) (lent into.new used.new at.new) result }
 {
     let key = key_from(identifier, address, port);
     write_answer(query(alloc, packet_type, key, name), into, used, at)

@@ -1,7 +1,7 @@
 //! Packets of the session service, written.
 ghost use Rattle.std.specs.Prelude.{◌≡◌, ◌++◌, ◌≤◌, List, ℕ, length, IfOk};
 ghost use Rattle.nb_c.specs.Sessions.{Stands, Writes, follow_the_type, frame};
-ghost use Rattle.nb_c.specs.Outputs.{Alone, Does, HasOne, OrMemory};
+ghost use Rattle.nb_c.specs.Outputs.{Alone, Does, HasOne, OrMemory, lent};
 ghost use Rattle.nb_session.specs.declared.limits.TheConstants.{MAX_MESSAGE};
 
 use crate::output::write_answer;
@@ -25,9 +25,8 @@ pub extern "C" fn nbt_session_write(
     used: &mut usize,
     at: &mut usize,
 ) -> u32
-    ensures { Does follow_the_type (Writes packet_type body.now)
-        (record { buffer = into.old; used = used.old; place = at.old })
-        (record { buffer = into.new; used = used.new; place = at.new }) result }
+    ensures { Does follow_the_type (Writes packet_type body.now) (lent into.old used.old at.old)
+        (lent into.new used.new at.new) result }
 {
     write_answer(packet_of(alloc, packet_type, body), into, used, at)
 }

@@ -2,7 +2,7 @@
 ghost use Rattle.std.specs.Prelude.{◌≡◌, IfOk};
 ghost use Rattle.nb_names.specs.NameText.{written};
 ghost use Rattle.nb_c.specs.Names.{Spells, Tells, spelling_answer};
-ghost use Rattle.nb_c.specs.Outputs.{Does, HasOne, OrMemory, none_late};
+ghost use Rattle.nb_c.specs.Outputs.{Does, HasOne, OrMemory, none_late, lent};
 
 use crate::output::{answer_of, write_answer};
 use crate::refusal::{Refusal, name_refusal, text_refusal};
@@ -24,9 +24,8 @@ pub extern "C" fn nbt_name_spell(
     used: &mut usize,
     at: &mut usize,
 ) -> u32
-    ensures { Does none_late (Spells text.now)
-        (record { buffer = into.old; used = used.old; place = at.old })
-        (record { buffer = into.new; used = used.new; place = at.new }) result }
+    ensures { Does none_late (Spells text.now) (lent into.old used.old at.old)
+        (lent into.new used.new at.new) result }
 {
     write_answer(spelling_of(alloc, text), into, used, at)
 }
@@ -42,9 +41,8 @@ pub extern "C" fn nbt_name_text(
     used: &mut usize,
     at: &mut usize,
 ) -> u32
-    ensures { Does none_late (Tells spelling.now)
-        (record { buffer = into.old; used = used.old; place = at.old })
-        (record { buffer = into.new; used = used.new; place = at.new }) result }
+    ensures { Does none_late (Tells spelling.now) (lent into.old used.old at.old)
+        (lent into.new used.new at.new) result }
 {
     write_answer(text_of(alloc, spelling), into, used, at)
 }

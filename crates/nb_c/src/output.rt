@@ -1,6 +1,6 @@
 //! What a call writes for its caller. Nothing else writes to a buffer.
 ghost use Rattle.std.specs.Prelude.{◌≡◌, length};
-ghost use Rattle.nb_c.specs.Outputs.{put_into, put_status, at_refused, refused_status, of_memory, Answers, Ends, Filled};
+ghost use Rattle.nb_c.specs.Outputs.{put_into, put_status, at_refused, refused_status, of_memory, Answers, Ends, Filled, lent};
 
 use crate::refusal::Refusal;
 use crate::statuses::{DONE, NO_MEMORY, NO_ROOM};
@@ -42,9 +42,8 @@ pub(crate) fn write_answer(
     used: &mut usize,
     at: &mut usize,
 ) -> u32
-    ensures { Answers answer
-        (record { buffer = into.old; used = used.old; place = at.old })
-        (record { buffer = into.new; used = used.new; place = at.new }) result }
+    ensures { Answers answer (lent into.old used.old at.old)
+        (lent into.new used.new at.new) result }
 {
     match answer {
         Ok(bytes) => put(bytes.as_slice(), into, used),
@@ -54,9 +53,8 @@ pub(crate) fn write_answer(
 
 /// Writes the bytes, unless memory ran out.
 pub(crate) fn write_bytes(bytes: Result<Bytes, NoMemory>, into: &mut [u8], used: &mut usize) -> u32
-    ensures { Answers (of_memory bytes)
-        (record { buffer = into.old; used = used.old; place = 0 })
-        (record { buffer = into.new; used = used.new; place = 0 }) result }
+    ensures { Answers (of_memory bytes) (lent into.old used.old 0)
+        (lent into.new used.new 0) result }
 {
     match bytes {
         Ok(bytes) => put(bytes.as_slice(), into, used),

@@ -1,6 +1,6 @@
 //! Responses of the name service, written.
 ghost use Rattle.std.specs.Prelude.{◌≡◌, IfOk, MatchResult, List, ℕ, Result, Ok, Err};
-ghost use Rattle.nb_c.specs.Outputs.{Does, HasOne, OrMemory, none_late};
+ghost use Rattle.nb_c.specs.Outputs.{Does, HasOne, OrMemory, none_late, lent};
 ghost use Rattle.nb_c.specs.Responses.{IsDomain, IsRdata, Responds, answer_of, response_answer, response_of};
 ghost use Rattle.nb_service.specs.Record.{ResourceData};
 
@@ -50,9 +50,8 @@ pub extern "C" fn nbt_service_response(
       word = word;
       kind = kind;
       time_to_live = time_to_live;
-    }) name.now contents.now)
-        (record { buffer = into.old; used = used.old; place = at.old })
-        (record { buffer = into.new; used = used.new; place = at.new }) result }
+    }) name.now contents.now) (lent into.old used.old at.old)
+        (lent into.new used.new at.new) result }
 {
     let answered = Answered {
         identifier,
@@ -133,8 +132,6 @@ fn domain_of(bytes: &[u8]) -> Result<DomainName, Refusal>
 fn bytes_of(alloc: Global, answered: Answered, made: Record<'_>) -> Result<Bytes, NoMemory>
     ensures { IfOk result (λ bytes. bytes ≡ response_of answered made.entry) }
 {
-    bytes_if_made(
-        alloc,
-        response(alloc, answered.identifier, answered.word, made),
-    )
+    let made = response(alloc, answered.identifier, answered.word, made);
+    bytes_if_made(alloc, made)
 }

@@ -1,6 +1,6 @@
 //! Requests of the name service, written.
 ghost use Rattle.std.specs.Prelude.{◌≡◌, IfOk};
-ghost use Rattle.nb_c.specs.Outputs.{Does, HasOne, OrMemory, none_late};
+ghost use Rattle.nb_c.specs.Outputs.{Does, HasOne, OrMemory, none_late, lent};
 ghost use Rattle.nb_c.specs.Responses.{Requests, entry_of, request_answer, requested};
 ghost use Rattle.nb_service.specs.Encoding.{packet_bytes};
 ghost use Rattle.nb_service.specs.Packet.{ServicePacket};
@@ -63,9 +63,7 @@ pub extern "C" fn nbt_service_request(
       time_to_live = time_to_live;
       nb_flags = nb_flags;
       address = address;
-    }) name.now)
-        (record { buffer = into.old; used = used.old; place = at.old })
-        (record { buffer = into.new; used = used.new; place = at.new }) result }
+    }) name.now) (lent into.old used.old at.old) (lent into.new used.new at.new) result }
 {
     let asked = Asked {
         request,

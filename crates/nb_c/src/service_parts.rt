@@ -3,7 +3,7 @@ ghost use Rattle.std.specs.Prelude.{◌≡◌, ℕ, List};
 ghost use Rattle.nb_c.specs.declared.service_parts.NbtServiceAddress.{NbtServiceAddress};
 ghost use Rattle.nb_c.specs.declared.service_parts.NbtServiceNode.{NbtServiceNode};
 ghost use Rattle.nb_c.specs.declared.service_parts.NbtServiceUnit.{NbtServiceUnit};
-ghost use Rattle.nb_c.specs.Outputs.{Alone, Answers, DoesAtOnce, Fills};
+ghost use Rattle.nb_c.specs.Outputs.{Alone, Answers, DoesAtOnce, Fills, lent};
 ghost use Rattle.nb_c.specs.ServiceParts.{ReadsAddress, ReadsDomain, ReadsNode, ReadsUnit, address_numbers, node_numbers, part_answer, spelled_answer, unit_answer};
 
 use crate::output::{fill, put, refuse};
@@ -175,9 +175,8 @@ pub extern "C" fn nbt_service_domain(
     used: &mut usize,
     at: &mut usize,
 ) -> u32
-    ensures { DoesAtOnce (ReadsDomain payload.now place length)
-        (record { buffer = into.old; used = used.old; place = at.old })
-        (record { buffer = into.new; used = used.new; place = at.new }) result }
+    ensures { DoesAtOnce (ReadsDomain payload.now place length) (lent into.old used.old at.old)
+        (lent into.new used.new at.new) result }
 {
     write_spelling(domain_at(payload, place, length), into, used, at)
 }
@@ -218,9 +217,8 @@ fn write_spelling(
     used: &mut usize,
     at: &mut usize,
 ) -> u32
-    ensures { Answers (spelled_answer read)
-        (record { buffer = into.old; used = used.old; place = at.old })
-        (record { buffer = into.new; used = used.new; place = at.new }) result }
+    ensures { Answers (spelled_answer read) (lent into.old used.old at.old)
+        (lent into.new used.new at.new) result }
 {
     match read {
         Ok(domain) => put(domain.spelling(), into, used),

@@ -1,6 +1,6 @@
 //! The texts of packets, their phrases, and their JSON objects.
 ghost use Rattle.std.specs.Prelude.{IfOk};
-ghost use Rattle.nb_c.specs.Outputs.{Answers, Does, none_late, of_memory};
+ghost use Rattle.nb_c.specs.Outputs.{Answers, Does, none_late, of_memory, lent};
 ghost use Rattle.nb_c.specs.Showing.{Objects, Phrases, Shows};
 ghost use Rattle.nb_text.specs.SaysPacket.{IsSaid};
 ghost use Rattle.nb_text.specs.Shown.{Shown};
@@ -24,9 +24,8 @@ pub extern "C" fn nbt_show(
     into: &mut [u8],
     used: &mut usize,
 ) -> u32
-    ensures { Does none_late (Shows payload.now port)
-        (record { buffer = into.old; used = used.old; place = 0 })
-        (record { buffer = into.new; used = used.new; place = 0 }) result }
+    ensures { Does none_late (Shows payload.now port) (lent into.old used.old 0)
+        (lent into.new used.new 0) result }
 {
     // For the clause: a payload has one text. The call does nothing.
     one_telling();
@@ -53,9 +52,8 @@ pub extern "C" fn nbt_brief(
     into: &mut [u8],
     used: &mut usize,
 ) -> u32
-    ensures { Does none_late (Phrases payload.now port)
-        (record { buffer = into.old; used = used.old; place = 0 })
-        (record { buffer = into.new; used = used.new; place = 0 }) result }
+    ensures { Does none_late (Phrases payload.now port) (lent into.old used.old 0)
+        (lent into.new used.new 0) result }
 {
     // For the clause: a payload has one phrase. The call does nothing.
     one_telling();
@@ -83,24 +81,28 @@ pub extern "C" fn nbt_json(
     into: &mut [u8],
     used: &mut usize,
 ) -> u32
-    ensures { Does none_late (Objects payload.now port)
-        (record { buffer = into.old; used = used.old; place = 0 })
-        (record { buffer = into.new; used = used.new; place = 0 }) result }
+    ensures { Does none_late (Objects payload.now port) (lent into.old used.old 0)
+        (lent into.new used.new 0) result }
 {
     // For the clause: a payload has one list of fields. The call does nothing.
+<<<<<<< HEAD
     one_telling();
     write_object(
         packet_object(port, payload, JsonRoom::new(alloc)),
         into,
         used,
     )
+=======
+    one_list_of_fields();
+    let object = packet_object(port, payload, JsonRoom::new(alloc));
+    write_object(object, into, used)
+>>>>>>> 376ab345a6c852978daf9cf50048eb72c03acf29
 }
 
 /// Writes an object, unless memory ran out.
 fn write_object(object: Result<JsonRoom, NoMemory>, into: &mut [u8], used: &mut usize) -> u32
-    ensures { Answers (of_memory object)
-        (record { buffer = into.old; used = used.old; place = 0 })
-        (record { buffer = into.new; used = used.new; place = 0 }) result }
+    ensures { Answers (of_memory object) (lent into.old used.old 0)
+        (lent into.new used.new 0) result }
 {
     match object {
         Ok(object) => put(object.as_slice(), into, used),

@@ -1,7 +1,7 @@
 //! Stations: made, shown the clock, saved, listed and given back.
 ghost use Rattle.std.specs.Prelude.{◌≡◌, ◌≢◌, ◌⊎◌, Err};
 ghost use denote.RawPtr.{null_ptr};
-ghost use Rattle.nb_c.specs.Outputs.{Answers};
+ghost use Rattle.nb_c.specs.Outputs.{Answers, lent};
 ghost use Rattle.nb_c.specs.Stations.{Creates, OnStation, Ticks, Writes};
 ghost use Rattle.nb_c.specs.declared.refusal.Refusal.TheVariants.{Fault};
 ghost use Rattle.nb_c.specs.declared.statuses.TheConstants.{DONE, NO_MEMORY, NO_STATION};
@@ -136,12 +136,10 @@ pub extern "C" fn nbt_station_save(
     used: &mut usize,
 ) -> u32
     ensures { OnStation station.old station.new
-        (λ m after. Writes (saved_bytes (contents m)) m after
-        (record { buffer = into.old; used = used.old; place = 0 })
-        (record { buffer = into.new; used = used.new; place = 0 }) result)
-        (Answers (Err (Fault NO_STATION))
-        (record { buffer = into.old; used = used.old; place = 0 })
-        (record { buffer = into.new; used = used.new; place = 0 }) result) }
+        (λ m after. Writes (saved_bytes (contents m)) m after (lent into.old used.old 0)
+        (lent into.new used.new 0) result)
+        (Answers (Err (Fault NO_STATION)) (lent into.old used.old 0)
+        (lent into.new used.new 0) result) }
 {
     match taken(alloc, station) {
         None => NO_STATION,
@@ -156,8 +154,7 @@ pub extern "C" fn nbt_station_save(
 /// Writes a member's table, saved.
 fn save(member: &Member, into: &mut [u8], used: &mut usize) -> u32
     ensures { Writes (saved_bytes (contents member.now)) member.now member.now
-        (record { buffer = into.old; used = used.old; place = 0 })
-        (record { buffer = into.new; used = used.new; place = 0 }) result }
+        (lent into.old used.old 0) (lent into.new used.new 0) result }
 {
     write_bytes(member.table().save(), into, used)
 }
@@ -173,12 +170,10 @@ pub extern "C" fn nbt_station_list(
     used: &mut usize,
 ) -> u32
     ensures { OnStation station.old station.new
-        (λ m after. Writes (listing (contents m)) m after
-        (record { buffer = into.old; used = used.old; place = 0 })
-        (record { buffer = into.new; used = used.new; place = 0 }) result)
-        (Answers (Err (Fault NO_STATION))
-        (record { buffer = into.old; used = used.old; place = 0 })
-        (record { buffer = into.new; used = used.new; place = 0 }) result) }
+        (λ m after. Writes (listing (contents m)) m after (lent into.old used.old 0)
+        (lent into.new used.new 0) result)
+        (Answers (Err (Fault NO_STATION)) (lent into.old used.old 0)
+        (lent into.new used.new 0) result) }
 {
     match taken(alloc, station) {
         None => NO_STATION,
@@ -193,8 +188,7 @@ pub extern "C" fn nbt_station_list(
 /// Writes the lines of a member's keys.
 fn list(alloc: Global, member: &Member, into: &mut [u8], used: &mut usize) -> u32
     ensures { Writes (listing (contents member.now)) member.now member.now
-        (record { buffer = into.old; used = used.old; place = 0 })
-        (record { buffer = into.new; used = used.new; place = 0 }) result }
+        (lent into.old used.old 0) (lent into.new used.new 0) result }
 {
     write_bytes(lines_of(alloc, member.table()), into, used)
 }

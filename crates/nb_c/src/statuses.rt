@@ -36,18 +36,6 @@ pub const BAD_TEXT: u32 = 10;
 /// Text too long.
 pub const LONG_TEXT: u32 = 11;
 
-/// Source: bad text.
-pub const SOURCE_BAD_TEXT: u32 = SOURCE_TEXT + BAD_TEXT;
-
-/// Source: text too long.
-pub const SOURCE_LONG_TEXT: u32 = SOURCE_TEXT + LONG_TEXT;
-
-/// Destination: bad text.
-pub const DESTINATION_BAD_TEXT: u32 = DESTINATION_TEXT + BAD_TEXT;
-
-/// Destination: text too long.
-pub const DESTINATION_LONG_TEXT: u32 = DESTINATION_TEXT + LONG_TEXT;
-
 /// Name: truncated.
 pub const NAME_TRUNCATED: u32 = 20;
 
@@ -68,42 +56,6 @@ pub const NAME_TRAILING_BYTES: u32 = 25;
 
 /// Name: bad pointer.
 pub const NAME_BAD_POINTER: u32 = 26;
-
-/// Source name: truncated.
-pub const SOURCE_TRUNCATED: u32 = SOURCE + NAME_TRUNCATED;
-
-/// Source name: reserved label.
-pub const SOURCE_RESERVED_LABEL: u32 = SOURCE + NAME_RESERVED_LABEL;
-
-/// Source name: pointer not allowed.
-pub const SOURCE_POINTER: u32 = SOURCE + NAME_POINTER;
-
-/// Source name: too long.
-pub const SOURCE_LONG: u32 = SOURCE + NAME_LONG;
-
-/// Source name: not netbios.
-pub const SOURCE_NOT_NETBIOS: u32 = SOURCE + NAME_NOT_NETBIOS;
-
-/// Source name: bad pointer.
-pub const SOURCE_BAD_POINTER: u32 = SOURCE + NAME_BAD_POINTER;
-
-/// Destination name: truncated.
-pub const DESTINATION_TRUNCATED: u32 = DESTINATION + NAME_TRUNCATED;
-
-/// Destination name: reserved label.
-pub const DESTINATION_RESERVED_LABEL: u32 = DESTINATION + NAME_RESERVED_LABEL;
-
-/// Destination name: pointer not allowed.
-pub const DESTINATION_POINTER: u32 = DESTINATION + NAME_POINTER;
-
-/// Destination name: too long.
-pub const DESTINATION_LONG: u32 = DESTINATION + NAME_LONG;
-
-/// Destination name: not netbios.
-pub const DESTINATION_NOT_NETBIOS: u32 = DESTINATION + NAME_NOT_NETBIOS;
-
-/// Destination name: bad pointer.
-pub const DESTINATION_BAD_POINTER: u32 = DESTINATION + NAME_BAD_POINTER;
 
 /// Truncated.
 pub const TRUNCATED: u32 = 50;
@@ -162,24 +114,6 @@ pub const TABLE_FULL_SOURCE: u32 = 74;
 /// Table: full.
 pub const TABLE_FULL: u32 = 75;
 
-/// Second table: bad magic.
-pub const SECOND_BAD_MAGIC: u32 = SECOND + TABLE_BAD_MAGIC;
-
-/// Second table: truncated.
-pub const SECOND_TRUNCATED: u32 = SECOND + TABLE_TRUNCATED;
-
-/// Second table: not canonical.
-pub const SECOND_NOT_CANONICAL: u32 = SECOND + TABLE_NOT_CANONICAL;
-
-/// Second table: too long.
-pub const SECOND_LONG: u32 = SECOND + TABLE_LONG;
-
-/// Second table: full source.
-pub const SECOND_FULL_SOURCE: u32 = SECOND + TABLE_FULL_SOURCE;
-
-/// Second table: full.
-pub const SECOND_FULL: u32 = SECOND + TABLE_FULL;
-
 /// Misplaced first.
 pub const MISPLACED_FIRST: u32 = 90;
 
@@ -217,10 +151,10 @@ pub(crate) const WORDS: [(u32, &str); 63] = [
     (NO_MEMORY, "memory"),
     (BAD_TEXT, "bad text"),
     (LONG_TEXT, "text too long"),
-    (SOURCE_BAD_TEXT, "source: bad text"),
-    (SOURCE_LONG_TEXT, "source: text too long"),
-    (DESTINATION_BAD_TEXT, "destination: bad text"),
-    (DESTINATION_LONG_TEXT, "destination: text too long"),
+    (SOURCE_TEXT + BAD_TEXT, "source: bad text"),
+    (SOURCE_TEXT + LONG_TEXT, "source: text too long"),
+    (DESTINATION_TEXT + BAD_TEXT, "destination: bad text"),
+    (DESTINATION_TEXT + LONG_TEXT, "destination: text too long"),
     (NAME_TRUNCATED, "name: truncated"),
     (NAME_RESERVED_LABEL, "name: reserved label"),
     (NAME_POINTER, "name: pointer not allowed"),
@@ -228,21 +162,30 @@ pub(crate) const WORDS: [(u32, &str); 63] = [
     (NAME_NOT_NETBIOS, "name: not netbios"),
     (NAME_BAD_POINTER, "name: bad pointer"),
     (NAME_TRAILING_BYTES, "name: trailing bytes"),
-    (SOURCE_TRUNCATED, "source name: truncated"),
-    (SOURCE_RESERVED_LABEL, "source name: reserved label"),
-    (SOURCE_POINTER, "source name: pointer not allowed"),
-    (SOURCE_LONG, "source name: too long"),
-    (SOURCE_NOT_NETBIOS, "source name: not netbios"),
-    (SOURCE_BAD_POINTER, "source name: bad pointer"),
-    (DESTINATION_TRUNCATED, "destination name: truncated"),
+    (SOURCE + NAME_TRUNCATED, "source name: truncated"),
+    (SOURCE + NAME_RESERVED_LABEL, "source name: reserved label"),
+    (SOURCE + NAME_POINTER, "source name: pointer not allowed"),
+    (SOURCE + NAME_LONG, "source name: too long"),
+    (SOURCE + NAME_NOT_NETBIOS, "source name: not netbios"),
+    (SOURCE + NAME_BAD_POINTER, "source name: bad pointer"),
+    (DESTINATION + NAME_TRUNCATED, "destination name: truncated"),
     (
-        DESTINATION_RESERVED_LABEL,
+        DESTINATION + NAME_RESERVED_LABEL,
         "destination name: reserved label",
     ),
-    (DESTINATION_POINTER, "destination name: pointer not allowed"),
-    (DESTINATION_LONG, "destination name: too long"),
-    (DESTINATION_NOT_NETBIOS, "destination name: not netbios"),
-    (DESTINATION_BAD_POINTER, "destination name: bad pointer"),
+    (
+        DESTINATION + NAME_POINTER,
+        "destination name: pointer not allowed",
+    ),
+    (DESTINATION + NAME_LONG, "destination name: too long"),
+    (
+        DESTINATION + NAME_NOT_NETBIOS,
+        "destination name: not netbios",
+    ),
+    (
+        DESTINATION + NAME_BAD_POINTER,
+        "destination name: bad pointer",
+    ),
     (TRUNCATED, "truncated"),
     (UNKNOWN_TYPE, "unknown type"),
     (MORE, "more bytes needed"),
@@ -262,12 +205,12 @@ pub(crate) const WORDS: [(u32, &str); 63] = [
     (TABLE_LONG, "table: too long"),
     (TABLE_FULL_SOURCE, "table: full source"),
     (TABLE_FULL, "table: full"),
-    (SECOND_BAD_MAGIC, "second table: bad magic"),
-    (SECOND_TRUNCATED, "second table: truncated"),
-    (SECOND_NOT_CANONICAL, "second table: not canonical"),
-    (SECOND_LONG, "second table: too long"),
-    (SECOND_FULL_SOURCE, "second table: full source"),
-    (SECOND_FULL, "second table: full"),
+    (SECOND + TABLE_BAD_MAGIC, "second table: bad magic"),
+    (SECOND + TABLE_TRUNCATED, "second table: truncated"),
+    (SECOND + TABLE_NOT_CANONICAL, "second table: not canonical"),
+    (SECOND + TABLE_LONG, "second table: too long"),
+    (SECOND + TABLE_FULL_SOURCE, "second table: full source"),
+    (SECOND + TABLE_FULL, "second table: full"),
     (MISPLACED_FIRST, "misplaced first"),
     (LONG, "too long"),
     (FULL_SOURCE, "full source"),

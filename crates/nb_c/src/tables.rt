@@ -1,9 +1,8 @@
 //! Saved tables, joined and listed, in lines and in objects.
 ghost use Rattle.std.specs.Prelude.{◌≡◌, IfOk};
-ghost use Rattle.nb_c.specs.Tables.{Joins, Lists, ListsObjects, Merges, follow_the_first};
-ghost use Rattle.nb_c.specs.Outputs.{Does, OrMemory, none_late};
+ghost use Rattle.nb_c.specs.Tables.{Joins, Lists, ListsObjects, Merges, OfOne, follow_the_first, listed_as};
+ghost use Rattle.nb_c.specs.Outputs.{Does, OrMemory, none_late, lent};
 ghost use Rattle.nb_member.specs.Listing.{listing};
-ghost use Rattle.nb_member.specs.ListingFields.{listed_objects};
 
 use crate::laws::{a_merge_has_one_answer, a_table_has_one_list};
 use crate::loading::loaded;
@@ -36,18 +35,12 @@ pub extern "C" fn nbt_table_merge(
       keys = keys;
       per_source = per_source;
       longest = 65535;
-    }))
-        (record { buffer = into.old; used = used.old; place = at.old })
-        (record { buffer = into.new; used = used.new; place = at.new }) result }
+    })) (lent into.old used.old at.old) (lent into.new used.new at.new) result }
 {
     // For the clause; the call does nothing.
     a_merge_has_one_answer();
-    write_answer(
-        merged(alloc, first, second, keys, per_source),
-        into,
-        used,
-        at,
-    )
+    let answer = merged(alloc, first, second, keys, per_source);
+    write_answer(answer, into, used, at)
 }
 
 /// The join of two saved tables, saved.
@@ -98,26 +91,35 @@ pub extern "C" fn nbt_table_list(
     used: &mut usize,
     at: &mut usize,
 ) -> u32
-    ensures { Does none_late (Lists table.now)
-        (record { buffer = into.old; used = used.old; place = at.old })
-        (record { buffer = into.new; used = used.new; place = at.new }) result }
+    ensures { Does none_late (Lists table.now) (lent into.old used.old at.old)
+        (lent into.new used.new at.new) result }
 {
     // For the clause; the call does nothing.
     a_table_has_one_list();
-    write_answer(listed(alloc, table), into, used, at)
+    write_answer(listed(alloc, table, false), into, used, at)
 }
 
-/// The lines of a saved table's keys.
-fn listed(alloc: Global, table: &[u8]) -> Result<Bytes, Refusal>
-    ensures { OrMemory none_late (Lists table.now) result }
+/// What is listed of a saved table's keys: their objects, or their lines.
+fn listed(alloc: Global, table: &[u8], json: bool) -> Result<Bytes, Refusal>
+    ensures { OrMemory none_late (OfOne table.now (listed_as json)) result }
 {
     // For the clause; the calls do nothing.
     an_input_is_read_as_one_table();
     saved_bytes_have_one_reading();
     match loaded(alloc, table, u32::MAX, u32::MAX, LONGEST) {
         Err(fault) => Err(load_refusal(NO_ROLE, fault)),
-        Ok(table) => answer_of(lines_of(alloc, &table)),
+        Ok(table) => answer_of(listed_of(alloc, &table, json)),
     }
+}
+
+/// The objects of a table's keys, or their lines.
+fn listed_of(alloc: Global, table: &Table, json: bool) -> Result<Bytes, NoMemory>
+    ensures { IfOk result (λ bytes. bytes ≡ listed_as json table.now.contents) }
+{
+    if json {
+        return Ok(Bytes::from_vec(list_objects(alloc, table)?));
+    }
+    lines_of(alloc, table)
 }
 
 /// The lines of a table's keys.
@@ -139,32 +141,10 @@ pub extern "C" fn nbt_table_json(
     used: &mut usize,
     at: &mut usize,
 ) -> u32
-    ensures { Does none_late (ListsObjects table.now)
-        (record { buffer = into.old; used = used.old; place = at.old })
-        (record { buffer = into.new; used = used.new; place = at.new }) result }
+    ensures { Does none_late (ListsObjects table.now) (lent into.old used.old at.old)
+        (lent into.new used.new at.new) result }
 {
     // For the clause; the call does nothing.
     a_table_has_one_list();
-    write_answer(told(alloc, table), into, used, at)
-}
-
-/// The objects of a saved table's keys.
-fn told(alloc: Global, table: &[u8]) -> Result<Bytes, Refusal>
-    ensures { OrMemory none_late (ListsObjects table.now) result }
-{
-    // For the clause; the calls do nothing.
-    an_input_is_read_as_one_table();
-    saved_bytes_have_one_reading();
-    match loaded(alloc, table, u32::MAX, u32::MAX, LONGEST) {
-        Err(fault) => Err(load_refusal(NO_ROLE, fault)),
-        Ok(table) => answer_of(objects_of(alloc, &table)),
-    }
-}
-
-/// The objects of a table's keys.
-fn objects_of(alloc: Global, table: &Table) -> Result<Bytes, NoMemory>
-    ensures { IfOk result (λ bytes. bytes ≡ listed_objects table.now.contents) }
-{
-    let objects = list_objects(alloc, table)?;
-    Ok(Bytes::from_vec(objects))
+    write_answer(listed(alloc, table, true), into, used, at)
 }

@@ -1,6 +1,6 @@
 //! The version of the library.
 ghost use Rattle.std.specs.Prelude.{Ok, codes};
-ghost use Rattle.nb_c.specs.Outputs.{Answers};
+ghost use Rattle.nb_c.specs.Outputs.{Answers, lent};
 
 use crate::output::put;
 
@@ -12,9 +12,8 @@ const VERSION: &str = "0.1.0";
 /// The form is our choice.
 #[unsafe(no_mangle)]
 pub extern "C" fn nbt_version(into: &mut [u8], used: &mut usize) -> u32
-    ensures { Answers (Ok (codes "0.1.0"))
-        (record { buffer = into.old; used = used.old; place = 0 })
-        (record { buffer = into.new; used = used.new; place = 0 }) result }
+    ensures { Answers (Ok (codes "0.1.0")) (lent into.old used.old 0)
+        (lent into.new used.new 0) result }
 {
     put(VERSION.as_bytes(), into, used)
 }

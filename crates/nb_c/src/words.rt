@@ -1,6 +1,6 @@
 //! The words of statuses (our choice).
 ghost use Rattle.std.specs.Prelude.{◌≡◌, map, option_map};
-ghost use Rattle.nb_c.specs.Outputs.{Answers};
+ghost use Rattle.nb_c.specs.Outputs.{Answers, lent};
 ghost use Rattle.nb_c.specs.Words.{status_answer, status_word, word_beside};
 
 use crate::output::put;
@@ -11,9 +11,8 @@ use crate::statuses::{UNKNOWN_STATUS, WORDS};
 /// A number that is no status is answered by [`UNKNOWN_STATUS`]. The words are our choice.
 #[unsafe(no_mangle)]
 pub extern "C" fn nbt_status_text(status: u32, into: &mut [u8], used: &mut usize) -> u32
-    ensures { Answers (status_answer status)
-        (record { buffer = into.old; used = used.old; place = 0 })
-        (record { buffer = into.new; used = used.new; place = 0 }) result }
+    ensures { Answers (status_answer status) (lent into.old used.old 0)
+        (lent into.new used.new 0) result }
 {
     match status_words(status) {
         Some(words) => put(words.as_bytes(), into, used),

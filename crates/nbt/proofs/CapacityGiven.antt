@@ -1,9 +1,5 @@
 -- The numbers that the matches hold for the options on capacity.
-use Rattle.std.proofs.Common.{◌≡◌, ◌⊎◌, ◌<◌, ◌^◌, ℕ, List, Option, None, Some, Result, Ok, Err, inl, inr, refl, sym, subst}
-use Rattle.std.specs.Prelude.{unwrap_or}
-use Rattle.std.specs.Str.Parse.{IsNumeral, ParsesUnsigned, digits_value, without_leading_plus}
-use Rattle.clap.specs.Words.{ReadsOne, found_of, one_text}
-use Rattle.clap.specs.declared.parser.matches.ArgMatches.{ArgMatches}
+use Rattle.nbt.proofs.Common.{◌≡◌, ◌⊎◌, ◌<◌, ◌^◌, ℕ, List, Option, None, Some, Result, Ok, Err, inl, inr, refl, sym, subst, unwrap_or, IsNumeral, ParsesUnsigned, digits_value, without_leading_plus, ReadsOne, found_of, one_text, ArgMatches}
 use Rattle.nbt.specs.Settings.{HasNoNumber, IsNumberOf}
 
 -- the text is a decimal number of so many bits

@@ -1,19 +1,13 @@
 -- The subcommand that clap entered, by the rows of its matches.
-use Rattle.std.proofs.Common.{◌≡◌, ◌≤◌, ◌<◌, ℕ, [], ◌∷◌, inl, inr, length, map, codes, arith, true, refl, sym, ap, subst, ◌∙◌, Bor, List, Option, Some, None, IfSome, Result, ap₂, false, ◌≢◌}
+use Rattle.nbt.proofs.Common.{◌≡◌, ◌≤◌, ◌<◌, ℕ, [], ◌∷◌, inl, inr, length, map, codes, arith, true, refl, sym, ap, subst, ◌∙◌, Bor, List, Option, Some, None, IfSome, Result, ap₂, false, ◌≢◌, HasMatchesOf, Text, found_of, is_simple, rows_of, subcommand_name_of, subcommand_of, subcommand_rows_of, AddsArg, AddsSubcommand, rule_of, with_rule, takes, subcommand_rows, App, app_of, with_subcommand, ArgMatches, Box, option_map, Ok, Err, IfOk, IsOkAnd, ◌||◌, Keeps, Fault, Status, BadUsage, Failed}
 use Rattle.std.specs.Fmt.{digits}
-use Rattle.clap.specs.Words.{HasMatchesOf, Row, Text, found_of, is_simple, rows_of, subcommand_name_of, subcommand_of, subcommand_rows_of, AddsArg, AddsSubcommand, Rule, rule_of, with_rule, takes}
+use Rattle.clap.specs.Words.{Row, Rule}
 use Rattle.clap.proofs.OnLiterals.{clap_on_literals}
-use Rattle.clap.specs.Simple.{subcommand_rows, App, app_of, with_subcommand}
-use Rattle.clap.specs.declared.parser.matches.ArgMatches.{ArgMatches}
 use Rattle.clap.specs.declared.parser.matches.ArgMatches.TheViews.{out-ArgMatches, out-SubCommand}
 use Rattle.clap.specs.declared.parser.matches.SubCommand.{SubCommand}
 use Rattle.std.specs.Box.{box_value}
-use Rattle.std.specs.Prelude.{Box, option_map, Ok, Err, IfOk, IsOkAnd, ◌||◌}
-use Rattle.std.specs.Io.KnownBytes.{Keeps}
 use Rattle.clap.specs.declared.error.kind.ErrorKind.{ErrorKind}
 use Rattle.clap.specs.declared.error.kind.ErrorKind.TheVariants.{OutOfMemory}
-use Rattle.nbt.specs.declared.fault.Fault.{Fault}
-use Rattle.nbt.specs.declared.status.Status.{Status}
 use Rattle.nbt.specs.CommandLine.{Reports, answer_to, IsCommand, nbt_app, word_of, IsMadeOf, IsAlone}
 use Rattle.nbt.specs.Commands.{Picks, Ran, RanBy, Streams, no_memory, ran, with_status}
 use Rattle.std.proofs.Math.ListN.{get_or}
@@ -23,7 +17,6 @@ use Rattle.nbt.specs.declared.subcommand.Subcommand.{Subcommand}
 use Rattle.clap.specs.declared.builder.arg.Arg.{Arg}
 use Rattle.clap.specs.declared.builder.command.Command.{Command}
 use Rattle.clap.specs.declared.builder.command.Command.TheViews.{out-Command as fields_of}
-use Rattle.nbt.specs.declared.status.Status.TheVariants.{BadUsage, Failed}
 
 -- clap's functions say of this command line which subcommand is entered
 pub nbt_is_simple : is_simple nbt_app ≡ true

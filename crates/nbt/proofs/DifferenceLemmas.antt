@@ -1,14 +1,10 @@
 -- The keys that are marked are those at which two tables differ, ascending.
-use Rattle.std.proofs.Common.{◌≡◌, ◌&&◌, ◌||◌, cond, Bool, true, false, not, List, [], ◌∷◌, map, Option, Some, None, is_some, IsTrue, ◌↔◌, true≢false, refl, sym, ◌∙◌, ap, ap₂, subst}
-use Rattle.std.specs.Prelude.{T}
-use Rattle.std.specs.Option.{option_eq, option_map}
+use Rattle.nbt.proofs.Common.{◌≡◌, ◌&&◌, ◌||◌, cond, Bool, true, false, not, List, [], ◌∷◌, map, Option, Some, None, is_some, IsTrue, ◌↔◌, true≢false, refl, sym, ◌∙◌, ap, ap₂, subst, T, option_eq, list_any, Key, key_cmp, key_cmp_total, key_cmp_exact}
+use Rattle.std.specs.Option.{option_map}
 use Rattle.std.specs.Ordering.{eq_by_cmp, is_lt}
-use Rattle.std.specs.List.{list_any}
 use Rattle.std.specs.FinMap.{is_sorted}
 use Rattle.std.specs.FinMap.Entries.{below_all}
 use Rattle.std.specs.FinMap as maps
-use Rattle.nb_datagram.specs.declared.key.Key.{Key}
-use Rattle.nb_datagram.specs.Key.{key_cmp, key_cmp_total, key_cmp_exact}
 use Rattle.nb_entries.specs.Maps.{joined_at}
 use Rattle.nb_table.specs.Contents.{Contents}
 use Rattle.nb_entries.specs.Entry.{EntryValue, join_entry}

@@ -1,15 +1,10 @@
 -- What a use of an argument makes of the rows of an option that is given or not.
-use Rattle.std.proofs.Common.{◌≡◌, ◌∙◌, ◌⊎◌, ◌+◌, min, inl, inr, ℕ, Bool, cond, true, false, refl, sym, ap, subst, List, [], ◌∷◌, ◌++◌, codes, Some, None}
-use Rattle.std.specs.List.{find}
-use Rattle.std.specs.Str.{bytes_eq}
+use Rattle.nbt.proofs.Common.{◌≡◌, ◌∙◌, ◌⊎◌, ◌+◌, min, inl, inr, ℕ, Bool, cond, true, false, refl, sym, ap, subst, List, [], ◌∷◌, ◌++◌, codes, Some, None, find, bytes_eq, Row, Rule, action_of, at_row, count_of, counted, more_values, new_count, reading_by, takes_values, used, used_as, values_or_missing, with_count, with_values, without, Reading, AsWritten}
 use Rattle.std.proofs.lemmas.Slice.Eq.{bytes_eq-Decides}
-use Rattle.clap.specs.Walk.{Row, Rule, Text}
-use Rattle.clap.specs.Walk.{action_of, at_row, count_of, counted, more_values, new_count, reading_by, takes_values, used, used_as, values_or_missing, with_count, with_values, without}
+use Rattle.clap.specs.Walk.{Text}
 use Rattle.clap.specs.Matches.{count_text}
 use Rattle.clap.specs.declared.builder.action.ArgAction.{ArgAction}
 use Rattle.clap.specs.declared.builder.action.ArgAction.TheVariants as action
-use Rattle.clap.specs.declared.builder.value_parser.Reading.{Reading}
-use Rattle.clap.specs.declared.builder.value_parser.Reading.TheVariants.{AsWritten}
 use Rattle.clap.specs.declared.parser.matches.ValueSource.{ValueSource}
 use Rattle.clap.specs.declared.parser.matches.ValueSource.TheVariants.{CommandLine}
 

@@ -1,14 +1,8 @@
 -- The options that are given or not, by a test.
-use Rattle.std.proofs.Common.{◌≡◌, ◌&&◌, ◌||◌, inl, inr, Bool, true, false, not, refl, sym, List, [], ◌∷◌, codes, Option, Some, None, is_some, true≢false}
-use Rattle.std.specs.List.{list_all}
-use Rattle.std.specs.Str.{bytes_eq}
-use Rattle.clap.specs.Walk.{Rule, Text}
-use Rattle.clap.specs.Walk.{action_of, reading_by, takes_values}
-use Rattle.clap.specs.Simple.{Shape}
+use Rattle.nbt.proofs.Common.{◌≡◌, ◌&&◌, ◌||◌, inl, inr, Bool, true, false, not, refl, sym, List, [], ◌∷◌, codes, Option, Some, None, is_some, true≢false, list_all, bytes_eq, Rule, action_of, reading_by, takes_values, Shape, Reading, AsWritten}
+use Rattle.clap.specs.Walk.{Text}
 use Rattle.clap.specs.declared.builder.action.ArgAction.{ArgAction}
 use Rattle.clap.specs.declared.builder.action.ArgAction.TheVariants as action
-use Rattle.clap.specs.declared.builder.value_parser.Reading.{Reading}
-use Rattle.clap.specs.declared.builder.value_parser.Reading.TheVariants.{AsWritten}
 use Rattle.nbt.proofs.FlagRows.{Begins, same_text, IsFlag, RuleFits, RulesFit}
 use Rattle.nbt.proofs.FlagValues.{SubFits, SubsFit, has_rule}
 

@@ -1,16 +1,10 @@
 -- What the matches hold for an option that is given or not: `true` or `false`, whatever the words are.
-use Rattle.std.proofs.Common.{◌≡◌, ◌∙◌, ◌⊎◌, ◌||◌, inl, inr, Bool, cond, true, false, refl, sym, ap, subst, List, [], ◌∷◌, ◌++◌, codes, Option, Some, None, true≢false}
-use Rattle.std.specs.List.{find, fold, list_any}
+use Rattle.nbt.proofs.Common.{◌≡◌, ◌∙◌, ◌⊎◌, ◌||◌, inl, inr, Bool, cond, true, false, refl, sym, ap, subst, List, [], ◌∷◌, ◌++◌, codes, Option, Some, None, true≢false, find, fold, list_any, bytes_eq, option_and_then, slice_get, Names, Row, Rule, answers_to, at_row, default_rows, has_row, nothing_held, more_values, one_of, reading_by, rows_after, row_text, stop_after, walk_from, with_default, App, Shape, argument_words, built, entered, label_of, names_of, rows_at, Reading, AsWritten}
 use Rattle.std.specs.Option.{option_map}
-use Rattle.std.specs.Str.{bytes_eq}
-use Rattle.std.specs.Prelude.{option_and_then, slice_get}
 use Rattle.std.proofs.lemmas.Slice.Eq.{bytes_eq-Decides}
-use Rattle.clap.specs.Walk.{Names, Row, Rule, Text}
-use Rattle.clap.specs.Walk.{answers_to, at_row, default_rows, has_row, nothing_held, more_values, one_of, reading_by, rows_after, row_text, stop_after, walk_from, with_default}
-use Rattle.clap.specs.Simple.{App, Shape, argument_words, built, entered, label_of, names_of, rows_at, subcommand_of}
+use Rattle.clap.specs.Walk.{Text}
+use Rattle.clap.specs.Simple.{subcommand_of}
 use Rattle.clap.specs.Values.{read_as}
-use Rattle.clap.specs.declared.builder.value_parser.Reading.{Reading}
-use Rattle.clap.specs.declared.builder.value_parser.Reading.TheVariants.{AsWritten}
 use Rattle.clap.specs.declared.parser.matches.ValueSource.{ValueSource}
 use Rattle.clap.specs.declared.parser.matches.ValueSource.TheVariants.{DefaultValue}
 use Rattle.nbt.proofs.FlagRows.{Begins, same_text, RuleFits, RulesFit, RowFits, RowsFit, IsNew, with_values_fits}

@@ -1,11 +1,7 @@
 -- The walk over words keeps the rows of an option that is given or not.
-use Rattle.std.proofs.Common.{◌≡◌, ◌∙◌, ◌&&◌, inl, inr, ℕ, Bool, cond, true, false, zero, suc, refl, sym, ap, List, [], ◌∷◌, length, Option, Some, None, true≢false}
-use Rattle.std.specs.List.{fold}
-use Rattle.std.specs.Option.{option_map_or}
-use Rattle.std.specs.Str.{bytes_eq, chars}
-use Rattle.std.specs.Prelude.{slice_get}
-use Rattle.clap.specs.Walk.{Held, Names, Outcome, done, waits, plain, refused, Waiting, idle, option, positional, Row, Rule, Step, next, trailing, subcommand, value, Text, Walk}
-use Rattle.clap.specs.Walk.{after_flag, after_step, arg_by_id, arg_by_index, arg_by_long, arg_by_short, attached_value, bundle_met, bundle_step, flag_met, is_multiple, is_pending, long_met, long_or_other, option_met, option_word, plain_word, pushed, reacted, settled, settled_rows, short_met, short_or_plain, started, subcommand_met, subcommand_or_other, takes_several, takes_values, to_positional, used_by_id, walked, walked_from, word_met}
+use Rattle.nbt.proofs.Common.{◌≡◌, ◌∙◌, ◌&&◌, inl, inr, ℕ, Bool, cond, true, false, zero, suc, refl, sym, ap, List, [], ◌∷◌, length, Option, Some, None, true≢false, fold, option_map_or, bytes_eq, chars, slice_get, Held, Names, Outcome, done, waits, plain, refused, Waiting, idle, option, positional, Row, Rule, Step, next, trailing, subcommand, value, Walk, after_flag, after_step, arg_by_id, arg_by_index, arg_by_long, arg_by_short, attached_value, bundle_step, flag_met, is_multiple, is_pending, long_met, long_or_other, option_met, option_word, plain_word, pushed, reacted, settled, settled_rows, short_met, short_or_plain, started, subcommand_met, subcommand_or_other, takes_several, takes_values, to_positional, used_by_id, walked_from, word_met}
+use Rattle.clap.specs.Walk.{Text}
+use Rattle.clap.specs.Walk.{bundle_met, walked}
 use Rattle.clap.specs.Lexer.{long_of, short_of}
 use Rattle.nbt.proofs.FlagRows.{other_text, RuleFits, RulesFit, found_fits, RowsFit, IsUse, used_fits}
 

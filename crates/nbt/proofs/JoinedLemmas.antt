@@ -1,18 +1,10 @@
 -- What `nbt merge` and `nbt agree` have done once the tables of the whole input are read.
-use Rattle.std.proofs.Common.{◌≡◌, ◌≢◌, ◌≤◌, ◌<◌, ◌+◌, ◌++◌, [], ◌∷◌, ℕ, List, length, take, drop, get_or, slice_get, slice_index_or, Option, Some, refl, sym, ap, ◌∙◌, ap₂, subst, suc, arith, Result, Ok, Err}
-use Rattle.std.specs.Io.KnownBytes.{Appends, Consumes, IsAtEnd}
-use Rattle.std.specs.List.{AllZip}
+use Rattle.nbt.proofs.Common.{◌≡◌, ◌≢◌, ◌≤◌, ◌<◌, ◌+◌, ◌++◌, [], ◌∷◌, ℕ, List, length, take, drop, get_or, slice_get, slice_index_or, Option, Some, refl, sym, ap, ◌∙◌, ap₂, subst, suc, arith, Result, Ok, Err, Appends, Consumes, IsAtEnd, AllZip, AppendsFront, HasLines, TableValue, Capacity, Fault, Memory, NoTables, TwoTablesWanted, Write}
 use Rattle.nb_names.specs.declared.limits.TheConstants.{MAX_INPUT}
-use Rattle.nb_names.specs.Devices.{AppendsFront}
-use Rattle.nb_names.specs.Lines.{HasLines}
 use Rattle.nb_table.specs.Contents.{Contents}
 use Rattle.nb_table.specs.Join.{join, joined_all, AreTaken}
-use Rattle.nb_table.specs.Limits.{TableValue}
 use Rattle.nb_table.specs.Merging.{Fits, IsRefused}
 use Rattle.nb_table.specs.declared.fault.TableFault.{TableFault}
-use Rattle.nbt.specs.declared.settings.Capacity.{Capacity}
-use Rattle.nbt.specs.declared.fault.Fault.{Fault}
-use Rattle.nbt.specs.declared.fault.Fault.TheVariants.{Memory, NoTables, TwoTablesWanted, Write}
 use Rattle.nbt.specs.Printing.{PrintsText}
 use Rattle.nbt.specs.Settings.{most_keys}
 use Rattle.nbt.specs.Tables.{AreTables, contents_of, fault_of_join, FailsOn, IsElsewhere, IsTableLine, JoinFails, MergeFails, input_fails, MergesTables, PrintsJoin, CompareFails, ComparesTables}

@@ -1,7 +1,6 @@
 -- Words that clap refuses, and that ask for no help and no version, are a bad command line.
-use Rattle.std.proofs.Common.{◌≡◌, ◌≢◌, ◌⊎◌, inl, inr, [], ◌∷◌, true, refl, sym, codes, subst, ℕ, List, Option}
-use Rattle.std.specs.Io.KnownBytes.{Keeps}
-use Rattle.clap.specs.Words.{App, Text, kind_of}
+use Rattle.nbt.proofs.Common.{◌≡◌, ◌≢◌, ◌⊎◌, inl, inr, [], ◌∷◌, true, refl, sym, codes, subst, ℕ, List, Option, Keeps, Text, kind_of, Status, BadUsage, Failed}
+use Rattle.clap.specs.Words.{App}
 use Rattle.clap.specs.Faults.{fault_of, is_simple_and_free}
 use Rattle.clap.specs.Kinds.{HasKind, IsAmong}
 use Rattle.clap.proofs.OnLiterals.{clap_on_literals}
@@ -10,8 +9,6 @@ use Rattle.clap.specs.declared.error.kind.ErrorKind.{ErrorKind}
 use Rattle.clap.specs.declared.error.kind.ErrorKind.TheVariants as kind
 use Rattle.nbt.specs.CommandLine.{nbt_app, AreMisused, Reports, answer_to}
 use Rattle.nbt.specs.Refusals.{AsksRefusal}
-use Rattle.nbt.specs.declared.status.Status.{Status}
-use Rattle.nbt.specs.declared.status.Status.TheVariants.{BadUsage, Failed}
 
 -- clap's function says of this command line how words fail
 pub nbt_is_free : is_simple_and_free nbt_app ≡ true

@@ -1,5 +1,6 @@
 -- The objects that are printed of lines of a capture and of keys of a table.
-use Rattle.std.proofs.Common.{◌≡◌, ◌≤◌, Result, ℕ, List, [], ◌∷◌, ◌++◌, fold, ap, sym, subst, ◌∙◌, arith, codes}
+use Rattle.nbt.proofs.Common.{◌≡◌, ◌≤◌, Result, ℕ, List, [], ◌∷◌, ◌++◌, ap, sym, subst, ◌∙◌, arith, codes, MemberValue, Packet, Tick}
+use Rattle.std.proofs.Common.{fold}
 use Rattle.json.specs.Token.{Token, begin_object, end_object}
 use Rattle.json.specs.Print.{print}
 use Rattle.nb_telling.specs.Telling.{Field, Number, Text}
@@ -12,13 +13,11 @@ use Rattle.nb_text.specs.Tells.{IsTold, Tells}
 use Rattle.nb_text.specs.TellsFront.{TellsFront, IsFrontTold}
 use Rattle.nb_member.specs.declared.member_fault.MemberFault.{MemberFault}
 use Rattle.nb_member.specs.declared.outcome.Outcome.{Outcome}
-use Rattle.nb_member.specs.Member.{MemberValue}
 use Rattle.nb_member.specs.ListingFields.{IsObject}
 use Rattle.nb_member.specs.Shared.ObjectLemmas.{adds, told_object}
 use Rattle.nb_member.specs.ReportFields.{OutcomeFields, TellsOutcome, dropped, dropped_fields, passed, passed_fields, result_fields, taken}
 use Rattle.nb_member.specs.declared.line.Line as capture
-use Rattle.nb_member.specs.declared.line.Line.TheVariants.{Packet, Tick}
-use Rattle.nbt.specs.Objects.{BriefFields, FrontFields, in_part, of_tick, ObjectOf, PacketFields, TellsFields, arrival_fields, brief_key, comment_fields, comment_key, head_fields, line_key, packet, phrased, tick, ticked}
+use Rattle.nbt.specs.Objects.{BriefFields, FieldsBy, FrontFields, ObjectOf, PacketFields, TellsBrief, TellsFields, arrival_fields, brief_key, comment_fields, comment_key, head_fields, line_key, packet, phrased, tick}
 
 -- ---- what objects of lines begin with
 
@@ -60,77 +59,50 @@ comment_made n comment begun told ended made begins seen is json line =
 
 -- ---- what is told of a line
 
+payload_told : {A : Type 0} (OfPayload : List ℕ → ℕ → List Field → Type 0) (after : A → Field → A) (value : capture.Line) (s t : Unit {0}) (port moment : ℕ) (payload : List ℕ)
+    (fields : List Field) (old new : A) → value ≡ Packet port moment payload → OfPayload payload port fields → AreMembers 2 fields → new ≡ fold after old fields
+    → TellsFields (FieldsBy OfPayload value s t) after old new
+payload_told OfPayload after value s t port moment payload fields old new said told members seen = record {
+  fields = fields;
+  are = subst (λ (v : capture.Line). FieldsBy OfPayload v s t fields) (sym said) (packet port moment payload s t fields told);
+  depth = 2;
+  low = omega arith;
+  members = members;
+  seen = seen;
+}
+
+pub tick_told : {A : Type 0} {OfPayload : List ℕ → ℕ → List Field → Type 0} (after : A → Field → A) (value : capture.Line) (s t : Unit {0}) (now : ℕ) (old new : A)
+    → value ≡ Tick now → new ≡ after old (Text kind_key (codes "tick")) → TellsFields (FieldsBy OfPayload value s t) after old new
+tick_told {OfPayload = OfPayload} after value s t now old new said told = record {
+  fields = Text kind_key (codes "tick") ∷ [];
+  are = subst (λ (v : capture.Line). FieldsBy OfPayload v s t (Text kind_key (codes "tick") ∷ [])) (sym said) (tick now s t);
+  depth = 2;
+  low = omega arith;
+  members = member _ tt;
+  seen = told;
+}
+
 pub packet_told : {A : Type 0} (after : A → Field → A) (value : capture.Line) (s t : Unit {0}) (port moment : ℕ) (payload : List ℕ) (old new : A)
     → value ≡ Packet port moment payload
     → ((p : List ℕ) (n : ℕ) (fields : List Field) → Tells p n fields → AreMembers 2 fields)
     → IsTold after payload port old new → TellsFields (PacketFields value s t) after old new
-packet_told after value s t port moment payload old new said are told = record {
-  fields = told.fields;
-  are = subst (λ (v : capture.Line). PacketFields v s t told.fields) (sym said) (packet port moment payload s t told.fields told.tells);
-  depth = 2;
-  low = omega arith;
-  members = are payload port told.fields told.tells;
-  seen = told.seen;
-}
-
-pub tick_told : {A : Type 0} (after : A → Field → A) (value : capture.Line) (s t : Unit {0}) (now : ℕ) (old new : A) → value ≡ Tick now
-    → new ≡ after old (Text kind_key (codes "tick")) → TellsFields (PacketFields value s t) after old new
-tick_told after value s t now old new said told = record {
-  fields = Text kind_key (codes "tick") ∷ [];
-  are = subst (λ (v : capture.Line). PacketFields v s t (Text kind_key (codes "tick") ∷ [])) (sym said) (tick now s t);
-  depth = 2;
-  low = omega arith;
-  members = member _ tt;
-  seen = told;
-}
+packet_told after value s t port moment payload old new said are told =
+    payload_told Tells after value s t port moment payload told.fields old new said told.tells (are payload port told.fields told.tells) told.seen
 
 pub phrased_told : {A : Type 0} (after : A → Field → A) (value : capture.Line) (s t : Unit {0}) (port moment : ℕ) (payload phrase : List ℕ) (old mid new : A)
     → value ≡ Packet port moment payload → ((p : List ℕ) (n : ℕ) (fields : List Field) → Tells p n fields → AreMembers 2 fields) → IsSaid payload port phrase
     → mid ≡ after old (Text brief_key phrase) → IsTold after payload port mid new → TellsFields (BriefFields value s t) after old new
-phrased_told after value s t port moment payload phrase old mid new said are is first told = record {
-  fields = Text brief_key phrase ∷ told.fields;
-  are = subst (λ (v : capture.Line). BriefFields v s t (Text brief_key phrase ∷ told.fields)) (sym said)
-      (phrased port moment payload phrase s t told.fields is told.tells);
-  depth = 2;
-  low = omega arith;
-  members = both (Text brief_key phrase ∷ []) told.fields (member _ tt) (are payload port told.fields told.tells);
-  seen = told.seen ∙ ap (λ (a : _). fold after a told.fields) first;
-}
-
-pub ticked_told : {A : Type 0} (after : A → Field → A) (value : capture.Line) (s t : Unit {0}) (now : ℕ) (old new : A) → value ≡ Tick now
-    → new ≡ after old (Text kind_key (codes "tick")) → TellsFields (BriefFields value s t) after old new
-ticked_told after value s t now old new said told = record {
-  fields = Text kind_key (codes "tick") ∷ [];
-  are = subst (λ (v : capture.Line). BriefFields v s t (Text kind_key (codes "tick") ∷ [])) (sym said) (ticked now s t);
-  depth = 2;
-  low = omega arith;
-  members = member _ tt;
-  seen = told;
-}
+phrased_told after value s t port moment payload phrase old mid new said are is first told =
+    payload_told TellsBrief after value s t port moment payload (Text brief_key phrase ∷ told.fields) old new said (phrased phrase told.fields is told.tells)
+    (both (Text brief_key phrase ∷ []) told.fields (member _ tt) (are payload port told.fields told.tells))
+    (told.seen ∙ ap (λ (a : _). fold after a told.fields) first)
 
 pub front_told : {A : Type 0} (after : A → Field → A) (value : capture.Line) (s t : Unit {0}) (port moment : ℕ) (payload : List ℕ) (old new : A)
     → value ≡ Packet port moment payload
     → ((p : List ℕ) (n : ℕ) (fields : List Field) → TellsFront p n fields → AreMembers 2 fields)
     → IsFrontTold after payload port old new → TellsFields (FrontFields value s t) after old new
-front_told after value s t port moment payload old new said are told = record {
-  fields = told.fields;
-  are = subst (λ (v : capture.Line). FrontFields v s t told.fields) (sym said) (in_part port moment payload s t told.fields told.tells);
-  depth = 2;
-  low = omega arith;
-  members = are payload port told.fields told.tells;
-  seen = told.seen;
-}
-
-pub of_tick_told : {A : Type 0} (after : A → Field → A) (value : capture.Line) (s t : Unit {0}) (now : ℕ) (old new : A) → value ≡ Tick now
-    → new ≡ after old (Text kind_key (codes "tick")) → TellsFields (FrontFields value s t) after old new
-of_tick_told after value s t now old new said told = record {
-  fields = Text kind_key (codes "tick") ∷ [];
-  are = subst (λ (v : capture.Line). FrontFields v s t (Text kind_key (codes "tick") ∷ [])) (sym said) (of_tick now s t);
-  depth = 2;
-  low = omega arith;
-  members = member _ tt;
-  seen = told;
-}
+front_told after value s t port moment payload old new said are told =
+    payload_told TellsFront after value s t port moment payload told.fields old new said told.tells (are payload port told.fields told.tells) told.seen
 
 -- what became of a line are members
 outcome_members : (value : capture.Line) (m new : MemberValue) (fields : List Field) → ((n : ℕ) → AreMembers 1 (dropped_fields n)) → AreMembers 1 passed_fields

@@ -1,16 +1,10 @@
 -- Of each option that is given or not, one case holds of the words that name its command.
-use Rattle.std.proofs.Common.{◌≡◌, ◌∙◌, inl, inr, refl, sym, ap, subst, true, false, true≢false, List, codes, Option, Some}
-use Rattle.std.specs.Option.{option_map_or}
-use Rattle.std.specs.Str.{bytes_eq}
-use Rattle.clap.specs.Words.{Text, found_of, one_text, rows_of}
-use Rattle.clap.specs.Simple.{built}
-use Rattle.clap.specs.declared.parser.matches.ArgMatches.{ArgMatches}
+use Rattle.nbt.proofs.Common.{◌≡◌, ◌∙◌, inl, inr, refl, sym, ap, subst, true, false, true≢false, List, codes, Option, Some, option_map_or, bytes_eq, Text, found_of, one_text, rows_of, built, ArgMatches, Contains, list_all}
 use Rattle.clap.proofs.WalkLemmas.{one_text-rows}
 use Rattle.nb_member.specs.declared.comments.Comments.TheVariants.{LeftOut, Printed}
 use Rattle.nbt.specs.CommandLine.{nbt_app, Enters, OneOf, options}
 use Rattle.nbt.specs.Settings.{AreComments}
 use Rattle.nbt.proofs.FlagValues.{IsAsked, SubsFit, is_asked}
-use Rattle.std.specs.List.{Contains, list_all}
 use Rattle.std.proofs.lemmas.List.Elements.{All-contains}
 use Rattle.std.proofs.lemmas.List.Sums.{AllPass-from_list_all}
 use Rattle.clap.proofs.OnLiterals.{clap_on_literals}

@@ -1,11 +1,5 @@
 -- What is printed of a text, or left of it where the output fails.
-use Rattle.std.proofs.Common.{◌≡◌, ◌≢◌, ◌++◌, ℕ, Bool, false, true, List, codes, Option, refl, sym, subst, Result, Ok, Err, OnOk, OnErr, IfErr}
-use Rattle.std.specs.Io.KnownBytes.{Appends, Keeps}
-use Rattle.nb_names.specs.Devices.{AppendsFront}
-use Rattle.nb_names.specs.DeviceFacts.{Appends-more, Keeps-same, front_after, front_wider}
-use Rattle.nbt.specs.declared.fault.Fault.{Fault}
-use Rattle.nbt.specs.declared.fault.Fault.TheVariants.{Read, Write, Memory}
-use Rattle.clap.specs.declared.parser.matches.ArgMatches.{ArgMatches}
+use Rattle.nbt.proofs.Common.{◌≡◌, ◌≢◌, ◌++◌, ℕ, Bool, false, true, List, codes, Option, refl, sym, subst, Result, Ok, Err, OnOk, OnErr, IfErr, Appends, Keeps, AppendsFront, Appends-more, Keeps-same, front_after, front_wider, ArgMatches, Fault, Read, Write, Memory}
 use Rattle.nbt.specs.Commands.{ListCommand, PrintsTables, Streams}
 use Rattle.nbt.specs.Objects.{listed_as}
 use Rattle.nbt.specs.Printing.{IsNoWrite, Leaves, PrintsLine, PrintsText, line}

@@ -1,25 +1,15 @@
 -- What taking the names of words keeps from turn to turn, and how a replay ends.
-use Rattle.std.proofs.Common.{◌≡◌, ◌≢◌, ◌<◌, ◌+◌, ◌++◌, ◌∷◌, inl, inr, ℕ, List, [], length, get_or, map, take, drop, Bor, Option, Result, Ok, Err, IfErr, refl, sym, ap, subst, ◌∙◌}
-use Rattle.std.proofs.lemmas.List.{map-append, take_more, take-append-drop, drop_more}
+use Rattle.nbt.proofs.Common.{◌≡◌, ◌≢◌, ◌<◌, ◌+◌, ◌++◌, ◌∷◌, inl, inr, ℕ, List, [], length, get_or, map, take, drop, Bor, Option, Result, Ok, Err, IfErr, refl, sym, ap, subst, ◌∙◌, map-append, take_more, take-append-drop, drop_more, Consumes, MemberValue, new_member, Stands, key_cmp, Counts, ShowsUnread, ShowsWriteFault, Keeps-same, Capacity, Fault, Arguments, TooManyNames, Line, Read, Write, Memory}
 use Rattle.std.specs.FinMap as maps
-use Rattle.std.specs.Io.KnownBytes.{Consumes}
 use Rattle.nb_names.specs.Name.{NetbiosName}
 use Rattle.nb_member.specs.declared.event.Event.{Event}
 use Rattle.nb_member.specs.declared.replay_fault.ReplayFault.{ReplayFault}
 use Rattle.nb_member.specs.declared.replay_fault.ReplayFault.TheVariants as replay
 use Rattle.nb_member.specs.declared.capture_options.CaptureOptions.{CaptureOptions}
 use Rattle.nb_member.specs.Live.{live}
-use Rattle.nb_member.specs.Member.{MemberValue, new_member}
 use Rattle.nb_member.specs.Replaying.{Replays}
-use Rattle.nb_member.specs.Member.{Stands}
 use Rattle.nb_member.specs.Events.{none as none_said}
-use Rattle.nb_datagram.specs.Key.{key_cmp}
-use Rattle.nbt.specs.declared.settings.Capacity.{Capacity}
-use Rattle.nbt.specs.declared.fault.Fault.{Fault}
-use Rattle.nbt.specs.declared.fault.Fault.TheVariants.{Text, Arguments, TooManyNames, Line, Read, Write, Memory}
-use Rattle.nb_names.specs.Counted.{Counts}
-use Rattle.nb_names.specs.Devices.{ShowsUnread, ShowsWriteFault}
-use Rattle.nb_names.specs.DeviceFacts.{Keeps-same}
+use Rattle.nbt.specs.declared.fault.Fault.TheVariants.{Text}
 use Rattle.nbt.specs.Input.{WasCut}
 use Rattle.nbt.specs.Reported.{of_replay}
 use Rattle.nbt.specs.Replaying.{AddsEach, AddsName, Begins, EndsWith, IsNamesFault, IsRefusedName, IsReplay, IsUnbegun, ReplaysCapture, ReplaysIn, none, more}

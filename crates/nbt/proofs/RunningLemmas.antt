@@ -1,11 +1,5 @@
 -- What a run over counted streams does to the streams that were lent.
-use Rattle.std.proofs.Common.{◌≡◌, ◌≢◌, ◌≤◌, ◌⊎◌, inl, inr, ℕ, List, Option, true, refl, sym, ap, subst, arith}
-use Rattle.std.specs.Io.KnownBytes.{Keeps}
-use Rattle.clap.specs.Words.{Text, takes}
-use Rattle.nb_names.specs.Counted.{CountedOf, Counts, no_calls}
-use Rattle.nb_names.specs.DeviceFacts.{Keeps-same}
-use Rattle.nbt.specs.declared.status.Status.{Status}
-use Rattle.nbt.specs.declared.status.Status.TheVariants.{BadUsage, Done, Failed, Refused}
+use Rattle.nbt.proofs.Common.{◌≡◌, ◌≢◌, ◌≤◌, ◌⊎◌, inl, inr, ℕ, List, Option, true, refl, sym, ap, subst, arith, Keeps, Text, takes, CountedOf, Counts, no_calls, Keeps-same, Status, BadUsage, Done, Failed, Refused}
 use Rattle.nbt.specs.CommandLine.{AreMisused, AreAlone, nbt_app}
 use Rattle.nbt.specs.Commands.{RanBy, Streams, streams}
 use Rattle.nbt.specs.Refusals.{AsksRefusal}

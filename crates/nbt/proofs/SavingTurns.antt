@@ -1,23 +1,11 @@
 -- What taking the lines of a capture comes to.
-use Rattle.std.proofs.Common.{◌≡◌, ◌≢◌, ℕ, List, Option, Some, None, Result, Ok, Err, IfErr, refl, subst}
-use Rattle.std.specs.Io.KnownBytes.{Consumes}
-use Rattle.std.proofs.lemmas.Result.{IfErr-at_err}
-use Rattle.nb_names.specs.Counted.{Counts}
-use Rattle.nb_names.specs.Devices.{ShowsUnread}
-use Rattle.nb_names.specs.Lines.{with_rest}
-use Rattle.nb_table.specs.Limits.{TableValue}
-use Rattle.nb_datagram.specs.declared.key.Key.{Key}
+use Rattle.nbt.proofs.Common.{◌≡◌, ◌≢◌, ℕ, List, Option, Some, None, Result, Ok, Err, IfErr, refl, subst, Consumes, IfErr-at_err, Counts, ShowsUnread, with_rest, TableValue, Key, PacketLine, Tick, MemberValue, Capacity, Fault, FullSource, Full, Memory, Read, Write}
 use Rattle.nb_table.specs.declared.fault.TableFault.TheVariants as tables
 use Rattle.nb_member.specs.declared.line.Line.{Line}
-use Rattle.nb_member.specs.declared.line.Line.TheVariants.{Packet as PacketLine, Tick}
 use Rattle.nb_member.specs.declared.member_fault.MemberFault.{MemberFault}
 use Rattle.nb_member.specs.declared.member_fault.MemberFault.TheVariants.{Table}
 use Rattle.nb_member.specs.LineTaking.{TakesEach, EndsEarly, malformed, unread, no_memory, not_taken, TakesLines}
-use Rattle.nb_member.specs.Member.{MemberValue}
 use Rattle.nb_member.specs.Taking.{Takes}
-use Rattle.nbt.specs.declared.settings.Capacity.{Capacity}
-use Rattle.nbt.specs.declared.fault.Fault.{Fault}
-use Rattle.nbt.specs.declared.fault.Fault.TheVariants.{FullSource, Full, Memory, Read, Write}
 use Rattle.nbt.specs.Reported.{of_replay}
 use Rattle.nbt.specs.SaveFaults.{PayloadStops, SaidStops, StopsSaving, UnsavedLine}
 use Rattle.nbt.specs.Saving.{saved_digits, SavesCapture, SavesLine, TakesInput, new_saver}

@@ -1,18 +1,9 @@
 -- What `nbt show` prints of a line, and of the lines of a capture.
-use Rattle.std.proofs.Common.{◌≡◌, ◌+◌, ◌++◌, ℕ, List, [], ◌∷◌, length, take, drop, Option, Result, Ok, Err, codes, refl, sym, subst, ◌∙◌, ap, append_assoc, arith}
-use Rattle.std.specs.Io.KnownBytes.{Appends, Consumes}
-use Rattle.std.specs.Fmt.{decimal}
-use Rattle.std.proofs.lemmas.List.{take-append-drop}
-use Rattle.nb_names.specs.Counted.{Counts, CountedOf}
-use Rattle.nb_names.specs.Devices.{GrowTo, ShowsUnread, ShowsWriteFault}
-use Rattle.nb_names.specs.DeviceFacts.{Appends-nil, Appends-more, Appends-kept, fails_from, grows_on}
+use Rattle.nbt.proofs.Common.{◌≡◌, ◌+◌, ◌++◌, ℕ, List, [], ◌∷◌, length, take, drop, Option, Result, Ok, Err, codes, refl, sym, subst, ◌∙◌, ap, append_assoc, arith, Appends, Consumes, decimal, take-append-drop, Counts, CountedOf, GrowTo, ShowsUnread, ShowsWriteFault, Appends-nil, Appends-more, Appends-kept, fails_from, grows_on, Packet, Tick, Fault, Read, Write, Memory}
 use Rattle.nb_member.specs.declared.capture_options.CaptureOptions.{CaptureOptions}
 use Rattle.nb_member.specs.declared.line.Line as capture
-use Rattle.nb_member.specs.declared.line.Line.TheVariants.{Packet, Tick}
 use Rattle.nb_member.specs.LineTaking.{TakesEach, none as no_lines, more as more_lines, StopsAt, malformed, unread, no_memory, not_taken, TakesLines}
 use Rattle.nb_text.specs.Lines.{line_end}
-use Rattle.nbt.specs.declared.fault.Fault.{Fault}
-use Rattle.nbt.specs.declared.fault.Fault.TheVariants.{Read, Write, Memory}
 use Rattle.nbt.specs.Code.PrintedLines.{PrintsOn, IsUnprinted}
 use Rattle.nbt.specs.Reported.{of_replay}
 use Rattle.nbt.specs.Showing.{PayloadText, ShowsValue, packet, tick, ShowsCapture, ShowsLines, none, more, Prints, Shows, TellsLine}

@@ -1,12 +1,6 @@
 -- What counting lines, and reading the table of each, keeps from turn to turn.
-use Rattle.std.proofs.Common.{◌≡◌, ◌≤◌, ◌<◌, ◌+◌, ◌++◌, [], ◌∷◌, ℕ, List, length, refl, sym, ◌∙◌, ap, subst, append_assoc, arith}
-use Rattle.std.specs.List.{AllZip}
-use Rattle.std.proofs.lemmas.List.{append-nil, length-append}
-use Rattle.nb_names.specs.Lines.{IsLine, HasLines}
+use Rattle.nbt.proofs.Common.{◌≡◌, ◌≤◌, ◌<◌, ◌+◌, ◌++◌, [], ◌∷◌, ℕ, List, length, refl, sym, ◌∙◌, ap, subst, append_assoc, arith, AllZip, append-nil, length-append, IsLine, HasLines, TableValue, Capacity, Fault}
 use Rattle.nb_names.specs.LineFacts.{any_lines, first_line, no_lines, one_line, same_lines}
-use Rattle.nb_table.specs.Limits.{TableValue}
-use Rattle.nbt.specs.declared.settings.Capacity.{Capacity}
-use Rattle.nbt.specs.declared.fault.Fault.{Fault}
 use Rattle.nbt.specs.Tables.{IsTableLine, IsTableFault, AreTables, TablesFail}
 
 -- so many lines stand before the rest

@@ -54,27 +54,32 @@ head_fields n value comment = Number line_key n ∷ (arrival_fields value ++ com
 
 -- ---- what is told of a line
 
--- the fields that `show` tells; nothing is left from line to line
-pub data PacketFields : capture.Line → Unit {0} → Unit {0} → List Field → Type 0 where
-  packet : (port moment : ℕ) (payload : List ℕ) (s t : Unit {0}) (fields : List Field) → Tells payload port fields
-      → PacketFields (Packet port moment payload) s t fields
-  tick : (now : ℕ) (s t : Unit {0}) → PacketFields (Tick now) s t (Text kind_key (codes "tick") ∷ [])
+-- FieldsBy OfPayload said old new fields: those of a payload, which are such, or that of a tick; nothing is left from line to line
+pub data FieldsBy (OfPayload : List ℕ → ℕ → List Field → Type 0) : capture.Line → Unit {0} → Unit {0} → List Field → Type 0 where
+  packet : (port moment : ℕ) (payload : List ℕ) (s t : Unit {0}) (fields : List Field) → OfPayload payload port fields
+      → FieldsBy OfPayload (Packet port moment payload) s t fields
+  tick : (now : ℕ) (s t : Unit {0}) → FieldsBy OfPayload (Tick now) s t (Text kind_key (codes "tick") ∷ [])
+
+-- the fields that `show` tells
+abbrev pub PacketFields : capture.Line → Unit {0} → Unit {0} → List Field → Type 0
+PacketFields = FieldsBy Tells
 
 -- the phrase of a payload
 abbrev pub brief_key : FieldKey
 brief_key = bare_key (codes "brief")
 
+-- TellsBrief payload port fields: the phrase of a payload stands before its fields
+pub data TellsBrief (payload : List ℕ) (port : ℕ) : List Field → Type 0 where
+  phrased : (phrase : List ℕ) (fields : List Field) → IsSaid payload port phrase → Tells payload port fields
+      → TellsBrief payload port (Text brief_key phrase ∷ fields)
+
 -- the fields that `show` tells with the phrase of a payload before them
-pub data BriefFields : capture.Line → Unit {0} → Unit {0} → List Field → Type 0 where
-  phrased : (port moment : ℕ) (payload phrase : List ℕ) (s t : Unit {0}) (fields : List Field) → IsSaid payload port phrase → Tells payload port fields
-      → BriefFields (Packet port moment payload) s t (Text brief_key phrase ∷ fields)
-  ticked : (now : ℕ) (s t : Unit {0}) → BriefFields (Tick now) s t (Text kind_key (codes "tick") ∷ [])
+abbrev pub BriefFields : capture.Line → Unit {0} → Unit {0} → List Field → Type 0
+BriefFields = FieldsBy TellsBrief
 
 -- the fields that `show` tells with what still stands at the fronts of payloads
-pub data FrontFields : capture.Line → Unit {0} → Unit {0} → List Field → Type 0 where
-  in_part : (port moment : ℕ) (payload : List ℕ) (s t : Unit {0}) (fields : List Field) → TellsFront payload port fields
-      → FrontFields (Packet port moment payload) s t fields
-  of_tick : (now : ℕ) (s t : Unit {0}) → FrontFields (Tick now) s t (Text kind_key (codes "tick") ∷ [])
+abbrev pub FrontFields : capture.Line → Unit {0} → Unit {0} → List Field → Type 0
+FrontFields = FieldsBy TellsFront
 
 -- TellsFields AreFields after old new: what is seen of a sink after such fields
 pub record TellsFields {A : Type 0} (AreFields : List Field → Type 0) (after : A → Field → A) (old new : A) : Type 0 where

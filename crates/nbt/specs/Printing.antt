@@ -1,8 +1,9 @@
 -- What the program prints for names, and why it refuses them (our choice). A line ends with a line feed, 10.
-use Rattle.std.specs.Prelude.{◌≡◌, ◌≢◌, ◌<◌, ℕ, List, [], ◌∷◌, ◌++◌, length, Option, Result, Ok, Err}
+use Rattle.std.specs.Prelude.{◌≡◌, ◌≢◌, ◌<◌, ℕ, List, [], ◌∷◌, ◌++◌, length, Option, Result, Ok, Err, IfErr}
 use Rattle.std.specs.Io.KnownBytes.{Appends, Keeps}
 use Rattle.nb_names.specs.declared.pointers.Pointers.TheVariants.{Refused}
-use Rattle.nb_names.specs.Devices.{AppendsFront}
+use Rattle.nb_names.specs.Counted.{Counts}
+use Rattle.nb_names.specs.Devices.{AppendsFront, ShowsWriteFault}
 use Rattle.nb_names.specs.DomainName.{spelling}
 use Rattle.nb_names.specs.Hexadecimal.{HexText, digits_text}
 use Rattle.nb_names.specs.Name.{NetbiosName, IsName, labels_of_name}
@@ -30,6 +31,10 @@ PrintsText text old new (Ok done) = Appends old new text
 PrintsText text old new (Err Write) = AppendsFront old new text
 PrintsText text old new (Err Memory) = Keeps old new
 PrintsText text old new (Err _) = ⊥
+
+-- ExplainsWrite result old new: an output that failed has had a call counted that shows it
+abbrev pub ExplainsWrite : {A : Type 0} → Result A Fault → Counts → Counts → Type 0
+ExplainsWrite result old new = IfErr result (λ fault. fault ≡ Write → ShowsWriteFault old new)
 
 -- IsSpellingOf text digits: the digits are the spelling, in hexadecimal, of the name that the text
 -- stands for

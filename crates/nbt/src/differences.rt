@@ -3,9 +3,9 @@ ghost use Rattle.std.specs.Prelude.{◌≡◌, ◌≢◌, ◌⊎◌, ◌++◌, t
 ghost use Rattle.std.specs.FinMap as maps;
 ghost use Rattle.std.specs.Io.KnownBytes.{Appends, Keeps};
 ghost use Rattle.nb_datagram.specs.Key.{key_cmp};
-ghost use Rattle.nb_names.specs.Devices.{AppendsFront, ShowsWriteFault};
+ghost use Rattle.nb_names.specs.Devices.{AppendsFront};
 ghost use Rattle.nbt.specs.Differences.{differing, line_where, lines_of_keys, two_lines};
-ghost use Rattle.nbt.specs.Printing.{line};
+ghost use Rattle.nbt.specs.Printing.{ExplainsWrite, line};
 ghost use Rattle.nbt.specs.Tables.{difference_text};
 ghost use Rattle.nbt.specs.Code.Marks.{marked, with_mark};
 
@@ -41,8 +41,7 @@ pub fn print_differences<W: Write>(
     ensures write { IfErr result (λ fault. fault ≡ Fault.Write →
         AppendsFront (W.contents output.old.inner) (W.contents output.new.inner)
         (difference_text true one.now.contents other.now.contents)) }
-    ensures why { IfErr result (λ fault. fault ≡ Fault.Write →
-        ShowsWriteFault output.old.counts output.new.counts) }
+    ensures why { ExplainsWrite result output.old.counts output.new.counts }
 {
     let lines = differences_of(alloc, one, other)?;
     output.print(lines.as_bytes())

@@ -4,8 +4,8 @@ ghost use Rattle.std.specs.Io.KnownBytes.{Appends};
 ghost use Rattle.nbt.specs.FaultTexts.{fault_line};
 
 use crate::fault::Fault;
-use crate::front::Front;
 use crate::output::Output;
+use crate::signature::Signature;
 use std::cell::Cell;
 use std::io;
 use std::io::Write;
@@ -16,7 +16,7 @@ pub enum Audience<'a> {
     /// Programs: a fault is one line.
     Programs,
     /// A person at a terminal, who gets advice too; and what the input began with.
-    Person(&'a Cell<Front>),
+    Person(&'a Cell<Signature>),
 }
 
 /// Standard error, with those who read it.
@@ -50,12 +50,12 @@ impl<'a, E> Errors<'a, E> {
     }
 
     /// What the input began with, where a person reads this.
-    pub fn front(&self) -> Option<Front>
+    pub fn signature(&self) -> Option<Signature>
         ensures { self.now.audience ≡ Audience.Programs → result ≡ None }
     {
         match self.audience {
             Audience::Programs => None,
-            Audience::Person(front) => Some(front.get()),
+            Audience::Person(signature) => Some(signature.get()),
         }
     }
 

@@ -1,201 +1,85 @@
 //! The words that `nbt build` takes, packet by packet.
 
-/// A word of a packet, by what the help calls it.
+/// A word of a packet: what the help calls it, what it has to be, and one that is taken, whatever
+/// the words before it.
 #[derive(Clone, Copy)]
-pub enum Field {
-    Id,
-    Word,
-    Type,
-    Flags,
-    Name,
-    Called,
-    Calling,
-    Source,
-    Destination,
-    Ttl,
-    Port,
-    Most,
-    Address,
-    Key,
-    Code,
-    Hex,
-    /// HEX of a record whose type is given.
-    Rdata,
-}
+pub struct Field(pub &'static str, pub &'static str, pub &'static str);
 
-impl Field {
-    /// What the help calls it.
-    pub fn name(self) -> &'static str {
-        match self {
-            Field::Id => "ID",
-            Field::Word => "WORD",
-            Field::Type => "TYPE",
-            Field::Flags => "FLAGS",
-            Field::Name => "NAME",
-            Field::Called => "CALLED",
-            Field::Calling => "CALLING",
-            Field::Source => "SOURCE",
-            Field::Destination => "DESTINATION",
-            Field::Ttl => "TTL",
-            Field::Port => "PORT",
-            Field::Most => "MOST",
-            Field::Address => "ADDRESS",
-            Field::Key => "KEY",
-            Field::Code => "CODE",
-            Field::Hex | Field::Rdata => "HEX",
-        }
-    }
-
-    /// What it has to be.
-    pub fn wanted(self) -> &'static str {
-        match self {
-            Field::Id | Field::Word | Field::Type | Field::Flags => "four hexadecimal digits",
-            Field::Name | Field::Called | Field::Calling | Field::Source | Field::Destination =>
-                "the text of a name",
-            Field::Ttl => "a decimal number to 4294967295 without leading zeros",
-            Field::Port | Field::Most => "a decimal number to 65535 without leading zeros",
-            Field::Address => "four decimal numbers to 255 with dots between them",
-            Field::Key => "ADDRESS:PORT/ID",
-            Field::Code => "two hexadecimal digits",
-            Field::Hex => "two hexadecimal digits a byte, or `empty`",
-            Field::Rdata => "two hexadecimal digits a byte, for TYPE 0002 those of a name",
-        }
-    }
-
-    /// One that is taken, whatever the words before it.
-    pub fn example(self) -> &'static str {
-        match self {
-            Field::Id => "0001",
-            Field::Word => "8500",
-            Field::Type => "0020",
-            Field::Flags => "0000",
-            Field::Name | Field::Called | Field::Calling | Field::Source | Field::Destination =>
-                "FRED<20>",
-            Field::Ttl => "300000",
-            Field::Port => "139",
-            Field::Most => "512",
-            Field::Address => "10.0.0.5",
-            Field::Key => "10.0.0.5:138/0001",
-            Field::Code => "82",
-            Field::Hex => "00ff",
-            Field::Rdata => "00",
-        }
-    }
-}
-
-/// The words that a packet takes.
-pub struct Form {
-    /// The word that names the packet.
-    pub what: &'static str,
-    /// The words after it.
-    pub fields: &'static [Field],
-}
+/// A packet: the word that names it, and the words after it.
+pub struct Form(pub &'static str, pub &'static [Field]);
 
 /// All packets.
 pub fn forms() -> &'static [Form] {
     &FORMS
 }
 
-const FRAGMENT: [Field; 5] = [
-    Field::Key,
-    Field::Source,
-    Field::Destination,
-    Field::Hex,
-    Field::Most,
-];
+const DIGITS: &str = "four hexadecimal digits";
 
-const QUERY: [Field; 2] = [Field::Key, Field::Name];
+const TEXT: &str = "the text of a name";
 
-const REGISTRATION: [Field; 5] = [
-    Field::Id,
-    Field::Name,
-    Field::Ttl,
-    Field::Flags,
-    Field::Address,
-];
+const SHORT_NUMBER: &str = "a decimal number to 65535 without leading zeros";
+
+const LONG_NUMBER: &str = "a decimal number to 4294967295 without leading zeros";
+
+const NUMBERS: &str = "four decimal numbers to 255 with dots between them";
+
+const BYTES: &str = "two hexadecimal digits a byte, or `empty`";
+
+const RDATA_BYTES: &str = "two hexadecimal digits a byte, for TYPE 0002 those of a name";
+
+const ID: Field = Field("ID", DIGITS, "0001");
+
+const WORD: Field = Field("WORD", DIGITS, "8500");
+
+const TYPE: Field = Field("TYPE", DIGITS, "0020");
+
+const FLAGS: Field = Field("FLAGS", DIGITS, "0000");
+
+const NAME: Field = Field("NAME", TEXT, "FRED<20>");
+
+const CALLED: Field = Field("CALLED", TEXT, "FRED<20>");
+
+const CALLING: Field = Field("CALLING", TEXT, "FRED<20>");
+
+const SOURCE: Field = Field("SOURCE", TEXT, "FRED<20>");
+
+const DESTINATION: Field = Field("DESTINATION", TEXT, "FRED<20>");
+
+const TTL: Field = Field("TTL", LONG_NUMBER, "300000");
+
+const PORT: Field = Field("PORT", SHORT_NUMBER, "139");
+
+const MOST: Field = Field("MOST", SHORT_NUMBER, "512");
+
+const ADDRESS: Field = Field("ADDRESS", NUMBERS, "10.0.0.5");
+
+const KEY: Field = Field("KEY", "ADDRESS:PORT/ID", "10.0.0.5:138/0001");
+
+const CODE: Field = Field("CODE", "two hexadecimal digits", "82");
+
+const HEX: Field = Field("HEX", BYTES, "00ff");
+
+/// HEX of a record whose type is given.
+const RDATA: Field = Field("HEX", RDATA_BYTES, "00");
 
 const FORMS: [Form; 19] = [
-    Form {
-        what: "query",
-        fields: &[Field::Id, Field::Name],
-    },
-    Form {
-        what: "status",
-        fields: &[Field::Id, Field::Name],
-    },
-    Form {
-        what: "registration",
-        fields: &REGISTRATION,
-    },
-    Form {
-        what: "refresh",
-        fields: &REGISTRATION,
-    },
-    Form {
-        what: "release",
-        fields: &[Field::Id, Field::Name, Field::Flags, Field::Address],
-    },
-    Form {
-        what: "response",
-        fields: &[
-            Field::Id,
-            Field::Word,
-            Field::Name,
-            Field::Type,
-            Field::Ttl,
-            Field::Rdata,
-        ],
-    },
-    Form {
-        what: "request",
-        fields: &[Field::Called, Field::Calling],
-    },
-    Form {
-        what: "message",
-        fields: &[Field::Hex],
-    },
-    Form {
-        what: "positive",
-        fields: &[],
-    },
-    Form {
-        what: "negative",
-        fields: &[Field::Code],
-    },
-    Form {
-        what: "retarget",
-        fields: &[Field::Address, Field::Port],
-    },
-    Form {
-        what: "keepalive",
-        fields: &[],
-    },
-    Form {
-        what: "unique",
-        fields: &FRAGMENT,
-    },
-    Form {
-        what: "group",
-        fields: &FRAGMENT,
-    },
-    Form {
-        what: "broadcast",
-        fields: &FRAGMENT,
-    },
-    Form {
-        what: "error",
-        fields: &[Field::Key, Field::Code],
-    },
-    Form {
-        what: "find",
-        fields: &QUERY,
-    },
-    Form {
-        what: "found",
-        fields: &QUERY,
-    },
-    Form {
-        what: "missing",
-        fields: &QUERY,
-    },
+    Form("query", &[ID, NAME]),
+    Form("status", &[ID, NAME]),
+    Form("registration", &[ID, NAME, TTL, FLAGS, ADDRESS]),
+    Form("refresh", &[ID, NAME, TTL, FLAGS, ADDRESS]),
+    Form("release", &[ID, NAME, FLAGS, ADDRESS]),
+    Form("response", &[ID, WORD, NAME, TYPE, TTL, RDATA]),
+    Form("request", &[CALLED, CALLING]),
+    Form("message", &[HEX]),
+    Form("positive", &[]),
+    Form("negative", &[CODE]),
+    Form("retarget", &[ADDRESS, PORT]),
+    Form("keepalive", &[]),
+    Form("unique", &[KEY, SOURCE, DESTINATION, HEX, MOST]),
+    Form("group", &[KEY, SOURCE, DESTINATION, HEX, MOST]),
+    Form("broadcast", &[KEY, SOURCE, DESTINATION, HEX, MOST]),
+    Form("error", &[KEY, CODE]),
+    Form("find", &[KEY, NAME]),
+    Form("found", &[KEY, NAME]),
+    Form("missing", &[KEY, NAME]),
 ];

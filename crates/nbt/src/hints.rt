@@ -23,10 +23,10 @@ const LOOK: &str =
 pub fn print_hint<E: Write>(alloc: Global, fault: Fault, errors: &mut Errors<'_, E>)
     ensures quiet { errors.old.audience ≡ Programs → errors.new ≡ errors.old }
 {
-    let Some(front) = errors.front() else {
+    let Some(signature) = errors.signature() else {
         return;
     };
-    let _ = if front.is_pcap() && !is_of_output(fault) {
+    let _ = if signature.is_pcap() && !is_of_output(fault) {
         errors.output.print(LOOK.as_bytes())
     } else {
         print_meaning(alloc, fault, &mut errors.output)
@@ -37,7 +37,7 @@ pub fn print_hint<E: Write>(alloc: Global, fault: Fault, errors: &mut Errors<'_,
 pub fn print_mistake<E: Write>(alloc: Global, matches: &ArgMatches<'_>, errors: &mut Errors<'_, E>)
     ensures quiet { errors.old.audience ≡ Programs → errors.new ≡ errors.old }
 {
-    if errors.front().is_none() {
+    if errors.signature().is_none() {
         return;
     }
     let Some((what, words)) = packet_words(matches) else {
@@ -58,7 +58,7 @@ pub fn print_input<E: Write>(
 )
     ensures quiet { errors.old.audience ≡ Programs → errors.new ≡ errors.old }
 {
-    if errors.front().is_none() {
+    if errors.signature().is_none() {
         return;
     }
     if let Ok(line) = input_line(alloc, words, error) {
@@ -70,7 +70,7 @@ pub fn print_input<E: Write>(
 pub fn print_dropped<E: Write>(dropped: u64, errors: &mut Errors<'_, E>)
     ensures quiet { errors.old.audience ≡ Programs → errors.new ≡ errors.old }
 {
-    if dropped > 0 && errors.front().is_some() {
+    if dropped > 0 && errors.signature().is_some() {
         let _ = writeln!(errors.output, "nbt: keys that ticks dropped: {dropped}");
     }
 }

@@ -10,7 +10,6 @@ mod errors;
 mod fault;
 mod flushing;
 mod forms;
-mod front;
 mod fronts;
 mod given_files;
 mod help;
@@ -27,6 +26,7 @@ mod printing_lines;
 mod program;
 mod refusals;
 mod settings;
+mod signature;
 mod status;
 mod streams;
 mod subcommand;
@@ -37,9 +37,9 @@ mod texts;
 use crate::errors::{Audience, Errors};
 use crate::fault::Fault;
 use crate::flushing::{FlushingInput, SharedOutput};
-use crate::front::{Front, FrontInput};
 use crate::output::Output;
 use crate::program::{report, run};
+use crate::signature::{Signature, SignatureInput};
 use crate::streams::{Call, run_for};
 use std::alloc::Global;
 use std::cell::{Cell, RefCell};
@@ -48,11 +48,11 @@ use std::io::{BufWriter, ErrorKind, IsTerminal, Read, Write};
 use std::process::ExitCode;
 
 fn main(rt: HostRuntime) -> ExitCode {
-    let front = Cell::new(Front::unread());
-    let code = match run_buffered(&rt, &front) {
+    let signature = Cell::new(Signature::unread());
+    let code = match run_buffered(&rt, &signature) {
         Ok(code) => code,
         Err(fault) => {
-            let mut errors = Errors::new(rt.stderr(), audience_of(&rt, &front));
+            let mut errors = Errors::new(rt.stderr(), audience_of(&rt, &signature));
             report(rt.alloc(), Err(fault), &mut errors).code()
         }
     };
@@ -60,9 +60,9 @@ fn main(rt: HostRuntime) -> ExitCode {
 }
 
 /// Who reads standard error: a person where it is a terminal.
-fn audience_of<'a>(rt: &HostRuntime, front: &'a Cell<Front>) -> Audience<'a> {
+fn audience_of<'a>(rt: &HostRuntime, signature: &'a Cell<Signature>) -> Audience<'a> {
     if rt.stderr().is_terminal() {
-        Audience::Person(front)
+        Audience::Person(signature)
     } else {
         Audience::Programs
     }
@@ -76,22 +76,22 @@ fn audience_of<'a>(rt: &HostRuntime, front: &'a Cell<Front>) -> Audience<'a> {
 ///
 /// Those of [`words_of`], [`Fault::Memory`] where there is no memory for a buffer, and
 /// [`Fault::Write`] where what was printed can't be written out: this is then reported alone.
-fn run_buffered(rt: &HostRuntime, front: &Cell<Front>) -> Result<u8, Fault> {
+fn run_buffered(rt: &HostRuntime, signature: &Cell<Signature>) -> Result<u8, Fault> {
     let words = words_of(rt)?;
-    run_words(rt, words.as_slice(), front)
+    run_words(rt, words.as_slice(), signature)
 }
 
 /// Runs the program with these words, as [`run_buffered`] has it.
-fn run_words(rt: &HostRuntime, words: &[String], front: &Cell<Front>) -> Result<u8, Fault> {
+fn run_words(rt: &HostRuntime, words: &[String], signature: &Cell<Signature>) -> Result<u8, Fault> {
     let stdout = buffered(rt.alloc(), rt.stdout())?;
     let mut errors = buffered(rt.alloc(), rt.stderr())?;
     let printed = RefCell::new(stdout);
     let call = Call {
         alloc: rt.alloc(),
         words,
-        audience: audience_of(rt, front),
+        audience: audience_of(rt, signature),
     };
-    let input = FrontInput::new(rt.stdin(), front);
+    let input = SignatureInput::new(rt.stdin(), signature);
     let answer = run_flushing(call, input, &printed, &mut errors);
     let mut output = printed.into_inner();
     let shown = flushed(answer, &mut output);

@@ -16,11 +16,9 @@ const SHORT: usize = 40;
 pub fn mistake_line(alloc: Global, what: &str, words: &[&str]) -> Result<String, NoMemory> {
     let mut line = String::new(alloc);
     line.push_str("arguments: ")?;
-    match forms().iter().find(|form| form.what == what) {
+    match forms().iter().find(|form| form.0 == what) {
         None => push_packets(what, &mut line)?,
-        Some(form) if form.fields.len() != words.len() => {
-            push_count(form, words.len(), &mut line)?;
-        }
+        Some(form) if form.1.len() != words.len() => push_count(form, words.len(), &mut line)?,
         Some(form) => push_wrong(alloc, form, words, &mut line)?,
     }
     line.push_str("\n")?;
@@ -31,19 +29,19 @@ pub fn mistake_line(alloc: Global, what: &str, words: &[&str]) -> Result<String,
 fn push_packets(what: &str, line: &mut String) -> Result<(), NoMemory> {
     line.push_str("WHAT is one of")?;
     for (place, form) in forms().iter().enumerate() {
-        line.push_str(if place == 0 { " " } else { ", " })?;
-        line.push_str(form.what)?;
+        push_both(if place == 0 { " " } else { ", " }, form.0, line)?;
     }
     push_given(what, line)
 }
 
 /// Says how many words a packet takes, and how many are given.
 fn push_count(form: &Form, given: usize, line: &mut String) -> Result<(), NoMemory> {
-    push_both("words after ", form.what, line)?;
-    push_number(": ", form.fields.len(), line)?;
+    let Form(what, fields) = form;
+    push_both("words after ", what, line)?;
+    push_number(": ", fields.len(), line)?;
     line.push_str(" wanted")?;
-    for field in form.fields {
-        push_both(" ", field.name(), line)?;
+    for field in *fields {
+        push_both(" ", field.0, line)?;
     }
     push_number(", and not ", given, line)
 }
@@ -55,9 +53,9 @@ fn push_wrong(
     words: &[&str],
     line: &mut String,
 ) -> Result<(), NoMemory> {
-    for (place, (field, word)) in form.fields.iter().zip(words).enumerate() {
+    for (place, (field, word)) in form.1.iter().zip(words).enumerate() {
         if !is_taken(alloc, form, words, place)? {
-            push_place(form.what, place + 1, line)?;
+            push_place(form.0, place + 1, line)?;
             push_wanted(*field, line)?;
             return push_given(word, line);
         }
@@ -73,16 +71,17 @@ fn push_place(what: &str, place: usize, line: &mut String) -> Result<(), NoMemor
 
 /// Says what a word has to be.
 fn push_wanted(field: Field, line: &mut String) -> Result<(), NoMemory> {
-    push_both(" is ", field.name(), line)?;
-    push_both(", ", field.wanted(), line)?;
-    push_both(", such as ", field.example(), line)
+    let Field(name, wanted, example) = field;
+    push_both(" is ", name, line)?;
+    push_both(", ", wanted, line)?;
+    push_both(", such as ", example, line)
 }
 
 /// Whether a packet takes these words up to this place, with examples behind them.
 fn is_taken(alloc: Global, form: &Form, words: &[&str], place: usize) -> Result<bool, NoMemory> {
     let mut tried = Vec::new(alloc);
     push_tried(form, words, place, &mut tried)?;
-    Ok(is_packet(alloc, form.what, tried.as_slice()))
+    Ok(is_packet(alloc, form.0, tried.as_slice()))
 }
 
 /// Adds the words up to this place, and examples behind them.
@@ -92,8 +91,8 @@ fn push_tried<'a>(
     place: usize,
     tried: &mut Vec<&'a str>,
 ) -> Result<(), NoMemory> {
-    for (at, (field, word)) in form.fields.iter().zip(words).enumerate() {
-        tried.push(if at <= place { *word } else { field.example() })?;
+    for (at, (field, word)) in form.1.iter().zip(words).enumerate() {
+        tried.push(if at <= place { *word } else { field.2 })?;
     }
     Ok(())
 }

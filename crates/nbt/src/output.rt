@@ -3,7 +3,7 @@ ghost use Rattle.std.specs.Prelude.{◌≡◌, ◌<◌, OnOk, OnErr, IfErr};
 ghost use Rattle.std.specs.Io.KnownBytes.{Appends};
 ghost use Rattle.nb_names.specs.Counted.{no_calls};
 ghost use Rattle.nb_names.specs.Devices.{AppendsFront, GrowTo, ShowsWriteFault};
-ghost use Rattle.nbt.specs.Printing.{PrintsText};
+ghost use Rattle.nbt.specs.Printing.{ExplainsWrite, PrintsText};
 ghost use Rattle.nbt.specs.Saving.{saved_line};
 
 use crate::fault::Fault;
@@ -83,8 +83,7 @@ impl<W> Output<W> {
         ensures prints { PrintsText (saved_line table.now.contents)
             (W.contents self.old.inner) (W.contents self.new.inner) result }
         ensures fault { IfErr result (λ fault. fault ≡ Fault.Write) }
-        ensures why { IfErr result (λ fault. fault ≡ Fault.Write →
-            ShowsWriteFault self.old.counts self.new.counts) }
+        ensures why { ExplainsWrite result self.old.counts self.new.counts }
     {
         match table.write_saved(&mut self.device) {
             Ok(()) => self.print(&[b'\n']),

@@ -1,8 +1,9 @@
 //! Printing something of each line of a capture, as it comes.
-ghost use Rattle.std.specs.Prelude.{◌≡◌, ℕ, List, Err, IfErr, OnOk};
+ghost use Rattle.std.specs.Prelude.{◌≡◌, ℕ, List, Err, OnOk};
 ghost use Rattle.std.specs.Io.KnownBytes.{Consumes};
-ghost use Rattle.nb_names.specs.Devices.{ShowsUnread, ShowsWriteFault};
+ghost use Rattle.nb_names.specs.Devices.{ShowsUnread};
 ghost use Rattle.nbt.specs.Showing.{Shows, TellsLine};
+ghost use Rattle.nbt.specs.Printing.{ExplainsWrite};
 
 use crate::fault::Fault;
 use crate::output::Output;
@@ -105,8 +106,7 @@ pub fn print_lines<R: Read, W: Write, T: LineText + Drop>(
         Shows (TellsLine (T.is_text options.comments)) options.most bytes
         (R.remaining input.new.inner) (T.state lines)
         (W.contents output.old.inner) (W.contents output.new.inner) result) }
-    ensures why { IfErr result (λ fault. fault ≡ Fault.Write →
-        ShowsWriteFault output.old.counts output.new.counts) }
+    ensures why { ExplainsWrite result output.old.counts output.new.counts }
 {
     let mut printed = PrintedLines {
         comments: options.comments,

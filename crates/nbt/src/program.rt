@@ -1,13 +1,13 @@
 //! The program over any input and output.
 ghost use Rattle.std.specs.Prelude.{◌≡◌, ◌≢◌, ◌≤◌, ◌⊎◌, map, string_bytes, true, IfOk, IfErr};
 ghost use Rattle.std.specs.Io.KnownBytes.{Keeps};
-ghost use Rattle.nb_names.specs.Devices.{ShowsWriteFault};
 ghost use Rattle.clap.specs.Words.{kind_of, subcommand_name_of, takes};
 ghost use Rattle.nbt.specs.FaultTexts.{status_after};
 ghost use Rattle.nbt.specs.CommandLine.{AreAlone, DoesRead, nbt_app, AreMisused, Reports, answer_to};
 ghost use Rattle.nbt.specs.Commands.{Ran, RanBy, streams, with_status};
 ghost use Rattle.nbt.specs.Running.{IsMisuse, RanOver};
 ghost use Rattle.nbt.specs.Refusals.{AsksRefusal, IsPrintFault};
+ghost use Rattle.nbt.specs.Printing.{ExplainsWrite};
 
 use crate::advice::{asked, helped_command, print_advice, refusal_lines};
 use crate::clap_answer::ClapAnswer;
@@ -128,8 +128,7 @@ fn run_command<R: Read, W: Write, E: Write>(
         input.old input.new output.old output.new) result }
     ensures status { IfOk result (λ status. status ≢ Status.BadUsage) }
     ensures unread { ¬ DoesRead (subcommand_name_of matches.now) → input.new ≡ input.old }
-    ensures why { IfErr result (λ fault. fault ≡ Fault.Write →
-        ShowsWriteFault output.old.counts output.new.counts) }
+    ensures why { ExplainsWrite result output.old.counts output.new.counts }
     ensures quiet { errors.old.audience ≡ Audience.Programs → errors.new ≡ errors.old }
 {
     let Some((word, matches)) = matches.subcommand() else {

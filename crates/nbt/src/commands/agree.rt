@@ -3,9 +3,9 @@ ghost use Rattle.std.specs.Prelude.{◌≡◌, ◌≢◌, ◌⊎◌, IfOk, IfErr
 ghost use Rattle.std.specs.Io.KnownBytes.{Keeps};
 ghost use Rattle.nb_names.specs.declared.limits.TheConstants.{MAX_INPUT};
 ghost use Rattle.nbt.specs.Input.{WasCut};
-ghost use Rattle.nb_names.specs.Devices.{ShowsWriteFault};
 ghost use Rattle.nbt.specs.Commands.{AgreeCommand, streams};
 ghost use Rattle.nbt.specs.Tables.{CompareFails, ComparesTables, FailsOn, Tells, TellsFront};
+ghost use Rattle.nbt.specs.Printing.{ExplainsWrite};
 
 use crate::differences::print_differences;
 use crate::fault::Fault;
@@ -68,8 +68,7 @@ fn compare<R: Read, W: Write>(
     ensures cut { IfErr result (λ fault. fault ≡ Fault.Read →
         WasCut MAX_INPUT (R.remaining input.old.inner) (R.remaining input.new.inner)
         input.old.counts input.new.counts) }
-    ensures why { IfErr result (λ fault. fault ≡ Fault.Write →
-        ShowsWriteFault output.old.counts output.new.counts) }
+    ensures why { ExplainsWrite result output.old.counts output.new.counts }
 {
     let text = whole_input(alloc, input)?;
     if count_lines(text.as_slice()) != 2 {
@@ -109,8 +108,7 @@ fn tell_same<W: Write>(
     ensures write { IfErr result (λ fault. fault ≡ Fault.Write →
         TellsFront list first.now.contents second.now.contents
         (W.contents output.old.inner) (W.contents output.new.inner)) }
-    ensures why { IfErr result (λ fault. fault ≡ Fault.Write →
-        ShowsWriteFault output.old.counts output.new.counts) }
+    ensures why { ExplainsWrite result output.old.counts output.new.counts }
 {
     if first.same(second) {
         output.print(b"equal\n")?;

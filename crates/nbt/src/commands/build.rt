@@ -2,8 +2,9 @@
 ghost use Rattle.std.specs.Prelude.{◌≡◌, ◌≢◌, [], map, option_map, unwrap_or, codes, IfOk, IfErr, OnOk, string_bytes};
 ghost use Rattle.std.specs.Io.KnownBytes.{Appends, Keeps};
 ghost use Rattle.clap.specs.Words.{found_of, matched_of, raw_values};
-ghost use Rattle.nb_names.specs.Devices.{AppendsFront, ShowsWriteFault};
+ghost use Rattle.nb_names.specs.Devices.{AppendsFront};
 ghost use Rattle.nbt.specs.Building.{AreBuilt, AreTooMuch, Builds, NameNone};
+ghost use Rattle.nbt.specs.Printing.{ExplainsWrite};
 
 use crate::fault::Fault;
 use crate::output::Output;
@@ -34,8 +35,7 @@ pub fn run_build<W: Write>(
         (AppendsFront (W.contents output.old.inner) (W.contents output.new.inner))) }
     ensures err { IfErr result (λ fault. fault ≢ Fault.Write →
         Keeps (W.contents output.old.inner) (W.contents output.new.inner)) }
-    ensures why { IfErr result (λ fault. fault ≡ Fault.Write →
-        ShowsWriteFault output.old.counts output.new.counts) }
+    ensures why { ExplainsWrite result output.old.counts output.new.counts }
     ensures too_long { IfErr result (λ fault. fault ≡ Fault.TooLong → AreTooMuch matches.now) }
     ensures refused { IfErr result (λ fault. fault ≢ Fault.Write → fault ≢ Fault.Memory →
         NameNone matches.now) }

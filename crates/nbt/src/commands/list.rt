@@ -1,9 +1,7 @@
 //! `nbt list`: what saved tables know together of each key.
-ghost use Rattle.std.specs.Prelude.{◌≡◌, IfErr};
-ghost use Rattle.nb_names.specs.Devices.{ShowsWriteFault};
 ghost use Rattle.nbt.specs.Commands.{ListCommand, streams};
 ghost use Rattle.nbt.specs.Objects.{listed_as};
-ghost use Rattle.nbt.specs.Printing.{PrintsText};
+ghost use Rattle.nbt.specs.Printing.{ExplainsWrite, PrintsText};
 
 use crate::fault::Fault;
 use crate::joining_input::joined_input;
@@ -54,8 +52,7 @@ fn print_keys<W: Write>(
 ) -> Result<(), Fault>
     ensures printed { PrintsText (listed_as json table.now.contents)
         (W.contents output.old.inner) (W.contents output.new.inner) result }
-    ensures why { IfErr result (λ fault. fault ≡ Fault.Write →
-        ShowsWriteFault output.old.counts output.new.counts) }
+    ensures why { ExplainsWrite result output.old.counts output.new.counts }
 {
     if json {
         let objects = list_objects(alloc, table)?;

@@ -1,9 +1,8 @@
 //! `nbt name`: the spelling of a name's text, and the text of a spelling.
 ghost use Rattle.std.specs.Prelude.{◌≡◌, ℕ, List, true, false, codes, IfOk, IfErr, OnOk, string_bytes};
-ghost use Rattle.nb_names.specs.Devices.{ShowsWriteFault};
 ghost use Rattle.nbt.specs.Commands.{IsValue, OutcomeOf};
 ghost use Rattle.nbt.specs.Settings.{IsGiven};
-ghost use Rattle.nbt.specs.Printing.{Leaves, PrintsSpelling, PrintsName, IsSpellingOf, IsSpellingFault, IsNameOf, IsNameFault, IsNoWrite, PrintsText, line};
+ghost use Rattle.nbt.specs.Printing.{ExplainsWrite, Leaves, PrintsSpelling, PrintsName, IsSpellingOf, IsSpellingFault, IsNameOf, IsNameFault, IsNoWrite, PrintsText, line};
 
 use crate::fault::Fault;
 use crate::output::Output;
@@ -33,8 +32,7 @@ pub fn run_name<W: Write>(
         → IsGiven matches.now (codes "bytes") true
         → OutcomeOf PrintsName IsNameFault IsNameOf value result
         (W.contents output.old.inner) (W.contents output.new.inner) }
-    ensures why { IfErr result (λ fault. fault ≡ Fault.Write →
-        ShowsWriteFault output.old.counts output.new.counts) }
+    ensures why { ExplainsWrite result output.old.counts output.new.counts }
 {
     let Some(value) = matches.get_str("VALUE") else {
         return Err(Fault::Arguments);
@@ -62,8 +60,7 @@ pub fn print_spelling<W: Write>(
     ensures fault { IfErr result (IsSpellingFault text.now) }
     ensures err { IfErr result (Leaves (IsSpellingOf text.now)
         (W.contents output.old.inner) (W.contents output.new.inner)) }
-    ensures why { IfErr result (λ fault. fault ≡ Fault.Write →
-        ShowsWriteFault output.old.counts output.new.counts) }
+    ensures why { ExplainsWrite result output.old.counts output.new.counts }
 {
     match spelling_of(alloc, text) {
         Ok(digits) => print_line(digits, output),
@@ -88,8 +85,7 @@ pub fn print_name<W: Write>(
     ensures fault { IfErr result (IsNameFault digits.now) }
     ensures err { IfErr result (Leaves (IsNameOf digits.now)
         (W.contents output.old.inner) (W.contents output.new.inner)) }
-    ensures why { IfErr result (λ fault. fault ≡ Fault.Write →
-        ShowsWriteFault output.old.counts output.new.counts) }
+    ensures why { ExplainsWrite result output.old.counts output.new.counts }
 {
     match name_of(alloc, digits) {
         Ok(text) => print_line(text, output),
@@ -106,8 +102,7 @@ pub fn print_name<W: Write>(
 fn print_line<W: Write>(mut text: String, output: &mut Output<W>) -> Result<(), Fault>
     ensures prints { PrintsText (line (string_bytes text))
         (W.contents output.old.inner) (W.contents output.new.inner) result }
-    ensures why { IfErr result (λ fault. fault ≡ Fault.Write →
-        ShowsWriteFault output.old.counts output.new.counts) }
+    ensures why { ExplainsWrite result output.old.counts output.new.counts }
 {
     text.push('\n')?;
     output.print(text.as_bytes())

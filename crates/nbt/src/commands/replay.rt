@@ -1,10 +1,11 @@
 //! `nbt replay`: the report of a capture, in a member with names.
 ghost use Rattle.std.specs.Prelude.{◌≡◌, ℕ, List, Err, map, OnOk, IfOk, IfErr};
 ghost use Rattle.std.specs.Io.KnownBytes.{Consumes};
-ghost use Rattle.nb_names.specs.Devices.{ShowsUnread, ShowsWriteFault};
+ghost use Rattle.nb_names.specs.Devices.{ShowsUnread};
 ghost use Rattle.nbt.specs.Commands.{ReplayCommand, streams};
 ghost use Rattle.nbt.specs.Replaying.{AddsEach, AddsName, AreTexts, Begins, EndsWith, IsNamesFault, IsRefusedName, IsUnbegun, ReplaysIn};
 ghost use Rattle.nbt.specs.Settings.{IsCapacity};
+ghost use Rattle.nbt.specs.Printing.{ExplainsWrite};
 
 use crate::fault::Fault;
 use crate::objects::Objects;
@@ -63,8 +64,7 @@ fn replay_text<R: Read, W: Write>(
         Consumes (R.remaining input.old.inner) (R.remaining input.new.inner) bytes ×
         (result ≡ Err Fault.Read →
         ShowsUnread options.most bytes input.old.counts input.new.counts) }
-    ensures why { IfErr result (λ fault. fault ≡ Fault.Write →
-        ShowsWriteFault output.old.counts output.new.counts) }
+    ensures why { ExplainsWrite result output.old.counts output.new.counts }
 {
     replay_with(alloc, input, &mut output.device, member, options)?;
     Ok(())

@@ -1,5 +1,4 @@
-use Rattle.std.proofs.Common.{refl, sym, ◌∙◌}
-use Rattle.std.proofs.lemmas.Bool.{false≢true}
+use Rattle.nb_building.proofs.Common.{refl, sym, ◌∙◌, false≢true}
 use Rattle.nb_building.proofs.ArgumentLemmas.{decimal_passes, no_number_from_parse, number_from_parse, number_leads}
 use Rattle.nb_building.proofs.arguments.long_number.Goals as goal
 

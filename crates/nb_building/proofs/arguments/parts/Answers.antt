@@ -1,4 +1,4 @@
-use Rattle.std.proofs.Common.{refl}
+use Rattle.nb_building.proofs.Common.{refl}
 use Rattle.nb_building.proofs.MarkLemmas.{no_split_from_call, split_from_call}
 use Rattle.nb_building.proofs.arguments.parts.Goals as goal
 

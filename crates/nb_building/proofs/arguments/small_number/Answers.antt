@@ -1,4 +1,4 @@
-use Rattle.std.proofs.Common.{refl, arith}
+use Rattle.nb_building.proofs.Common.{refl, arith}
 use Rattle.nb_building.proofs.ArgumentLemmas.{none_so_small}
 use Rattle.nb_building.proofs.arguments.small_number.Goals as goal
 

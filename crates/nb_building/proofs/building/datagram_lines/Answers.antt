@@ -1,6 +1,5 @@
-use Rattle.std.proofs.Common.{◌∙◌, ap}
+use Rattle.nb_building.proofs.Common.{◌∙◌, ap, of_datagrams}
 use Rattle.nb_building.specs.Building.{payload_lines}
-use Rattle.nb_building.specs.Built.{of_datagrams}
 use Rattle.nb_building.proofs.building.datagram_lines.Goals as goal
 
 pub returns-clause-built : goal.returns-clause-built

@@ -1,4 +1,4 @@
-use Rattle.std.proofs.Common.{◌≡◌, string_bytes, take}
+use Rattle.nb_building.proofs.Common.{◌≡◌, string_bytes, take}
 use Rattle.nb_building.specs.Building.{payload_lines}
 use Rattle.nb_building.proofs.building.lines.Given as goal
 

@@ -1,9 +1,6 @@
-use Rattle.std.proofs.Common.{◌++◌, ◌∷◌, [], ℕ, List, sym, ap, ◌∙◌, map, rules}
-use Rattle.std.proofs.lemmas.List.{map-append, map-id}
+use Rattle.nb_building.proofs.Common.{◌++◌, ◌∷◌, [], ℕ, List, sym, ap, ◌∙◌, map, rules, map-append, map-id, Direct, packet_bytes}
 use Rattle.std.proofs.lemmas.Iterator.Adapters.{YieldsList-from_vec}
 use Rattle.std.proofs.lemmas.Iterator.Consumers.{YieldsList-end}
-use Rattle.nb_datagram.specs.declared.packet.Packet.TheVariants.{Direct}
-use Rattle.nb_datagram.specs.Packet.{packet_bytes}
 use Rattle.nb_building.proofs.datagram.encoded_pieces.Goals as goal
 
 pub returns-clause-built : goal.returns-clause-built

@@ -1,5 +1,4 @@
-use Rattle.std.proofs.Common.{◌≡◌, arith, length, refl}
-use Rattle.nb_building.specs.Built.{error}
+use Rattle.nb_building.proofs.Common.{◌≡◌, arith, length, refl, error}
 use Rattle.nb_building.proofs.ArgumentLemmas.{two_words}
 use Rattle.nb_building.proofs.BuiltLemmas.{datagrams_named}
 use Rattle.nb_building.proofs.DatagramWordLemmas.{code_of_two, key_of_two, words_counted}

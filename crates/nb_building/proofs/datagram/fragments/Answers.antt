@@ -1,6 +1,4 @@
-use Rattle.std.proofs.Common.{◌≡◌, ◌∙◌, ap, arith, length, refl}
-use Rattle.nb_building.specs.Built.{fragments}
-use Rattle.nb_building.specs.Refusals.{datagram, piece}
+use Rattle.nb_building.proofs.Common.{◌≡◌, ◌∙◌, ap, arith, length, refl, fragments, datagram, piece}
 use Rattle.nb_building.proofs.ArgumentLemmas.{five_words}
 use Rattle.nb_building.proofs.BuiltLemmas.{fragments_named, tells_too_much, too_much}
 use Rattle.nb_building.proofs.DatagramWordLemmas.{fragment_words, fragments_unnamed, kind_counted, words_counted}

@@ -1,7 +1,5 @@
-use Rattle.std.proofs.Common.{◌≡◌, ap, ◌∙◌, arith, map}
+use Rattle.nb_building.proofs.Common.{◌≡◌, ap, ◌∙◌, arith, map, Direct, packet_bytes}
 use Rattle.std.proofs.lemmas.Result.{IfOk-weaker}
-use Rattle.nb_datagram.specs.declared.packet.Packet.TheVariants.{Direct}
-use Rattle.nb_datagram.specs.Packet.{packet_bytes}
 use Rattle.nb_datagram.specs.Pieces.{AreTooLong}
 use Rattle.nb_building.proofs.datagram.fragments_of.Goals as goal
 

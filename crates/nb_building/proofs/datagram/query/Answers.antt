@@ -1,5 +1,4 @@
-use Rattle.std.proofs.Common.{◌≡◌, ◌∙◌, arith, length, refl}
-use Rattle.nb_building.specs.Built.{queries}
+use Rattle.nb_building.proofs.Common.{◌≡◌, ◌∙◌, arith, length, refl, queries}
 use Rattle.nb_building.proofs.ArgumentLemmas.{two_words}
 use Rattle.nb_building.proofs.BuiltLemmas.{datagrams_named}
 use Rattle.nb_building.proofs.DatagramWordLemmas.{key_of_two, name_of_two, query_letter, words_counted, query_counted}

@@ -1,9 +1,6 @@
-use Rattle.std.proofs.Common.{◌≡◌, ◌≤◌, length, sym, ap, ◌∙◌, inl, inr, Err}
-use Rattle.std.proofs.lemmas.Bool.{cases_lt}
+use Rattle.nb_building.proofs.Common.{◌≡◌, ◌≤◌, length, sym, ap, ◌∙◌, inl, inr, Err, cases_lt, of_bytes, of_domain, record_of, plain, domain}
 use Rattle.nb_service.specs.declared.classes.TheConstants.{IN}
 use Rattle.nb_service.specs.declared.kinds.TheConstants.{NS}
-use Rattle.nb_service.specs.Record.{of_bytes, of_domain, record_of}
-use Rattle.nb_building.specs.Built.{plain, domain}
 use Rattle.nb_building.proofs.response.answer.Goals as goal
 
 pub returns-in-Ok-clause-made : goal.returns-in-Ok-clause-made

@@ -1,5 +1,4 @@
-use Rattle.std.proofs.Common.{refl}
-use Rattle.nb_building.specs.Refusals.{rdata}
+use Rattle.nb_building.proofs.Common.{refl, rdata}
 use Rattle.nb_building.proofs.ArgumentLemmas.{six_words}
 use Rattle.nb_building.proofs.BuiltLemmas.{response_built, tells_too_much, told_of}
 use Rattle.nb_building.proofs.ServiceWordLemmas.{response_unnamed, response_words}

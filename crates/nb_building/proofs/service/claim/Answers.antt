@@ -1,4 +1,4 @@
-use Rattle.nb_building.specs.Built.{registration, refresh}
+use Rattle.nb_building.proofs.Common.{registration, refresh}
 use Rattle.nb_building.proofs.ArgumentLemmas.{five_words}
 use Rattle.nb_building.proofs.BuiltLemmas.{service_built}
 use Rattle.nb_building.proofs.ServiceWordLemmas.{claim_words}

@@ -1,4 +1,4 @@
-use Rattle.nb_building.specs.Built.{query, status}
+use Rattle.nb_building.proofs.Common.{query, status}
 use Rattle.nb_building.proofs.ArgumentLemmas.{two_words}
 use Rattle.nb_building.proofs.BuiltLemmas.{service_built}
 use Rattle.nb_building.proofs.ServiceWordLemmas.{question_words}

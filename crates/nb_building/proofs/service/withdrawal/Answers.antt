@@ -1,5 +1,4 @@
-use Rattle.std.proofs.Common.{refl}
-use Rattle.nb_building.specs.Built.{release}
+use Rattle.nb_building.proofs.Common.{refl, release}
 use Rattle.nb_building.proofs.ArgumentLemmas.{four_words}
 use Rattle.nb_building.proofs.BuiltLemmas.{service_built}
 use Rattle.nb_building.proofs.ServiceWordLemmas.{release_words}

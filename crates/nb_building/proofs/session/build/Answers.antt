@@ -1,6 +1,5 @@
-use Rattle.nb_building.specs.Built.{positive, keepalive}
+use Rattle.nb_building.proofs.Common.{positive, keepalive, ap}
 use Rattle.nb_building.proofs.BuiltLemmas.{bare_built}
-use Rattle.std.proofs.Common.{ap}
 use Rattle.nb_building.proofs.UnnamedLemmas.{bare_unnamed, session_count}
 use Rattle.nb_building.proofs.session.build.Goals as goal
 

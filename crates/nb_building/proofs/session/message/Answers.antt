@@ -1,6 +1,4 @@
-use Rattle.std.proofs.Common.{refl}
-use Rattle.nb_building.specs.Built.{message}
-use Rattle.nb_building.specs.Refusals.{message as much_message}
+use Rattle.nb_building.proofs.Common.{refl, message, much_message}
 use Rattle.nb_building.proofs.ArgumentLemmas.{one_word}
 use Rattle.nb_building.proofs.BuiltLemmas.{session_built, too_much}
 use Rattle.nb_building.proofs.UnnamedLemmas.{no_message}

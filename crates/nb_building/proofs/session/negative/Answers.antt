@@ -1,5 +1,4 @@
-use Rattle.std.proofs.Common.{refl}
-use Rattle.nb_building.specs.Built.{negative}
+use Rattle.nb_building.proofs.Common.{refl, negative}
 use Rattle.nb_building.proofs.ArgumentLemmas.{one_word}
 use Rattle.nb_building.proofs.BuiltLemmas.{session_built}
 use Rattle.nb_building.proofs.session.negative.Goals as goal

@@ -1,5 +1,4 @@
-use Rattle.std.proofs.Common.{refl}
-use Rattle.nb_building.specs.Built.{retarget}
+use Rattle.nb_building.proofs.Common.{refl, retarget}
 use Rattle.nb_building.proofs.ArgumentLemmas.{two_words}
 use Rattle.nb_building.proofs.BuiltLemmas.{session_built}
 use Rattle.nb_building.proofs.UnnamedLemmas.{retarget_parts, unnamed}

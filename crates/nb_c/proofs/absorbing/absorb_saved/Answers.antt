@@ -1,7 +1,6 @@
-use Rattle.std.proofs.Common.{refl, subst}
+use Rattle.nb_c.proofs.Common.{refl, subst, LoadFails}
 use Rattle.nb_member.specs.declared.settings.Settings.{Settings}
 use Rattle.nb_member.specs.Events.{limits_of}
-use Rattle.nb_table.specs.Saved.{LoadFails}
 use Rattle.nb_c.specs.Absorbing.{not_read, read}
 use Rattle.nb_c.specs.Tables.{IsLoaded}
 use Rattle.nb_c.proofs.absorbing.absorb_saved.Goals as goal

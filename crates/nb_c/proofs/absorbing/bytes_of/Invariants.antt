@@ -1,5 +1,4 @@
-use Rattle.std.proofs.Common.{◌≡◌}
-use Rattle.std.specs.List.{flat_map}
+use Rattle.nb_c.proofs.Common.{◌≡◌, flat_map}
 use Rattle.nb_c.specs.Absorbing.{heard_bytes}
 use Rattle.nb_c.proofs.absorbing.bytes_of.Given as goal
 

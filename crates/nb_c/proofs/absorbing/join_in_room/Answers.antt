@@ -1,4 +1,4 @@
-use Rattle.std.proofs.Common.{ℕ, ◌<◌, ◌≤◌, List, length, refl, subst}
+use Rattle.nb_c.proofs.Common.{ℕ, ◌<◌, ◌≤◌, List, length, refl, subst}
 use Rattle.nb_c.specs.Absorbing.{no_room, refused, takes_not}
 use Rattle.nb_c.proofs.AbsorbLemmas.{joins}
 use Rattle.nb_c.proofs.absorbing.join_in_room.Goals as goal

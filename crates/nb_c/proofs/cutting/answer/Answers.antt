@@ -1,8 +1,7 @@
-use Rattle.std.proofs.Common.{refl}
+use Rattle.nb_c.proofs.Common.{refl, none_late}
 use Rattle.nb_c.proofs.AnswerLemmas.{or_said}
 use Rattle.nb_c.proofs.NameLemmas.{TextLaws, reads_one}
 use Rattle.nb_c.specs.Cutting.{cut_names}
-use Rattle.nb_c.specs.Outputs.{none_late}
 use Rattle.nb_c.proofs.cutting.answer.Goals as goal
 
 pub returns-clause-answer : goal.returns-clause-answer

@@ -1,5 +1,4 @@
-use Rattle.std.proofs.Common.{◌≡◌}
-use Rattle.std.specs.List.{flat_map}
+use Rattle.nb_c.proofs.Common.{◌≡◌, flat_map}
 use Rattle.nb_c.specs.Cutting.{packet_of, counted}
 use Rattle.nb_c.proofs.cutting.joined.Given as goal
 

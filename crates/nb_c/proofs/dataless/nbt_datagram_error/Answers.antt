@@ -1,8 +1,6 @@
-use Rattle.std.proofs.Common.{◌≡◌, ℕ, List, IfOk, refl, subst}
-use Rattle.nb_datagram.specs.declared.key.Key.{Key}
+use Rattle.nb_c.proofs.Common.{◌≡◌, ℕ, List, IfOk, refl, subst, Key, none_late}
 use Rattle.nb_c.specs.Cutting.{key_from}
 use Rattle.nb_c.specs.Fronts.{error_packet}
-use Rattle.nb_c.specs.Outputs.{none_late}
 use Rattle.nb_c.proofs.AnswerLemmas.{bytes_said, does, has_one_value}
 use Rattle.nb_c.proofs.dataless.nbt_datagram_error.Goals as goal
 

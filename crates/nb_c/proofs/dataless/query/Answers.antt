@@ -1,6 +1,5 @@
-use Rattle.std.proofs.Common.{refl}
+use Rattle.nb_c.proofs.Common.{refl, none_late}
 use Rattle.nb_c.proofs.AnswerLemmas.{or_said}
-use Rattle.nb_c.specs.Outputs.{none_late}
 use Rattle.nb_c.proofs.NameLemmas.{TextLaws, read_one}
 use Rattle.nb_c.specs.Fronts.{query_answer}
 use Rattle.nb_c.proofs.dataless.query.Goals as goal

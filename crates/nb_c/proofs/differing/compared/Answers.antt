@@ -1,4 +1,4 @@
-use Rattle.std.proofs.Common.{Ok}
+use Rattle.nb_c.proofs.Common.{Ok}
 use Rattle.nb_c.specs.Tables.{difference_of}
 use Rattle.nb_c.proofs.DifferLemmas.{differ_said, late_difference}
 use Rattle.nb_c.proofs.LoadLemmas.{InputLaws}

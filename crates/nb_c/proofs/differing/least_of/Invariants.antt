@@ -1,6 +1,5 @@
-use Rattle.std.proofs.Common.{Option}
+use Rattle.nb_c.proofs.Common.{Option, Key}
 use Rattle.std.specs.FinMap as maps
-use Rattle.nb_datagram.specs.declared.key.Key.{Key}
 use Rattle.nb_c.specs.Tables.{NarrowsBy}
 use Rattle.nb_c.proofs.differing.least_of.Given as goal
 

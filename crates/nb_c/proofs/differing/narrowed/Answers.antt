@@ -1,4 +1,4 @@
-use Rattle.std.proofs.Common.{◌∙◌, sym, true≢false}
+use Rattle.nb_c.proofs.Common.{◌∙◌, sym, true≢false}
 use Rattle.nb_c.specs.Tables.{same, differs}
 use Rattle.nb_c.proofs.differing.narrowed.Goals as goal
 

@@ -1,4 +1,4 @@
-use Rattle.std.proofs.Common.{ℕ, List, subst}
+use Rattle.nb_c.proofs.Common.{ℕ, List, subst}
 use Rattle.nb_c.specs.Sessions.{Stands, unknown_type, too_long}
 use Rattle.nb_c.proofs.FrameLemmas.{one_writes, writes_late, written}
 use Rattle.nb_c.proofs.framing.packet_of.Goals as goal

@@ -1,21 +1,5 @@
 -- `let_go` takes the pointer out of a handle, and forgets it.
-use Rattle.std.proofs.Common.{List, [], ◌∷◌, ◌++◌, refl, sym, subst}
-use mir.Val.{Val, vunit}
-use base.Logic.{SProp, ent, id⊢}
-use base.Fml.{ftrue}
-use prog.Wp.{WpFn}
-use types.Kit.{‵, raw, ◌⊛◌, ◌$◌, ◌∵◌, !, qed, by, move, keep, drop, split, fsplit, fjoin, feq_i, suffices}
-use types.Run.{unit_lit, of_opd, returns, enter}
-use types.ByLocal.{alloc_all, pass_all, free_all, look_at, sets}
-use contract.Running.{tables}
-use denote.Exit.{yes}
-use denote.RattleType.{owns}
-use denote.Signature.{types_at, plain}
-use denote.RawPtr.{ptr_val}
-use denote.Steps.{nothing}
-use denote.Triple.Walked.{Stays, stay_dropped, walk_of}
-use Rattle.core.proofs.alloc.Calls.{Goes-blank}
-use Rattle.std.proofs.raw_atomic.Walks.{proved_at, leaves}
+use Rattle.nb_c.proofs.Steps.{List, [], ◌∷◌, ◌++◌, refl, sym, subst, Val, vunit, SProp, ent, id⊢, ftrue, WpFn, ‵, raw, ◌⊛◌, ◌$◌, ◌∵◌, !, qed, by, move, keep, drop, split, fsplit, fjoin, feq_i, suffices, unit_lit, of_opd, returns, enter, alloc_all, pass_all, free_all, look_at, sets, tables, yes, owns, types_at, plain, ptr_val, nothing, Stays, stay_dropped, walk_of, Goes-blank, proved_at, leaves}
 use Rattle.nb_c.proofs.HandleValues.{alone, Handle, alone_typed, handle_open}
 use Rattle.nb_c.specs.contracts.handle.let_go.{ended, clauses}
 use Rattle.nb_c.specs.contracts.handle.let_go.Key.{name as #self}

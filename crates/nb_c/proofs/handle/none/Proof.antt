@@ -1,20 +1,5 @@
 -- `none` makes a handle of a null pointer, which owns nothing.
-use Rattle.std.proofs.Common.{◌≡◌, [], ◌∷◌, refl, lit<}
-use mir.Val.{Val}
-use base.Logic.{SProp, emp}
-use base.Fml.{ftrue}
-use types.Kit.{‵, raw, ◌⊛◌, ◌$◌, ◌∵◌, !, qed, by, keep, split, use0}
-use types.Run.{lit, no_more, and_then, returns, enter}
-use types.ByLocal.{alloc_all, pass_all, free_all, look_at, sets}
-use types.Part.{agg}
-use contract.Monad.{fact, fact_i}
-use contract.Running.{tables}
-use denote.RattleType.{owns}
-use denote.Signature.{types_at}
-use denote.RawPtr.{null_ptr, ptr_val}
-use denote.Steps.{nothing}
-use denote.Triple.Walked.{walk_of}
-use Rattle.std.proofs.raw_atomic.Walks.{proved_at, leaves}
+use Rattle.nb_c.proofs.Steps.{◌≡◌, [], ◌∷◌, refl, lit<, Val, SProp, emp, ftrue, ‵, raw, ◌⊛◌, ◌$◌, ◌∵◌, !, qed, by, keep, split, use0, lit, no_more, and_then, returns, enter, alloc_all, pass_all, free_all, look_at, sets, agg, fact, fact_i, tables, owns, types_at, null_ptr, ptr_val, nothing, walk_of, proved_at, leaves}
 use Rattle.nb_c.proofs.HandleValues.{alone, Handle, nobody, handle_made}
 use Rattle.nb_c.specs.contracts.handle.none.{ended, clauses}
 use Rattle.nb_c.specs.contracts.handle.none.Key.{name as #self}

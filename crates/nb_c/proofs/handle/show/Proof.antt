@@ -1,26 +1,5 @@
 -- `show` makes parts of the handle's pointer and an allocator, and they own what it owned.
-use Rattle.std.proofs.Common.{◌≡◌, List, [], ◌∷◌, ◌++◌, refl, sym, subst}
-use lib.Dec.{T}
-use mir.Val.{Val, vptr, has_ty, WT}
-use base.Logic.{SProp, ent, emp, id⊢}
-use base.Fml.{ftrue}
-use prog.Wp.{WpFn}
-use types.Kit.{‵, raw, ◌⊛◌, ◌$◌, ◌∵◌, !, qed, by, move, keep, split, fsplit, fjoin, suffices, use0}
-use types.Run.{stop, fld, of_opd, no_more, and_then, returns, enter}
-use types.ByLocal.{alloc_all, pass_all, free_all, look_at, get, get_in, sets}
-use types.Part.{agg, sub, whole}
-use contract.Monad.{fact, fact_i}
-use contract.Running.{tables}
-use denote.Exit.{yes}
-use denote.RattleType.{owns}
-use denote.Signature.{types_at, plain}
-use denote.RawPtr.{block_ptr, InBlock}
-use denote.Steps.{nothing, heard}
-use denote.Param.{layout}
-use denote.Triple.Walked.{Stays, stay_dropped, walk_of, Goes-dropped}
-use Rattle.core.proofs.alloc.Calls.{Goes-blank, handle_tells}
-use Rattle.std_alloc.proofs.ResultValues.{and_tt}
-use Rattle.std.proofs.raw_atomic.Walks.{proved_at, leaves}
+use Rattle.nb_c.proofs.Steps.{◌≡◌, List, [], ◌∷◌, ◌++◌, refl, sym, subst, T, Val, vptr, has_ty, WT, SProp, ent, emp, id⊢, ftrue, WpFn, ‵, raw, ◌⊛◌, ◌$◌, ◌∵◌, !, qed, by, move, keep, split, fsplit, fjoin, suffices, use0, stop, fld, of_opd, no_more, and_then, returns, enter, alloc_all, pass_all, free_all, look_at, get, get_in, sets, agg, sub, whole, fact, fact_i, tables, yes, owns, types_at, plain, block_ptr, InBlock, nothing, heard, layout, Stays, stay_dropped, walk_of, Goes-dropped, Goes-blank, handle_tells, and_tt, proved_at, leaves}
 use Rattle.nb_c.proofs.HandleValues.{both, alone, al, Z, Parts, Handle, handle_out, parts_in}
 use Rattle.nb_c.specs.contracts.handle.show.{ended, clauses}
 use Rattle.nb_c.specs.contracts.handle.show.Key.{name as #self}

@@ -1,28 +1,6 @@
 -- `told` takes the pointer out of a handle, compares it with null, and makes the handle again.
-use Rattle.std.proofs.Common.{◌≡◌, Bool, List, [], ◌∷◌, ◌++◌, refl, sym, subst}
-use mir.Val.{Val, vbool}
-use base.Logic.{SProp, ent, emp, id⊢}
-use base.Fml.{ftrue}
-use prog.Wp.{WpFn}
-use types.Kit.{‵, raw, given, ◌⊛◌, ◌$◌, ◌∵◌, !, qed, by, move, keep, split, fsplit, fjoin, feq_i, suffices, use0, use1, use2, learn}
-use types.Run.{stop, fld, lit, bin, of_opd, no_more, and_then, returns, enter}
-use types.ByLocal.{alloc_all, pass_all, free_all, look_at, get, get_in, is, sets}
-use types.Part.{agg, sub, whole}
-use contract.Monad.{fact, fact_i}
-use contract.Running.{tables}
-use denote.Builtin.{bool}
-use denote.Param.{layout}
-use denote.Exit.{yes}
-use denote.RattleType.{owns}
-use denote.Signature.{types_at, plain}
-use denote.RawPtr.{Ptr, null_ptr, ptr_val, InBlock, Testable, tests_null}
-use denote.Steps.{nothing}
-use denote.Struct.Tuple.{Tuple}
-use denote.Triple.Walked.{Stays, stay_dropped, walk_of}
-use Rattle.core.proofs.alloc.Calls.{Goes-blank}
-use Rattle.core.specs.Bool.{MatchBool}
+use Rattle.nb_c.proofs.Steps.{◌≡◌, Bool, List, [], ◌∷◌, ◌++◌, refl, sym, subst, Val, vbool, SProp, ent, emp, id⊢, ftrue, WpFn, ‵, raw, given, ◌⊛◌, ◌$◌, ◌∵◌, !, qed, by, move, keep, split, fsplit, fjoin, feq_i, suffices, use0, use1, use2, learn, stop, fld, lit, bin, of_opd, no_more, and_then, returns, enter, alloc_all, pass_all, free_all, look_at, get, get_in, is, sets, agg, sub, whole, fact, fact_i, tables, bool, layout, yes, owns, types_at, plain, Ptr, null_ptr, ptr_val, InBlock, Testable, tests_null, nothing, Tuple, Stays, stay_dropped, walk_of, Goes-blank, MatchBool, proved_at, leaves}
 use Rattle.std_alloc.proofs.Pairs.{pair_of, pair_val, pair_Typed}
-use Rattle.std.proofs.raw_atomic.Walks.{proved_at, leaves}
 use Rattle.nb_c.proofs.HandleValues.{alone, Handle, kept_at, alone_typed, ptr_typed, compared, testable, handle_open, handle_made}
 use Rattle.nb_c.specs.contracts.handle.told.{ended, clauses}
 use Rattle.nb_c.specs.contracts.handle.told.Key.{name as #self}

@@ -1,4 +1,4 @@
-use Rattle.std.proofs.Common.{ℕ, List}
+use Rattle.nb_c.proofs.Common.{ℕ, List}
 use Rattle.nb_c.proofs.LoadLemmas.{InputLaws}
 use Rattle.nb_c.proofs.MergeLemmas.{one_join}
 use Rattle.nb_c.proofs.TwoLemmas.{one_of_two}

@@ -1,8 +1,7 @@
 use Rattle.nb_c.proofs.AnswerLemmas.{or_said}
-use Rattle.nb_c.specs.Outputs.{none_late}
 use Rattle.nb_c.proofs.NameLemmas.{TextLaws, read_one}
 use Rattle.nb_c.specs.Names.{spelling_answer}
-use Rattle.std.proofs.Common.{refl}
+use Rattle.nb_c.proofs.Common.{refl, none_late}
 use Rattle.nb_c.proofs.names.spelling_of.Goals as goal
 
 pub returns-clause-answer : goal.returns-clause-answer

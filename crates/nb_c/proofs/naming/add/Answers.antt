@@ -1,7 +1,4 @@
-use Rattle.std.proofs.Common.{◌≡◌, ◌+◌, List, length, Err, subst, arith}
-use Rattle.nb_names.specs.Name.{NetbiosName}
-use Rattle.nb_names.specs.NameText.{IsFaultOf}
-use Rattle.nb_names.specs.declared.text_fault.TextFault.{TextFault}
+use Rattle.nb_c.proofs.Common.{◌≡◌, ◌+◌, List, length, Err, subst, arith, NetbiosName, IsFaultOf, TextFault}
 use Rattle.nb_names.specs.declared.text_fault.TextFault.TheVariants.{BadText, TooLong}
 use Rattle.nb_member.specs.declared.local_names.AddFault.{AddFault}
 use Rattle.nb_member.specs.declared.local_names.AddFault.TheVariants.{Present, TooMany, NoMemory}

@@ -1,4 +1,4 @@
-use Rattle.std.proofs.Common.{length}
+use Rattle.nb_c.proofs.Common.{length}
 use Rattle.nb_c.proofs.StationNameLemmas.{IsNaming}
 use Rattle.nb_c.proofs.naming.names_between.Given as goal
 

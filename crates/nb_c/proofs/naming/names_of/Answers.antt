@@ -1,4 +1,4 @@
-use Rattle.std.proofs.Common.{sym, ◌∙◌}
+use Rattle.nb_c.proofs.Common.{sym, ◌∙◌}
 use Rattle.nb_c.proofs.StationNameLemmas.{no_text, texts_between}
 use Rattle.nb_c.proofs.naming.names_of.Goals as goal
 

@@ -1,7 +1,7 @@
+use Rattle.nb_c.proofs.Common.{none_late}
 use Rattle.nb_c.proofs.AnswerLemmas.{or_said}
 use Rattle.nb_c.proofs.NameLemmas.{TextLaws}
 use Rattle.nb_c.proofs.ResponseLemmas.{DomainLaws, one_response, text_said}
-use Rattle.nb_c.specs.Outputs.{none_late}
 use Rattle.nb_c.specs.Responses.{Responds, no_name_text, named}
 use Rattle.nb_c.proofs.responses.answer.Goals as goal
 

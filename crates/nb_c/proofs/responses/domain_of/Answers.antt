@@ -1,6 +1,4 @@
-use Rattle.std.proofs.Common.{◌≡◌, ℕ, length, subst, arith}
-use Rattle.nb_names.specs.declared.pointers.Pointers.TheVariants.{Refused}
-use Rattle.nb_names.specs.Labels.{NameAt}
+use Rattle.nb_c.proofs.Common.{◌≡◌, ℕ, length, subst, arith, Refused, NameAt}
 use Rattle.nb_c.specs.Responses.{whole, no_name, bytes_trail}
 use Rattle.nb_c.proofs.responses.domain_of.Goals as goal
 

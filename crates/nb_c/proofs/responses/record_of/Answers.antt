@@ -1,8 +1,6 @@
-use Rattle.std.proofs.Common.{◌≡◌, ◌≤◌, length, sym, ap, ◌∙◌, inl, inr, Ok, Err}
-use Rattle.std.proofs.lemmas.Bool.{cases_lt}
+use Rattle.nb_c.proofs.Common.{◌≡◌, ◌≤◌, length, sym, ap, ◌∙◌, inl, inr, Ok, Err, cases_lt, of_bytes, of_domain, record_of}
 use Rattle.nb_service.specs.declared.classes.TheConstants.{IN}
 use Rattle.nb_service.specs.declared.kinds.TheConstants.{NS}
-use Rattle.nb_service.specs.Record.{of_bytes, of_domain, record_of}
 use Rattle.nb_c.specs.Responses.{plain, too_long, domain}
 use Rattle.nb_c.proofs.responses.record_of.Goals as goal
 

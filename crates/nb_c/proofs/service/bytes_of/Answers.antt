@@ -1,5 +1,4 @@
-use Rattle.std.proofs.Common.{◌≡◌, ◌∙◌, List, ℕ, IfOk, ap, subst}
-use Rattle.nb_service.specs.Packet.{ServicePacket}
+use Rattle.nb_c.proofs.Common.{◌≡◌, ◌∙◌, List, ℕ, IfOk, ap, subst, ServicePacket}
 use Rattle.nb_service.specs.Views.{entry_bytes}
 use Rattle.nb_c.specs.Responses.{requested}
 use Rattle.nb_c.proofs.service.bytes_of.Goals as goal

@@ -1,4 +1,4 @@
-use Rattle.std.proofs.Common.{ℕ, ◌≤◌, ◌<◌, List, length, Result, Ok, Err, subst, arith}
+use Rattle.nb_c.proofs.Common.{ℕ, ◌<◌, length, Ok, Err, subst, arith}
 use Rattle.nb_c.specs.declared.service_entries.NbtServiceEntry.{NbtServiceEntry}
 use Rattle.nb_c.specs.Entries.{FilledFront, ReadsEntries}
 use Rattle.nb_c.proofs.EntryLemmas.{entry_one, filled_all, filled_none, filled_some, filling_begins, filling_more}

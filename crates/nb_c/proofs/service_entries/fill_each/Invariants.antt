@@ -1,4 +1,4 @@
-use Rattle.std.proofs.Common.{◌-◌, ◌≤◌, ℕ}
+use Rattle.nb_c.proofs.Common.{◌-◌, ◌≤◌}
 use Rattle.nb_c.proofs.EntryLemmas.{Filling}
 use Rattle.nb_c.proofs.service_entries.fill_each.Given as goal
 

@@ -1,4 +1,4 @@
-use Rattle.std.proofs.Common.{◌≡◌, ◌<◌, ℕ, List, length, refl, subst, arith}
+use Rattle.nb_c.proofs.Common.{◌≡◌, ◌<◌, ℕ, List, length, refl, subst, arith}
 use Rattle.nb_c.proofs.EntryLemmas.{entry_one, filled_none_wanted, refused_first}
 use Rattle.nb_c.proofs.ServiceLemmas.{HeaderLaws, IsCut, ItemLaws, item_cut}
 use Rattle.nb_c.proofs.service_entries.fill_entries_by.Goals as goal

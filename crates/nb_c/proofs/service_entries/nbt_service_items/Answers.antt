@@ -1,4 +1,4 @@
-use Rattle.std.proofs.Common.{refl}
+use Rattle.nb_c.proofs.Common.{refl}
 use Rattle.nb_c.proofs.EntryLemmas.{fills_front, fills_refused}
 use Rattle.nb_c.proofs.service_entries.nbt_service_items.Goals as goal
 

@@ -1,8 +1,4 @@
-use Rattle.std.proofs.Common.{◌∙◌, sym, subst}
-use Rattle.nb_names.specs.declared.pointers.Pointers.TheVariants.{Followed}
-use Rattle.nb_names.specs.Labels.{NameAt}
-use Rattle.nb_service.specs.ServiceFaults.{domain_name, domain_end}
-use Rattle.nb_service.proofs.ItemLemmas.{name_laws}
+use Rattle.nb_c.proofs.Common.{◌∙◌, sym, subst, Followed, NameAt, domain_name, domain_end, name_laws}
 use Rattle.nb_c.proofs.DomainLemmas.{domain_read, domain_refused, ends_elsewhere, ends_there}
 use Rattle.nb_c.proofs.service_parts.domain_by.Goals as goal
 

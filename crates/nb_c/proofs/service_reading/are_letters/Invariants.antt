@@ -1,6 +1,4 @@
-use Rattle.std.proofs.Common.{◌≡◌, ◌&&◌, drop, nat_lt}
-use Rattle.std.specs.List.{list_all}
-use Rattle.nb_names.specs.NameText.{is_letter}
+use Rattle.nb_c.proofs.Common.{◌≡◌, ◌&&◌, drop, nat_lt, list_all, is_letter}
 use Rattle.nb_c.proofs.service_reading.are_letters.Given as goal
 
 abbrev pub invariant-letters : goal.invariant-letters

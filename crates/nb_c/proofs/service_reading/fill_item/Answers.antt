@@ -1,4 +1,4 @@
-use Rattle.std.proofs.Common.{refl}
+use Rattle.nb_c.proofs.Common.{refl}
 use Rattle.nb_c.proofs.ServiceLemmas.{HeaderLaws, item_cut}
 use Rattle.nb_c.proofs.service_reading.fill_item.Goals as goal
 

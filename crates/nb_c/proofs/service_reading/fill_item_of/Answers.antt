@@ -1,8 +1,6 @@
-use Rattle.std.proofs.Common.{◌∙◌, refl}
+use Rattle.nb_c.proofs.Common.{◌∙◌, refl, header_value, seen_extent, seen_name, seen_fields}
 use Rattle.nb_c.proofs.ServiceLemmas.{HeaderLaws, ItemLaws, at_none, at_some, extent_fits, extent_there, same_numbers, item_read}
 use Rattle.nb_c.specs.Services.{uncounted, fails, stands}
-use Rattle.nb_service.specs.Header.{header_value}
-use Rattle.nb_service.proofs.ItemLemmas.{seen_extent, seen_name, seen_fields}
 use Rattle.nb_c.proofs.service_reading.fill_item_of.Goals as goal
 
 pub fill_numbers-requires-clause-named : goal.fill_numbers-requires-clause-named

@@ -1,8 +1,5 @@
-use Rattle.std.proofs.Common.{◌≡◌, ◌∙◌, ℕ, List, Ok, refl, ap, sym, subst}
-use Rattle.nb_service.proofs.ItemLemmas.{read_is, read_is_ok}
-use Rattle.nb_service.specs.Header.{PacketHeader, HasHeader, header_value}
+use Rattle.nb_c.proofs.Common.{◌≡◌, ◌∙◌, ℕ, List, Ok, refl, ap, sym, subst, read_is, read_is_ok, PacketHeader, HasHeader, header_value, Alone}
 use Rattle.nb_c.specs.declared.service_reading.NbtServiceHeader.{NbtServiceHeader}
-use Rattle.nb_c.specs.Outputs.{Alone}
 use Rattle.nb_c.specs.Services.{ReadsPacket, header_numbers}
 use Rattle.nb_c.proofs.ServiceLemmas.{PacketLaws, outline_header, packet_read, packet_refused}
 use Rattle.nb_c.proofs.service_reading.judge.Goals as goal

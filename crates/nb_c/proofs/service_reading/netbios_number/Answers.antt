@@ -1,9 +1,6 @@
-use Rattle.std.proofs.Common.{◌≡◌, ◌∙◌, ◌==◌, ℕ, true, false, List, [], ◌∷◌, ◌++◌, length, get_or, take, drop, inl, inr, refl, ap, sym, arith, append_assoc}
-use Rattle.std.proofs.lemmas.Bool.{and_parts, cases_Bool, eqb-true}
+use Rattle.nb_c.proofs.Common.{◌≡◌, ◌∙◌, ◌==◌, ℕ, true, false, List, [], ◌∷◌, ◌++◌, length, get_or, take, drop, inl, inr, refl, ap, sym, arith, append_assoc, and_parts, cases_Bool, list_all, spelling, is_letter, are_letters}
+use Rattle.std.proofs.lemmas.Bool.{eqb-true}
 use Rattle.std.proofs.Math.Seq.{take-append_seam}
-use Rattle.std.specs.List.{list_all}
-use Rattle.nb_names.specs.DomainName.{spelling}
-use Rattle.nb_names.specs.NameText.{is_letter, are_letters}
 use Rattle.nb_c.specs.Services.{netbios_number}
 use Rattle.nb_c.proofs.service_reading.netbios_number.Goals.{else-bytes-eq-LETTERS-via-then-bytes-eq-LETTERS+else-are_letters, else-bytes-eq-LETTERS-via-else-bytes-eq-LETTERS}
 use Rattle.nb_c.proofs.service_reading.netbios_number.Goals as goal

@@ -1,6 +1,5 @@
-use Rattle.std.proofs.Common.{◌∙◌, ap}
+use Rattle.nb_c.proofs.Common.{◌∙◌, ap, spelling}
 use Rattle.nb_c.specs.Names.{in_place}
-use Rattle.nb_names.specs.DomainName.{spelling}
 use Rattle.nb_c.proofs.spellings.spell_domain.Goals as goal
 
 pub returns-in-Some : goal.returns-in-Some

@@ -1,4 +1,4 @@
-use Rattle.std.proofs.Common.{refl}
+use Rattle.nb_c.proofs.Common.{refl}
 use Rattle.nb_c.specs.Stations.{made, refused}
 use Rattle.nb_c.proofs.stations.nbt_station_create.Goals as goal
 

@@ -1,7 +1,5 @@
 use Rattle.nb_c.proofs.MergeLemmas.{join_refused, join_done}
-use Rattle.std.proofs.Common.{ℕ, List, subst, IfOk, ◌≡◌}
-use Rattle.nb_table.specs.Limits.{TableValue}
-use Rattle.nb_table.specs.Saved.{saved}
+use Rattle.nb_c.proofs.Common.{ℕ, List, subst, IfOk, ◌≡◌, TableValue, saved}
 use Rattle.nb_c.proofs.tables.joined.Goals as goal
 
 pub returns-in-Err : goal.returns-in-Err

@@ -10,4 +10,4 @@ returns-in-Err c =
 pub returns-in-Ok : goal.returns-in-Ok
 returns-in-Ok c =
     let laws : InputLaws c.args.table.now = record { one = c.an_input_is_read_as_one_table.ensures _; one_reading = c.saved_bytes_have_one_reading.ensures _ } in
-    rw c.answer_of.ensures (lists _ _ laws _ _ c.in-Ok.ensures.found c.lines_of.ensures)
+    rw c.answer_of.ensures (lists _ _ laws _ _ c.in-Ok.ensures.found c.listed_of.ensures)

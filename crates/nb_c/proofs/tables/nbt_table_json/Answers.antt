@@ -2,4 +2,4 @@ use Rattle.nb_c.proofs.AnswerLemmas.{does}
 use Rattle.nb_c.proofs.tables.nbt_table_json.Goals as goal
 
 pub returns : goal.returns
-returns c = does _ _ (c.a_table_has_one_list.ensures _ _) _ _ _ _ c.told.ensures c.write_answer.ensures
+returns c = does _ _ (c.a_table_has_one_list.ensures _ _) _ _ _ _ c.listed.ensures c.write_answer.ensures

@@ -1,4 +1,4 @@
-use Rattle.std.proofs.Common.{ap, sym, ◌∙◌}
+use Rattle.nb_c.proofs.Common.{ap, sym, ◌∙◌}
 use Rattle.nb_c.specs.declared.kept.Kept.{Kept}
 use Rattle.nb_c.proofs.ObjectLemmas.{station_done}
 use Rattle.nb_c.proofs.taking.nbt_station_take.Goals as goal

@@ -1,4 +1,4 @@
-use Rattle.std.proofs.Common.{ℕ, ◌/◌, ◌%◌, List, ◌∷◌, [], ◌∙◌, sym, ap, append_assoc}
+use Rattle.nb_c.proofs.Common.{ℕ, ◌/◌, ◌%◌, List, ◌∷◌, [], ◌∙◌, sym, ap, append_assoc}
 use Rattle.nb_c.proofs.ObjectLemmas.{four}
 use Rattle.nb_c.proofs.telling.packet_of.Goals as goal
 

@@ -1,5 +1,4 @@
-use Rattle.std.proofs.Common.{ℕ, List, subst}
-use Rattle.nb_names.specs.NameText.{IsFaultOf, IsFormed}
+use Rattle.nb_c.proofs.Common.{ℕ, List, subst, IsFaultOf, IsFormed}
 use Rattle.nb_c.proofs.TextLemmas.{fault_front, bad_end}
 use Rattle.nb_c.proofs.texts.bad_place.Goals as goal
 

@@ -1,4 +1,4 @@
-use Rattle.std.proofs.Common.{ℕ, List, subst}
+use Rattle.nb_c.proofs.Common.{ℕ, List, subst}
 use Rattle.nb_c.specs.Names.{IsRead}
 use Rattle.nb_c.proofs.NameLemmas.{read_of}
 use Rattle.nb_c.proofs.TextLemmas.{formed_utf8}

@@ -1,4 +1,4 @@
-use Rattle.std.proofs.Common.{rules, tests, ◌≡◌, ◌∙◌, ap, sym, ℕ, List, Bor, Option, option_map, nat_eq}
+use Rattle.nb_c.proofs.Common.{rules, tests, ◌≡◌, ◌∙◌, ap, sym, ℕ, List, Bor, Option, option_map, nat_eq}
 use Rattle.std.proofs.lemmas.Iterator.{YieldsList-from_slice}
 use Rattle.std.proofs.lemmas.Iterator.Search.{find_from_yields_List}
 use Rattle.nb_c.proofs.WordLemmas.{found_made}

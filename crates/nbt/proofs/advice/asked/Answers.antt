@@ -1,4 +1,4 @@
-use Rattle.std.proofs.Common.{codes, string_bytes, sym, ◌∙◌}
+use Rattle.nbt.proofs.Common.{codes, string_bytes, sym, ◌∙◌}
 use Rattle.std.specs.Cmp.Lexicographic.{bytes_decides}
 use Rattle.nbt.proofs.CommandRows.{asks, if_some}
 use Rattle.nbt.proofs.advice.asked.Goals as goal

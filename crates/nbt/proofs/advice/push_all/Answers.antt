@@ -1,6 +1,4 @@
-use Rattle.std.proofs.Common.{◌≡◌, ◌+◌, ◌<◌, ◌++◌, ◌∙◌, ℕ, List, ap, get_or, length, sym, take}
-use Rattle.std.proofs.lemmas.List.{flat_map_more, take_more}
-use Rattle.std.specs.List.{flat_map}
+use Rattle.nbt.proofs.Common.{◌≡◌, ◌+◌, ◌<◌, ◌++◌, ◌∙◌, ℕ, List, ap, get_or, length, sym, take, flat_map_more, take_more, flat_map}
 use Rattle.nbt.specs.Refusals.{lines_by}
 use Rattle.nbt.proofs.advice.push_all.Goals as goal
 

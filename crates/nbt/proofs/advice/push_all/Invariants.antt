@@ -1,5 +1,4 @@
-use Rattle.std.proofs.Common.{◌≡◌, ◌++◌, take, string_bytes}
-use Rattle.std.specs.List.{flat_map}
+use Rattle.nbt.proofs.Common.{◌≡◌, ◌++◌, take, string_bytes, flat_map}
 use Rattle.nbt.specs.Refusals.{lines_by}
 use Rattle.nbt.proofs.advice.push_all.Given as goal
 

@@ -1,7 +1,5 @@
-use Rattle.std.proofs.Common.{ap, ◌≡◌, ◌∙◌, true, false}
-use Rattle.std.specs.Prelude.{Ok}
+use Rattle.nbt.proofs.Common.{ap, ◌≡◌, ◌∙◌, true, false, Ok, app_of, app_of_fields, on_top}
 use Rattle.clap.specs.declared.builder.command.Command.TheViews.{out-Command as fields_of}
-use Rattle.clap.specs.Simple.{app_of, app_of_fields, on_top}
 use Rattle.nbt.specs.CommandLine.{packets_added, tables_added, top_app}
 use Rattle.nbt.proofs.CommandRows.{HasShape, with_shape}
 use Rattle.nbt.proofs.command_line.command.Goals as goal

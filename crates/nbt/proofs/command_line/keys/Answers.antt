@@ -1,4 +1,4 @@
-use Rattle.std.proofs.Common.{rules}
+use Rattle.nbt.proofs.Common.{rules}
 use Rattle.std.specs.Fmt.{digits}
 use Rattle.nbt.proofs.command_line.keys.Goals as goal
 

@@ -1,4 +1,4 @@
-use Rattle.std.specs.Prelude.{Ok}
+use Rattle.nbt.proofs.Common.{Ok}
 use Rattle.nbt.proofs.CommandRows.{HasShape, with_arg}
 use Rattle.nbt.proofs.command_line.limited.Goals as goal
 

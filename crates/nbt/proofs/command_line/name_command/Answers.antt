@@ -1,4 +1,4 @@
-use Rattle.std.specs.Prelude.{Ok}
+use Rattle.nbt.proofs.Common.{Ok}
 use Rattle.nbt.proofs.CommandRows.{HasShape, with_arg, with_shape}
 use Rattle.nbt.proofs.command_line.name_command.Goals as goal
 

@@ -1,5 +1,5 @@
-use Rattle.std.proofs.Common.{ap, ◌∙◌, true}
-use Rattle.clap.specs.Words.{Rule, rule_of}
+use Rattle.nbt.proofs.Common.{ap, ◌∙◌, true, rule_of}
+use Rattle.clap.specs.Words.{Rule}
 use Rattle.nbt.proofs.CommandRows.{HasShape, with_arg, with_shape}
 use Rattle.nbt.proofs.command_line.replay_command.Goals as goal
 

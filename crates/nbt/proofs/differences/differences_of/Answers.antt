@@ -1,7 +1,5 @@
-use Rattle.std.proofs.Common.{◌++◌, List, ap, ◌∙◌, codes}
+use Rattle.nbt.proofs.Common.{◌++◌, List, ap, ◌∙◌, codes, key_cmp, Key}
 use Rattle.std.specs.FinMap as maps
-use Rattle.nb_datagram.specs.Key.{key_cmp}
-use Rattle.nb_datagram.specs.declared.key.Key.{Key}
 use Rattle.nbt.specs.Differences.{lines_of_keys}
 use Rattle.nbt.specs.Printing.{line}
 use Rattle.nbt.proofs.differences.differences_of.Goals as goal

@@ -1,6 +1,5 @@
-use Rattle.std.proofs.Common.{ap, ◌∙◌}
+use Rattle.nbt.proofs.Common.{ap, ◌∙◌, key_cmp}
 use Rattle.std.specs.FinMap as maps
-use Rattle.nb_datagram.specs.Key.{key_cmp}
 use Rattle.nbt.specs.Code.Marks.{marked}
 use Rattle.nbt.proofs.DifferenceLemmas.{marks_are}
 use Rattle.nbt.proofs.differences.differing_keys.Goals as goal

@@ -1,6 +1,5 @@
-use Rattle.std.proofs.Common.{◌∙◌}
+use Rattle.nbt.proofs.Common.{◌∙◌, key_cmp_total, key_cmp_exact, key_cmp}
 use Rattle.std.specs.FinMap as maps
-use Rattle.nb_datagram.specs.Key.{key_cmp_total, key_cmp_exact, key_cmp}
 use Rattle.nb_table.specs.Shared.TreeLemmas.{insert_is}
 use Rattle.nbt.proofs.DifferenceLemmas.{unmarked, now_marked}
 use Rattle.nbt.proofs.differences.mark.Goals as goal

@@ -1,6 +1,5 @@
-use Rattle.std.proofs.Common.{◌≡◌}
+use Rattle.nbt.proofs.Common.{◌≡◌, key_cmp}
 use Rattle.std.specs.FinMap as maps
-use Rattle.nb_datagram.specs.Key.{key_cmp}
 use Rattle.nbt.specs.Code.Marks.{marked}
 use Rattle.nbt.proofs.differences.mark_each.Given as goal
 

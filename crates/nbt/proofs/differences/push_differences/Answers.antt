@@ -1,7 +1,5 @@
-use Rattle.std.proofs.Common.{◌++◌, List, ap, append_assoc, map, sym, ◌∙◌, codes, string_bytes}
-use Rattle.nb_datagram.specs.declared.key.Key.{Key}
+use Rattle.nbt.proofs.Common.{◌++◌, List, ap, append_assoc, map, sym, ◌∙◌, codes, string_bytes, Key, key_cmp, key_cmp_total, key_cmp_exact}
 use Rattle.std.specs.FinMap as maps
-use Rattle.nb_datagram.specs.Key.{key_cmp, key_cmp_total, key_cmp_exact}
 use Rattle.nb_table.specs.Shared.TreeLemmas.{entries_are}
 use Rattle.nbt.specs.Differences.{lines_of_keys}
 use Rattle.nbt.specs.Printing.{line}

@@ -1,6 +1,5 @@
-use Rattle.std.proofs.Common.{◌≡◌, ◌++◌, string_bytes, codes}
+use Rattle.nbt.proofs.Common.{◌≡◌, ◌++◌, string_bytes, codes, key_cmp}
 use Rattle.std.specs.FinMap as maps
-use Rattle.nb_datagram.specs.Key.{key_cmp}
 use Rattle.nbt.specs.Differences.{lines_of_keys}
 use Rattle.nbt.specs.Printing.{line}
 use Rattle.nbt.proofs.differences.push_differences.Given as goal

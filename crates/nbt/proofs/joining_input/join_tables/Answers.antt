@@ -1,4 +1,4 @@
-use Rattle.std.proofs.Common.{ap, sym}
+use Rattle.nbt.proofs.Common.{ap, sym}
 use Rattle.nbt.specs.Tables.{fault_of_join}
 use Rattle.nbt.proofs.JoinedLemmas.{join_fails}
 use Rattle.nbt.proofs.joining_input.join_tables.Goals as goal

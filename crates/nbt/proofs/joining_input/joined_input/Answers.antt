@@ -1,5 +1,4 @@
-use Rattle.std.proofs.Common.{◌≡◌, ◌+◌, length, rules}
-use Rattle.std.proofs.lemmas.Result.{err_from_is_err_and}
+use Rattle.nbt.proofs.Common.{◌≡◌, ◌+◌, length, rules, err_from_is_err_and}
 use Rattle.nbt.specs.Settings.{IsCapacity}
 use Rattle.nbt.specs.Tables.{MergeFails, input_fails, no_capacity}
 use Rattle.nbt.proofs.JoinedLemmas.{elsewhere, first_taken, merge_of_join, merge_of_line, merge_of_none, merges_tables}

@@ -1,4 +1,4 @@
-use Rattle.std.proofs.Common.{codes}
+use Rattle.nbt.proofs.Common.{codes}
 use Rattle.nbt.proofs.OptionLaws.{printed_or_not, replay_comments, show_comments}
 use Rattle.nbt.proofs.laws.comments_or_none.Goals as goal
 

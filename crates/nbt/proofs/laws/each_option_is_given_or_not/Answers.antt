@@ -1,4 +1,4 @@
-use Rattle.std.proofs.Common.{refl}
+use Rattle.nbt.proofs.Common.{refl}
 use Rattle.clap.proofs.OnLiterals.{clap_on_literals}
 use Rattle.nbt.proofs.OptionLaws.{given_or_not, fits}
 use Rattle.nbt.proofs.laws.each_option_is_given_or_not.Goals as goal

@@ -1,4 +1,4 @@
-use Rattle.std.proofs.Common.{refl}
+use Rattle.nbt.proofs.Common.{refl}
 use Rattle.std.specs.Fmt.{digits}
 use Rattle.nbt.proofs.laws.limits_are_these_numbers.Goals as goal
 

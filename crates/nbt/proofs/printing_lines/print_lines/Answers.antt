@@ -1,5 +1,4 @@
-use Rattle.std.proofs.Common.{Ok, Err, refl, rules}
-use Rattle.std.proofs.lemmas.Result.{err_from_is_err_and}
+use Rattle.nbt.proofs.Common.{Ok, Err, refl, rules, err_from_is_err_and}
 use Rattle.nbt.proofs.ShowingTurns.{shows_input, shows_why}
 use Rattle.nbt.proofs.printing_lines.print_lines.Goals as goal
 

@@ -1,4 +1,4 @@
-use Rattle.nb_names.specs.DeviceFacts.{Keeps-same}
+use Rattle.nbt.proofs.Common.{Keeps-same}
 use Rattle.nbt.proofs.CommandRows.{ended_so, entered_another, entered_as, entered_nothing}
 use Rattle.nbt.specs.Commands.{streams, name, show, build, replay, save, merge, list, agree, other}
 use Rattle.nbt.specs.declared.subcommand.Subcommand.TheVariants as commands

@@ -1,6 +1,4 @@
-use Rattle.std.proofs.Common.{ap₂, refl, ◌∙◌}
-use Rattle.nb_names.specs.DeviceFacts.{Keeps-same}
-use Rattle.clap.specs.Words.{takes}
+use Rattle.nbt.proofs.Common.{ap₂, refl, ◌∙◌, Keeps-same, takes}
 use Rattle.nbt.proofs.CommandRows.{alone_is_taken, no_usage_for_memory, lacked_memory, ran_words}
 use Rattle.nbt.proofs.MisusedWords.{asked_is_help, misused_end, taken_is_no_misuse}
 use Rattle.nbt.proofs.program.run_counted.Goals as goal

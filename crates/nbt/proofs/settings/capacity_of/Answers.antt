@@ -1,6 +1,4 @@
-use Rattle.std.proofs.Common.{sym, subst}
-use Rattle.std.specs.Prelude.{codes}
-use Rattle.std.specs.Str.Parse.{ExplainsUnsignedError, HasUnsignedDigitsIfOk, ParsesUnsigned}
+use Rattle.nbt.proofs.Common.{sym, subst, codes, ExplainsUnsignedError, HasUnsignedDigitsIfOk, ParsesUnsigned}
 use Rattle.nbt.specs.Settings.{IsSourceLimit}
 use Rattle.nbt.proofs.CapacityGiven.{number_given, number_or}
 use Rattle.nbt.proofs.settings.capacity_of.Goals as goal

@@ -1,4 +1,4 @@
-use Rattle.std.proofs.Common.{length}
+use Rattle.nbt.proofs.Common.{length}
 use Rattle.nbt.proofs.TableTurns.{IsCounting}
 use Rattle.nbt.proofs.tables.count_lines.Given as goal
 

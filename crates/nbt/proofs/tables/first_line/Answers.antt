@@ -1,5 +1,4 @@
-use Rattle.std.proofs.Common.{◌≡◌, ◌<◌, ℕ, List, [], ◌∷◌, length, false, sym, ◌∙◌, arith}
-use Rattle.std.specs.Prelude.{◌==◌}
+use Rattle.nbt.proofs.Common.{◌≡◌, ◌<◌, ℕ, List, [], ◌∷◌, length, false, sym, ◌∙◌, arith, ◌==◌}
 use Rattle.nbt.proofs.TableTurns.{first_alone, first_finished}
 use Rattle.nbt.proofs.tables.first_line.Goals as goal
 

@@ -1,4 +1,4 @@
-use Rattle.std.proofs.lemmas.Result.{err_from_is_err_and}
+use Rattle.nbt.proofs.Common.{err_from_is_err_and}
 use Rattle.nbt.proofs.TableTurns.{reading_none, read_more, read_all, fails_here}
 use Rattle.nbt.proofs.tables.tables_of.Goals as goal
 

@@ -1,4 +1,4 @@
-use Rattle.std.proofs.Common.{length}
+use Rattle.nbt.proofs.Common.{length}
 use Rattle.nbt.proofs.TableTurns.{IsReadingTables}
 use Rattle.nbt.proofs.tables.tables_of.Given as goal
 

@@ -1,6 +1,4 @@
-use Rattle.std.proofs.Common.{ap, sym, string_bytes, ◌∙◌}
-use Rattle.std.proofs.lemmas.Result.{on_ok_weaker}
-use Rattle.nb_member.specs.declared.line.Line.TheVariants.{Packet}
+use Rattle.nbt.proofs.Common.{ap, sym, string_bytes, ◌∙◌, on_ok_weaker, Packet}
 use Rattle.nbt.proofs.ShowingTurns.{adds_packet, adds_tick}
 use Rattle.nbt.proofs.texts.push_line.Goals as goal
 

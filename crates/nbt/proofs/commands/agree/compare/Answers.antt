@@ -1,5 +1,4 @@
-use Rattle.std.proofs.Common.{sym, ap, ◌∙◌, length, arith}
-use Rattle.std.proofs.lemmas.Result.{IfErr-weaker, IfOk-weaker, err_from_is_err_and}
+use Rattle.nbt.proofs.Common.{sym, ap, ◌∙◌, length, arith, IfErr-weaker, IfOk-weaker, err_from_is_err_and}
 use Rattle.nbt.specs.Settings.{most_keys}
 use Rattle.nbt.proofs.JoinedLemmas.{as_many, compare_of_count, compare_of_line, compares_tables, two_items}
 use Rattle.nbt.proofs.commands.agree.compare.Goals as goal

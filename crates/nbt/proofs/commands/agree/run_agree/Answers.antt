@@ -1,4 +1,4 @@
-use Rattle.std.proofs.Common.{sym}
+use Rattle.nbt.proofs.Common.{sym}
 use Rattle.nbt.proofs.commands.agree.run_agree.Goals as goal
 
 pub returns : goal.returns

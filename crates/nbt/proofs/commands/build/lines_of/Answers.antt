@@ -1,6 +1,4 @@
-use Rattle.std.proofs.Common.{◌≡◌, List, ℕ, Some, None, sym, subst, ap, ◌∙◌}
-use Rattle.std.specs.Prelude.{map, option_map, unwrap_or, []}
-use Rattle.std.proofs.lemmas.Result.{IfOk-weaker, MatchResult-weaker}
+use Rattle.nbt.proofs.Common.{◌≡◌, List, ℕ, Some, None, sym, subst, ap, ◌∙◌, map, option_map, unwrap_or, [], IfOk-weaker, MatchResult-weaker}
 use Rattle.nb_building.specs.Built.{Names}
 use Rattle.nbt.proofs.commands.build.lines_of.Goals as goal
 

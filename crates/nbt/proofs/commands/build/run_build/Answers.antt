@@ -1,5 +1,4 @@
-use Rattle.std.proofs.Common.{ap}
-use Rattle.std.proofs.lemmas.Result.{err_from_is_err_and}
+use Rattle.nbt.proofs.Common.{ap, err_from_is_err_and}
 use Rattle.nbt.specs.Reported.{of_building}
 use Rattle.nbt.proofs.commands.build.run_build.Goals as goal
 

@@ -1,4 +1,4 @@
-use Rattle.std.proofs.Common.{Bool, ◌∙◌, ap, sym}
+use Rattle.nbt.proofs.Common.{Bool, ◌∙◌, ap, sym}
 use Rattle.nbt.specs.Objects.{listed_as}
 use Rattle.nbt.proofs.PrintedLemmas.{prints_as, prints_text}
 use Rattle.nbt.proofs.commands.list.print_keys.Goals as goal

@@ -1,5 +1,4 @@
-use Rattle.std.proofs.lemmas.Result.{err_from_is_err_and}
-use Rattle.nb_names.specs.DeviceFacts.{Keeps-same}
+use Rattle.nbt.proofs.Common.{err_from_is_err_and, Keeps-same}
 use Rattle.nbt.specs.Settings.{IsCapacity}
 use Rattle.nbt.specs.Saving.{saved_line}
 use Rattle.nbt.proofs.JoinedLemmas.{join_prints}

@@ -1,6 +1,4 @@
-use Rattle.std.proofs.Common.{◌∙◌, ap, sym}
-use Rattle.std.proofs.lemmas.Result.{err_from_is_err_and}
-use Rattle.nb_member.specs.Member.{new_member}
+use Rattle.nbt.proofs.Common.{◌∙◌, ap, sym, err_from_is_err_and, new_member}
 use Rattle.nbt.proofs.ReplayingTurns.{names_fail}
 use Rattle.nbt.proofs.commands.replay.member_of.Goals as goal
 

@@ -1,4 +1,4 @@
-use Rattle.std.proofs.lemmas.Result.{err_from_is_err_and}
+use Rattle.nbt.proofs.Common.{err_from_is_err_and}
 use Rattle.nbt.proofs.ReplayingTurns.{no_names, names_more, name_refused}
 use Rattle.nbt.proofs.commands.replay.names_of.Goals as goal
 

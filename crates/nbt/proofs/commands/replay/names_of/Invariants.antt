@@ -1,4 +1,4 @@
-use Rattle.std.proofs.Common.{map, take}
+use Rattle.nbt.proofs.Common.{map, take}
 use Rattle.nbt.specs.Replaying.{AddsEach}
 use Rattle.nbt.proofs.commands.replay.names_of.Given as goal
 

@@ -1,5 +1,4 @@
-use Rattle.std.proofs.Common.{ap, refl, sym}
-use Rattle.std.proofs.lemmas.Result.{err_from_is_err_and}
+use Rattle.nbt.proofs.Common.{ap, refl, sym, err_from_is_err_and}
 use Rattle.nbt.proofs.ReplayingTurns.{replay_done, replay_ends_on, replay_unread, replay_writes}
 use Rattle.nbt.proofs.commands.replay.replay_text.Goals as goal
 

@@ -1,9 +1,7 @@
 use Rattle.nbt.specs.Replaying.{AreTexts, ReplaysCapture}
 use Rattle.nbt.specs.Settings.{AreOptions, IsCapacity}
-use Rattle.std.proofs.Common.{true, false, inl, inr}
-use Rattle.std.proofs.lemmas.Result.{err_from_is_err_and}
+use Rattle.nbt.proofs.Common.{true, false, inl, inr, err_from_is_err_and, Keeps-same}
 use Rattle.nbt.proofs.ReplayingTurns.{not_begun, not_cut, not_written, replays_capture, unread_cut}
-use Rattle.nb_names.specs.DeviceFacts.{Keeps-same}
 use Rattle.nbt.proofs.ShowingTurns.{shows_capture}
 use Rattle.nbt.proofs.commands.replay.run_replay.Goals as goal
 

@@ -1,5 +1,4 @@
-use Rattle.std.proofs.lemmas.Result.{IfErr-weaker, err_from_is_err_and, on_ok_weaker}
-use Rattle.nb_names.specs.DeviceFacts.{Keeps-same}
+use Rattle.nbt.proofs.Common.{IfErr-weaker, err_from_is_err_and, on_ok_weaker, Keeps-same}
 use Rattle.nbt.specs.SaveFaults.{output_fails, line_fails, no_capacity}
 use Rattle.nbt.proofs.PrintedLemmas.{prints_front, prints_kept, prints_whole}
 use Rattle.nbt.proofs.SavingTurns.{saves_capture, stops_before}

@@ -1,4 +1,4 @@
-use Rattle.std.proofs.lemmas.Result.{err_from_is_err_and}
+use Rattle.nbt.proofs.Common.{err_from_is_err_and}
 use Rattle.nbt.proofs.SavingTurns.{stops_saving, took_input}
 use Rattle.nbt.proofs.commands.save.saver_after.Goals as goal
 

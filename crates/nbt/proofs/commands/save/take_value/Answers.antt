@@ -1,5 +1,4 @@
-use Rattle.std.proofs.Common.{Some, ap}
-use Rattle.std.proofs.lemmas.Result.{err_from_is_err_and}
+use Rattle.nbt.proofs.Common.{Some, ap, err_from_is_err_and}
 use Rattle.nb_member.specs.declared.line.Line.{Line}
 use Rattle.nbt.proofs.SavingTurns.{said_stops}
 use Rattle.nbt.proofs.commands.save.take_value.Goals as goal

@@ -1,4 +1,4 @@
-use Rattle.std.proofs.Common.{true, false}
+use Rattle.nbt.proofs.Common.{true, false}
 use Rattle.nbt.proofs.commands.show.run_show.Goals as goal
 
 pub returns-then-brief : goal.returns-then-brief

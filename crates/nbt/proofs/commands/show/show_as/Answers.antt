@@ -1,4 +1,4 @@
-use Rattle.std.proofs.Common.{true, false, refl}
+use Rattle.nbt.proofs.Common.{true, false, refl}
 use Rattle.nbt.proofs.ShowingTurns.{shows_capture}
 use Rattle.nbt.proofs.commands.show.show_as.Goals as goal
 

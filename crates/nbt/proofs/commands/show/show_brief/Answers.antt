@@ -1,4 +1,4 @@
-use Rattle.std.proofs.Common.{true, false}
+use Rattle.nbt.proofs.Common.{true, false}
 use Rattle.nbt.proofs.commands.show.show_brief.Goals as goal
 
 pub returns-then-is_given-clause-packets : goal.returns-then-is_given-clause-packets

@@ -1,7 +1,5 @@
-use Rattle.std.proofs.Common.{ap, sym, ◌∙◌}
-use Rattle.std.proofs.lemmas.Result.{on_ok_weaker}
-use Rattle.nb_member.specs.declared.line.Line.TheVariants.{Packet}
-use Rattle.nbt.proofs.ObjectLemmas.{front_told, of_tick_told}
+use Rattle.nbt.proofs.Common.{ap, sym, ◌∙◌, on_ok_weaker, Packet}
+use Rattle.nbt.proofs.ObjectLemmas.{front_told, tick_told}
 use Rattle.nbt.proofs.fronts.FrontsLineFields.tell.Goals as goal
 
 pub returns-in-Packet : goal.returns-in-Packet
@@ -14,5 +12,5 @@ returns-in-Packet g c =
 
 pub returns-in-Tick : goal.returns-in-Tick
 returns-in-Tick g c = record {
-  told = on_ok_weaker c.text.result (of_tick_told g.S.Sink.after c.args.said.now tt tt c.in-Tick.now _ _ c.in-Tick.is) c.text.ensures.told;
+  told = on_ok_weaker c.text.result (tick_told g.S.Sink.after c.args.said.now tt tt c.in-Tick.now _ _ c.in-Tick.is) c.text.ensures.told;
 }

@@ -1,4 +1,4 @@
-use Rattle.std.proofs.Common.{[], ◌∷◌, refl}
+use Rattle.nbt.proofs.Common.{[], ◌∷◌, refl}
 use Rattle.nbt.specs.Saving.{saved_digits}
 use Rattle.nbt.proofs.PrintedLemmas.{cut_in_front, prints_rest, prints_text}
 use Rattle.nbt.proofs.output.Output.print_saved.Goals as goal

@@ -1,4 +1,4 @@
-use Rattle.std.proofs.lemmas.Result.{on_ok_weaker}
+use Rattle.nbt.proofs.Common.{on_ok_weaker}
 use Rattle.nbt.proofs.payload_text.PacketsPayloadText.push.Goals as goal
 
 pub returns : goal.returns

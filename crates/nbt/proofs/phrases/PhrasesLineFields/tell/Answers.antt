@@ -1,9 +1,7 @@
-use Rattle.std.proofs.Common.{ℕ, List, ◌++◌, ap, ap₂, subst, sym, ◌∙◌}
-use Rattle.std.proofs.lemmas.Result.{on_ok_weaker}
+use Rattle.nbt.proofs.Common.{ℕ, List, ◌++◌, ap, ap₂, subst, sym, ◌∙◌, on_ok_weaker, Packet}
 use Rattle.nb_telling.specs.Telling.{FieldKey, Text}
 use Rattle.nb_text.specs.SaysPacket.{IsSaid}
-use Rattle.nb_member.specs.declared.line.Line.TheVariants.{Packet}
-use Rattle.nbt.proofs.ObjectLemmas.{phrased_told, ticked_told}
+use Rattle.nbt.proofs.ObjectLemmas.{phrased_told, tick_told}
 use Rattle.nbt.proofs.phrases.PhrasesLineFields.tell.Goals as goal
 
 pub returns-in_ok-text-in-Packet : goal.returns-in_ok-text-in-Packet
@@ -21,5 +19,5 @@ returns-in_ok-text-in-Packet g c =
 
 pub returns-in-Tick : goal.returns-in-Tick
 returns-in-Tick g c = record {
-  told = on_ok_weaker c.text-in-Tick.result (ticked_told g.S.Sink.after c.args.said.now tt tt c.in-Tick.now _ _ c.in-Tick.is) c.text-in-Tick.ensures.told;
+  told = on_ok_weaker c.text-in-Tick.result (tick_told g.S.Sink.after c.args.said.now tt tt c.in-Tick.now _ _ c.in-Tick.is) c.text-in-Tick.ensures.told;
 }

@@ -1,4 +1,4 @@
-use Rattle.std.proofs.Common.{◌++◌, ◌∙◌, ap, append_assoc, refl, string_bytes}
+use Rattle.nbt.proofs.Common.{◌++◌, ◌∙◌, ap, append_assoc, refl, string_bytes}
 use Rattle.nb_text.specs.Lines.{line_end}
 use Rattle.nbt.proofs.phrases.PhrasesPayloadText.push.Goals as goal
 

@@ -1,4 +1,4 @@
-use Rattle.std.proofs.lemmas.Result.{on_ok_weaker}
+use Rattle.nbt.proofs.Common.{on_ok_weaker}
 use Rattle.nbt.proofs.ObjectLemmas.{outcome_told}
 use Rattle.nbt.proofs.telling.OutcomesLineFields.tell.Goals as goal
 

@@ -1,6 +1,4 @@
-use Rattle.std.proofs.Common.{ap, sym, ◌∙◌}
-use Rattle.std.proofs.lemmas.Result.{on_ok_weaker}
-use Rattle.nb_member.specs.declared.line.Line.TheVariants.{Packet}
+use Rattle.nbt.proofs.Common.{ap, sym, ◌∙◌, on_ok_weaker, Packet}
 use Rattle.nbt.proofs.ObjectLemmas.{packet_told, tick_told}
 use Rattle.nbt.proofs.telling.PacketsLineFields.tell.Goals as goal
 

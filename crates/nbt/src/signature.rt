@@ -19,15 +19,15 @@ const PCAP: [[u8; WIDTH]; 5] = [
 
 /// The first four bytes of an input, as far as it was read.
 #[derive(Clone, Copy)]
-pub struct Front {
+pub struct Signature {
     bytes: [u8; WIDTH],
     held: usize,
 }
 
-impl Front {
+impl Signature {
     /// That of an input of which nothing was read.
-    pub fn unread() -> Front {
-        Front {
+    pub fn unread() -> Signature {
+        Signature {
             bytes: [0; WIDTH],
             held: 0,
         }
@@ -38,41 +38,41 @@ impl Front {
         self.held == WIDTH && PCAP.contains(&self.bytes)
     }
 
-    /// The front once these bytes were read too.
-    fn with(self, read: &[u8]) -> Front {
-        let mut front = self;
+    /// The signature once these bytes were read too.
+    fn with(self, read: &[u8]) -> Signature {
+        let mut signature = self;
         for byte in read {
-            if front.held < WIDTH {
-                front.bytes[front.held] = *byte;
-                front.held += 1;
+            if signature.held < WIDTH {
+                signature.bytes[signature.held] = *byte;
+                signature.held += 1;
             } else {
                 break;
             }
         }
-        front
+        signature
     }
 }
 
-/// An input whose front is kept in a cell.
+/// An input whose signature is kept in a cell.
 #[derive(Drop)]
-pub struct FrontInput<'a, R> {
+pub struct SignatureInput<'a, R> {
     input: R,
-    front: &'a Cell<Front>,
+    signature: &'a Cell<Signature>,
 }
 
-impl<'a, R> FrontInput<'a, R> {
+impl<'a, R> SignatureInput<'a, R> {
     /// This input, of which nothing was read yet, with this cell.
-    pub fn new(input: R, front: &'a Cell<Front>) -> FrontInput<'a, R> {
-        FrontInput { input, front }
+    pub fn new(input: R, signature: &'a Cell<Signature>) -> SignatureInput<'a, R> {
+        SignatureInput { input, signature }
     }
 }
 
-impl<'a, R: Read> Read for FrontInput<'a, R> {
+impl<'a, R: Read> Read for SignatureInput<'a, R> {
     ghost remaining = { λ r. R.remaining r.input };
 
     fn read(&mut self, buf: &mut [u8]) -> io::Result<usize> {
         let count = self.input.read(buf)?;
-        self.front.set(self.front.get().with(&buf[..count]));
+        self.signature.set(self.signature.get().with(&buf[..count]));
         Ok(count)
     }
 }

@@ -1,4 +1,4 @@
-use Rattle.std.proofs.Common.{◌≡◌, ◌≤◌, ◌==◌, ◌∙◌, ℕ, Bool, true, false, not, refl, sym, ap, subst, arith, is_some, Option, Some, None}
+use Rattle.std.proofs.Common.{◌≡◌, ◌≤◌, ◌==◌, ◌∙◌, ℕ, Bool, true, false, not, sym, ap, subst, arith, is_some, None}
 use Rattle.std.proofs.lemmas.Bool.{true≢false}
 use Rattle.std.specs.Bool.{beq}
 use Rattle.std.specs.FinMap as maps
@@ -10,6 +10,7 @@ use Rattle.nb_table.specs.Insert.{Passes}
 use Rattle.nb_table.proofs.Limits.GroupLemmas.{held_at_most}
 use Rattle.nb_table.proofs.Changes.{same_test}
 use Rattle.nb_table.proofs.table.Table.refusal_of_lent.Goals as goal
+use Rattle.nb_table.proofs.Limits.CountLemmas.{none_at}
 
 -- what the first two tests say of a fragment that they pass over
 passes_by : (l : Limits) (f : FragmentParts) (first : Bool) (offset far longest : ℕ) → first ≡ is_first f.flags → offset ≡ f.offset → far ≡ reach (core_of f) → longest ≡ l.longest
@@ -18,10 +19,6 @@ passes_by l f first offset far longest first_is offset_is far_is longest_is same
   placed = sym first_is ∙ same_test _ _ same ∙ ap (λ n. n == 0) offset_is;
   short = omega (arith, far_is, longest_is, most);
 }
-
-none_at : {X : Type 0} (o : Option X) → is_some o ≡ false → o ≡ None
-none_at None h = refl
-none_at (Some x) h = absurd (true≢false h)
 
 -- what the count of an address says of the key's
 source_full : (l : Limits) (t : Contents) (k q : Key) → maps.get t q ≡ None → k ≡ q → l.per_source ≤ held_keys (of_source k.ip) t → IsFullSource l t q

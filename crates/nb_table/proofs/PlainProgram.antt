@@ -15,7 +15,7 @@ use Rattle.nb_table.specs.declared.plain.whole.PlainFault.{PlainFault}
 use Rattle.nb_table.specs.declared.plain.whole.PlainFault.TheVariants.{TooLong, NoMemory}
 use Rattle.nb_table.proofs.Conflict.{is_spoilt_decides, conflicts_decides, past_from, covers}
 use Rattle.nb_table.proofs.Contents.ContentsLemmas.{get-cover_in}
-use Rattle.nb_table.specs.Shared.FragmentLemmas.{get-table_of}
+use Rattle.nb_table.specs.Shared.TableLemmas.{get-table_of}
 use Rattle.nb_table.proofs.Contents.SayingLemmas.{spoilt_exactly, held_says}
 use Rattle.nb_entries.specs.Shared.WholeLemmas.{whole_exactly, with_found, below_found}
 use Rattle.std.proofs.lemmas.List.{take_all}

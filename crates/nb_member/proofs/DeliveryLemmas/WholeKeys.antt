@@ -17,8 +17,7 @@ use Rattle.nb_entries.specs.Shared.MapsLemmas.{at-none}
 use Rattle.nb_entries.specs.Shared.WholeLemmas.{newly_same}
 use Rattle.nb_table.specs.Contents.{Contents, table_of, datagram_at, newly_whole}
 use Rattle.nb_table.specs.Join.{join}
-use Rattle.nb_table.specs.Shared.TableLemmas.{get-join}
-use Rattle.nb_table.specs.Shared.FragmentLemmas.{get-table_of-one, get-table_of}
+use Rattle.nb_table.specs.Shared.TableLemmas.{get-join, get-table_of-one, get-table_of}
 use Rattle.nb_member.specs.declared.settings.Settings.{Settings}
 use Rattle.nb_member.proofs.LiveLemmas.{cores-append}
 use Rattle.nb_member.specs.Events.{Saying, came, refused, another, clock}

@@ -17,8 +17,7 @@ use Rattle.nb_table.specs.Contents.{Contents, table_of}
 use Rattle.nb_table.specs.Join.{join}
 use Rattle.nb_table.specs.Limits.{TableValue, IsFull, IsFullSource}
 use Rattle.nb_table.specs.Insert.{Takes as TableTakes, NeedsNoMemory, Passes, with_fragment}
-use Rattle.nb_table.specs.Shared.TableLemmas.{same_table}
-use Rattle.nb_table.specs.Shared.FragmentLemmas.{join_one, needs_new}
+use Rattle.nb_table.specs.Shared.TableLemmas.{same_table, join_one, needs_new}
 use Rattle.nb_member.specs.Member.{Moments, begun}
 use Rattle.nb_member.specs.Code.Members.{HaveOneSetOfKeys, begun_each}
 use Rattle.nb_member.specs.Taking.{start_after}

@@ -20,8 +20,7 @@ use Rattle.nb_entries.specs.Shared.SlotLemmas.{agree_union}
 use Rattle.nb_entries.specs.Shared.CoverLemmas.{same_cover, in_union}
 use Rattle.nb_entries.specs.Shared.PlacedLemmas.{find-placed, find-append, cover_of_formed}
 use Rattle.nb_entries.specs.Shared.EntryLemmas.{facts_unite, join_entry-assoc}
-use Rattle.nb_table.specs.Shared.TableLemmas.{same_table, get-join, at_formed, join-comm, join-assoc, join-idem}
-use Rattle.nb_table.specs.Shared.FragmentLemmas.{facts_in-one, or_left, or_right, get-table_of}
+use Rattle.nb_table.specs.Shared.TableLemmas.{same_table, get-join, at_formed, join-comm, join-assoc, join-idem, facts_in-one, or_left, or_right, get-table_of}
 use Rattle.std.proofs.lemmas.Bool.{true≢false}
 use Rattle.nb_datagram.specs.declared.key.Key.{Key}
 

@@ -26,8 +26,7 @@ use Rattle.nb_table.specs.Limits.{FewOfEach, every_key, held_keys, of_source, Li
 use Rattle.nb_table.specs.Saved.{IsReadAs, LoadFails, ill_formed, full}
 use Rattle.nb_table.specs.Merging.{IsRefused, IsUnfitSource, first_unfit, new_keys}
 use Rattle.nb_table.specs.Refusals.{IsNew, below, is_lesser}
-use Rattle.nb_table.specs.Shared.FragmentLemmas.{join_one}
-use Rattle.nb_table.specs.Shared.TableLemmas.{entries_kept, keys_kept}
+use Rattle.nb_table.specs.Shared.TableLemmas.{join_one, entries_kept, keys_kept}
 use Rattle.nb_entries.specs.Shared.MapsLemmas.{T_left, T_right, tied_self}
 use Rattle.nb_table.proofs.Limits.GroupLemmas.{few_insert, few_join, filter_at_most, fit_held, held_every, held_join, source_decides}
 use Rattle.nb_table.proofs.Limits.SourceLemmas.{is_less}

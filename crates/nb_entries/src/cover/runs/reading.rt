@@ -1,5 +1,5 @@
-//! What runs that are apart have, and what they come to with others: their bytes, how many there are,
-//! and where; runs held against others, united, copied and saved.
+//! What runs have that are apart: their bytes, how many there are, and where; runs held against
+//! others, united, copied and saved.
 ghost use Rattle.std.specs.Prelude.{◌≡◌, ◌↔◌, ◌≤◌, ◌<◌, ℕ, length, true, IsTrue, IfOk, MatchOption, Some, None, Ok};
 ghost use Rattle.std.specs.List.{list_all};
 ghost use Rattle.std.specs.FinMap as maps;

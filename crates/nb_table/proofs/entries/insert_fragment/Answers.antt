@@ -11,8 +11,8 @@ use Rattle.nb_entries.specs.Change.{DataChange, KeyChange, Tells}
 use Rattle.nb_datagram.specs.Key.{key_cmp_total, key_cmp_exact}
 use Rattle.nb_table.proofs.Joins.{put_same}
 use Rattle.nb_table.proofs.Changes.{needs_more, on_err_both, on_any_err}
-use Rattle.nb_table.specs.Shared.FragmentLemmas.{needs_new}
-use Rattle.nb_table.proofs.inserting.insert_fragment.Goals as goal
+use Rattle.nb_table.specs.Shared.TableLemmas.{needs_new}
+use Rattle.nb_table.proofs.entries.insert_fragment.Goals as goal
 
 -- ---- a held key
 

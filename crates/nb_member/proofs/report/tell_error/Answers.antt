@@ -4,7 +4,7 @@ use Rattle.nb_datagram.specs.declared.packet.ErrorPacket.{ErrorPacket}
 use Rattle.nb_telling.specs.Telling.{Digits}
 use Rattle.nb_member.specs.Keys.{error_key}
 use Rattle.nb_member.specs.ReportFields.{error_fields}
-use Rattle.nb_member.proofs.report.outcomes.tell_error.Goals as goal
+use Rattle.nb_member.proofs.report.tell_error.Goals as goal
 
 pub returns-clause-told : goal.returns-clause-told
 returns-clause-told g c =

@@ -9,5 +9,4 @@ returns-in-Some c =
 
 pub returns-in-None : goal.returns-in-None
 returns-in-None c =
-    let m = c.self.inside.entries in
     rw (← c.self.view_is) (sym c.in-None.ensures)

@@ -55,9 +55,7 @@ parts_kept f g d p q b =
     let here = part_ends f d b.end p b.ends in
     let promises = b.promises in
     let short : reach g < length d.bytes = ltb-true (reach g) (length d.bytes) (sym q.more ∙ promises.0) in
-    let reached = promises.1 in
-    let broken = b.broken in
-    omega (arith, here, short, reached, broken)
+    omega (arith, here, short, promises.1, b.broken)
 
 -- two parts don't conflict
 parts_free : (f g : Core) (d : DatagramParts) → IsPart f d → IsPart g d → Conflict f g → ⊥

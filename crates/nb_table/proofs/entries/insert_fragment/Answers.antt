@@ -30,17 +30,14 @@ change_joined h (Ok c) f e new b o at joined change =
 
 pub insert-requires-clause-entry : goal.insert-requires-clause-entry
 insert-requires-clause-entry c =
-    let m = c.args.entries.now in
-    let at = ap (maps.get m) (sym c.key-key.ensures) ∙ sym c.in-Some.ensures.value in
+    let at = ap (maps.get c.args.entries.now) (sym c.key-key.ensures) ∙ sym c.in-Some.ensures.value in
     c.requires.entry c.in-Some.entry.now at
 
 pub returns-in-Some-clause-needed : goal.returns-in-Some-clause-needed
 returns-in-Some-clause-needed c =
-    let m = c.args.entries.now in
-    let t = m in
-    let e = c.in-Some.entry.now in
+    let t = c.args.entries.now in
     let at = ap (maps.get t) (sym c.key-key.ensures) ∙ sym c.in-Some.ensures.value in
-    on_err_both c.insert.result (needs_more t (core_of c.args.fragment.now) e at) c.insert.ensures.not_spoilt c.insert.ensures.more
+    on_err_both c.insert.result (needs_more t (core_of c.args.fragment.now) c.in-Some.entry.now at) c.insert.ensures.not_spoilt c.insert.ensures.more
 
 pub returns-in-Some-clause-kept : goal.returns-in-Some-clause-kept
 returns-in-Some-clause-kept c =
@@ -50,8 +47,7 @@ returns-in-Some-clause-kept c =
 
 pub returns-in-Some-clause-joined : goal.returns-in-Some-clause-joined
 returns-in-Some-clause-joined c =
-    let m = c.args.entries.now in
-    let t = m in
+    let t = c.args.entries.now in
     let b = facts_of (core_of c.args.fragment.now) in
     let at = ap (maps.get t) (sym c.key-key.ensures) ∙ sym c.in-Some.ensures.value in
     let lent = rw c.in-Some.is at c.get_mut.follows.holds c.insert.new.self in
@@ -62,8 +58,7 @@ returns-in-Some-clause-joined c =
 
 pub returns-in-Some-clause-change : goal.returns-in-Some-clause-change
 returns-in-Some-clause-change c =
-    let m = c.args.entries.now in
-    let t = m in
+    let t = c.args.entries.now in
     let f = c.args.fragment.now in
     let b = facts_of (core_of f) in
     let at = ap (maps.get t) (sym c.key-key.ensures) ∙ sym c.in-Some.ensures.value in
@@ -73,15 +68,13 @@ returns-in-Some-clause-change c =
 
 pub returns-in_err-entry-in-None-clause-needed : goal.returns-in_err-entry-in-None-clause-needed
 returns-in_err-entry-in-None-clause-needed c =
-    let m = c.args.entries.now in
-    let t = m in
+    let t = c.args.entries.now in
     let none = ap (maps.get t) (sym c.key-key.ensures) ∙ sym c.in-None.ensures.value in
     on_any_err c.from_residual.result _ (needs_new t (core_of c.args.fragment.now) none)
 
 pub returns-in-Ok-clause-joined : goal.returns-in-Ok-clause-joined
 returns-in-Ok-clause-joined c =
-    let m = c.args.entries.now in
-    let t = m in
+    let t = c.args.entries.now in
     let b = facts_of (core_of c.args.fragment.now) in
     let none = ap (maps.get t) (sym c.key-key.ensures) ∙ sym c.in-None.ensures.value in
     let put = rw c.get_mut.follows.holds-at-none at c.in-Ok.ensures.inserted in
@@ -90,8 +83,7 @@ returns-in-Ok-clause-joined c =
 
 pub returns-in-Ok-clause-change : goal.returns-in-Ok-clause-change
 returns-in-Ok-clause-change c =
-    let m = c.args.entries.now in
-    let t = m in
+    let t = c.args.entries.now in
     let k = c.args.fragment.now.key in
     let b = facts_of (core_of c.args.fragment.now) in
     let none = ap (maps.get t) (sym c.key-key.ensures) ∙ sym c.in-None.ensures.value in
@@ -105,7 +97,6 @@ returns-in-Ok-clause-change c =
 
 pub returns-in-Err-clause-needed : goal.returns-in-Err-clause-needed
 returns-in-Err-clause-needed c =
-    let m = c.args.entries.now in
-    let t = m in
+    let t = c.args.entries.now in
     let none = ap (maps.get t) (sym c.key-key.ensures) ∙ sym c.in-None.ensures.value in
     needs_new t (core_of c.args.fragment.now) none

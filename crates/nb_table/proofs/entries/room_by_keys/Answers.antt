@@ -28,24 +28,20 @@ returns-then-ne c =
     let e : Key × EntryValue = (c.in-Some.key.now, c.in-Some._entry.now) in
     let left = subst (Left ip) is c.loop-key.invariant.1 in
     let none = ap (λ fs. length (filter (of_source ip) (map (λ f. f.0) fs))) is ∙ none_counts ip e c.next.new.self left (not-true _ (sym c.ne.ensures ∙ c.if-ne.true)) in
-    let now = c.loop-key.invariant.0 in
-    omega (arith, now, none, same)
+    omega (arith, c.loop-key.invariant.0, none, same)
 
 pub returns-then-room-eq0 : goal.returns-then-room-eq0
 returns-then-room-eq0 c =
     let held = entries_are key_cmp_total key_cmp_exact c.args.map.now c.range-key-items.ensures.ordered in
     let same = ap (λ fs. length (filter (of_source c.args.ip) (map (λ e. e.0) fs))) held in
-    let now = c.loop-key.invariant.0 in
-    let zero = c.if-room-eq0.true in
-    omega (arith, now, zero, same)
+    omega (arith, c.loop-key.invariant.0, c.if-room-eq0.true, same)
 
 pub returns : goal.returns
 returns c =
     let held = entries_are key_cmp_total key_cmp_exact c.args.map.now c.range-key-items.ensures.ordered in
     let same = ap (λ fs. length (filter (of_source c.args.ip) (map (λ e. e.0) fs))) held in
     let none = ap (λ fs. length (filter (of_source c.args.ip) (map (λ f. f.0) fs))) c.in-None.ensures.steps.0 in
-    let now = c.loop-key.invariant.0 in
-    omega (arith, now, none, same)
+    omega (arith, c.loop-key.invariant.0, none, same)
 
 pub loop-key-preserved : goal.loop-key-preserved
 loop-key-preserved c =
@@ -53,5 +49,4 @@ loop-key-preserved c =
     let is = c.in-Some.ensures.steps in
     let e : Key × EntryValue = (c.in-Some.key.now, c.in-Some._entry.now) in
     let one = ap (λ fs. length (filter (of_source ip) (map (λ f. f.0) fs))) is ∙ one_counts (of_source ip) e c.next.new.self (not-false _ (sym c.ne.ensures ∙ c.if-ne.false)) in
-    let now = c.loop-key.invariant.0 in
-    (omega (arith, now, one), left_next ip e c.next.new.self (subst (Left ip) is c.loop-key.invariant.1))
+    (omega (arith, c.loop-key.invariant.0, one), left_next ip e c.next.new.self (subst (Left ip) is c.loop-key.invariant.1))

@@ -59,16 +59,14 @@ loop-key-preserved-then-contains_key c =
 
 pub returns-then-room-eq0 : goal.returns-then-room-eq0
 returns-then-room-eq0 c =
-    let ip = c.args.ip in
     let s = c.args.entries.now in
-    let p = λ (k : Key). of_source ip k && is_none (maps.get s k) in
+    let p = λ (k : Key). of_source c.args.ip k && is_none (maps.get s k) in
     let k = c.in-Some.key.now in
-    let is = c.in-Some.ensures.steps in
     let e : Key × EntryValue = (k, c.in-Some._entry.now) in
     let new : is_none (maps.get s k) ≡ true = lacked (maps.get s k) false (sym c.contains_key.ensures ∙ c.if-contains_key.false) in
     let passes : p k ≡ true = ap₂ ◌&&◌ (not-false _ (sym c.ne.ensures ∙ c.if-ne.false)) new in
     sym (first_in p e c.next.new.self passes)
-    ∙ sym (ap (λ fs. slice_get (filter p (map (λ f. f.0) fs)) 0) is)
+    ∙ sym (ap (λ fs. slice_get (filter p (map (λ f. f.0) fs)) 0) c.in-Some.ensures.steps)
     ∙ ap (slice_get (filter p (map (λ f. f.0) c.loop-key.key-iterator))) (sym (sym c.known_room-room.ensures ∙ c.if-room-eq0.true))
     ∙ c.loop-key.invariant.0
 

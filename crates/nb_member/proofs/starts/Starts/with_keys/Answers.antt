@@ -8,9 +8,8 @@ use Rattle.nb_member.specs.Code.Members.{begun_each}
 
 pub returns : goal.returns
 returns c =
-    let own = c.self.inside.moments.items in
     let keys = maps.keys c.args.other.now.contents in
     let begun = c.in_ok-begin_each.ensures ∙ ap (λ es. begun_each (maps.from_entries {R = key_cmp} es) keys c.args.moment) (c.in_ok-moments.ensures.items ∙ c.deref.ensures.value) in
     rw (← c.self.view_is) (λ k.
     ap (λ (m : Moments). maps.get m k) begun
-    ∙ begun_of (maps.from_entries {R = key_cmp} own) c.args.other.now.contents c.args.moment k)
+    ∙ begun_of (maps.from_entries {R = key_cmp} c.self.inside.moments.items) c.args.other.now.contents c.args.moment k)

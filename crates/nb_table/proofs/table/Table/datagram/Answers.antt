@@ -13,9 +13,8 @@ datagram_of-requires c =
 
 pub returns-in-Some : goal.returns-in-Some
 returns-in-Some c =
-    let k = c.args.key.now in
     let found = sym c.in-Some.ensures in
-    let there = ap (option_and_then (datagram_of k)) found in
+    let there = ap (option_and_then (datagram_of c.args.key.now)) found in
     rw (← c.self.view_is) (record {
       value = IfOk-weaker c.datagram_of.result _ _ (λ datagram is. is ∙ sym there) c.datagram_of.ensures.value;
       no_memory_needed = λ none. c.datagram_of.ensures.no_memory_needed (sym there ∙ none);
@@ -23,8 +22,7 @@ returns-in-Some c =
 
 pub returns-in-None : goal.returns-in-None
 returns-in-None c =
-    let k = c.args.key.now in
     rw (← c.self.view_is) (record {
-      value = sym (ap (option_and_then (datagram_of k)) (sym c.in-None.ensures));
+      value = sym (ap (option_and_then (datagram_of c.args.key.now)) (sym c.in-None.ensures));
       no_memory_needed = λ none. refl;
     })

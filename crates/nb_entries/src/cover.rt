@@ -19,9 +19,9 @@ pub(crate) mod runs;
 mod uniting;
 
 use crate::ranges::Ranges;
+use crate::saved::ByteSink;
 use crate::saved::fields::put_end;
 use crate::saved::runs::SavedRuns;
-use crate::saved::sink::ByteSink;
 use crate::slot::Slot;
 use end::{end_of, ends_agree, greater, has_end, is_before, is_below, is_promised, promise_of};
 use nb_datagram::{Fragment, LentFragment};

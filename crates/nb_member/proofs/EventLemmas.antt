@@ -1,2 +1,221 @@
--- What events say: something, and one thing.
-pub mod OneSaying
+-- Each event says one thing.
+use Rattle.std.proofs.Common.{◌≡◌, ◌==◌, ◌<◌, ℕ, List, [], ◌∷◌, refl, sym, ap, ◌∙◌, arith, ◌≢◌, ◌⊎◌, Bool, true, false, inl, inr}
+use Rattle.nb_datagram.specs.declared.fault.DatagramFault.{DatagramFault}
+use Rattle.nb_datagram.specs.declared.packet.ErrorPacket.{ErrorPacket}
+use Rattle.nb_datagram.specs.declared.packet.Packet.TheVariants.{Direct, Error, Query}
+use Rattle.nb_datagram.specs.Fragment.{FragmentParts, core_of, reach, is_first}
+use Rattle.nb_datagram.specs.Packet.{Packet as AnyPacket, QueryPacket, IsPacket}
+use Rattle.nb_datagram.specs.DatagramFaults.{PacketFails}
+use Rattle.nb_table.specs.declared.fault.TableFault.{TableFault}
+use Rattle.nb_table.specs.declared.fault.TableFault.TheVariants.{MisplacedFirst, TooLong, FullSource, Full, NoMemory}
+use Rattle.nb_table.specs.Insert.{IsMisplaced, Passes}
+use Rattle.nb_table.specs.Limits.{Limits}
+use Rattle.nb_member.specs.declared.event.Event.{Event}
+use Rattle.nb_member.specs.declared.event.Event.TheVariants.{Packet, Tick}
+use Rattle.nb_member.specs.declared.member_fault.MemberFault.TheVariants as fault
+use Rattle.nb_member.specs.declared.settings.Settings.{Settings}
+use Rattle.nb_member.specs.Events.{limits_of, Saying, came, refused, another, clock, Says, fragment, misplaced, too_long, no_packet, error, query, tick, Say, none, more, HasBytes}
+use Rattle.nb_member.specs.Hearing.{refusal}
+use Rattle.std.specs.List.{AllByRecursion}
+use Rattle.std.proofs.lemmas.Bool.{cases_lt, false≢true}
+use Rattle.nb_names.specs.DomainName.{AreBytes}
+
+-- what the packets in bytes are known to be
+pub record PacketsKnown : Type 0 where
+  pub one : (bytes : List ℕ) (packet other : AnyPacket) (used behind : ℕ) → IsPacket bytes packet used
+      → IsPacket bytes other behind → (packet ≡ other) × (used ≡ behind)
+  pub alone : (bytes : List ℕ) (fault : DatagramFault) (packet : AnyPacket) (used : ℕ) → PacketFails bytes fault
+      → ¬ IsPacket bytes packet used
+  pub one_fault : (bytes : List ℕ) (fault another : DatagramFault) → PacketFails bytes fault
+      → PacketFails bytes another → fault ≡ another
+
+-- IsInvalid longest f x: the fragment isn't valid, and x says why
+abbrev pub IsInvalid : ℕ → FragmentParts → TableFault → Type 0
+IsInvalid longest f MisplacedFirst = IsMisplaced f
+IsInvalid longest f TooLong = (is_first f.flags ≡ (f.offset == 0)) × (longest < reach (core_of f))
+IsInvalid longest f (FullSource k) = ⊥
+IsInvalid longest f (Full k) = ⊥
+IsInvalid longest f NoMemory = ⊥
+
+-- then it isn't valid
+pub invalid_not : (l : Limits) (f : FragmentParts) (x : TableFault) → IsInvalid l.longest f x → Passes l f → ⊥
+invalid_not l f MisplacedFirst i v = i v.placed
+invalid_not l f TooLong i v = let past = i.1 in let within = v.short in omega (arith, past, within)
+invalid_not l f (FullSource k) i v = i
+invalid_not l f (Full k) i v = i
+invalid_not l f NoMemory i v = i
+
+-- and for one reason
+one_invalid : (longest : ℕ) (f : FragmentParts) (x y : TableFault) → IsInvalid longest f x → IsInvalid longest f y → x ≡ y
+one_invalid longest f MisplacedFirst MisplacedFirst i j = refl
+one_invalid longest f MisplacedFirst TooLong i j = absurd (i j.0)
+one_invalid longest f TooLong MisplacedFirst i j = absurd (j i.0)
+one_invalid longest f TooLong TooLong i j = refl
+one_invalid longest f (FullSource k) y i j = absurd i
+one_invalid longest f (Full k) y i j = absurd i
+one_invalid longest f NoMemory y i j = absurd i
+one_invalid longest f x (FullSource k) i j = absurd j
+one_invalid longest f x (Full k) i j = absurd j
+one_invalid longest f x NoMemory i j = absurd j
+
+-- SaysOf settings payload moment s: what a payload says, by what it begins with
+pub data SaysOf (settings : Settings) (moment : ℕ) (payload : List ℕ) (s : Saying) : Type 0 where
+  of_fragment : (used : ℕ) (f : FragmentParts) → IsPacket payload (Direct f) used → Passes (limits_of settings) f
+      → s ≡ came moment f → SaysOf settings moment payload s
+  of_invalid : (used : ℕ) (f : FragmentParts) (x : TableFault) → IsPacket payload (Direct f) used
+      → IsInvalid settings.longest f x → s ≡ refused (fault.Table x) → SaysOf settings moment payload s
+  of_fault : (x : DatagramFault) → PacketFails payload x → s ≡ refused (fault.Packet x (refusal settings payload x))
+      → SaysOf settings moment payload s
+  of_error : (used : ℕ) (e : ErrorPacket) → IsPacket payload (Error e) used → s ≡ another → SaysOf settings moment payload s
+  of_query : (used : ℕ) (q : QueryPacket) → IsPacket payload (Query q) used → s ≡ another → SaysOf settings moment payload s
+
+-- what an event's saying is, by the event
+abbrev SaysBy : Settings → Event → Saying → Type 0
+SaysBy settings (Packet moment payload) s = SaysOf settings moment payload s
+SaysBy settings (Tick now) s = s ≡ clock now
+
+pub says_by : (settings : Settings) (event : Event) (s : Saying) → Says settings event s → SaysBy settings event s
+says_by settings _ _ (fragment moment used payload f p v) = of_fragment used f p v refl
+says_by settings _ _ (misplaced moment used payload f p m) = of_invalid used f MisplacedFirst p m refl
+says_by settings _ _ (too_long moment used payload f p placed past) = of_invalid used f TooLong p (placed, past) refl
+says_by settings _ _ (no_packet moment payload x p) = of_fault x p refl
+says_by settings _ _ (error moment used payload e p) = of_error used e p refl
+says_by settings _ _ (query moment used payload q p) = of_query used q p refl
+says_by settings _ _ (tick now) = refl
+
+-- a payload says one thing
+one_of : PacketsKnown → (settings : Settings) (moment : ℕ) (payload : List ℕ) (s t : Saying)
+    → SaysOf settings moment payload s → SaysOf settings moment payload t → s ≡ t
+one_of known settings moment payload s t (of_fragment u f p v a) (of_fragment w g q x b) =
+    let same = (known.one payload (Direct f) (Direct g) u w p q).0 in
+    let parts : f ≡ g = cc in
+    a ∙ (ap (came moment) parts ∙ sym b)
+one_of known settings moment payload s t (of_fragment u f p v a) (of_invalid w g j q x b) =
+    let same = (known.one payload (Direct f) (Direct g) u w p q).0 in
+    let parts : f ≡ g = cc in
+    absurd (invalid_not (limits_of settings) g j x (rw parts at v))
+one_of known settings moment payload s t (of_fragment u f p v a) (of_fault y q b) = absurd (known.alone payload y (Direct f) u q p)
+one_of known settings moment payload s t (of_fragment u f p v a) (of_error w e q b) =
+    let same = (known.one payload (Direct f) (Error e) u w p q).0 in absurd (cc)
+one_of known settings moment payload s t (of_fragment u f p v a) (of_query w e q b) =
+    let same = (known.one payload (Direct f) (Query e) u w p q).0 in absurd (cc)
+one_of known settings moment payload s t (of_invalid u f i p v a) (of_fragment w g q x b) =
+    let same = (known.one payload (Direct f) (Direct g) u w p q).0 in
+    let parts : g ≡ f = cc in
+    absurd (invalid_not (limits_of settings) f i v (rw parts at x))
+one_of known settings moment payload s t (of_invalid u f i p v a) (of_invalid w g j q x b) =
+    let same = (known.one payload (Direct f) (Direct g) u w p q).0 in
+    let parts : f ≡ g = cc in
+    a ∙ (ap (λ (r : TableFault). refused (fault.Table r)) (one_invalid settings.longest g i j (rw parts at v) x) ∙ sym b)
+one_of known settings moment payload s t (of_invalid u f i p v a) (of_fault y q b) = absurd (known.alone payload y (Direct f) u q p)
+one_of known settings moment payload s t (of_invalid u f i p v a) (of_error w e q b) =
+    let same = (known.one payload (Direct f) (Error e) u w p q).0 in absurd (cc)
+one_of known settings moment payload s t (of_invalid u f i p v a) (of_query w e q b) =
+    let same = (known.one payload (Direct f) (Query e) u w p q).0 in absurd (cc)
+one_of known settings moment payload s t (of_fault y p a) (of_fragment w g q x b) = absurd (known.alone payload y (Direct g) w p q)
+one_of known settings moment payload s t (of_fault y p a) (of_invalid w g j q x b) = absurd (known.alone payload y (Direct g) w p q)
+one_of known settings moment payload s t (of_fault y p a) (of_fault other q b) =
+    a ∙ (ap (λ (r : DatagramFault). refused (fault.Packet r (refusal settings payload r))) (known.one_fault payload y other p q) ∙ sym b)
+one_of known settings moment payload s t (of_fault y p a) (of_error w e q b) = absurd (known.alone payload y (Error e) w p q)
+one_of known settings moment payload s t (of_fault y p a) (of_query w e q b) = absurd (known.alone payload y (Query e) w p q)
+one_of known settings moment payload s t (of_error u e p a) (of_fragment w g q x b) =
+    let same = (known.one payload (Error e) (Direct g) u w p q).0 in absurd (cc)
+one_of known settings moment payload s t (of_error u e p a) (of_invalid w g j q x b) =
+    let same = (known.one payload (Error e) (Direct g) u w p q).0 in absurd (cc)
+one_of known settings moment payload s t (of_error u e p a) (of_fault y q b) = absurd (known.alone payload y (Error e) u q p)
+one_of known settings moment payload s t (of_error u e p a) (of_error w g q b) = a ∙ sym b
+one_of known settings moment payload s t (of_error u e p a) (of_query w g q b) = a ∙ sym b
+one_of known settings moment payload s t (of_query u e p a) (of_fragment w g q x b) =
+    let same = (known.one payload (Query e) (Direct g) u w p q).0 in absurd (cc)
+one_of known settings moment payload s t (of_query u e p a) (of_invalid w g j q x b) =
+    let same = (known.one payload (Query e) (Direct g) u w p q).0 in absurd (cc)
+one_of known settings moment payload s t (of_query u e p a) (of_fault y q b) = absurd (known.alone payload y (Query e) u q p)
+one_of known settings moment payload s t (of_query u e p a) (of_error w g q b) = a ∙ sym b
+one_of known settings moment payload s t (of_query u e p a) (of_query w g q b) = a ∙ sym b
+
+one_by : PacketsKnown → (settings : Settings) (event : Event) (s t : Saying) → SaysBy settings event s → SaysBy settings event t → s ≡ t
+one_by known settings (Packet moment payload) s t h k = one_of known settings moment payload s t h k
+one_by known settings (Tick now) s t h k = h ∙ sym k
+
+-- an event says one thing
+pub one_saying : PacketsKnown → (settings : Settings) (event : Event) (s t : Saying) → Says settings event s
+    → Says settings event t → s ≡ t
+one_saying known settings event s t h k =
+    one_by known settings event s t (says_by settings event s h) (says_by settings event t k)
+
+-- lists of events, each of which says one thing
+abbrev SayEach : Settings → List Event → List Saying → Type 0
+SayEach settings [] S = S ≡ []
+SayEach settings (event ∷ events) S =
+    (s : Saying) × (rest : List Saying) × Says settings event s × SayEach settings events rest × (S ≡ s ∷ rest)
+
+say_each : (settings : Settings) (events : List Event) (S : List Saying) → Say settings events S → SayEach settings events S
+say_each settings _ _ none = refl
+say_each settings _ _ (more event s events rest h k) = (s, rest, h, say_each settings events rest k, refl)
+
+pub one_row : PacketsKnown → (settings : Settings) (events : List Event) (S T : List Saying)
+    → SayEach settings events S → SayEach settings events T → S ≡ T
+one_row known settings [] S T h k = h ∙ sym k
+one_row known settings (event ∷ events) S T h k =
+    let first = one_saying known settings event h.0 k.0 h.2 k.2 in
+    let rest = one_row known settings events h.1 k.1 h.3 k.3 in
+    h.4 ∙ (ap (λ (s : Saying). s ∷ h.1) first ∙ (ap (λ (r : List Saying). k.0 ∷ r) rest ∙ sym k.4))
+
+-- and so do many
+pub one_sayings : PacketsKnown → (settings : Settings) (events : List Event) (S T : List Saying)
+    → Say settings events S → Say settings events T → S ≡ T
+one_sayings known settings events S T h k =
+    one_row known settings events S T (say_each settings events S h) (say_each settings events T k)
+
+-- ---- each event says something
+
+-- bytes begin with a packet, or have a fault
+abbrev pub PacketOrFault : Type 0
+PacketOrFault = (bytes : List ℕ) → AreBytes bytes →
+    ((packet : AnyPacket) × (used : ℕ) × IsPacket bytes packet used) ⊎ ((x : DatagramFault) × PacketFails bytes x)
+
+same_or_not : (a b : Bool) → (a ≡ b) ⊎ (a ≢ b)
+same_or_not true true = inl refl
+same_or_not true false = inr (λ e. false≢true (sym e))
+same_or_not false true = inr (λ e. false≢true e)
+same_or_not false false = inl refl
+
+-- a fragment is valid, misplaced or too long
+says_fragment : (settings : Settings) (moment used : ℕ) (payload : List ℕ) (f : FragmentParts)
+    → IsPacket payload (Direct f) used → (s : Saying) × Says settings (Packet moment payload) s
+says_fragment settings moment used payload f p =
+    elim (same_or_not (is_first f.flags) (f.offset == 0)) [
+      | inr apart ↦ (refused (fault.Table MisplacedFirst), misplaced moment used payload f p apart)
+      | inl placed ↦
+          elim (cases_lt settings.longest (reach (core_of f))) [
+            | inl long ↦ (refused (fault.Table TooLong), too_long moment used payload f p placed long)
+            | inr short ↦ (came moment f, fragment moment used payload f p (record { placed = placed; short = short }))
+          ]
+    ]
+
+says_packet : (settings : Settings) (moment used : ℕ) (payload : List ℕ) (packet : AnyPacket)
+    → IsPacket payload packet used → (s : Saying) × Says settings (Packet moment payload) s
+says_packet settings moment used payload (Direct f) p = says_fragment settings moment used payload f p
+says_packet settings moment used payload (Error e) p = (another, error moment used payload e p)
+says_packet settings moment used payload (Query q) p = (another, query moment used payload q p)
+
+-- each event says something
+pub each_says : PacketOrFault → (settings : Settings) (event : Event) → HasBytes event → (s : Saying) × Says settings event s
+each_says known settings (Packet moment payload) h =
+    elim (known payload h) [
+      | inl found ↦ says_packet settings moment found.1 payload found.0 found.2
+      | inr fails ↦ (
+        refused (fault.Packet fails.0 (refusal settings payload fails.0)),
+        no_packet moment payload fails.0 fails.1,
+      )
+    ]
+each_says known settings (Tick now) h = (clock now, tick now)
+
+-- and so do events in a row
+pub all_say : PacketOrFault → (settings : Settings) (events : List Event) → AllByRecursion HasBytes events
+    → (S : List Saying) × Say settings events S
+all_say known settings [] h = ([], none)
+all_say known settings (event ∷ events) h =
+    let first = each_says known settings event h.0 in
+    let rest = all_say known settings events h.1 in
+    (first.0 ∷ rest.0, more event first.0 events rest.0 first.1 rest.1)

@@ -1,7 +1,7 @@
 -- Names that are held.
 use Rattle.std.proofs.Common.{◌≡◌, ℕ, zero, suc, Bool, true, false, ◌||◌, List, [], ◌∷◌, refl, ap, ◌∙◌, arith, inl, inr}
 use Rattle.std.specs.Prelude.{Contains}
-use Rattle.std.proofs.lemmas.Bool.{false≢true}
+use Rattle.std.proofs.lemmas.Bool.{false≢true, or_left, or_right}
 use Rattle.std.proofs.lemmas.List.Elements.{Contains-append_right, Contains-append_cases}
 use Rattle.nb_names.specs.Name.{NetbiosName, name_eq}
 use Rattle.nb_names.specs.DomainName.{domain_eq}
@@ -25,14 +25,6 @@ pub Contains-from_holds : (names : List NetbiosName) (name : NetbiosName) → ho
 Contains-from_holds [] name h = absurd (false≢true h)
 Contains-from_holds (held ∷ names) name h =
     in_any (name_eq held name) names held name refl h (Contains-from_holds names name)
-
-or_left : (a b : Bool) → a ≡ true → (a || b) ≡ true
-or_left true b h = refl
-or_left false b h = absurd (false≢true h)
-
-or_right : (a b : Bool) → b ≡ true → (a || b) ≡ true
-or_right true b h = refl
-or_right false b h = h
 
 -- and no other
 pub holds-from_Contains : (names : List NetbiosName) (name : NetbiosName) → Contains names name → holds names name ≡ true

@@ -10,5 +10,4 @@ pub mod AgreementLemmas
 pub mod ReplayLemmas
 pub mod LineLemmas
 pub mod LineTakingLemmas
-pub mod FieldTexts
-pub mod FieldMembers
+mod FieldLemmas

@@ -1,4 +1,3 @@
 -- Payloads that a member takes, and others' tables.
 pub mod Payloads
 pub mod FullKeys
-pub mod MergedMoments

@@ -7,11 +7,11 @@ use Rattle.nb_names.specs.Lines.{IsLine}
 use Rattle.nb_member.specs.declared.limits.TheConstants.{MAX_LINE, MAX_READ}
 use Rattle.nb_member.specs.declared.line_read_fault.LineReadFault.{LineReadFault}
 use Rattle.nb_member.specs.declared.line_read_fault.LineReadFault.TheVariants.{TooLong, Read, NoMemory}
-use Rattle.nb_member.specs.declared.line_room.standing.Standing.{Standing}
-use Rattle.nb_member.specs.declared.line_room.standing.Standing.TheVariants as standing
+use Rattle.nb_member.specs.declared.line_room.Standing.{Standing}
+use Rattle.nb_member.specs.declared.line_room.Standing.TheVariants as standing
 use denote.Ref.{Bor}
 use Rattle.nb_names.specs.declared.limits.TheConstants.{MAX_INPUT}
-use Rattle.nb_member.specs.declared.line_room.standing.Standing.TheVariants.{Reading}
+use Rattle.nb_member.specs.declared.line_room.Standing.TheVariants.{Reading}
 
 -- ---- what a room for lines holds (our choice)
 

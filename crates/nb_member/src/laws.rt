@@ -1,7 +1,14 @@
 //! Laws of the definitions that the contracts cite. Each is proved; a call does nothing.
-ghost use Rattle.std.specs.Prelude.{◌≡◌, ◌≢◌, ◌⊎◌, ℕ, List, [], filter, Result, Err};
+ghost use Rattle.std.specs.Prelude.{◌≡◌, ◌≢◌, ◌⊎◌, ℕ, List, [], filter, Result, Err, ◌++◌, codes};
+ghost use Rattle.std.specs.List.{AllByRecursion};
+ghost use Rattle.std.specs.Fmt.{decimal};
 ghost use Rattle.nb_names.specs.Name.{NetbiosName};
-ghost use Rattle.nb_table.specs.declared.fault.TableFault.TheVariants as table_fault;
+ghost use Rattle.nb_datagram.specs.declared.key.Key.{Key};
+ghost use Rattle.nb_datagram.specs.Fragment.{DatagramParts};
+ghost use Rattle.nb_table.specs.Contents.{Contents};
+ghost use Rattle.nb_table.specs.Join.{join};
+ghost use Rattle.nb_telling.specs.Members.{AreMembers};
+ghost use Rattle.nb_telling.specs.Texts.{text_of};
 ghost use Rattle.nb_member.specs.declared.limits.TheConstants.{MAX_LINE, MAX_READ, MAX_HELD, MAX_MOMENT_DIGITS, FRAGMENT_TIMEOUT, MAX_NAMES};
 ghost use Rattle.nb_member.specs.declared.line.Line.{Line};
 ghost use Rattle.nb_member.specs.declared.settings.Settings.{Settings};
@@ -11,35 +18,31 @@ ghost use Rattle.nb_member.specs.declared.member_fault.MemberFault.{MemberFault}
 ghost use Rattle.nb_member.specs.declared.member_fault.MemberFault.TheVariants.{Table};
 ghost use Rattle.nb_member.specs.declared.outcome.Outcome.{Outcome};
 ghost use Rattle.nb_member.specs.Capture.{line_feed, space, number_sign, HasValue, SaysNothing, IsMalformed};
-ghost use Rattle.nb_member.specs.Events.{Says, Say, Saying, clock};
+ghost use Rattle.nb_member.specs.Events.{Says, Say, Saying, clock, HasBytes};
 ghost use Rattle.nb_member.specs.Live.{Timed, cores, HasRoom, NoneFull, live, live_after, table_from};
 ghost use Rattle.nb_member.specs.Hearing.{hears};
 ghost use Rattle.nb_member.specs.Deliveries.{made_by, errors_by, delivery_in, error_in};
-ghost use Rattle.nb_member.specs.Member.{MemberValue, with_timed, StandsOver, after_clock};
-ghost use Rattle.nb_member.specs.Taking.{Takes, Answers, Does};
+ghost use Rattle.nb_member.specs.Member.{MemberValue, with_timed, StandsOver, after_clock, contents, new_member, Stands};
+ghost use Rattle.nb_member.specs.Taking.{Takes, Answers, Does, Absorbs, Previews};
 ghost use Rattle.nb_member.specs.Agreement.{valid, NoneDropped, GiveTheSame};
+ghost use Rattle.nb_member.specs.Listing.{key_line};
+ghost use Rattle.nb_member.specs.ListingFields.{key_fields};
+ghost use Rattle.nb_member.specs.Report.{parts_text, result_text};
+ghost use Rattle.nb_member.specs.ReportFields.{dropped_fields, parts_fields, passed_fields, result_fields};
+ghost use Rattle.nb_member.specs.LineReading.{ManyCalls, RoomValue, nothing_within};
+ghost use Rattle.nb_table.specs.declared.fault.TableFault.TheVariants as table_fault;
 
 mod deliveries;
-mod events;
-mod fields;
-mod lines;
-mod merging;
 
 pub use deliveries::{
     a_senders_datagram_is_handed_over, a_whole_key_is_handed_over_once, both_hand_over_the_same,
     once_is_one_or_none,
 };
-pub use events::each_event_says_something;
-pub use fields::{fields_are_members, texts_of_listings, texts_of_reports};
-pub use lines::what_came_is_handed_out_or_held;
-pub use merging::{
-    a_new_member_stands_for_no_event, a_preview_is_what_is_handed_over,
-    merging_gives_the_table_of_both,
-};
-use nb_datagram::laws::{one_datagram_fault, one_packet};
+use nb_datagram::laws::{one_datagram_fault, one_packet, packet_or_fault};
 use nb_table::laws::{
-    keeping_keys_keeps_their_fragments, same_cores_make_the_same_table,
-    table_has_the_entry_of_its_list, table_of_two_lists_is_the_join,
+    keeping_keys_keeps_their_fragments, lists_swapped_have_the_same_cores,
+    same_cores_make_the_same_table, table_has_the_entry_of_its_list,
+    table_of_two_lists_is_the_join,
 };
 
 /// A line of a capture says one thing at most, and none that says nothing.
@@ -141,4 +144,73 @@ pub fn limits_are_these_numbers()
     ensures line_feed { line_feed ≡ 10 }
     ensures space { space ≡ 32 }
     ensures number_sign { number_sign ≡ 35 }
+{}
+
+/// Each event says something, and so do events in a row. By
+/// [`an_event_says_one_thing`](crate::laws::an_event_says_one_thing) it is never two things.
+pub fn each_event_says_something()
+    ensures event { (settings : Settings) (event : Event) → HasBytes event →
+        (s : Saying) × Says settings event s }
+    ensures events { (settings : Settings) (events : List Event) → AllByRecursion HasBytes events →
+        (S : List Saying) × Say settings events S }
+{
+    packet_or_fault();
+}
+
+/// The text of the fields of what became of a line is the report's, after the line's number.
+pub fn texts_of_reports()
+    ensures results { (taken : Result Outcome MemberFault) →
+        text_of (result_fields taken) ≡ result_text taken }
+    ensures parts { (datagram : DatagramParts) →
+        text_of (parts_fields datagram) ≡ parts_text datagram }
+    ensures passed { text_of passed_fields ≡ codes "passed" }
+    ensures dropped { (keys : ℕ) →
+        text_of (dropped_fields keys) ≡ codes "dropped " ++ decimal keys }
+{}
+
+/// The text of the fields of a key is its line in a listing.
+pub fn texts_of_listings()
+    ensures { (table : Contents) (key : Key) →
+        text_of (key_fields table key) ≡ key_line table key }
+{}
+
+/// The fields of what became of a line, and of a key, are members of an object: the list of a key's
+/// known places ends, and no list stands in it.
+pub fn fields_are_members()
+    ensures results { (taken : Result Outcome MemberFault) → AreMembers 1 (result_fields taken) }
+    ensures passed { AreMembers 1 passed_fields }
+    ensures dropped { (keys : ℕ) → AreMembers 1 (dropped_fields keys) }
+    ensures keys { (table : Contents) (key : Key) → AreMembers 1 (key_fields table key) }
+{}
+
+/// What calls for lines got from a reader is what they handed out, and then what the room still
+/// holds: no byte is lost, and none is handed out twice.
+pub fn what_came_is_handed_out_or_held()
+    ensures { (most : ℕ) (handed got : List ℕ) (room : RoomValue) →
+        ManyCalls (nothing_within most) handed got room → got ≡ handed ++ room.rest }
+{}
+
+/// A new member stands for no event.
+pub fn a_new_member_stands_for_no_event()
+    ensures { (settings : Settings) (names : List NetbiosName) →
+        Stands (new_member settings names) [] }
+{}
+
+/// The tables of two members join, in either order, to the table of the fragments that are live
+/// after the events of the one, followed by those that are live after the events of the other.
+pub fn merging_gives_the_table_of_both()
+    ensures { (a b : MemberValue) (H G : List Event) (s : Stands a H) (t : Stands b G) →
+        let both = table_from (live a.settings s.sayings ++ live b.settings t.sayings) in
+        (join (contents a) (contents b) ≡ both) × (join (contents b) (contents a) ≡ both) }
+{
+    table_of_two_lists_is_the_join();
+    lists_swapped_have_the_same_cores();
+    same_cores_make_the_same_table();
+}
+
+/// What is handed over of a table that is taken in, at any moment, is what was said of it before.
+pub fn a_preview_is_what_is_handed_over()
+    ensures { (m : MemberValue) (other : Contents) (moment : ℕ) (new : MemberValue)
+        (said datagrams : List DatagramParts) → Previews m other said →
+        Absorbs m other moment new datagrams → datagrams ≡ said }
 {}

@@ -1,19 +1,16 @@
 //! Reading the lines of an input as they come.
-ghost use Rattle.std.specs.Prelude.{◌≡◌, ◌≢◌, ◌⊎◌, ◌<◌, ◌≤◌, [], IfOk, IfSome, MatchOption, length, take, Contains};
+ghost use Rattle.std.specs.Prelude.{◌≡◌, ◌≢◌, ◌⊎◌, ◌<◌, ◌≤◌, ◌+◌, [], IfOk, IfSome, MatchOption, length, take, Contains};
 ghost use Rattle.std.specs.Borrow.{sem};
 ghost use Rattle.std.specs.Io.BufRead.{Rests};
 ghost use Rattle.nb_member.specs.contracts.line_room.LineRoom.{the_row};
-ghost use Rattle.nb_member.specs.declared.line_room.standing.Standing.TheVariants as standing;
+ghost use Rattle.nb_member.specs.declared.line_room.Standing.TheVariants as standing;
 ghost use Rattle.nb_member.specs.LineReading.{ReadsLine, lent_line, IsOpen};
-ghost use Rattle.nb_member.specs.Code.LineSteps.{HandsFirst, handed_out, line_of_size, stopped_by, with_standing};
-
-mod searching;
+ghost use Rattle.nb_member.specs.Code.LineSteps.{HandsFirst, IsFeedAt, handed_out, line_of_size, stopped_by, with_standing};
 
 use crate::limits::MAX_LINE;
 use crate::line_read_fault::LineReadFault;
-use crate::line_reading::searching::feed_after;
-use crate::line_room::LineRoom;
-use crate::line_room::standing::Standing;
+use crate::line_room::{LineRoom, Standing};
+use memchr::memchr;
 use nb_names::Counted;
 use std::io::Read;
 
@@ -191,4 +188,23 @@ fn take_first(room: &mut LineRoom, seen: usize) -> First
             First::TooLong
         }
     }
+}
+
+/// The place of the first line feed, where none is among so many first bytes.
+fn feed_after(bytes: &[u8], seen: usize) -> Option<usize>
+    requires within { seen ≤ length bytes.now }
+    requires clear { ¬ Contains (take seen bytes.now) 10 }
+    ensures { MatchOption result (¬ Contains bytes.now 10) (IsFeedAt bytes.now) }
+{
+    match first_feed(&bytes[seen..]) {
+        Some(at) => Some(seen + at),
+        None => None,
+    }
+}
+
+/// The place of the first line feed.
+fn first_feed(bytes: &[u8]) -> Option<usize>
+    ensures { MatchOption result (¬ Contains bytes.now 10) (IsFeedAt bytes.now) }
+{
+    memchr(b'\n', bytes)
 }

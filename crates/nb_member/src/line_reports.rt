@@ -17,9 +17,7 @@ use crate::line::Line;
 use crate::member::Member;
 use crate::member_fault::MemberFault;
 use crate::outcome::LentOutcome;
-use crate::report::outcomes::{
-    tell_delivered, tell_dropped, tell_outcome, tell_passed, tell_refused,
-};
+use crate::report::{tell_delivered, tell_dropped, tell_outcome, tell_passed, tell_refused};
 use nb_names::{NoMemory, push_decimal};
 use nb_table::TableFault;
 use nb_telling::Sink;

@@ -1,22 +1,33 @@
 //! Room for the lines of an input.
 ghost use Rattle.std.specs.Prelude.{◌≡◌, ◌<◌, ◌≤◌, ◌+◌, [], length, take};
 ghost use Rattle.nb_member.specs.declared.limits.TheConstants.{MAX_HELD, MAX_READ};
-ghost use Rattle.nb_member.specs.declared.line_room.standing.Standing.TheVariants as standing;
+ghost use Rattle.nb_member.specs.declared.line_room.Standing.TheVariants as standing;
 ghost use Rattle.nb_member.specs.LineReading.{nothing_held, nothing_within, IsOpen};
 ghost use Rattle.nb_member.specs.Code.LineSteps.{Suits, let_go_of, with_standing, handed_out, ReadsMore};
 
 mod moving;
-pub mod standing;
 
 use crate::limits::MAX_READ;
 use crate::line_read_fault::LineReadFault;
 use crate::line_room::moving::read_behind;
-use crate::line_room::standing::Standing;
 use nb_names::Counted;
 use nb_names::limits::MAX_INPUT;
 use std::alloc::Global;
 use std::io::Read;
 use std::marker::Model;
+
+/// How a room for lines stands to its input.
+#[derive(Clone, Copy)]
+pub enum Standing {
+    /// More may come.
+    Reading,
+    /// The input is at its end, and its last line was handed out.
+    Ended,
+    /// The input can't be read further.
+    Unread,
+    /// The next line is too long.
+    TooLong,
+}
 
 /// Room for the lines of one input.
 ///

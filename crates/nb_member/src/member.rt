@@ -1,17 +1,17 @@
 //! Members.
-ghost use Rattle.std.specs.Prelude.{◌≡◌, ◌+◌, Ok, Err, OnOk, IfErr, MatchOption};
+ghost use Rattle.std.specs.Prelude.{◌≡◌, ◌+◌, Ok, Err, filter, IfOk, OnOk, IfErr, OnErr, MatchOption};
 ghost use Rattle.std.specs.FinMap as maps;
 ghost use Rattle.nb_member.specs.Events.{limits_of};
 ghost use Rattle.nb_member.specs.Member.{contents, new_member, with_timed, after_clock};
 ghost use Rattle.nb_datagram.specs.Fragment.{datagram_by};
 ghost use Rattle.nb_entries.specs.Change.{made_by};
-ghost use Rattle.nb_member.specs.Taking.{Takes, TakesFragment, handed, outcome_of};
+ghost use Rattle.nb_table.specs.Merging.{IsRefused};
+ghost use Rattle.nb_member.specs.Hearing.{hears};
+ghost use Rattle.nb_member.specs.Taking.{Absorbs, Previews, Takes, TakesFragment, handed, outcome_of};
 ghost use Rattle.nb_member.specs.Code.Members.{MeetsFull, BeginsFull, limit_of};
 ghost use Rattle.nb_member.specs.Code.Outcomes.{made_of, answer_of};
 ghost use Rattle.nb_member.specs.declared.outcome.Outcome.{Outcome};
 ghost use Rattle.nb_member.specs.declared.run_report.RunStop.{RunStop};
-
-mod absorbing;
 
 use crate::local_names::LocalNames;
 use crate::member_fault::MemberFault;
@@ -19,7 +19,7 @@ use crate::outcome::{Dropped, LentOutcome, Outcome};
 use crate::run_report::RunStop;
 use crate::settings::Settings;
 use crate::timed_table::TimedTable;
-use nb_datagram::{LentFragment, LentPacket, UserData, decode_lent};
+use nb_datagram::{Datagrams, LentFragment, LentPacket, UserData, decode_lent};
 use nb_table::{Change, Handing, Table, TableFault};
 use std::alloc::Global;
 use std::marker::Model;
@@ -190,6 +190,41 @@ impl Member {
             keys: (before - after) as u32,
         }
     }
+
+    /// Merges another's table at this moment, in milliseconds, and hands over the datagrams that
+    /// are heard, of those that become whole by this, in ascending order of their keys. The timers
+    /// of the keys that are new start at this moment; the others run on. No error packets are made
+    /// (our choice).
+    ///
+    /// # Errors
+    ///
+    /// `TooLong`, `FullSource` and `Full` as [`Table::fits`] of the member's table answers, then
+    /// `NoMemory` where memory ran out. The member is then as it was.
+    pub fn absorb(&mut self, other: &Table, moment: u64) -> Result<Datagrams, TableFault>
+        ensures absorbed { IfOk result (λ datagrams.
+            Absorbs self.old other.now.contents moment self.new datagrams) }
+        ensures fault { IfErr result (IsRefused self.old.timed.table.limits (contents self.old)
+            other.now.contents) }
+        ensures err { OnErr result (self.new ≡ self.old) }
+    {
+        let datagrams = self.timed.merge(other, moment)?;
+        Ok(heard_of(&self.names, datagrams))
+    }
+
+    /// The datagrams that [`Member::absorb`] of the same table would hand over, at any moment. The
+    /// member stays as it is; memory is taken as by [`Table::preview`].
+    ///
+    /// # Errors
+    ///
+    /// As [`Member::absorb`].
+    pub fn preview(&self, other: &Table) -> Result<Datagrams, TableFault>
+        ensures previewed { IfOk result (Previews self.now other.now.contents) }
+        ensures fault { IfErr result (IsRefused self.now.timed.table.limits (contents self.now)
+            other.now.contents) }
+    {
+        let datagrams = self.timed.table().preview(other)?;
+        Ok(heard_of(&self.names, datagrams))
+    }
 }
 
 /// The limit on keys for which a table refuses a fragment, if it refuses it for one.
@@ -236,4 +271,13 @@ fn handed<'a>(
         return LentOutcome::Delivered(fragment, bytes);
     }
     LentOutcome::Unheard(fragment.key(), settings.unheard(&fragment))
+}
+
+/// Those of the datagrams that a station with these names hears, in order. No memory is taken.
+fn heard_of(names: &LocalNames, datagrams: Datagrams) -> Datagrams
+    ensures { result ≡ filter (hears names.now) datagrams }
+{
+    let mut heard = datagrams.into_vec();
+    heard.retain(|datagram| names.hears(datagram));
+    Datagrams::from_vec(heard)
 }

@@ -7,12 +7,14 @@ ghost use Rattle.nb_member.specs.Replaying.{ReplaysInput};
 
 use crate::capture_options::CaptureOptions;
 use crate::comments::Comments;
-use crate::line_taking::take_lines;
+use crate::line::Line;
+use crate::line_reports::act_on;
+use crate::line_taking::{LineTaker, take_lines};
 use crate::member::Member;
 use crate::replay_fault::ReplayFault;
-use crate::replayer::Replayer;
 use nb_names::Counted;
 use nb_names::limits::MAX_INPUT;
+use nb_names::output::write_whole;
 use std::alloc::Global;
 use std::io::{Read, Write};
 
@@ -130,4 +132,43 @@ pub fn replay_with<R: Read, W: Write>(
         writer,
     };
     take_lines(alloc, options.most, reader, &mut replayer)
+}
+
+/// A member that acts on the lines of a capture, and the writer that their report goes to, with
+/// these comments.
+#[derive(Drop)]
+struct Replayer<'a, W> {
+    comments: Comments,
+    member: &'a mut Member,
+    /// The report of a line is made in this.
+    text: &'a mut String,
+    writer: &'a mut Counted<W>,
+}
+
+impl<'a, W: Write> LineTaker for Replayer<'a, W> {
+    ghost use Rattle.std.specs.Prelude.{ℕ};
+    ghost use Rattle.nb_member.specs.declared.comments.Comments.{Comments};
+    ghost use Rattle.nb_member.specs.Code.ReplayLines.{ReplayState, ReplaysLine, FailsReport};
+
+    type Fault = ReplayFault;
+
+    ghost State = { ReplayState W };
+
+    ghost state = { λ r. record { member = r.member.now; writer = r.writer.now } };
+
+    ghost Beside = { Comments × (ℕ × ℕ) };
+
+    ghost beside = { λ r. (r.comments, (r.member.ghost_name, r.writer.ghost_name)) };
+
+    ghost takes = { λ kept. ReplaysLine W.contents kept.0 };
+
+    ghost fails = { λ kept. FailsReport W.contents kept.0 };
+
+    fn take(&mut self, number: u64, line: &[u8], said: &Option<Line>) -> Result<(), ReplayFault> {
+        act_on(number, line, said, self.comments, self.member, self.text)?;
+        match write_whole(self.writer, self.text.as_bytes()) {
+            Ok(()) => Ok(()),
+            Err(_) => Err(ReplayFault::Write),
+        }
+    }
 }

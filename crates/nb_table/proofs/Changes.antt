@@ -29,10 +29,9 @@ use Rattle.nb_table.specs.Insert.{NeedsNoMemory, spoilt, contradicts, held, Pass
 use Rattle.nb_entries.specs.Shared.CoverLemmas.{bytes_below_both, first_either}
 use Rattle.nb_entries.specs.Shared.PlacedLemmas.{greater_either, promise_of_decides, end_of_decides, below_by_reach}
 use Rattle.nb_entries.specs.Shared.EntryLemmas.{facts_fit_of}
-use Rattle.nb_table.specs.Shared.TableLemmas.{join_formed}
+use Rattle.nb_table.specs.Shared.TableLemmas.{join_formed, join_one, insert_at, needs_new}
 use Rattle.nb_table.proofs.Contents.ContentsLemmas.{table_of_formed}
-use Rattle.nb_table.specs.Shared.FragmentLemmas.{join_one, insert_at, needs_new}
-use Rattle.std.proofs.lemmas.Bool.{cases_lt}
+use Rattle.std.proofs.lemmas.Bool.{cases_lt, not-false}
 
 -- a spoilt key isn't whole
 spoilt_whole : (a b : Contents) (k : Key) (d : DatagramParts) → BecomesSpoilt a b k → newly_whole a b k ≡ Some d → ⊥
@@ -231,13 +230,9 @@ short_more m n (Held e) h s = record {
 
 -- ---- results
 
-not_false : (b : Bool) → not b ≡ false → b ≡ true
-not_false true h = refl
-not_false false h = absurd (cc)
-
 -- tests that don't differ are the same
 pub same_test : (a b : Bool) → not (beq a b) ≡ false → a ≡ b
-same_test a b h = (booleans_Decides a b).0 (not_false (beq a b) h)
+same_test a b h = (booleans_Decides a b).0 (not-false (beq a b) h)
 
 -- nothing is refused of a fragment that passes and needs no memory
 pub spared : {X : Type 0} (r : Result X TableFault) (t : TableValue) (f : FragmentParts) → IfErr r (Refuses t f) → Passes t.limits f → NeedsNoMemory t.contents (core_of f) → IsOk r

@@ -1,6 +1,6 @@
 -- The tests of conflict and spoiling are the relations.
 use Rattle.std.proofs.Common.{◌≡◌, ◌≢◌, ◌≤◌, ◌↔◌, ◌||◌, ◌⊎◌, inl, inr, ℕ, Bool, true, false, cond, not, List, [], ◌∷◌, Contains, filter, Option, Some, None, refl, sym, ◌∙◌, ap, subst, arith, nat_lt, Decides, ◌<◌}
-use Rattle.std.proofs.lemmas.Bool.{eq-eqb, ltb-false, and_cases, or_left, or_right}
+use Rattle.std.proofs.lemmas.Bool.{eq-eqb, ltb-false, and_cases, or_left, or_right, not-true}
 use Rattle.std.specs.Cmp.{nat_cmp_total}
 use Rattle.std.specs.List.{list_any}
 use Rattle.std.specs.FinMap as map
@@ -138,12 +138,8 @@ test_of : (f g : Core) (b : Bool) → facts_agree (facts_of f) (facts_of g) ≡ 
 test_of f g true e c = absurd (contradicts f g (facts_fit_of (facts_of f) (facts_of g) e) c)
 test_of f g false e c = refl
 
-not_true : (b : Bool) → not b ≡ true → b ≡ false
-not_true true h = absurd (cc)
-not_true false h = refl
-
 pub conflicts_decides : (f g : Core) → Decides (conflicts f g) (Conflict f g)
-conflicts_decides f g = (λ e. conflict_from f g (not_true (facts_agree (facts_of f) (facts_of g)) e), test_of f g _ refl)
+conflicts_decides f g = (λ e. conflict_from f g (not-true (facts_agree (facts_of f) (facts_of g)) e), test_of f g _ refl)
 
 -- ---- two fragments of a list
 
@@ -185,13 +181,13 @@ turned f g h = step (facts_agree (facts_of g) (facts_of f)) refl
   where
     step : (b : Bool) → facts_agree (facts_of g) (facts_of f) ≡ b → not b ≡ true
     step true e = let clash : facts_agree (facts_of f) (facts_of g) ≡ true = facts_unite.turned (facts_of g) (facts_of f) e in
-        let fails = not_true (facts_agree (facts_of f) (facts_of g)) h in
+        let fails = not-true (facts_agree (facts_of f) (facts_of g)) h in
         absurd (let both : true ≡ false = sym clash ∙ fails in cc both)
     step false e = refl
 
 not_itself : (f : Core) → conflicts f f ≡ true → ⊥
 not_itself f h =
-    let fails = not_true (facts_agree (facts_of f) (facts_of f)) h in
+    let fails = not-true (facts_agree (facts_of f) (facts_of f)) h in
     let agrees = entry_agrees (facts_of f) (cover_of_formed f) in
     let both : true ≡ false = sym agrees ∙ fails in cc both
 
@@ -273,9 +269,6 @@ past_promise_fits f g n r e p less kind source destination same c = step c
   where
     open_end : (m : ℕ) → EndsAt g m → ⊥
     open_end m h = let clash = sym p.0 ∙ h.0 in absurd (cc clash)
-
-    kept_promise : (m : ℕ) → Promises f m → ⊥
-    kept_promise m h = let clash = sym h.0 ∙ e.0 in absurd (cc clash)
 
     step : Conflict f g → ⊥
     step (kinds h) = h kind

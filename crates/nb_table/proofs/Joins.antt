@@ -8,24 +8,15 @@ use Rattle.std.specs.FinMap.{is_sorted}
 use Rattle.std.specs.FinMap.Entries.{below_all, same_entries}
 use Rattle.nb_entries.specs.Maps.{joined_at, joined_onto, joined, first_of}
 use Rattle.nb_table.specs.Code.Each.{joined_each, with_each, put_back, taken_back}
-use Rattle.nb_entries.specs.Shared.MapsLemmas.{one_key, get-joined, below_none, lt_not_eq, T_left, T_right, tied_self}
+use Rattle.nb_entries.specs.Shared.MapsLemmas.{one_key, get-joined, below_none, lt_not_eq, T_left, T_right, tied_self, T_both, at-none, at-some}
 use Rattle.std.specs.FinMap as maps
 use Rattle.std.specs.List.{filter_map, cons_option}
 use Rattle.std.proofs.lemmas.Option.{none-some, same_Some, slice_get_within, get_or_from_slice_get}
 use Rattle.std.proofs.lemmas.List.{map_more}
 use Rattle.nb_table.specs.Join.{joined_all, AreTaken}
-use Rattle.nb_table.specs.Shared.TreeLemmas.{T_both}
-
-alone : {X : Type 0} (f : X → X → X) (a : Option X) → a ≡ joined_at f a None
-alone f None = refl
-alone f (Some x) = refl
-
-onto : {X : Type 0} (f : X → X → X) (a : Option X) (y : X) → Some (joined_onto f a y) ≡ joined_at f a (Some y)
-onto f None y = refl
-onto f (Some x) y = refl
 
 pub get-joined_each : {K X : Type 0} {R : K → K → Ordering} (o : IsTotalOrder R) (exact : maps.IsAntisymmetric R) (f : X → X → X) (m : maps.FinMap R X) (es : List (K × X)) → T (is_sorted R es) → (q : K) → maps.get (joined_each f m es) q ≡ joined_at f (maps.get m q) (maps.find R q es)
-get-joined_each o exact f m [] s q = alone f (maps.get m q)
+get-joined_each o exact f m [] s q = at-none f (maps.get m q)
 get-joined_each {R = R} o exact f m (e ∷ es) s q =
     get-joined_each o exact f (maps.insert m e.0 (joined_onto f (maps.get m e.0) e.1)) es (T_right _ _ s) q
     ∙ ap (λ a. joined_at f a (maps.find R q es)) (maps.get-insert o m e.0 (joined_onto f (maps.get m e.0) e.1) q)
@@ -36,7 +27,7 @@ get-joined_each {R = R} o exact f m (e ∷ es) s q =
         let one : q ≡ e.0 = one_key exact q e.0 h in
         let none : maps.find R q es ≡ None = ap (λ k. maps.find R k es) one ∙ below_none R e.0 es (T_left _ _ s) in
         ap (joined_at f (Some (joined_onto f (maps.get m e.0) e.1))) none
-        ∙ onto f (maps.get m e.0) e.1
+        ∙ at-some f (maps.get m e.0) e.1
         ∙ ap (λ k. joined_at f (maps.get m k) (Some e.1)) (sym one)
     step false h = refl
 

@@ -8,3 +8,4 @@ mod Joins
 mod TableReads
 mod SavedBytes
 mod SavedReading
+mod LawLemmas

@@ -1,6 +1,6 @@
 -- When a key is whole, by the tests of the plain program, and its datagram.
 use Rattle.std.proofs.Common.{◌≡◌, ◌<◌, ◌≤◌, ◌+◌, ℕ, Bool, true, false, cond, List, [], ◌∷◌, length, slice_get, option_and_then, Option, Some, None, Result, Ok, Err, IsErrAnd, IsErrOf, is_some, inl, inr, refl, sym, ◌∙◌, ap, arith, ◌-◌, ◌==◌, ◌↔◌, ◌&&◌, ◌||◌, IsTrue, not, take, drop, get_or, nat_lt, ap₂, drop-cons, length-drop, le_of_eq, add-one, drop_of_length-le}
-use Rattle.std.proofs.lemmas.Bool.{cases_lt, eqb-true, eq-eqb, ltb-true, lt-ltb}
+use Rattle.std.proofs.lemmas.Bool.{cases_lt, eqb-true, eq-eqb, ltb-true, lt-ltb, not-true, not-false}
 use Rattle.std.specs.FinMap as maps
 use Rattle.nb_datagram.specs.declared.key.Key.{Key}
 use Rattle.nb_datagram.specs.Fragment.{Core, FragmentParts, core_of, cores_of, Covers, reach, end_of_one, DatagramParts}
@@ -15,7 +15,7 @@ use Rattle.nb_table.specs.declared.plain.whole.PlainFault.{PlainFault}
 use Rattle.nb_table.specs.declared.plain.whole.PlainFault.TheVariants.{TooLong, NoMemory}
 use Rattle.nb_table.proofs.Conflict.{is_spoilt_decides, conflicts_decides, past_from, covers}
 use Rattle.nb_table.proofs.Contents.ContentsLemmas.{get-cover_in}
-use Rattle.nb_table.specs.Shared.FragmentLemmas.{get-table_of}
+use Rattle.nb_table.specs.Shared.TableLemmas.{get-table_of}
 use Rattle.nb_table.proofs.Contents.SayingLemmas.{spoilt_exactly, held_says}
 use Rattle.nb_entries.specs.Shared.WholeLemmas.{whole_exactly, with_found, below_found}
 use Rattle.std.proofs.lemmas.List.{take_all}
@@ -30,10 +30,6 @@ use Rattle.nb_entries.specs.Shared.PlacedLemmas.{end_of_decides, covers_below}
 pub some_of : (o : Option ℕ) → is_some o ≡ true → (x : ℕ) × (o ≡ Some x)
 some_of None h = absurd (cc)
 some_of (Some x) h = (x, refl)
-
-pub none_of : (o : Option ℕ) → is_some o ≡ false → o ≡ None
-none_of None h = refl
-none_of (Some x) h = absurd (cc)
 
 pub covers_more : (L : List Core) (k : Key) (n : ℕ) → CoversBelow L k n → (x : ℕ) × (byte_at L k n ≡ Some x) → CoversBelow L k (n + 1)
 covers_more L k n below last i h = elim (cases_lt i n) [
@@ -173,18 +169,10 @@ record Differing (o p : Option ℕ) : Type 0 where
 differing : (o p : Option ℕ) → differ o p ≡ true → Differing o p
 differing None p h = absurd (cc)
 differing (Some x) None h = absurd (cc)
-differing (Some x) (Some y) h = record { one = x; other = y; has_one = refl; has_other = refl; differs = fails (x == y) h }
-  where
-    fails : (b : Bool) → not b ≡ true → b ≡ false
-    fails true h = absurd (cc)
-    fails false h = refl
+differing (Some x) (Some y) h = record { one = x; other = y; has_one = refl; has_other = refl; differs = not-true (x == y) h }
 
 same_bytes : (x y : ℕ) → differ (Some x) (Some y) ≡ false → x ≡ y
-same_bytes x y h = eqb-true x y (holds (x == y) h)
-  where
-    holds : (b : Bool) → not b ≡ false → b ≡ true
-    holds true h = refl
-    holds false h = absurd (cc)
+same_bytes x y h = eqb-true x y (not-false (x == y) h)
 
 -- ---- places past an end
 

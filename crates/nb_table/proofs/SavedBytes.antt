@@ -31,7 +31,7 @@ use Rattle.nb_entries.specs.Runs.{RunValue, map_of_runs, runs_of_map}
 use Rattle.nb_table.specs.SavedExample.{example_facts, example_key, example_runs, example_saved, example_saved_first, example_table}
 use Rattle.nb_entries.specs.Shared.RunsLemmas.{runs_back}
 use Rattle.std.proofs.lemmas.Nat.{from_be_bytes-to_be_bytes_4}
-use Rattle.std.proofs.lemmas.List.{take-append-drop}
+use Rattle.std.proofs.lemmas.List.{take-append-drop, nil_from_length}
 use Rattle.std.specs.Io.KnownBytes.{Appends}
 use Rattle.nb_names.specs.Counted.{CountedOf}
 use Rattle.nb_names.specs.Hexadecimal.{digits_text}
@@ -87,12 +87,8 @@ table_read t keeps most fits = saved_read (saved t.contents) t.contents (inl ref
 
 -- ---- The saved bytes of a table of which no two fields are equal.
 
-nothing_of : {X : Type 0} (xs : List X) → length xs ≡ 0 → xs ≡ []
-nothing_of [] h = refl
-nothing_of (x ∷ xs) h = absurd (omega (arith, h))
-
 none_at_first : maps.entries (maps.empty {X = EntryValue} {R = key_cmp}) ≡ []
-none_at_first = nothing_of (maps.entries (maps.empty {X = EntryValue} {R = key_cmp})) (sym (maps.len-entries (maps.empty {X = EntryValue} {R = key_cmp})) ∙ maps.len-empty key_cmp EntryValue)
+none_at_first = nil_from_length (maps.entries (maps.empty {X = EntryValue} {R = key_cmp})) (sym (maps.len-entries (maps.empty {X = EntryValue} {R = key_cmp})) ∙ maps.len-empty key_cmp EntryValue)
 
 one_entry : (p : Option ℕ) → maps.entries (example_table p) ≡ (example_key, Held (example_facts p)) ∷ []
 one_entry p =

@@ -1,5 +1,5 @@
 -- What reads of a table answer, and a table without a key.
-use Rattle.std.proofs.Common.{◌≡◌, ◌≤◌, ◌-◌, ◌↔◌, ℕ, Bool, true, false, cond, not, IsTrue, Option, Some, None, is_some, sym, ◌∙◌, ap, subst, arith, ◌&&◌, List, Decides}
+use Rattle.std.proofs.Common.{◌≡◌, ◌-◌, ◌↔◌, Bool, true, false, cond, not, IsTrue, Option, Some, None, is_some, sym, ◌∙◌, ap, subst, arith, ◌&&◌, List, Decides}
 use Rattle.std.proofs.lemmas.Option.{none-some, same_Some}
 use Rattle.std.specs.FinMap as maps
 use Rattle.nb_datagram.specs.declared.key.Key.{Key}
@@ -14,7 +14,7 @@ use Rattle.nb_table.specs.Limits.{TableValue, KeepsLimits}
 use Rattle.nb_table.specs.State.{IsState}
 use Rattle.nb_entries.specs.EntryState.{IsEntryState}
 use Rattle.nb_entries.specs.Shared.EqualLemmas.{entry_decides}
-use Rattle.nb_table.proofs.Limits.GroupLemmas.{few_remove}
+use Rattle.nb_table.proofs.Limits.GroupLemmas.{few_remove, fewer}
 use Rattle.std.proofs.lemmas.Bool.Decides.{Decides-and}
 use Rattle.std.specs.Cmp.Lexicographic.{pointwise, pointwise_decides}
 use Rattle.nb_datagram.specs.Equality.{key_eq}
@@ -31,10 +31,6 @@ state_at t k (Held e) Spoilt at h = absurd h
 cut : (b : Bool) (o : Option EntryValue) (e : EntryValue) → cond b None o ≡ Some e → o ≡ Some e
 cut true o e h = absurd (cc)
 cut false o e h = h
-
-fewer : (b : Bool) (m n : ℕ) → m ≡ cond b (n - 1) n → m ≤ n
-fewer true m n e = omega (arith, e)
-fewer false m n e = omega (arith, e)
 
 -- without a key the table keeps to its limits
 pub remove_keeps : (t : TableValue) (k : Key) → KeepsLimits t → KeepsLimits (record { contents = maps.remove t.contents k; limits = t.limits })

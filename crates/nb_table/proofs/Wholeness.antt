@@ -3,9 +3,9 @@ use Rattle.std.proofs.Common.{◌≡◌, ◌↔◌, option_and_then, Option, Som
 use Rattle.std.specs.FinMap as maps
 use Rattle.nb_datagram.specs.declared.key.Key.{Key}
 use Rattle.nb_datagram.specs.Fragment.{DatagramParts, Core, Covers, EndsAt, reach}
-use Rattle.nb_table.specs.Contents.{Contents, first_byte, first_end, table_of, Says, IsWholeAt, newly_whole, datagram_at}
+use Rattle.nb_table.specs.Contents.{Contents, first_byte, first_end, table_of, Says, IsWholeAt, datagram_at}
 use Rattle.nb_entries.specs.Whole.{datagram_of, IsWholeCover, IsWhole}
-use Rattle.nb_entries.specs.Shared.WholeLemmas.{at_found, newly_found, newly_from, whole_found, whole_from, datagram_from}
+use Rattle.nb_entries.specs.Shared.WholeLemmas.{at_found, whole_found, whole_from, datagram_from}
 use Rattle.std.proofs.lemmas.Bool.{ltb-true, ltb-false}
 use Rattle.std.proofs.lemmas.Option.{slice_get_within, get_or_from_slice_get}
 use Rattle.nb_datagram.specs.Pieces.{IsPart}
@@ -25,16 +25,6 @@ whole_at_exactly t k = (
 
 pub none_whole : (t : Contents) (k : Key) → datagram_at t k ≡ None → IsWholeAt t k → ⊥
 none_whole t k h w = let d = (whole_at_exactly t k).0 w in let both : None ≡ Some d.0 = sym h ∙ d.1 in cc both
-
-pub whole_none : (t : Contents) (k : Key) (o : Option DatagramParts) → datagram_at t k ≡ o → (IsWholeAt t k → ⊥) → o ≡ None
-whole_none t k None h n = refl
-whole_none t k (Some d) h n = absurd (n ((whole_at_exactly t k).1 (d, h)))
-
-pub newly_exactly : (s t : Contents) (k : Key) (d : DatagramParts) → (newly_whole s t k ≡ Some d) ↔ ((IsWholeAt s k → ⊥) × (datagram_at t k ≡ Some d))
-newly_exactly s t k d = (
-  λ h. let w = newly_found (datagram_at s k) (datagram_at t k) d h in (none_whole s k w.0, w.1),
-  λ h. newly_from (datagram_at s k) (datagram_at t k) d (whole_none s k (datagram_at s k) refl h.0, h.1),
-)
 
 -- ---- Fragments that are parts of one datagram don't conflict, and what they say together is true of it.
 
@@ -65,9 +55,7 @@ parts_kept f g d p q b =
     let here = part_ends f d b.end p b.ends in
     let promises = b.promises in
     let short : reach g < length d.bytes = ltb-true (reach g) (length d.bytes) (sym q.more ∙ promises.0) in
-    let reached = promises.1 in
-    let broken = b.broken in
-    omega (arith, here, short, reached, broken)
+    omega (arith, here, short, promises.1, b.broken)
 
 -- two parts don't conflict
 parts_free : (f g : Core) (d : DatagramParts) → IsPart f d → IsPart g d → Conflict f g → ⊥

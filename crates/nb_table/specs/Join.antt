@@ -1,12 +1,10 @@
 -- Tables, joined (our choice).
-use Rattle.std.specs.Prelude.{◌≡◌, ◌↔◌, not, ℕ, List, [], ◌∷◌, take, slice_get, Some, Contains}
+use Rattle.std.specs.Prelude.{◌≡◌, ◌↔◌, ℕ, List, [], ◌∷◌, take, slice_get, Some, Contains}
 use Rattle.std.specs.FinMap as maps
 use Rattle.nb_datagram.specs.declared.key.Key.{Key}
-use Rattle.nb_datagram.specs.Key.{same_key}
 use Rattle.nb_datagram.specs.Fragment.{Core}
 use Rattle.nb_entries.specs.Maps.{joined}
 use Rattle.nb_entries.specs.Entry.{EntryValue, IsEntry, join_entry}
-use Rattle.nb_table.specs.Conflict.{keyed}
 use Rattle.nb_table.specs.Contents.{Contents}
 
 -- the join of two tables: the keys of either; at a key of both, the join of the entries
@@ -20,10 +18,6 @@ IsTable t = (k : Key) (e : EntryValue) → maps.get t k ≡ Some e → IsEntry e
 -- the lists have the same set of cores
 abbrev pub SameCores : List Core → List Core → Type 0
 SameCores L M = (f : Core) → (Contains L f ↔ Contains M f)
-
--- without_key k L: the fragments of L whose key isn't k, in order
-abbrev pub without_key : Key → List Core → List Core
-without_key k = keyed (λ q. not (same_key k q))
 
 -- joined_all f x ys: x joined with each of ys in turn, from the left
 abbrev pub joined_all : {X : Type 0} → (X → X → X) → X → List X → X

@@ -1,5 +1,4 @@
 -- What the laws of joins and of sinks rest on, and what crates above cite. No clause cites a lemma of these files: they
 -- stand beside the definitions because the laws of a trait, and other crates, can cite nothing of `proofs/`.
-pub mod TableLemmas
 pub mod TreeLemmas
-pub mod FragmentLemmas
+pub mod TableLemmas

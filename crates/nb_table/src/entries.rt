@@ -1,12 +1,19 @@
 //! A table's entries by key, which carry how many keys each address has. Where that isn't kept, the
 //! keys are looked at: they ascend by address first, so those of one address stand together.
-ghost use Rattle.std.specs.Prelude.{◌≡◌, ◌↔◌, ◌<◌, ◌-◌, IsTrue, IfOk, IfSome, OnOk, OnErr};
+ghost use Rattle.std.specs.Prelude.{◌≡◌, ◌↔◌, ◌<◌, ◌≤◌, ◌-◌, Some, IsTrue, IfOk, IfSome, OnOk, OnErr};
 ghost use Rattle.std.specs.Option.{option_copied, option_copied_mut};
 ghost use Rattle.std.specs.Borrow.{sem};
 ghost use Rattle.std.specs.BTreeMap.Range.{entries_between};
 ghost use Rattle.std.specs.declared.ops.Bound.TheVariants.{Included, Unbounded};
 ghost use Rattle.std.specs.FinMap as maps;
 ghost use Rattle.nb_datagram.specs.Key.{key_cmp};
+ghost use Rattle.nb_datagram.specs.Fragment.{core_of, reach};
+ghost use Rattle.nb_datagram.specs.declared.limits.TheConstants.{MAX_LENGTH};
+ghost use Rattle.nb_entries.specs.Maps.{joined_onto};
+ghost use Rattle.nb_entries.specs.declared.slot.Slot.TheVariants.{Held};
+ghost use Rattle.nb_entries.specs.Entry.{EntryValue, facts_of, join_entry, IsShort};
+ghost use Rattle.nb_entries.specs.Change.{Tells};
+ghost use Rattle.nb_table.specs.Insert.{NeedsNoMemory};
 ghost use Rattle.nb_table.specs.Limits.{held_keys, of_source};
 ghost use Rattle.nb_table.specs.Code.SourceCounts.{Adds, Takes, count_of};
 ghost use Rattle.nb_table.specs.Code.Each.{LendsEntry};
@@ -14,8 +21,8 @@ ghost use Rattle.nb_table.specs.Code.Each.{LendsEntry};
 mod counts;
 
 pub(crate) use counts::SourceCounts;
-use nb_datagram::Key;
-use nb_entries::Entry;
+use nb_datagram::{Key, LentFragment, UserData};
+use nb_entries::{Change, Entry, Handing};
 use nb_names::NoMemory;
 use std::alloc::Global;
 use std::collections::{BTreeMap, btree_map};
@@ -249,5 +256,38 @@ impl Entries {
         ensures { maps.from_entries {R = key_cmp} result.now.entries ≡ self.now }
     {
         &self.map
+    }
+}
+
+/// Inserts a fragment into the entry of its key, in place where the key is held. The limits are not
+/// looked at.
+pub(crate) fn insert_fragment(
+    entries: &mut Entries,
+    alloc: Global,
+    fragment: &LentFragment<'_>,
+    handing: Handing,
+) -> Result<Change<UserData>, NoMemory>
+    requires fragment { reach (core_of fragment.now) ≤ MAX_LENGTH }
+    requires entry { (e : EntryValue) → maps.get entries.old fragment.now.key ≡ Some e
+        → IsShort MAX_LENGTH e }
+    ensures joined { OnOk result (entries.new ≡ maps.insert entries.old fragment.now.key
+        (joined_onto join_entry (maps.get entries.old fragment.now.key)
+        (Held (facts_of (core_of fragment.now))))) }
+    ensures change { IfOk result (Tells handing fragment.now
+        (maps.get entries.old fragment.now.key) (Some (joined_onto join_entry
+        (maps.get entries.old fragment.now.key) (Held (facts_of (core_of fragment.now)))))) }
+    ensures needed { OnErr result (¬ NeedsNoMemory entries.old (core_of fragment.now)) }
+    ensures kept { OnErr result (entries.new ≡ entries.old) }
+{
+    let key = fragment.key();
+    match entries.get_mut(&key) {
+        Some(entry) => entry.insert(alloc, fragment, handing),
+        None => {
+            let (entry, change) = Entry::first(alloc, fragment, handing)?;
+            match entries.insert_new(key, entry) {
+                Ok(()) => Ok(change),
+                Err(fault) => Err(fault),
+            }
+        }
     }
 }

@@ -3,7 +3,6 @@
 
 mod entries;
 mod fault;
-mod inserting;
 mod join;
 mod keys;
 pub mod laws;

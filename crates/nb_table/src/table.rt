@@ -12,9 +12,8 @@ mod fitting;
 mod loading;
 mod merging;
 
-use crate::entries::Entries;
+use crate::entries::{Entries, insert_fragment};
 use crate::fault::TableFault;
-use crate::inserting::insert_fragment;
 use crate::keys::Keys;
 pub use loading::load;
 pub use merging::take_in_all;

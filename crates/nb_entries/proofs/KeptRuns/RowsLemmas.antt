@@ -12,12 +12,9 @@ use Rattle.nb_entries.specs.declared.cover.runs.Run.{Run}
 use Rattle.nb_entries.proofs.KeptRuns.RunRowLemmas.{apart_front, apart_back, split_at}
 use Rattle.std.proofs.lemmas.Grind.{common_steps}
 use Rattle.std.proofs.Math.Seq.{drop-cons, take-suc-set}
+use Rattle.nb_entries.specs.Shared.MapsLemmas.{all_append}
 
 -- ---- what each of a list has
-
-pub all_both : {X : Type 0} (P : X → Type 0) (xs ys : List X) → AllByRecursion P xs → AllByRecursion P ys → AllByRecursion P (xs ++ ys)
-all_both P [] ys h k = k
-all_both P (x ∷ xs) ys h k = (h.0, all_both P xs ys h.1 k)
 
 pub all_front : {X : Type 0} (P : X → Type 0) (xs ys : List X) → AllByRecursion P (xs ++ ys) → AllByRecursion P xs
 all_front P [] ys h = tt
@@ -97,7 +94,7 @@ rows_before rs n zero a l h = tt
 rows_before [] n (suc i) a l h = tt
 rows_before (r ∷ rs) n (suc i) a l h =
     subst (EndBefore n) (sym (values_cons r (take i rs)))
-    (all_both (λ (v : RunValue). run_end v < n) (values_of r.items) (values_in (take i rs)) (all_before r.items n (row_apart r rs a) (h 0 r (omega arith)))
+    (all_append (λ (v : RunValue). run_end v < n) (values_of r.items) (values_in (take i rs)) (all_before r.items n (row_apart r rs a) (h 0 r (omega arith)))
     (rows_before rs n i (rest_apart r rs a) (omega arith) (λ k d b. h (suc k) d (omega (arith, b)))))
 
 -- ---- the runs from a place on
@@ -128,8 +125,8 @@ from_row {Z} rs at n k row rest e s a before last early late =
     record {
       front = front ++ take k vs;
       cut = rw (row_parts rs at row rest e, left, append_assoc front (take k vs) (drop k vs ++ values_in rest), ← append_assoc (take k vs) (drop k vs) (values_in rest), take-append-drop) refl;
-      before = all_both (λ (v : RunValue). run_end v < n) front (take k vs) before early;
-      after = subst (EndFrom n) (sym left) (all_both (λ (v : RunValue). n ≤ run_end v) (drop k vs) (values_in rest) late
+      before = all_append (λ (v : RunValue). run_end v < n) front (take k vs) before early;
+      after = subst (EndFrom n) (sym left) (all_append (λ (v : RunValue). n ≤ run_end v) (drop k vs) (values_in rest) late
           (behind_last row.items (values_in rest) n (subst NoneEmpty there (all_left (λ (r : Vec Run Z). 0 < length r.items) rs at s)).0 (row_apart_at rs at row rest e a) (subst (LastsTo n) there last)));
     }
 

@@ -1,6 +1,6 @@
 -- The map of the code's runs: what its tests and changes say of it.
 use Rattle.std.proofs.Common.{◌≡◌, ◌<◌, ◌≤◌, ◌+◌, ◌-◌, ◌==◌, ◌&&◌, ◌⊎◌, ℕ, zero, suc, inl, inr, Bool, true, false, List, [], ◌∷◌, length, get_or, slice_get, Option, Some, None, refl, sym, ap, ap₂, ◌∙◌, arith, ◌++◌, take, drop, subst, slice_set, slice_index_or, take-append-drop, append_assoc}
-use Rattle.std.proofs.lemmas.Bool.{and_from}
+use Rattle.std.proofs.lemmas.Bool.{and_from, and_parts}
 use Rattle.std.proofs.lemmas.List.{take_all, get_or-map, map-append, take-map, take-take, drop-map, set_split, take_more_set, drop-set-lt, length-map}
 use Rattle.std.proofs.lemmas.List.Folds.{list_all-append}
 use Rattle.std.proofs.lemmas.Option.{slice_get-get_or}
@@ -17,7 +17,7 @@ use Rattle.nb_entries.specs.Runs.{RunValue, AreApart, places_of, map_of_runs, ru
 use Rattle.nb_entries.specs.Whole.{bytes_below}
 use Rattle.nb_entries.specs.Code.Rows.{run_at, byte_in, look_in, Agree, IsPut, AreBetween, Lacks, value_of, values_of, grown, Meet, EndBefore, EndFrom, StartTo, StartAfter}
 use Rattle.nb_entries.specs.Shared.CoverLemmas.{same_at, at_same, first_either, first_of_three, one_value}
-use Rattle.nb_entries.specs.Shared.MapsLemmas.{and_left, and_right, get-union, all_entries_found, all_entries_from}
+use Rattle.nb_entries.specs.Shared.MapsLemmas.{get-union, all_entries_found, all_entries_from}
 use Rattle.nb_entries.specs.Shared.RowLemmas.{places_in_map}
 use Rattle.nb_entries.specs.Shared.WholeLemmas.{below_from, below_none}
 use Rattle.nb_entries.proofs.Covers.{first_alone}
@@ -37,8 +37,8 @@ each_from_all : (P : ℕ → ℕ → Bool) (i : ℕ) (xs : List ℕ) → list_al
 each_from_all P i [] h q k x e g = absurd (cc)
 each_from_all P i (y ∷ ys) h q zero x e g =
     let one : x ≡ y = cc in
-    let here : q ≡ i = omega arith in rw (here, one) (and_left _ _ h)
-each_from_all P i (y ∷ ys) h q (suc k) x e g = each_from_all P (i + 1) ys (and_right _ _ h) q k x (omega (arith, e)) g
+    let here : q ≡ i = omega arith in rw (here, one) (and_parts _ _ h).0
+each_from_all P i (y ∷ ys) h q (suc k) x e g = each_from_all P (i + 1) ys (and_parts _ _ h).1 q k x (omega (arith, e)) g
 
 -- ---- bytes that agree
 
@@ -121,12 +121,12 @@ going_first m rs a h =
 
 pub going_agrees : (all made : maps.FinMap nat_cmp ℕ) (r : RunValue) (left : List RunValue) → IsGoing all made (r ∷ left) → agree_at made (placed r.start r.bytes) ≡ true
 going_agrees all made r left h =
-    let first = and_left _ _ (sym (list_all-append (λ (e : ℕ × ℕ). same_where (maps.get all e.0) e.1) (placed r.start r.bytes) (places_of left)) ∙ h.agree) in
+    let first = (and_parts _ _ (sym (list_all-append (λ (e : ℕ × ℕ). same_where (maps.get all e.0) e.1) (placed r.start r.bytes) (places_of left)) ∙ h.agree)).0 in
     from_same made r.start r.bytes (λ q x y e g. same_from all r.start r.bytes first q x y (h.look q ∙ ap (λ o. first_of o (look_in (r ∷ left) q)) e) g)
 
 pub going_next : (all made new : maps.FinMap nat_cmp ℕ) (r : RunValue) (left : List RunValue) → IsGoing all made (r ∷ left) → new ≡ with_bytes made r.start r.bytes → IsGoing all new left
 going_next all made new r left h put = record {
-  agree = and_right _ _ (sym (list_all-append (λ (e : ℕ × ℕ). same_where (maps.get all e.0) e.1) (placed r.start r.bytes) (places_of left)) ∙ h.agree);
+  agree = (and_parts _ _ (sym (list_all-append (λ (e : ℕ × ℕ). same_where (maps.get all e.0) e.1) (placed r.start r.bytes) (places_of left)) ∙ h.agree)).1;
   look = λ q. h.look q
       ∙ swap (maps.get made q) (byte_in r q) (look_in left q) (same_from made r.start r.bytes (going_agrees all made r left h) q)
       ∙ sym (first_of_three (byte_in r q) (maps.get made q) (look_in left q))
@@ -140,16 +140,14 @@ going_all all made h = maps.same_map nat_cmp_total nat_cmp-IsAntisymmetric _ _ (
 
 -- the runs before `first` end before the bytes, those from `past` on start after them
 pub record Lies (xs : List Run) (f : RunValue) (first past : ℕ) : Type 0 where
-  pub first_within : first ≤ length xs
   pub before : EndBefore f.start (take first (values_of xs))
   pub from : EndFrom f.start (drop first (values_of xs))
   pub past_within : past ≤ length xs
   pub to : StartTo (run_end f) (take past (values_of xs))
   pub after : StartAfter (run_end f) (drop past (values_of xs))
 
-pub lies_of : (xs ys zs : List Run) (f : RunValue) (first past : ℕ) → ys ≡ xs → zs ≡ xs → first ≤ length ys → EndBefore f.start (take first (values_of ys)) → EndFrom f.start (drop first (values_of ys)) → past ≤ length zs → StartTo (run_end f) (take past (values_of zs)) → StartAfter (run_end f) (drop past (values_of zs)) → Lies xs f first past
-lies_of xs ys zs f first past e d w b a v t s = record {
-  first_within = subst (λ (us : List Run). first ≤ length us) e w;
+pub lies_of : (xs ys zs : List Run) (f : RunValue) (first past : ℕ) → ys ≡ xs → zs ≡ xs → EndBefore f.start (take first (values_of ys)) → EndFrom f.start (drop first (values_of ys)) → past ≤ length zs → StartTo (run_end f) (take past (values_of zs)) → StartAfter (run_end f) (drop past (values_of zs)) → Lies xs f first past
+lies_of xs ys zs f first past e d b a v t s = record {
   before = subst (λ us. EndBefore f.start (take first (values_of us))) e b;
   from = subst (λ us. EndFrom f.start (drop first (values_of us))) e a;
   past_within = subst (λ (us : List Run). past ≤ length us) d v;

@@ -1,6 +1,6 @@
 -- What the code reads of its runs.
 use Rattle.std.proofs.Common.{◌≡◌, ◌<◌, ◌≤◌, ◌+◌, ◌-◌, ◌++◌, ◌⊎◌, ℕ, inl, inr, Bool, true, List, [], ◌∷◌, length, take, drop, min, max, slice_get, Option, Some, refl, sym, ap, ◌∙◌, subst, arith, length-take, length-drop, length-append, ◌==◌, suc, ap₂}
-use Rattle.std.proofs.lemmas.Bool.{cases_lt, and_from}
+use Rattle.std.proofs.lemmas.Bool.{cases_lt, and_from, and_parts}
 use Rattle.std.proofs.lemmas.List.{append-nil, append_assoc, ext_get_or}
 use Rattle.std.proofs.lemmas.Option.{same_Some, slice_get-get_or}
 use Rattle.std.specs.Cmp.{unsigned_Decides}
@@ -16,14 +16,13 @@ use Rattle.nb_entries.specs.Shared.CoverLemmas.{first_either, agree_of}
 use Rattle.nb_entries.specs.Shared.PlacedLemmas.{find-placed}
 use Rattle.nb_entries.specs.Shared.WholeLemmas.{slice_get-front}
 use Rattle.nb_entries.proofs.Covers.{get-with_bytes, bytes_agree_is, or_is, with_is}
-use Rattle.nb_entries.proofs.KeptRuns.RunRowLemmas.{byte_on, byte_off, byte_past, has_below, has_from, byte_within, get-runs, look-append, none_from, look_before, look_past, apart_front, apart_back, apart_seam, ends_min}
+use Rattle.nb_entries.proofs.KeptRuns.RunRowLemmas.{byte_on, byte_off, byte_past, has_below, has_from, byte_within, get-runs, look-append, look_before, look_past, apart_front, apart_back, apart_seam, ends_min}
 use Rattle.nb_entries.proofs.KeptRuns.RunPutLemmas.{slice_get-take, slice_get-drop, slice_get-back, in_row}
-use Rattle.nb_entries.proofs.KeptRuns.RowsLemmas.{all_both}
 use Rattle.std.specs.Option.{option_or}
 use Rattle.nb_datagram.specs.Fragment.{Core}
 use Rattle.nb_entries.specs.Cover.{CoverFacts, CoversFit, placed, same_where, cover_of, covers_together, greater, promise_of_one}
 use Rattle.nb_entries.specs.Whole.{bytes_below, bytes_to}
-use Rattle.nb_entries.specs.Shared.MapsLemmas.{and_left}
+use Rattle.nb_entries.specs.Shared.MapsLemmas.{none_from, all_append}
 
 -- ---- the runs from a place on
 
@@ -146,7 +145,7 @@ held_first all f X left a h whole back =
     record {
       apart = apart_back h.front left apart;
       from = h.after;
-      whole = λ each. whole (subst (λ rs. Agree rs f) (sym h.cut) (each_agrees f (h.front ++ left) (all_both (λ r. AgreeOne r f) h.front left front each)));
+      whole = λ each. whole (subst (λ rs. Agree rs f) (sym h.cut) (each_agrees f (h.front ++ left) (all_append (λ r. AgreeOne r f) h.front left front each)));
       back = λ x. agrees_each f h.front left apart (subst (λ rs. Agree rs f) h.cut (back x));
     }
 
@@ -200,7 +199,7 @@ pub fit_agrees : (a : CoverFacts) (f : Core) (s : ℕ) (xs : List ℕ) → Cover
 fit_agrees a f s xs fit start bytes =
     ap₂ (λ i ys. list_all (λ (e : ℕ × ℕ). same_where (maps.get a.bytes e.0) e.1) (placed i ys)) start bytes
     ∙ bytes_agree_is a.bytes (maps.get a.bytes) f (λ q. refl)
-    ∙ and_left _ _ (agree_of a (cover_of f) fit)
+    ∙ (and_parts _ _ (agree_of a (cover_of f) fit)).0
 
 pub put_is : (a : CoverFacts) (f : Core) (s : ℕ) (xs : List ℕ) (m : maps.FinMap nat_cmp ℕ) (o p : Option ℕ) → CoversFit a (cover_of f) → s ≡ f.offset → xs ≡ f.bytes → m ≡ with_bytes a.bytes s xs → o ≡ option_or a.end (cover_of f).end → p ≡ greater a.promise (promise_of_one f) → ◌≡◌ {A = CoverFacts} (record { bytes = m; end = o; promise = p }) (covers_together a (cover_of f))
 put_is a f s xs m o p fit start bytes put end promise =

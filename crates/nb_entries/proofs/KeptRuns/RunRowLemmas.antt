@@ -1,5 +1,5 @@
 -- Rows of runs: what a look-up finds in them, and how rows that are apart are cut and put together.
-use Rattle.std.proofs.Common.{◌≡◌, ◌<◌, ◌≤◌, ◌+◌, ◌-◌, ◌++◌, ℕ, suc, Bool, true, false, cond, nat_le, inl, inr, List, [], ◌∷◌, length, take, drop, min, get_or, map, slice_get, Option, Some, None, refl, sym, ap, ap₂, ◌∙◌, subst, arith, length-take, length-drop, take-append-drop, drop-cons, zero, add-one, slice_set, slice_index_or}
+use Rattle.std.proofs.Common.{◌≡◌, ◌<◌, ◌≤◌, ◌+◌, ◌-◌, ◌++◌, ℕ, suc, Bool, true, false, cond, nat_le, inl, inr, List, [], ◌∷◌, length, take, drop, min, get_or, map, slice_get, Some, None, refl, sym, ap, ap₂, ◌∙◌, subst, arith, length-take, length-drop, take-append-drop, drop-cons, zero, add-one, slice_set, slice_index_or}
 use Rattle.std.proofs.lemmas.Bool.{leb-true, le-leb, lt-leb}
 use Rattle.std.proofs.lemmas.List.{take-map, drop-map, get_or-take, get_or-drop, get_or_default}
 use Rattle.std.proofs.lemmas.List.Elements.{All-map, All-from_recursion, recursion_from_All}
@@ -69,10 +69,6 @@ get-runs rs q = maps.get-from_entries nat_cmp_total (places_of rs) q ∙ look-pl
 pub look-append : (rs ss : List RunValue) (q : ℕ) → look_in (rs ++ ss) q ≡ first_of (look_in rs q) (look_in ss q)
 look-append [] ss q = refl
 look-append (r ∷ rs) ss q = ap (first_of (byte_in r q)) (look-append rs ss q) ∙ sym (first_of_three (byte_in r q) (look_in rs q) (look_in ss q))
-
-pub none_from : (o : Option ℕ) → ((x : ℕ) → o ≡ Some x → ⊥) → o ≡ None
-none_from None h = refl
-none_from (Some x) h = absurd (h x refl)
 
 -- what runs that end before n have lies at least two places before it
 pub look_before : (n : ℕ) (rs : List RunValue) → EndBefore n rs → (q x : ℕ) → look_in rs q ≡ Some x → q + 1 < n

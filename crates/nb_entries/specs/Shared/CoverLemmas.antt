@@ -1,6 +1,6 @@
 -- Covers agree by what look-ups find, and their union is one in the sense of SlotLemmas.
 use Rattle.std.proofs.Common.{◌≡◌, ◌⊎◌, inl, inr, ℕ, arith, true, Option, Some, None, refl, sym, ◌∙◌, ap, subst, nat_lt, Decides}
-use Rattle.std.proofs.lemmas.Bool.{eqb-true, eq-eqb, ltb-true, lt-ltb, and_from}
+use Rattle.std.proofs.lemmas.Bool.{eqb-true, eq-eqb, ltb-true, lt-ltb, and_from, and_parts}
 use Rattle.std.specs.Cmp.{nat_cmp_total}
 use Rattle.std.specs.Ordering.{nat_cmp}
 use Rattle.std.proofs.lemmas.Option.{none-some, same_Some}
@@ -8,7 +8,7 @@ use Rattle.std.specs.FinMap as map
 use Rattle.std.specs.FinMap.{nat_cmp-IsAntisymmetric}
 use Rattle.nb_entries.specs.Maps.{first_of}
 use Rattle.nb_entries.specs.Cover.{CoverFacts, CoversFit, BytesBelow, LiesBelow, bytes_lie_below, lies_below, is_below_end, same_where, ends_agree, covers_agree, covers_together, AreCoverFacts}
-use Rattle.nb_entries.specs.Shared.MapsLemmas.{and_left, and_right, get-union, all_entries_found, all_entries_from}
+use Rattle.nb_entries.specs.Shared.MapsLemmas.{get-union, all_entries_found, all_entries_from}
 use Rattle.nb_entries.specs.Code.CoverFacts.{Holds}
 use Rattle.nb_entries.specs.Shared.PlacedLemmas.{greater-comm, greater-assoc, greater-itself, greater_either, greater_left, greater_right, promised_adds, before_is, before_from}
 use Rattle.nb_entries.specs.Shared.SlotLemmas.{Unites}
@@ -36,7 +36,7 @@ bytes_below_decides n m = (
 )
 
 below_is : (n : ℕ) (c : CoverFacts) → lies_below n c ≡ true → LiesBelow n c
-below_is n c h = record { bytes = (bytes_below_decides n c.bytes).0 (and_left _ _ h); promise = before_is c.promise n (and_right _ _ h) }
+below_is n c h = record { bytes = (bytes_below_decides n c.bytes).0 (and_parts _ _ h).0; promise = before_is c.promise n (and_parts _ _ h).1 }
 
 is_below : (n : ℕ) (c : CoverFacts) → LiesBelow n c → lies_below n c ≡ true
 is_below n c h = and_from _ _ ((bytes_below_decides n c.bytes).1 h.bytes) (before_from c.promise n h.promise)
@@ -51,12 +51,12 @@ below_end_from (Some k) c h = is_below k c (h k refl)
 
 pub fit_of : (a b : CoverFacts) → covers_agree a b ≡ true → CoversFit a b
 fit_of a b h =
-    let t1 = and_right _ _ h in let t2 = and_right _ _ t1 in
+    let t1 = (and_parts _ _ h).1 in let t2 = (and_parts _ _ t1).1 in
     record {
-      bytes = λ q x y e f. same_at (map.get b.bytes q) x y (all_entries_found nat_cmp-IsAntisymmetric (λ i v. same_where (map.get b.bytes i) v) a.bytes (and_left _ _ h) q x e) f;
-      ends = ends_are a.end b.end (and_left _ _ t1);
-      own_below = below_end_is b.end a (and_left _ _ t2);
-      other_below = below_end_is a.end b (and_right _ _ t2);
+      bytes = λ q x y e f. same_at (map.get b.bytes q) x y (all_entries_found nat_cmp-IsAntisymmetric (λ i v. same_where (map.get b.bytes i) v) a.bytes (and_parts _ _ h).0 q x e) f;
+      ends = ends_are a.end b.end (and_parts _ _ t1).0;
+      own_below = below_end_is b.end a (and_parts _ _ t2).0;
+      other_below = below_end_is a.end b (and_parts _ _ t2).1;
     }
 
 pub agree_of : (a b : CoverFacts) → CoversFit a b → covers_agree a b ≡ true
@@ -67,7 +67,7 @@ agree_of a b f =
 
 -- ---- what fits with the union of two
 
-first_left : (o p : Option ℕ) (n : ℕ) → o ≡ Some n → first_of o p ≡ Some n
+pub first_left : (o p : Option ℕ) (n : ℕ) → o ≡ Some n → first_of o p ≡ Some n
 first_left None p n e = absurd (none-some n e)
 first_left (Some k) p n e = e
 

@@ -1,25 +1,24 @@
 -- Entries agree where kinds and names are the same and covers agree, and their union is one in the sense
 -- of SlotLemmas.
-use Rattle.std.proofs.Common.{◌≡◌, Decides, true, refl, sym, ◌∙◌}
+use Rattle.std.proofs.Common.{◌≡◌, true, refl, sym, ◌∙◌}
 use Rattle.std.specs.FinMap as maps
 use Rattle.nb_entries.specs.Maps.{Spoilt, Held, OnHeld}
 use Rattle.nb_entries.specs.Cover.{CoverValue, covers_agree, join_cover, IsCover}
 use Rattle.nb_entries.specs.Entry.{EntryFacts, FactsFit, EntryValue, facts_agree, facts_together, join_entry, AreEntryFacts, IsEntry}
 use Rattle.nb_names.specs.NameFacts.{name_eq_decides}
-use Rattle.std.proofs.lemmas.Bool.{and_from}
-use Rattle.nb_entries.specs.Shared.MapsLemmas.{and_left, and_right}
+use Rattle.std.proofs.lemmas.Bool.{and_from, and_parts}
 use Rattle.nb_datagram.specs.EqualityFacts.{same_kind_decides}
 use Rattle.nb_entries.specs.Shared.SlotLemmas.{Unites, join-comm, join-assoc, join-idem, join_formed}
 use Rattle.nb_entries.specs.Shared.CoverLemmas.{covers_unite, fit_of, agree_of, fit_left, fit_right, fit_both, fit_turned, formed_agrees, agrees_formed}
 
 pub facts_fit_of : (a b : EntryFacts) → facts_agree a b ≡ true → FactsFit a b
 facts_fit_of a b h =
-    let t1 = and_right _ _ h in let t2 = and_right _ _ t1 in
+    let t1 = (and_parts _ _ h).1 in let t2 = (and_parts _ _ t1).1 in
     record {
-      kind = (same_kind_decides a.kind b.kind).0 (and_left _ _ h);
-      source = (name_eq_decides a.source b.source).0 (and_left _ _ t1);
-      destination = (name_eq_decides a.destination b.destination).0 (and_left _ _ t2);
-      cover = fit_of a.cover b.cover (and_right _ _ t2);
+      kind = (same_kind_decides a.kind b.kind).0 (and_parts _ _ h).0;
+      source = (name_eq_decides a.source b.source).0 (and_parts _ _ t1).0;
+      destination = (name_eq_decides a.destination b.destination).0 (and_parts _ _ t2).0;
+      cover = fit_of a.cover b.cover (and_parts _ _ t2).1;
     }
 
 pub facts_agree_of : (a b : EntryFacts) → FactsFit a b → facts_agree a b ≡ true
@@ -102,15 +101,6 @@ slot_cover (Held a) f = agrees_formed a f
 
 -- ---- the laws of joins of covers and entries
 
-pub join_cover-comm : (a b : CoverValue) → join_cover a b ≡ join_cover b a
-join_cover-comm = join-comm covers_unite
-
-pub join_cover-assoc : (a b c : CoverValue) → join_cover (join_cover a b) c ≡ join_cover a (join_cover b c)
-join_cover-assoc = join-assoc covers_unite
-
-pub join_cover-idem : (a : CoverValue) → IsCover a → join_cover a a ≡ a
-join_cover-idem a f = join-idem covers_unite a (cover_slot a f)
-
 pub join_cover_formed : (a b : CoverValue) → IsCover a → IsCover b → IsCover (join_cover a b)
 join_cover_formed a b f g = slot_cover _ (join_formed covers_unite a b (cover_slot a f) (cover_slot b g))
 
@@ -125,6 +115,3 @@ join_entry-idem a f = join-idem facts_unite a (entry_slot a f)
 
 pub join_entry_formed : (a b : EntryValue) → IsEntry a → IsEntry b → IsEntry (join_entry a b)
 join_entry_formed a b f g = slot_entry _ (join_formed facts_unite a b (entry_slot a f) (entry_slot b g))
-
--- all of them
-pub ruleset joins = (join_cover-comm, join_cover-assoc, join_cover-idem, join_cover_formed, join_entry-comm, join_entry-assoc, join_entry-idem, join_entry_formed)

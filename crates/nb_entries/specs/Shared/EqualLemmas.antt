@@ -1,6 +1,6 @@
 -- The tests of equality decide equality.
 use Rattle.std.proofs.Common.{◌≡◌, ◌==◌, ◌&&◌, ℕ, List, Bool, true, Option, Some, None, refl, sym, ◌∙◌, ap, Decides}
-use Rattle.std.proofs.lemmas.Bool.{true≢false, eqb-true, eq-eqb, and_from}
+use Rattle.std.proofs.lemmas.Bool.{true≢false, eqb-true, eq-eqb, and_from, and_parts}
 use Rattle.std.proofs.lemmas.Option.{none-some, same_Some}
 use Rattle.std.specs.Option.{option_eq}
 use Rattle.std.specs.Cmp.{IsEquivalence, IsPartialEquivalence, decided, equiv, partial_equiv_from_equiv, unsigned_Decides}
@@ -13,7 +13,6 @@ use Rattle.nb_entries.specs.Cover.{CoverFacts, CoverValue}
 use Rattle.nb_entries.specs.Entry.{EntryFacts, EntryValue}
 use Rattle.nb_entries.specs.Codes.{held, slot_of, slot_back}
 use Rattle.nb_entries.specs.Equal.{same_slot, same_bytes, same_cover_facts, same_cover, same_entry_facts, same_entry}
-use Rattle.nb_entries.specs.Shared.MapsLemmas.{and_left, and_right}
 use Rattle.nb_datagram.specs.EqualityFacts.{same_kind_decides}
 
 -- two options are the same where their values are
@@ -25,7 +24,7 @@ options_decide E d (Some x) (Some y) = (λ h. ap Some ((d x y).0 h), λ e. (d x 
 
 pair_decides : (p q : ℕ × ℕ) → Decides ((p.0 == q.0) && (p.1 == q.1)) (p ≡ q)
 pair_decides p q = (
-  λ h. (let place = eqb-true p.0 q.0 (and_left _ _ h) in let byte = eqb-true p.1 q.1 (and_right _ _ h) in λ i. (place i, byte i)),
+  λ h. (let place = eqb-true p.0 q.0 (and_parts _ _ h).0 in let byte = eqb-true p.1 q.1 (and_parts _ _ h).1 in λ i. (place i, byte i)),
   λ e. and_from _ _ (eq-eqb p.0 q.0 (ap (λ (x : ℕ × ℕ). x.0) e)) (eq-eqb p.1 q.1 (ap (λ (x : ℕ × ℕ). x.1) e)),
 )
 
@@ -41,9 +40,9 @@ bytes_decide m n = (
 
 pub cover_facts_decide : (a b : CoverFacts) → Decides (same_cover_facts a b) (a ≡ b)
 cover_facts_decide a b = (
-  λ h. (let bytes = (bytes_decide a.bytes b.bytes).0 (and_left _ _ h) in let t1 = and_right _ _ h in
-      let end = (options_decide ◌==◌ unsigned_Decides a.end b.end).0 (and_left _ _ t1) in
-      let promise = (options_decide ◌==◌ unsigned_Decides a.promise b.promise).0 (and_right _ _ t1) in
+  λ h. (let bytes = (bytes_decide a.bytes b.bytes).0 (and_parts _ _ h).0 in let t1 = (and_parts _ _ h).1 in
+      let end = (options_decide ◌==◌ unsigned_Decides a.end b.end).0 (and_parts _ _ t1).0 in
+      let promise = (options_decide ◌==◌ unsigned_Decides a.promise b.promise).0 (and_parts _ _ t1).1 in
       λ i. record { bytes = bytes i; end = end i; promise = promise i }),
   λ e. and_from _ _ ((bytes_decide a.bytes b.bytes).1 (ap (λ (c : CoverFacts). c.bytes) e))
       (and_from _ _ ((options_decide ◌==◌ unsigned_Decides a.end b.end).1 (ap (λ (c : CoverFacts). c.end) e))
@@ -52,11 +51,11 @@ cover_facts_decide a b = (
 
 pub entry_facts_decide : (a b : EntryFacts) → Decides (same_entry_facts a b) (a ≡ b)
 entry_facts_decide a b = (
-  λ h. (let t1 = and_right _ _ h in let t2 = and_right _ _ t1 in
-      let kind = (same_kind_decides a.kind b.kind).0 (and_left _ _ h) in
-      let source = (name_eq_decides a.source b.source).0 (and_left _ _ t1) in
-      let destination = (name_eq_decides a.destination b.destination).0 (and_left _ _ t2) in
-      let cover = (cover_facts_decide a.cover b.cover).0 (and_right _ _ t2) in
+  λ h. (let t1 = (and_parts _ _ h).1 in let t2 = (and_parts _ _ t1).1 in
+      let kind = (same_kind_decides a.kind b.kind).0 (and_parts _ _ h).0 in
+      let source = (name_eq_decides a.source b.source).0 (and_parts _ _ t1).0 in
+      let destination = (name_eq_decides a.destination b.destination).0 (and_parts _ _ t2).0 in
+      let cover = (cover_facts_decide a.cover b.cover).0 (and_parts _ _ t2).1 in
       λ i. record { kind = kind i; source = source i; destination = destination i; cover = cover i }),
   λ e. and_from _ _ ((same_kind_decides a.kind b.kind).1 (ap (λ (x : EntryFacts). x.kind) e))
       (and_from _ _ ((name_eq_decides a.source b.source).1 (ap (λ (x : EntryFacts). x.source) e))

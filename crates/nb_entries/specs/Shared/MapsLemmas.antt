@@ -1,27 +1,27 @@
 -- Finite maps by their look-ups: joins, maps made of keys, and tests of every entry.
-use Rattle.std.proofs.Common.{◌≡◌, inl, inr, List, [], ◌∷◌, Bool, true, false, cond, Option, Some, None, refl, sym, ◌∙◌, ap, subst, ◌&&◌, ◌||◌}
+use Rattle.std.proofs.Common.{◌≡◌, inl, inr, List, [], ◌∷◌, Bool, true, false, cond, Option, Some, None, refl, sym, ◌∙◌, ap, subst, ◌&&◌, ◌||◌, ◌++◌}
 use Rattle.std.specs.declared.cmp.Ordering.{Ordering}
 use Rattle.std.specs.declared.cmp.Ordering.TheVariants.{Less, Equal, Greater}
 use Rattle.std.specs.Ordering.{eq_by_cmp, is_eq, is_lt, ordering_reverse}
 use Rattle.std.specs.Cmp.{IsTotalOrder}
-use Rattle.std.specs.List.{list_all, list_any}
+use Rattle.std.specs.List.{list_all, list_any, AllByRecursion}
 use Rattle.std.specs.Prelude.{T}
 use Rattle.std.specs.FinMap.{is_sorted}
 use Rattle.std.specs.FinMap.Entries.{below_all}
-use Rattle.std.proofs.lemmas.Bool.{true≢false, and_from, and_cases}
+use Rattle.std.proofs.lemmas.Bool.{true≢false, and_from, and_cases, and_parts}
 use Rattle.std.proofs.lemmas.Option.{none-some, same_Some}
 use Rattle.std.specs.FinMap as map
 use Rattle.nb_entries.specs.Maps.{first_of, joined_at, joined_onto, joined_with, joined, union, with_some, at_keys}
 
--- ---- tests
+-- ---- options and lists
 
-pub and_left : (a b : Bool) → (a && b) ≡ true → a ≡ true
-and_left true b h = refl
-and_left false b h = absurd (true≢false (sym h))
+pub none_from : {X : Type 0} (o : Option X) → ((x : X) → o ≡ Some x → ⊥) → o ≡ None
+none_from None h = refl
+none_from (Some x) h = absurd (h x refl)
 
-pub and_right : (a b : Bool) → (a && b) ≡ true → b ≡ true
-and_right true b h = h
-and_right false b h = absurd (true≢false (sym h))
+pub all_append : {X : Type 0} (P : X → Type 0) (xs ys : List X) → AllByRecursion P xs → AllByRecursion P ys → AllByRecursion P (xs ++ ys)
+all_append P [] ys h g = g
+all_append P (x ∷ xs) ys h g = (h.0, all_append P xs ys h.1 g)
 
 -- ---- keys
 
@@ -45,22 +45,22 @@ tied_self {R = R} o q = ap is_eq (self_equal (R q q) (o.antisymm q q))
 
 -- ---- joins
 
-alone : {X : Type 0} (f : X → X → X) (a : Option X) → a ≡ joined_at f a None
-alone f None = refl
-alone f (Some x) = refl
+pub at-none : {X : Type 0} (f : X → X → X) (a : Option X) → a ≡ joined_at f a None
+at-none f None = refl
+at-none f (Some x) = refl
 
-onto : {X : Type 0} (f : X → X → X) (a : Option X) (y : X) → Some (joined_onto f a y) ≡ joined_at f a (Some y)
-onto f None y = refl
-onto f (Some x) y = refl
+pub at-some : {X : Type 0} (f : X → X → X) (a : Option X) (y : X) → Some (joined_onto f a y) ≡ joined_at f a (Some y)
+at-some f None y = refl
+at-some f (Some x) y = refl
 
 get-joined_with : {K X : Type 0} {R : K → K → Ordering} (o : IsTotalOrder R) (exact : map.IsAntisymmetric R) (f : X → X → X) (m : map.FinMap R X) (es : List (K × X)) (q : K) → map.get (joined_with f m es) q ≡ joined_at f (map.get m q) (map.find R q es)
-get-joined_with {R = R} o exact f m [] q = alone f (map.get m q)
+get-joined_with {R = R} o exact f m [] q = at-none f (map.get m q)
 get-joined_with {R = R} o exact f m (e ∷ es) q =
     map.get-insert o (joined_with f m es) e.0 (joined_onto f (map.get m e.0) e.1) q
     ∙ step (eq_by_cmp R q e.0) refl (get-joined_with o exact f m es q)
   where
     step : (b : Bool) → eq_by_cmp R q e.0 ≡ b → map.get (joined_with f m es) q ≡ joined_at f (map.get m q) (map.find R q es) → cond b (Some (joined_onto f (map.get m e.0) e.1)) (map.get (joined_with f m es) q) ≡ joined_at f (map.get m q) (cond b (Some e.1) (map.find R q es))
-    step true h rec = ap (λ k. Some (joined_onto f (map.get m k) e.1)) (sym (one_key exact q e.0 h)) ∙ onto f (map.get m q) e.1
+    step true h rec = ap (λ k. Some (joined_onto f (map.get m k) e.1)) (sym (one_key exact q e.0 h)) ∙ at-some f (map.get m q) e.1
     step false h rec = rec
 
 -- what a join has at a key
@@ -142,10 +142,10 @@ get-at_keys {R = R} o exact f (k ∷ ks) q =
 
 all_found : {K X : Type 0} {R : K → K → Ordering} → map.IsAntisymmetric R → (P : K → X → Bool) (es : List (K × X)) → list_all (λ e. P e.0 e.1) es ≡ true → (q : K) (x : X) → map.find R q es ≡ Some x → P q x ≡ true
 all_found exact P [] h q x e = absurd (none-some x e)
-all_found {R = R} exact P (e ∷ es) h q x f = step (eq_by_cmp R q e.0) refl f (all_found exact P es (and_right _ _ h) q x)
+all_found {R = R} exact P (e ∷ es) h q x f = step (eq_by_cmp R q e.0) refl f (all_found exact P es (and_parts _ _ h).1 q x)
   where
     step : (b : Bool) → eq_by_cmp R q e.0 ≡ b → cond b (Some e.1) (map.find R q es) ≡ Some x → (map.find R q es ≡ Some x → P q x ≡ true) → P q x ≡ true
-    step true k f rec = let same = same_Some e.1 x f in subst (λ y. P q y ≡ true) same (subst (λ k. P k e.1 ≡ true) (sym (one_key exact q e.0 k)) (and_left _ _ h))
+    step true k f rec = let same = same_Some e.1 x f in subst (λ y. P q y ≡ true) same (subst (λ k. P k e.1 ≡ true) (sym (one_key exact q e.0 k)) (and_parts _ _ h).0)
     step false k f rec = rec f
 
 pub lt_not_eq : (r : Ordering) → T (is_lt r) → is_eq r ≡ false
@@ -161,17 +161,21 @@ pub T_right : (a b : Bool) → T (a && b) → T b
 T_right true b h = h
 T_right false b h = absurd h
 
+pub T_both : (a b : Bool) → T a → T b → T (a && b)
+T_both true b g h = h
+T_both false b g h = absurd g
+
 pub below_none : {K X : Type 0} (R : K → K → Ordering) (q : K) (es : List (K × X)) → T (below_all R q es) → map.find R q es ≡ None
 below_none R q [] h = refl
 below_none R q (e ∷ es) h = ap (λ b. cond b (Some e.1) (map.find R q es)) (lt_not_eq (R q e.0) (T_left _ _ h)) ∙ below_none R q es (T_right _ _ h)
 
 -- what is found after an entry is found from it on too
-found_later : {K X : Type 0} (R : K → K → Ordering) → map.IsAntisymmetric R → (q k : K) (v x : X) (es : List (K × X)) (b : Bool) → eq_by_cmp R q k ≡ b → map.find R k es ≡ None → map.find R q es ≡ Some x → cond b (Some v) (map.find R q es) ≡ Some x
+pub found_later : {K X : Type 0} (R : K → K → Ordering) → map.IsAntisymmetric R → (q k : K) (v x : X) (es : List (K × X)) (b : Bool) → eq_by_cmp R q k ≡ b → map.find R k es ≡ None → map.find R q es ≡ Some x → cond b (Some v) (map.find R q es) ≡ Some x
 found_later R exact q k v x es true e none f = let same : q ≡ k = one_key exact q k e in absurd (none-some x (sym none ∙ ap (λ j. map.find R j es) (sym same) ∙ f))
 found_later R exact q k v x es false e none f = f
 
 -- the first entry is found
-found_first : {K X : Type 0} (R : K → K → Ordering) → IsTotalOrder R → (e : K × X) (es : List (K × X)) → map.find R e.0 (e ∷ es) ≡ Some e.1
+pub found_first : {K X : Type 0} (R : K → K → Ordering) → IsTotalOrder R → (e : K × X) (es : List (K × X)) → map.find R e.0 (e ∷ es) ≡ Some e.1
 found_first R o e es = ap (λ b. cond b (Some e.1) (map.find R e.0 es)) (tied_self o e.0)
 
 all_from : {K X : Type 0} (R : K → K → Ordering) → IsTotalOrder R → map.IsAntisymmetric R → (P : K → X → Bool) (es : List (K × X)) → T (is_sorted R es) → ((q : K) (x : X) → map.find R q es ≡ Some x → P q x ≡ true) → list_all (λ e. P e.0 e.1) es ≡ true

@@ -1,6 +1,6 @@
 -- The saved bytes of an entry are read as that entry.
 use Rattle.std.proofs.Common.{◌≡◌, ◌+◌, ◌<◌, ◌≤◌, ◌^◌, ℕ, List, [], ◌∷◌, ◌++◌, length, map, true, Option, None, Some, Ok, refl, sym, ap, subst, ◌∙◌, arith, length-append}
-use Rattle.std.proofs.lemmas.Bool.{leb-true}
+use Rattle.std.proofs.lemmas.Bool.{leb-true, and_parts}
 use Rattle.std.specs.Prelude.{nat_le, nat_lt}
 use Rattle.std.specs.Int.{w16, to_be_bytes}
 use Rattle.std.specs.List.{concat, list_all, AllByRecursion}
@@ -25,7 +25,6 @@ use Rattle.nb_entries.specs.Runs.{RunValue, run_end, StartsPast, AreApart, map_o
 use Rattle.nb_entries.specs.Saved.{run_bytes, runs_bytes, end_bytes, promise_bytes, facts_bytes, FitsRun, FitsFacts}
 use Rattle.nb_entries.specs.SavedReading.{gives, goes_on, whole, good, is_0, is_1, byte_at, number_at, bytes_at, known, kind_at, name_at, stands, end_at, PromisesBelow, promise_at, run_at, row_at, runs_at, most_of, facts_at}
 use Rattle.nb_entries.specs.Shared.CoverLemmas.{bytes_below_decides}
-use Rattle.nb_entries.specs.Shared.MapsLemmas.{and_left, and_right}
 use Rattle.nb_entries.specs.Shared.FoundLemmas.{Spells, StartsFrom}
 use Rattle.nb_entries.specs.Shared.RowLemmas.{map_below}
 use Rattle.nb_entries.specs.Shared.RunsLemmas.{given_back, runs_apart}
@@ -133,7 +132,7 @@ row_bytes_back input most at next rs few fits apart short s =
 
 all_at_most : (n : ℕ) (rs : List RunValue) → list_all (λ (r : RunValue). nat_le (run_end r) n) rs ≡ true → AllByRecursion (λ (r : RunValue). run_end r ≤ n) rs
 all_at_most n [] h = tt
-all_at_most n (r ∷ rs) h = (leb-true (run_end r) n (and_left _ _ h), all_at_most n rs (and_right _ _ h))
+all_at_most n (r ∷ rs) h = (leb-true (run_end r) n (and_parts _ _ h).0, all_at_most n rs (and_parts _ _ h).1)
 
 -- what lies below n has runs that end at most there
 runs_below : (n : ℕ) (c : CoverFacts) → BytesBelow n c.bytes → AllByRecursion (λ (r : RunValue). run_end r ≤ n) (runs_of_map c.bytes)

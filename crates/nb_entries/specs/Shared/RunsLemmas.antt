@@ -1,5 +1,5 @@
 -- Rows of runs and maps of bytes: each is made of the other.
-use Rattle.std.proofs.Common.{◌≡◌, ◌<◌, ◌≤◌, ℕ, suc, ◌+◌, ◌==◌, ◌&&◌, length, List, [], ◌∷◌, ◌++◌, Bool, true, false, cond, inl, inr, refl, sym, ◌∙◌, ap, subst, arith}
+use Rattle.std.proofs.Common.{◌≡◌, ◌<◌, ◌≤◌, ℕ, suc, ◌+◌, ◌==◌, length, List, [], ◌∷◌, ◌++◌, Bool, true, false, cond, inl, inr, refl, sym, ◌∙◌, ap, subst, arith}
 use Rattle.std.specs.Prelude.{T}
 use Rattle.std.specs.declared.cmp.Ordering.TheVariants.{Less, Equal, Greater}
 use Rattle.std.specs.Ordering.{nat_cmp, is_lt}
@@ -11,7 +11,7 @@ use Rattle.std.proofs.lemmas.Bool.{cases_lt, eqb-true, eq-eqb}
 use Rattle.std.proofs.lemmas.Bool.Decides.{nat_tests}
 use Rattle.nb_entries.specs.Cover.{placed}
 use Rattle.nb_entries.specs.Runs.{RunValue, run_end, StartsPast, AreApart, places_of, map_of_runs, in_front, runs_in, runs_of_map}
-use Rattle.nb_entries.specs.Shared.MapsLemmas.{T_left, T_right}
+use Rattle.nb_entries.specs.Shared.MapsLemmas.{T_left, T_right, T_both, sorted_entries}
 
 -- ---- the places of runs
 
@@ -27,12 +27,6 @@ places-in_front i x (r ∷ rs) = step (r.start == i + 1) refl
 pub places-runs : (es : List (ℕ × ℕ)) → places_of (runs_in es) ≡ es
 places-runs [] = refl
 places-runs (e ∷ es) = places-in_front e.0 e.1 (runs_in es) ∙ ap (λ fs. e ∷ fs) (places-runs es)
-
--- the finite map of a sorted list has that list
-sorted_back : (es : List (ℕ × ℕ)) → T (is_sorted nat_cmp es) → maps.entries (maps.from_entries {R = nat_cmp} es) ≡ es
-sorted_back es s =
-    ap maps.entries (maps.same_map nat_cmp_total nat_cmp-IsAntisymmetric _ _ (λ q. maps.get-from_entries nat_cmp_total es q ∙ sym (maps.get-from_sorted nat_cmp es q s)))
-    ∙ maps.entries-from_sorted nat_cmp es s
 
 -- the finite map of a map's entries is that map
 pub entries_back : (m : maps.FinMap nat_cmp ℕ) → maps.from_entries {R = nat_cmp} (maps.entries m) ≡ m
@@ -94,10 +88,6 @@ is_less x y h = elim (cases_lt x y) [
   ]
 ]
 
-T_both : (a b : Bool) → T a → T b → T (a && b)
-T_both true b g h = h
-T_both false b g h = absurd g
-
 past_less : (m n : ℕ) (rs : List RunValue) → m ≤ n → StartsPast n rs → StartsPast m rs
 past_less m n [] h p = tt
 past_less m n (r ∷ rs) h p = omega (arith, h, p)
@@ -127,7 +117,7 @@ sorted_places (r ∷ rs) a = sorted_placed r.start r.bytes (places_of rs) (sorte
 
 -- the runs of the map of runs that are apart
 pub runs_back : (rs : List RunValue) → AreApart rs → runs_of_map (map_of_runs rs) ≡ rs
-runs_back rs a = ap runs_in (sorted_back (places_of rs) (sorted_places rs a)) ∙ runs-places rs a
+runs_back rs a = ap runs_in (sorted_entries nat_cmp_total nat_cmp-IsAntisymmetric (places_of rs) (sorted_places rs a)) ∙ runs-places rs a
 
 pub one_row : (rs ss : List RunValue) → AreApart rs → AreApart ss → map_of_runs rs ≡ map_of_runs ss → rs ≡ ss
 one_row rs ss a b e = sym (runs_back rs a) ∙ ap runs_of_map e ∙ runs_back ss b

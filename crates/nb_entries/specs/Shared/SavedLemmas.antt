@@ -1,7 +1,6 @@
 -- Each field of a saved entry, with what follows it, tells both.
 use Rattle.std.proofs.Common.{◌≡◌, ◌<◌, ◌^◌, ℕ, length, get_or, drop, map, List, [], ◌∷◌, ◌++◌, Option, Some, None, refl, sym, ◌∙◌, ap, ap₂, arith, append_assoc, ◌≤◌, ◌+◌, ◌==◌}
 use Rattle.std.proofs.lemmas.Nat.{from_be_bytes-to_be_bytes_2}
-use Rattle.std.proofs.lemmas.Option.{none-some}
 use Rattle.std.specs.Prelude.{T, Bool, true, false, cond}
 use Rattle.std.specs.Int.{w16, to_be_bytes, from_be_bytes}
 use Rattle.std.specs.List.{AllByRecursion, concat}
@@ -19,7 +18,7 @@ use Rattle.nb_entries.specs.Cover.{CoverFacts, BytesBelow}
 use Rattle.nb_entries.specs.Entry.{EntryFacts, EntryValue, IsShort}
 use Rattle.nb_entries.specs.Runs.{RunValue, map_of_runs, runs_of_map, run_end, StartsPast, AreApart, in_front, runs_in}
 use Rattle.nb_entries.specs.Saved.{run_bytes, runs_bytes, end_bytes, cover_bytes, facts_bytes, entry_bytes, FitsRun, FitsCover, FitsFacts, IsNamed}
-use Rattle.nb_entries.specs.Shared.MapsLemmas.{one_key, tied_self, below_none, T_left, T_right}
+use Rattle.nb_entries.specs.Shared.MapsLemmas.{below_none, T_left, T_right, found_first, found_later}
 use Rattle.nb_entries.specs.Shared.RunsLemmas.{given_back, runs_apart}
 use Rattle.std.proofs.lemmas.Bool.{eqb-true}
 use Rattle.nb_datagram.specs.declared.limits.TheConstants.{MAX_LENGTH}
@@ -140,15 +139,11 @@ entry_same laws (Held a) (Held b) x y p q e =
 -- ---- tables
 
 -- what holds of each value that a look-up finds holds of each entry
-later : {K X : Type 0} (R : K → K → Ordering) → maps.IsAntisymmetric R → (q k : K) (v x : X) (es : List (K × X)) (b : Bool) → eq_by_cmp R q k ≡ b → maps.find R k es ≡ None → maps.find R q es ≡ Some x → cond b (Some v) (maps.find R q es) ≡ Some x
-later R exact q k v x es true e none f = let same : q ≡ k = one_key exact q k e in absurd (none-some x (sym none ∙ ap (λ j. maps.find R j es) (sym same) ∙ f))
-later R exact q k v x es false e none f = f
-
 pub each_found : {K X : Type 0} (R : K → K → Ordering) → IsTotalOrder R → maps.IsAntisymmetric R → (P : K → X → Type 0) (es : List (K × X)) → T (is_sorted R es) → ((q : K) (x : X) → maps.find R q es ≡ Some x → P q x) → AllByRecursion (λ e. P e.0 e.1) es
 each_found R o exact P [] s h = tt
 each_found R o exact P (e ∷ es) s h = (
-  h e.0 e.1 (ap (λ b. cond b (Some e.1) (maps.find R e.0 es)) (tied_self o e.0)),
-  each_found R o exact P es (T_right _ _ s) (λ q x f. h q x (later R exact q e.0 e.1 x es (eq_by_cmp R q e.0) refl (below_none R e.0 es (T_left _ _ s)) f)),
+  h e.0 e.1 (found_first R o e es),
+  each_found R o exact P es (T_right _ _ s) (λ q x f. h q x (found_later R exact q e.0 e.1 x es (eq_by_cmp R q e.0) refl (below_none R e.0 es (T_left _ _ s)) f)),
 )
 
 -- ---- Entries within the limit fit the fields of a saved entry.

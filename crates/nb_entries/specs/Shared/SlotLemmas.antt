@@ -1,10 +1,9 @@
 -- Joins of slots are commutative, associative and idempotent, whatever the facts are, from what their
 -- agreement and their union meet.
 use Rattle.std.proofs.Common.{◌≡◌, ◌&&◌, Bool, true, false, cond, refl, sym, ◌∙◌, ap}
-use Rattle.std.proofs.lemmas.Bool.{true≢false, and_from}
+use Rattle.std.proofs.lemmas.Bool.{true≢false, and_from, and_parts}
 use Rattle.std.specs.Cmp.{both_ways}
 use Rattle.nb_entries.specs.Maps.{Slot, Spoilt, Held, join_slot, OnHeld}
-use Rattle.nb_entries.specs.Shared.MapsLemmas.{and_left, and_right}
 
 -- what makes facts that agree a union
 pub record Unites {X : Type 0} (agree : X → X → Bool) (together : X → X → X) : Type 0 where
@@ -91,4 +90,4 @@ module _ {X : Type 0} {agree : X → X → Bool} {together : X → X → X} (u :
       (λ h. and_from _ _
       (u.turned a x (u.left a b x ab (u.turned x (together a b) h)))
       (u.turned b x (u.right a b x ab (u.turned x (together a b) h))))
-      (λ h. u.turned (together a b) x (u.both a b x (u.turned x a (and_left _ _ h)) (u.turned x b (and_right _ _ h))))
+      (λ h. u.turned (together a b) x (u.both a b x (u.turned x a (and_parts _ _ h).0) (u.turned x b (and_parts _ _ h).1)))

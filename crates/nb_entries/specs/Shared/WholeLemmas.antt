@@ -154,14 +154,6 @@ pub at_found : (k : Key) (o : Option EntryValue) (d : DatagramParts) → option_
 at_found k None d h = absurd (cc)
 at_found k (Some e) d h = (e, refl, h)
 
-pub newly_found : (o p : Option DatagramParts) (d : DatagramParts) → newly o p ≡ Some d → (o ≡ None) × (p ≡ Some d)
-newly_found None p d h = (refl, h)
-newly_found (Some x) p d h = absurd (cc)
-
-pub newly_from : (o p : Option DatagramParts) (d : DatagramParts) → (o ≡ None) × (p ≡ Some d) → newly o p ≡ Some d
-newly_from None p d h = h.1
-newly_from (Some x) p d h = let clash = h.0 in absurd (cc)
-
 -- what was there isn't new, and where nothing is there nothing is new
 pub newly_same : {D : Type 0} (o : Option D) → newly o o ≡ None
 newly_same None = refl

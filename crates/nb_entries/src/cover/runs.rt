@@ -12,7 +12,6 @@ mod growing;
 mod inserting;
 mod reading;
 mod searching;
-mod uniting;
 
 pub(crate) use each_run::EachRun;
 pub(crate) use inserting::add_run;

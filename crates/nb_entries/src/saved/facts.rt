@@ -7,10 +7,9 @@ ghost use Rattle.nb_entries.specs.SavedReading.{facts_at, entry_at, most_of as m
 ghost use Rattle.nb_entries.specs.Maps.{Held, OnHeld};
 ghost use Rattle.nb_entries.specs.declared.saved.SavedForm.TheVariants.{Second};
 
-use super::SavedForm;
 use super::fields::{read_byte, read_end, read_kind, read_plain_name, read_promise};
 use super::runs::{SavedRuns, read_runs};
-use super::sink::ByteSink;
+use super::{ByteSink, SavedForm};
 use crate::cover::CoverFacts;
 use crate::cover::end::is_at_most;
 use crate::entry::{Entry, EntryFacts};

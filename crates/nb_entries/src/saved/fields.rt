@@ -8,8 +8,7 @@ ghost use Rattle.nb_entries.specs.Sinks.{Puts};
 ghost use Rattle.nb_entries.specs.Saved.{end_bytes};
 ghost use Rattle.nb_entries.specs.SavedReading.{Field, PromisesBelow, fault_of_name, byte_at as byte_reading, number_at as number_reading, bytes_at as bytes_reading, kind_at as kind_reading, name_at as name_reading, end_at as end_reading, promise_at as promise_reading};
 
-use super::SavedForm;
-use super::sink::ByteSink;
+use super::{ByteSink, SavedForm};
 use crate::load_fault::LoadFault;
 use nb_datagram::Kind;
 use nb_names::numbers::{number_16, number_32};

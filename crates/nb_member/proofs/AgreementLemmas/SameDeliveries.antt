@@ -1,5 +1,5 @@
 -- What members hand over that are given the same fragments.
-use Rattle.std.proofs.Common.{◌≡◌, ◌↔◌, Bool, cond, List, [], ◌∷◌, Option, Some, None, refl, sym, ap, ◌∙◌, inl, inr, subst}
+use Rattle.std.proofs.Common.{◌≡◌, ◌↔◌, Bool, cond, List, [], ◌∷◌, Some, None, sym, ap, ◌∙◌, inl, inr, subst}
 use Rattle.std.proofs.lemmas.Bool.{cases_Bool}
 use Rattle.std.specs.Option.{option_to_list}
 use Rattle.std.specs.FinMap as maps
@@ -12,9 +12,8 @@ use Rattle.nb_table.specs.Contents.{Contents, table_of, IsWholeAt, datagram_at}
 use Rattle.nb_table.specs.Sender.{HasPartsAlone, HasAll, Gives}
 use Rattle.nb_member.specs.declared.settings.Settings.{Settings}
 use Rattle.nb_member.proofs.HearingLemmas.{Hears-from_test, test-from_Hears}
-use Rattle.nb_member.proofs.LiveLemmas.LiveTables.{TablesKnown, live_is_valid, rooms, same_live}
-use Rattle.nb_member.proofs.DeliveryLemmas.WholeKeys.{DatagramsKnown}
-use Rattle.nb_member.proofs.DeliveryLemmas.MadeOnce.{filters_swap, all_heard_from_none}
+use Rattle.nb_member.proofs.LiveLemmas.{TablesKnown, live_is_valid, rooms, same_live}
+use Rattle.nb_member.proofs.DeliveryLemmas.WholeKeys.{DatagramsKnown, filters_swap, all_heard_from_none}
 use Rattle.nb_member.specs.Hearing.{hears, Hears}
 use Rattle.nb_member.specs.Events.{Saying}
 use Rattle.nb_member.specs.Live.{table_from, live, cores}
@@ -23,6 +22,7 @@ use Rattle.nb_member.specs.Agreement.{of_key, heard, whole_of, HandsOverOnce, Ha
 use Rattle.nb_member.specs.declared.event.Event.{Event}
 use Rattle.nb_member.specs.declared.pair.Pair.{Pair}
 use Rattle.nb_member.proofs.AgreementLemmas.SameTable.{BothDid}
+use Rattle.nb_entries.specs.Shared.MapsLemmas.{none_from}
 
 -- a table has a key spoilt where its fragments disagree about it
 abbrev pub SpoiltKnown : Type 0
@@ -84,14 +84,10 @@ pub once_part : (names : List NetbiosName) (L : List Core) (ds : List DatagramPa
     → (IsSpoilt L k → ⊥) → datagram_at (table_of L) k ≡ None → of_key k ds ≡ []
 once_part names L ds once k sound e = once k sound ∙ ap (λ o. heard names (option_to_list o)) e
 
-no_datagram : (o : Option DatagramParts) → ((d : DatagramParts) → o ≡ Some d → ⊥) → o ≡ None
-no_datagram None h = refl
-no_datagram (Some d) h = absurd (h d refl)
-
 -- a key that isn't whole has no datagram
 pub not_whole : ((t : Contents) (k : Key) → IsWholeAt t k ↔ ((d : DatagramParts) × (datagram_at t k ≡ Some d)))
     → (L : List Core) (k : Key) → (IsWholeAt (table_of L) k → ⊥) → datagram_at (table_of L) k ≡ None
-not_whole whole L k part = no_datagram (datagram_at (table_of L) k) (λ d e. part ((whole (table_of L) k).1 (d, e)))
+not_whole whole L k part = none_from (datagram_at (table_of L) k) (λ d e. part ((whole (table_of L) k).1 (d, e)))
 
 -- ---- what a sender cut
 

@@ -15,7 +15,7 @@ use Rattle.nb_member.specs.declared.run_report.RunReport.{RunReport}
 use Rattle.nb_member.specs.declared.run_report.RunStop.{RunStop}
 use Rattle.nb_member.specs.declared.run_report.RunStop.TheVariants.{Full, FullSource, NoMemory}
 use Rattle.nb_member.specs.declared.settings.Settings.{Settings}
-use Rattle.nb_member.proofs.LiveLemmas.LiveTables.{cores-append}
+use Rattle.nb_member.proofs.LiveLemmas.{cores-append}
 use Rattle.nb_member.specs.Agreement.{GiveTheSame, AreGivenTheSame, StoppedForMemory, TookAll, Agree}
 use Rattle.nb_member.specs.Deliveries.{deliveries}
 use Rattle.nb_member.specs.Events.{Saying, came, Says, Say, none, more}

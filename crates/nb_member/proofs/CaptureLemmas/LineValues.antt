@@ -11,12 +11,13 @@ use Rattle.std.proofs.lemmas.Slice.Eq.{bytes_eq-Decides}
 use Rattle.nb_member.specs.declared.line.Line.{Line}
 use Rattle.nb_member.specs.declared.line.Line.TheVariants.{Packet, Tick}
 use Rattle.nb_member.specs.declared.limits.TheConstants.{MAX_LINE, MAX_MOMENT_DIGITS}
-use Rattle.nb_member.proofs.CaptureLemmas.Words.{AllDigits-from_test, test-from_AllDigits, IsAscii-from_digits, Contains-behind, Contains-before, Blank-cases, Says-cases, packet_behind, packet_at_space, packet_has_space, tick_behind, moment_no_space, port_no_space, tick_no_space, one_split}
+use Rattle.nb_member.proofs.CaptureLemmas.Words.{AllDigits-from_test, test-from_AllDigits, Contains-behind, Contains-before, Blank-cases, Says-cases, packet_behind, packet_at_space, packet_has_space, tick_behind, moment_no_space, port_no_space, tick_no_space, one_split}
 use Rattle.nb_names.specs.HexadecimalFacts.{HexText-from_test, test-from_HexText, DataText-cases, length-HexText, one_HexText}
 use Rattle.nb_member.specs.Capture.{PortText, names, datagrams, sessions, MomentText, HasWords, packet, tick, Blank, nothing, comment, HasValue, SaysNothing, IsMalformed}
 use Rattle.nb_names.specs.Hexadecimal.{DataText, empty, digits, HexText}
 use Rattle.std.specs.Result.{result_ok}
 use Rattle.std.proofs.lemmas.Str.Parse.{parse_digits, numerals_by_value, tells_digits}
+use Rattle.std.proofs.lemmas.Fmt.{IsAscii-from_digits}
 
 -- ---- payloads: what a word stands for
 

@@ -16,8 +16,6 @@ use Rattle.nb_names.specs.declared.hexadecimal.DigitsFault.{DigitsFault}
 use Rattle.nb_names.specs.declared.hexadecimal.DigitsFault.TheVariants.{BadDigits, NoMemory}
 use Rattle.nb_member.specs.Capture.{PortText, names, datagrams, sessions, MomentText, HasWords, packet, tick, Blank, nothing, comment, ReadsBy, NeedsMemory, for_payload}
 use Rattle.nb_names.specs.Hexadecimal.{DataText, ReadsData}
-use Rattle.std.specs.Str.{IsAscii}
-use Rattle.std.proofs.lemmas.Str.Ascii.{IsAscii-nil, IsAscii-cons}
 
 -- ---- comments
 
@@ -220,16 +218,11 @@ payload_refused port moment text words front behind NoMemory fault is p e no_spa
 
 -- ---- decimal digits: tests of them
 
--- ---- decimal digits
-
 digit_at : (c : ℕ) → is_ascii_digit c ≡ true → digit_value c < 10
 digit_at c h = grind (arith, nat_tests)
 
 at_digit : (c : ℕ) → digit_value c < 10 → is_ascii_digit c ≡ true
 at_digit c h = grind (arith, nat_tests)
-
-digit_ascii : (c : ℕ) → digit_value c < 10 → c < 128
-digit_ascii c h = grind (arith, nat_tests)
 
 -- a text of bytes that pass the test is digits
 pub AllDigits-from_test : (text : List ℕ) → list_all is_ascii_digit text ≡ true → AllDigits 10 text
@@ -242,8 +235,3 @@ AllDigits-from_test (c ∷ cs) h =
 pub test-from_AllDigits : (text : List ℕ) → AllDigits 10 text → list_all is_ascii_digit text ≡ true
 test-from_AllDigits [] h = refl
 test-from_AllDigits (c ∷ cs) h = rw (at_digit c h.0) (test-from_AllDigits cs h.1)
-
--- digits are ASCII
-pub IsAscii-from_digits : (text : List ℕ) → AllDigits 10 text → IsAscii text
-IsAscii-from_digits [] h = IsAscii-nil
-IsAscii-from_digits (c ∷ cs) h = IsAscii-cons c cs (digit_ascii c h.0) (IsAscii-from_digits cs h.1)

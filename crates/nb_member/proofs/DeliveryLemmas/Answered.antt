@@ -8,7 +8,7 @@ use Rattle.nb_datagram.specs.declared.key.Key.{Key}
 use Rattle.nb_datagram.specs.declared.packet.ErrorPacket.{ErrorPacket}
 use Rattle.nb_datagram.specs.Fragment.{DatagramParts, FragmentParts}
 use Rattle.nb_entries.specs.declared.change.Change.TheVariants as change
-use Rattle.nb_entries.specs.Change.{Change}
+use Rattle.nb_entries.specs.Change.{Change, whole_by as made_whole}
 use Rattle.nb_table.specs.Change.{IsChange}
 use Rattle.nb_table.specs.Contents.{Contents, newly_whole, datagram_at}
 use Rattle.nb_entries.specs.Entry.{EntryValue}
@@ -23,32 +23,17 @@ use Rattle.nb_member.specs.Deliveries.{delivery_in, error_in, made_by, errors_by
 use Rattle.nb_member.specs.Hearing.{hears, unheard}
 use Rattle.nb_member.specs.Events.{Saying, came, refused, another, clock}
 use Rattle.nb_member.specs.Live.{Timed, table_from, is_full, live_after}
+use Rattle.nb_entries.specs.Shared.WholeLemmas.{newly_none, newly_same}
 
 -- ---- what becomes whole
-
--- what there is after is new only if there was nothing before
-none_newly : {X : Type 0} (o : Option X) → newly o None ≡ None
-none_newly None = refl
-none_newly (Some x) = refl
-
-same_newly : {X : Type 0} (o : Option X) → newly o o ≡ None
-same_newly None = refl
-same_newly (Some x) = refl
-
--- what a change made whole
-abbrev pub made_whole : Change → Option DatagramParts
-made_whole change.Spoilt = None
-made_whole (change.Whole d) = Some d
-made_whole change.Same = None
-made_whole change.Grown = None
 
 whole_by : (a b : Contents) (k : Key) (c : Change) → IsChange a b k c → newly_whole a b k ≡ made_whole c
 whole_by a b k change.Spoilt h =
     ap (λ (o : Option EntryValue). newly (datagram_at a k) (option_and_then (datagram_of k) o)) h.spoilt
-    ∙ none_newly (datagram_at a k)
+    ∙ newly_none (datagram_at a k)
 whole_by a b k (change.Whole d) h = h
 whole_by a b k change.Same h =
-    ap (λ (t : Contents). newly_whole a t k) h ∙ same_newly (datagram_at a k)
+    ap (λ (t : Contents). newly_whole a t k) h ∙ newly_same (datagram_at a k)
 whole_by a b k change.Grown h = h.not_whole
 
 -- ---- what is handed out
@@ -93,7 +78,7 @@ full_makes_none : (settings : Settings) (L : List Timed) (moment : ℕ) (f : Fra
     → newly_whole (table_from L) (table_from (live_after settings L (came moment f))) f.key ≡ None
 full_makes_none settings L moment f full =
     ap (λ (M : List Timed). newly_whole (table_from L) (table_from M) f.key) (live_same settings L moment f full)
-    ∙ same_newly (datagram_at (table_from L) f.key)
+    ∙ newly_same (datagram_at (table_from L) f.key)
 
 came_delivers : (settings : Settings) (names : List NetbiosName) (L : List Timed) (moment : ℕ) (f : FragmentParts)
     (result : Result Outcome MemberFault) → AnswersFragment settings names L (came moment f) f result

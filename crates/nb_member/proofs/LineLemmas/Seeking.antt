@@ -8,7 +8,7 @@ use Rattle.nb_names.specs.Counted.{Counts}
 use Rattle.nb_member.specs.declared.line_reading.First.TheVariants as first
 use Rattle.nb_member.specs.declared.line_read_fault.LineReadFault.{LineReadFault}
 use Rattle.nb_member.specs.declared.line_read_fault.LineReadFault.TheVariants.{Read, TooLong, NoMemory}
-use Rattle.nb_member.specs.declared.line_room.standing.Standing.TheVariants as standing
+use Rattle.nb_member.specs.declared.line_room.Standing.TheVariants as standing
 use Rattle.nb_names.specs.Devices.{GrowTo}
 use Rattle.nb_member.specs.Code.LineSteps.{IsFeedAt}
 use Rattle.nb_member.specs.declared.limits.TheConstants.{MAX_LINE, MAX_READ}

@@ -11,7 +11,7 @@ use Rattle.nb_table.specs.Limits.{TableValue}
 use Rattle.nb_entries.specs.Shared.MapsLemmas.{one_key}
 use Rattle.nb_table.specs.Shared.TableLemmas.{same_table}
 use Rattle.std.proofs.lemmas.Bool.{false≢true}
-use Rattle.nb_member.proofs.LiveLemmas.KeyCounts.{fewer_keys}
+use Rattle.nb_member.proofs.LiveLemmas.{fewer_keys}
 use Rattle.nb_member.proofs.MemberLemmas.Timers.{none_is}
 use Rattle.nb_member.specs.Live.{is_over}
 use Rattle.nb_member.specs.Member.{Moments, lasts}

@@ -2,7 +2,7 @@
 use Rattle.std.proofs.Common.{◌≡◌, ℕ, ◌≤◌, Bool, true, false, not, ◌&&◌, ◌||◌, inl, inr, cond, List, [], ◌∷◌, ◌++◌, refl, sym, ap, ◌∙◌, arith, Option, Some, None}
 use Rattle.std.specs.Prelude.{filter, nat_le, is_some}
 use Rattle.std.specs.FinMap as maps
-use Rattle.std.proofs.lemmas.Bool.{cases_Bool, false≢true, leb-true, le-leb}
+use Rattle.std.proofs.lemmas.Bool.{cases_Bool, false≢true, leb-true, le-leb, or_left, or_right}
 use Rattle.nb_datagram.specs.declared.key.Key.{Key}
 use Rattle.nb_datagram.specs.Key.{same_key, key_cmp_total, same_key_decides}
 use Rattle.nb_datagram.specs.Fragment.{FragmentParts, Core, core_of}
@@ -13,7 +13,7 @@ use Rattle.nb_table.specs.Join.{join}
 use Rattle.nb_table.specs.Limits.{held_keys, of_source, Limits, IsFull, IsFullSource}
 use Rattle.nb_member.specs.declared.settings.Settings.{Settings}
 use Rattle.nb_member.proofs.MemberLemmas.DroppedKeys.{get-lasting}
-use Rattle.nb_member.proofs.LiveLemmas.LiveTables.{cores-append, cores-filter}
+use Rattle.nb_member.proofs.LiveLemmas.{cores-append, cores-filter}
 use Rattle.nb_member.specs.Events.{clock, limits_of}
 use Rattle.nb_member.specs.Live.{Timed, cores, table_from, start_at, is_over, outlives, is_full, is_source_full, live_after}
 use Rattle.nb_member.specs.Member.{MemberValue, with_timed, StandsOver, Moments, begun, lasts, after_fragment, after_clock}
@@ -27,14 +27,6 @@ full_from (Some x) b h full = absurd (cc h)
 full_to : (o : Option EntryValue) (b : Bool) → (not (is_some o) && b) ≡ true → (o ≡ None) × (b ≡ true)
 full_to None b h = (refl, h)
 full_to (Some x) b h = absurd (false≢true h)
-
-or_left : (a b : Bool) → a ≡ true → (a || b) ≡ true
-or_left true b h = refl
-or_left false b h = absurd (false≢true h)
-
-or_right : (a b : Bool) → b ≡ true → (a || b) ≡ true
-or_right true b h = refl
-or_right false b h = h
 
 or_second : (a b : Bool) → (a || b) ≡ true → a ≡ false → b ≡ true
 or_second true b h none = absurd (false≢true (sym none))

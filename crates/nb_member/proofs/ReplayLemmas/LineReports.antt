@@ -18,7 +18,7 @@ use Rattle.nb_table.specs.declared.fault.TableFault.TheVariants.{NoMemory}
 use Rattle.nb_telling.specs.Telling.{Field}
 use Rattle.nb_telling.specs.Texts.{field_text, text_of}
 use Rattle.nb_telling.proofs.FoldLemmas.{appended}
-use Rattle.nb_member.proofs.FieldTexts.{dropped_same, result_same}
+use Rattle.nb_member.proofs.FieldLemmas.{dropped_same, result_same}
 use Rattle.nb_member.proofs.TakingLemmas.Payloads.{refused_keeps}
 use Rattle.nb_member.specs.Taking.{Does, Takes, TakesFragment, fragment, error, query, no_packet}
 use Rattle.nb_member.specs.Code.Members.{KeepsStation}

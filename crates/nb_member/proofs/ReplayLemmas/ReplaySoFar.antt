@@ -19,14 +19,9 @@ use Rattle.nb_member.specs.Member.{MemberValue, StandsOver, Stands}
 use Rattle.nb_member.specs.Report.{ReportOfLine, nothing, passed, taken, tick, ReportOf}
 use Rattle.nb_member.specs.Replaying.{Replayed}
 use Rattle.nb_member.specs.LineTaking.{TakesEach, none, more}
+use Rattle.nb_member.proofs.RunLemmas.RunSoFar.{say-append}
 
 -- ---- sayings
-
--- events in two parts say what the parts say
-pub say_both : (settings : Settings) (E F : List Event) (S T : List Saying) → Say settings E S → Say settings F T
-    → Say settings (E ++ F) (S ++ T)
-say_both settings _ F _ T saying.none q = q
-say_both settings _ F _ T (saying.more e s E S p ps) q = saying.more e s (E ++ F) (S ++ T) p (say_both settings E F S T ps q)
 
 -- what a line's events say, after which these are live
 pub record LineSays (settings : Settings) (L : List Timed) (events : List Event) (after : List Timed) : Type 0 where
@@ -88,7 +83,7 @@ with_line comments m L done l before new newer t kept number at text a =
     record {
       events = t.events ++ a.events;
       sayings = t.sayings ++ said.sayings;
-      said = say_both m.settings t.events a.events t.sayings said.sayings t.said said.said;
+      said = say-append m.settings t.events a.events t.sayings said.sayings t.said said.said;
       stands = subst (λ (ls : List Timed). StandsOver newer ls) (sym lives) a.stands;
       reported = λ more others report r.
           rw (append_assoc done (l ∷ []) more, append_assoc t.events a.events others, append_assoc before text report)
@@ -117,7 +112,7 @@ replayed comments m H s done text new t same = record {
   stands = record {
     sayings = s.sayings ++ t.sayings;
     said = subst (λ (x : Settings). Say x (H ++ t.events) (s.sayings ++ t.sayings)) (sym same)
-        (say_both m.settings H t.events s.sayings t.sayings s.said t.said);
+        (say-append m.settings H t.events s.sayings t.sayings s.said t.said);
     over = subst (λ (x : Settings). StandsOver new (live x (s.sayings ++ t.sayings))) (sym same)
         (subst (λ (ls : List Timed). StandsOver new ls) (sym (live_both m.settings [] s.sayings t.sayings)) t.stands);
   };

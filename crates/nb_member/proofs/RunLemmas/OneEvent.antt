@@ -21,7 +21,7 @@ use Rattle.nb_member.specs.declared.run_report.RunStop.TheVariants.{Full, FullSo
 use Rattle.nb_member.specs.declared.settings.Settings.{Settings}
 use Rattle.nb_member.proofs.TakingLemmas.FullKeys.{stops_at, meets_none}
 use Rattle.nb_member.proofs.RunLemmas.RunSoFar.{RanOver, ran_none, ran_more, runs_from}
-use Rattle.nb_member.proofs.EventLemmas.OneSaying.{SaysOf, of_fragment, of_invalid, of_fault, of_error, of_query, IsInvalid, says_by}
+use Rattle.nb_member.proofs.EventLemmas.{SaysOf, of_fragment, of_invalid, of_fault, of_error, of_query, IsInvalid, says_by}
 use Rattle.nb_member.specs.Code.Members.{KeepsStation, BeginsFull}
 use Rattle.nb_member.specs.Taking.{Answers, Does, Takes}
 use Rattle.nb_member.specs.Deliveries.{delivery_in, error_in, made_by, errors_by}

@@ -13,7 +13,7 @@ use Rattle.nb_table.specs.Limits.{Limits}
 use Rattle.nb_member.specs.declared.event.Event.TheVariants.{Packet}
 use Rattle.nb_member.specs.declared.settings.Settings.{Settings}
 use Rattle.nb_member.specs.Events as saying
-use Rattle.nb_member.proofs.EventLemmas.OneSaying.{SaysOf, of_fragment, of_invalid, of_fault, of_error, of_query, says_by}
+use Rattle.nb_member.proofs.EventLemmas.{SaysOf, of_fragment, of_invalid, of_fault, of_error, of_query, says_by}
 use Rattle.nb_member.proofs.MemberLemmas.LiveAfter.{full_is, source_full_is, is_full_is, is_source_full_is, source_room_is, is_source_room}
 use Rattle.nb_member.proofs.TakingLemmas.Payloads.{valid_is}
 use Rattle.nb_member.specs.Events.{Saying, came, limits_of, Says}

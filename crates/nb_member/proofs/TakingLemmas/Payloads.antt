@@ -18,7 +18,7 @@ use Rattle.nb_member.specs.declared.outcome.Outcome.{Outcome}
 use Rattle.nb_member.specs.declared.settings.Settings.{Settings}
 use Rattle.nb_member.specs.Events as saying
 use Rattle.nb_member.specs.Taking as taking
-use Rattle.nb_member.proofs.EventLemmas.OneSaying.{PacketsKnown, one_saying}
+use Rattle.nb_member.proofs.EventLemmas.{PacketsKnown, one_saying}
 use Rattle.nb_member.proofs.MemberLemmas.LiveAfter.{full_is, source_full_is, is_full_is, is_source_full_is, is_source_room, stands_more}
 use Rattle.nb_member.specs.Taking.{Answers, Does, IsTaken, TakesFragment, Takes}
 use Rattle.nb_member.specs.Events.{Saying, came, refused, another, limits_of, Says}

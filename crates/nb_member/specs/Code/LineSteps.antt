@@ -10,8 +10,8 @@ use Rattle.nb_member.specs.declared.line_reading.First.{First}
 use Rattle.nb_member.specs.declared.line_reading.First.TheVariants.{Line, TooLong, Open}
 use Rattle.nb_member.specs.declared.line_read_fault.LineReadFault.{LineReadFault}
 use Rattle.nb_member.specs.declared.line_read_fault.LineReadFault.TheVariants as fault
-use Rattle.nb_member.specs.declared.line_room.standing.Standing.{Standing}
-use Rattle.nb_member.specs.declared.line_room.standing.Standing.TheVariants as standing
+use Rattle.nb_member.specs.declared.line_room.Standing.{Standing}
+use Rattle.nb_member.specs.declared.line_room.Standing.TheVariants as standing
 use Rattle.nb_member.specs.LineReading.{RoomValue, IsOpen, IsTooLong}
 
 -- ---- rooms

@@ -13,8 +13,8 @@ use Rattle.nb_names.specs.Lines.{IsLine, CutInto, rest, line, with_rest}
 use Rattle.nb_member.specs.declared.limits.TheConstants.{MAX_LINE}
 use Rattle.nb_member.specs.declared.line_read_fault.LineReadFault.{LineReadFault}
 use Rattle.nb_member.specs.declared.line_read_fault.LineReadFault.TheVariants.{Read}
-use Rattle.nb_member.specs.declared.line_room.standing.Standing.{Standing}
-use Rattle.nb_member.specs.declared.line_room.standing.Standing.TheVariants as standing
+use Rattle.nb_member.specs.declared.line_room.Standing.{Standing}
+use Rattle.nb_member.specs.declared.line_room.Standing.TheVariants as standing
 use Rattle.nb_member.specs.Capture.{IsMalformed}
 use Rattle.nb_member.specs.LineReading.{RoomValue, IsTooLong, nothing_within, ReadsLine, Repeats, lent_line}
 

@@ -7,7 +7,7 @@ ghost use Rattle.nb_telling.specs.Telling.{Grows};
 ghost use Rattle.nb_member.specs.ListingFields.{further_range, key_fields, known_fields, more_fields, outline_fields, places_fields, ranges_fields};
 
 use crate::keys::{DESTINATION, END, HELD, KIND, LISTED, MORE, RUNS, SOURCE, STATE};
-use crate::report::outcomes::tell_parts;
+use crate::report::tell_parts;
 use nb_datagram::{Key, kind_name};
 use nb_names::NoMemory;
 use nb_table::{Outline, Ranges, Table};

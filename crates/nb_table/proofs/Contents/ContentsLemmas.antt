@@ -1,9 +1,9 @@
 -- What a list of fragments says of a key, one fragment at a time: the entry of a fragment in front of
 -- others is the join of its own facts with the entry of the others.
-use Rattle.std.proofs.Common.{◌≡◌, ◌++◌, ◌||◌, ◌&&◌, ℕ, Bool, true, false, cond, not, List, [], ◌∷◌, Option, Some, refl, sym, ◌∙◌, ap, subst, ◌⊎◌, inl, inr, zero, suc, Contains, None, arith, reverse}
+use Rattle.std.proofs.Common.{◌≡◌, ◌++◌, ◌||◌, ◌&&◌, ℕ, Bool, true, false, cond, not, List, [], ◌∷◌, Option, Some, refl, sym, ◌∙◌, ap, subst, ◌⊎◌, inl, inr, zero, suc, Contains, None, arith}
 use Rattle.std.proofs.lemmas.List.Elements.{filter-append}
 use Rattle.std.specs.Ordering.{nat_cmp}
-use Rattle.std.specs.Cmp.{nat_cmp_total, both_ways}
+use Rattle.std.specs.Cmp.{nat_cmp_total}
 use Rattle.std.specs.List.{list_any}
 use Rattle.std.specs.FinMap as maps
 use Rattle.nb_datagram.specs.Key.{same_key, key_cmp_total, key_cmp_exact, same_key_decides}
@@ -13,17 +13,15 @@ use Rattle.nb_entries.specs.declared.slot.Slot.TheVariants.{Spoilt, Held}
 use Rattle.nb_entries.specs.Cover.{CoverFacts, covers_together, placed, cover_of}
 use Rattle.nb_entries.specs.Entry.{EntryFacts, EntryValue, facts_agree, facts_together, join_entry, facts_of, IsEntry}
 use Rattle.nb_table.specs.Conflict.{conflicts, some_conflict, with_key, keyed}
-use Rattle.nb_table.specs.Contents.{first_byte, all_placed, cover_in, facts_in, entry_in, entry_at, table_of, Contents}
-use Rattle.nb_table.specs.Join.{join, IsTable, SameCores, without_key}
+use Rattle.nb_table.specs.Contents.{first_byte, all_placed, cover_in, facts_in, entry_in, entry_at, table_of}
+use Rattle.nb_table.specs.Join.{join, IsTable, SameCores}
 use Rattle.nb_entries.specs.Shared.MapsLemmas.{at-assoc, joined-empty}
 use Rattle.nb_entries.specs.Shared.SlotLemmas.{agree_union}
 use Rattle.nb_entries.specs.Shared.CoverLemmas.{same_cover, in_union}
 use Rattle.nb_entries.specs.Shared.PlacedLemmas.{find-placed, find-append, cover_of_formed}
 use Rattle.nb_entries.specs.Shared.EntryLemmas.{facts_unite, join_entry-assoc}
-use Rattle.nb_table.specs.Shared.TableLemmas.{same_table, get-join, at_formed, join-comm, join-assoc, join-idem}
-use Rattle.nb_table.specs.Shared.FragmentLemmas.{facts_in-one, or_left, or_right, get-table_of}
+use Rattle.nb_table.specs.Shared.TableLemmas.{same_table, get-join, at_formed, join-comm, join-assoc, join-idem, facts_in-one, or_left, or_right, get-table_of}
 use Rattle.std.proofs.lemmas.Bool.{true≢false}
-use Rattle.std.proofs.lemmas.List.{reverse-append}
 use Rattle.nb_datagram.specs.declared.key.Key.{Key}
 
 -- ---- the cover of fragments
@@ -187,7 +185,7 @@ same_cores-same_table L M h =
     ∙ join-comm (table_of M) (table_of L)
     ∙ all_absorbed L M (λ f. (h f).0)
 
--- ---- turned round, and repeated
+-- ---- turned round
 
 pub in_append : {X : Type 0} (xs ys : List X) (x : X) → Contains (xs ++ ys) x → Contains xs x ⊎ Contains ys x
 in_append [] ys x c = inr c
@@ -213,29 +211,6 @@ turned_cores L M f = (turn L M, turn M L)
   where
     turn : (xs ys : List Core) → Contains (xs ++ ys) f → Contains (ys ++ xs) f
     turn xs ys c = elim (in_append xs ys f c) [ inl h ↦ append_behind ys xs f h | inr h ↦ append_front ys xs f h ]
-
-pub repeated_cores : (L : List Core) → SameCores (L ++ L) L
-repeated_cores L f = (λ c. elim (in_append L L f c) [ inl h ↦ h | inr h ↦ h ], append_front L L f)
-
-reverse-cons : (f : Core) (L : List Core) → reverse (f ∷ L) ≡ reverse L ++ f ∷ []
-reverse-cons f L = reverse-append (f ∷ []) L
-
-in_reverse : (L : List Core) (f : Core) → Contains (reverse L) f → Contains L f
-in_reverse [] f c = c
-in_reverse (g ∷ gs) f c = elim (in_append (reverse gs) (g ∷ []) f (subst (λ (M : List Core). Contains M f) (reverse-cons g gs) c)) [
-  | inl h ↦ in_rest g gs f (in_reverse gs f h)
-  | inr h ↦ append_front (g ∷ []) gs f h
-]
-
-reverse_in : (L : List Core) (f : Core) → Contains L f → Contains (reverse L) f
-reverse_in [] f c = c
-reverse_in (g ∷ gs) f c = subst (λ (M : List Core). Contains M f) (sym (reverse-cons g gs)) (elim (in_cons g gs f c) [
-  | inl e ↦ append_behind (reverse gs) (g ∷ []) f (subst (Contains (g ∷ [])) e (in_first g []))
-  | inr d ↦ append_front (reverse gs) (g ∷ []) f (reverse_in gs f d)
-])
-
-pub reversed_cores : (L : List Core) → SameCores (reverse L) L
-reversed_cores L f = (in_reverse L f, reverse_in L f)
 
 -- ---- the keys that pass a test
 
@@ -269,20 +244,3 @@ retain-table_of L p = same_table _ _ (λ q.
     ∙ sym (chosen (p q) (with_key q L))
     ∙ ap entry_in (sym (with-keyed p q L))
     ∙ sym (get-table_of (keyed p L) q))
-
--- a table without a key is the table with the other keys
-pub remove_retains : (t : Contents) (k : Key) → maps.remove t k ≡ maps.retain_keys t (λ q. not (same_key k q))
-remove_retains t k = same_table _ _ (λ q.
-    maps.get-remove key_cmp_total t k q
-    ∙ turned (same_key q k) (same_key k q) (maps.get t q) (both_ways _ _ (swapped q k) (swapped k q))
-    ∙ sym (maps.get-retain_keys t (λ q. not (same_key k q)) q (λ x e. ap (λ j. not (same_key k j)) (sym (key_cmp_exact q x e)))))
-  where
-    swapped : (a b : Key) → same_key a b ≡ true → same_key b a ≡ true
-    swapped a b h = (same_key_decides b a).1 (sym ((same_key_decides a b).0 h))
-
-    turned : (a b : Bool) (o : Option EntryValue) → a ≡ b → cond a None o ≡ cond (not b) o None
-    turned true b o e = ap (λ c. cond (not c) o None) e
-    turned false b o e = ap (λ c. cond (not c) o None) e
-
-pub remove-table_of : (L : List Core) (k : Key) → maps.remove (table_of L) k ≡ table_of (without_key k L)
-remove-table_of L k = remove_retains (table_of L) k ∙ retain-table_of L (λ q. not (same_key k q))

@@ -14,8 +14,7 @@ use Rattle.nb_datagram.specs.declared.key.Key.{Key}
 use Rattle.nb_entries.specs.declared.slot.Slot.TheVariants.{Spoilt, Held}
 use Rattle.nb_entries.specs.Entry.{EntryFacts, EntryValue}
 use Rattle.nb_table.specs.Conflict.{Conflict, overlap, ends, IsSpoilt, some_conflict, with_key}
-use Rattle.nb_table.specs.Shared.TableLemmas.{same_table}
-use Rattle.nb_table.specs.Shared.FragmentLemmas.{get-table_of}
+use Rattle.nb_table.specs.Shared.TableLemmas.{same_table, get-table_of}
 use Rattle.nb_table.proofs.Conflict.{is_spoilt_decides, with_key_in, in_with_key}
 
 -- ---- The first byte at a place, the first end and the greatest promise of a list of fragments, and whose they are.

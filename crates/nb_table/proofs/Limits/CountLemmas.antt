@@ -1,6 +1,6 @@
 -- Counts of the keys of each address, as they are kept: a key more, and a key less.
 use Rattle.std.proofs.Common.{◌≡◌, ◌≢◌, ◌≤◌, ◌<◌, ◌+◌, ◌-◌, ◌==◌, ◌&&◌, ℕ, cond, Bool, true, false, List, filter, length, Option, Some, None, is_none, is_some, unwrap_or, IfSome, refl, sym, ◌∙◌, ap, subst, arith, nat_le}
-use Rattle.std.proofs.lemmas.Bool.{true≢false, leb-true, le-leb, and_from}
+use Rattle.std.proofs.lemmas.Bool.{true≢false, leb-true, le-leb, and_from, and_parts}
 use Rattle.std.proofs.lemmas.Option.{none-some, same_Some}
 use Rattle.std.specs.Prelude.{Decides}
 use Rattle.std.specs.Ordering.{eq_by_cmp}
@@ -18,7 +18,7 @@ use Rattle.nb_datagram.specs.Key.{key_cmp, key_cmp_total, key_cmp_exact}
 use Rattle.std.specs.List.{list_all}
 use Rattle.nb_entries.specs.declared.slot.Slot.TheVariants.{Spoilt, Held}
 use Rattle.nb_table.specs.Merging.{AllShort}
-use Rattle.nb_entries.specs.Shared.MapsLemmas.{and_left, and_right, all_entries_found, all_entries_from}
+use Rattle.nb_entries.specs.Shared.MapsLemmas.{all_entries_found, all_entries_from}
 use Rattle.nb_entries.specs.Shared.CoverLemmas.{bytes_below_decides}
 
 -- ---- addresses
@@ -170,7 +170,7 @@ kept_held None s k v held kept = tt
 kept_held (Some m) s k v held kept = counted_held m s k v (has_some (maps.get s k) held) kept
 
 -- a key that isn't held has no entry
-pub none_at : (o : Option EntryValue) → is_some o ≡ false → o ≡ None
+pub none_at : {X : Type 0} (o : Option X) → is_some o ≡ false → o ≡ None
 none_at None h = refl
 none_at (Some x) h = absurd (true≢false h)
 
@@ -210,10 +210,10 @@ ends_from n (Some k) h = le-leb k n (h k refl)
 short_decides : (n : ℕ) (e : EntryValue) → Decides (is_short n e) (IsShort n e)
 short_decides n Spoilt = (λ _. tt, λ _. refl)
 short_decides n (Held e) = (
-  λ h. (let t1 = and_right _ _ h in record {
-    below = (bytes_below_decides n e.cover.bytes).0 (and_left _ _ h);
-    ends = ends_found n e.cover.end (and_left _ _ t1);
-    promises = ends_found n e.cover.promise (and_right _ _ t1);
+  λ h. (let t1 = (and_parts _ _ h).1 in record {
+    below = (bytes_below_decides n e.cover.bytes).0 (and_parts _ _ h).0;
+    ends = ends_found n e.cover.end (and_parts _ _ t1).0;
+    promises = ends_found n e.cover.promise (and_parts _ _ t1).1;
   }),
   λ h. and_from _ _ ((bytes_below_decides n e.cover.bytes).1 h.below) (and_from _ _ (ends_from n e.cover.end h.ends) (ends_from n e.cover.promise h.promises)),
 )

@@ -110,7 +110,7 @@ kept_remove s p k =
     step false true a = refl
     step false false a = refl
 
-fewer : (b : Bool) (m n : ℕ) → m ≡ cond b (n - 1) n → m ≤ n
+pub fewer : (b : Bool) (m n : ℕ) → m ≡ cond b (n - 1) n → m ≤ n
 fewer true m n e = omega (arith, e)
 fewer false m n e = omega (arith, e)
 

@@ -1,6 +1,6 @@
 -- Which of the two limits on keys a refusal reports, and that the key it names is the least that finds no room.
 use Rattle.std.proofs.Common.{◌≡◌, ◌≢◌, ◌<◌, ◌≤◌, ◌-◌, ◌+◌, ◌&&◌, inl, inr, ℕ, suc, zero, cond, Bool, true, false, List, [], ◌∷◌, filter, map, length, slice_get, is_none, Option, Some, None, refl, sym, ◌∙◌, ap, subst, arith}
-use Rattle.std.proofs.lemmas.Bool.{cases_lt, or_left, or_right}
+use Rattle.std.proofs.lemmas.Bool.{cases_lt, or_left, or_right, and_parts}
 use Rattle.std.proofs.lemmas.Option.{none-some, same_Some}
 use Rattle.std.specs.Prelude.{T}
 use Rattle.std.specs.declared.cmp.Ordering.{Ordering}
@@ -26,9 +26,8 @@ use Rattle.nb_table.specs.Limits.{FewOfEach, every_key, held_keys, of_source, Li
 use Rattle.nb_table.specs.Saved.{IsReadAs, LoadFails, ill_formed, full}
 use Rattle.nb_table.specs.Merging.{IsRefused, IsUnfitSource, first_unfit, new_keys}
 use Rattle.nb_table.specs.Refusals.{IsNew, below, is_lesser}
-use Rattle.nb_table.specs.Shared.FragmentLemmas.{join_one}
-use Rattle.nb_table.specs.Shared.TableLemmas.{entries_kept, keys_kept}
-use Rattle.nb_entries.specs.Shared.MapsLemmas.{T_left, T_right, and_left, and_right, tied_self}
+use Rattle.nb_table.specs.Shared.TableLemmas.{join_one, entries_kept, keys_kept}
+use Rattle.nb_entries.specs.Shared.MapsLemmas.{T_left, T_right, tied_self}
 use Rattle.nb_table.proofs.Limits.GroupLemmas.{few_insert, few_join, filter_at_most, fit_held, held_every, held_join, source_decides}
 use Rattle.nb_table.proofs.Limits.SourceLemmas.{is_less}
 use Rattle.nb_table.proofs.Limits.UnfitLemmas.{found_kept}
@@ -157,7 +156,7 @@ pub unfit_new : (n : ℕ) (p : Key → Bool) (s t : Contents) (k : Key) → firs
 unfit_new n p s t k h =
     let found = found_kept (λ q. Unit {0}) (λ q. p q && is_none (maps.get s q)) (maps.entries t) (all_units (maps.entries t)) (n - held_keys p s) k h in
     record {
-      lacks = none_is (maps.get s k) (and_right _ _ found.1);
+      lacks = none_is (maps.get s k) (and_parts _ _ found.1).1;
       held = maps.contains_key-keys t k ∙ is_there (λ q. p q && is_none (maps.get s q)) (maps.keys t) (n - held_keys p s) k h;
     }
 
@@ -207,7 +206,7 @@ source_others n s t k few u ip = step (first_unfit n (of_source ip) s t) refl
         omega (arith, size, all, most, part)
     step (Some q) h =
         let found = found_kept (λ j. Unit {0}) (λ j. of_source ip j && is_none (maps.get s j)) (maps.entries t) (all_units (maps.entries t)) (n - held_keys (of_source ip) s) q h in
-        let at : q.ip ≡ ip = (source_decides ip q).0 (and_left _ _ found.1) in
+        let at : q.ip ≡ ip = (source_decides ip q).0 (and_parts _ _ found.1).0 in
         let own = ap (λ (i : List ℕ). first_unfit n (of_source i) s t) at ∙ h in
         let fewer = narrower (is_lesser k) (is_lesser q) (lesser_too k q (u.least q own)) (new_keys (of_source ip) s t) in
         let before = place_is (λ (j : Key). of_source ip j && is_none (maps.get s j)) (maps.entries t) (maps.entries_sorted t) (n - held_keys (of_source ip) s) q h in

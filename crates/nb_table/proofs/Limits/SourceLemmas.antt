@@ -1,6 +1,6 @@
 -- The keys of one address stand together in the order of keys, and are counted from the first one on.
-use Rattle.std.proofs.Common.{rules, ◌≡◌, ◌≢◌, ◌+◌, ◌-◌, ◌&&◌, ℕ, suc, zero, cond, Bool, true, false, not, List, [], ◌∷◌, filter, map, length, slice_get, Some, None, refl, sym, ◌∙◌, ap, subst, arith}
-use Rattle.std.proofs.lemmas.Bool.{true≢false}
+use Rattle.std.proofs.Common.{rules, ◌≡◌, ◌≢◌, ◌+◌, ◌-◌, ◌&&◌, ℕ, suc, zero, cond, Bool, true, false, List, [], ◌∷◌, filter, map, length, slice_get, Some, None, refl, sym, ◌∙◌, ap, subst, arith}
+use Rattle.std.proofs.lemmas.Bool.{true≢false, and_parts}
 use Rattle.std.specs.Prelude.{T}
 use Rattle.std.specs.declared.cmp.Ordering.{Ordering}
 use Rattle.std.specs.declared.cmp.Ordering.TheVariants.{Less, Equal, Greater}
@@ -8,7 +8,6 @@ use Rattle.std.specs.declared.ops.Bound.TheVariants.{Included, Unbounded}
 use Rattle.std.specs.Ordering.{nat_cmp, ordering_then, is_le, is_lt}
 use Rattle.std.specs.Cmp.{tied_itself}
 use Rattle.std.proofs.lemmas.Cmp.{nat_list_cmp_total}
-use Rattle.std.specs.Cmp.Lexicographic.{slice_cmp}
 use Rattle.std.specs.List.{AllByRecursion}
 use Rattle.std.specs.BTreeMap.Range.{entries_between, range_contains}
 use Rattle.std.specs.FinMap.{is_sorted, slice_cmp-IsAntisymmetric, nat_cmp-IsAntisymmetric}
@@ -16,14 +15,12 @@ use Rattle.std.specs.FinMap.Entries.{below_all, is_sorted-where_key}
 use Rattle.nb_datagram.specs.declared.key.Key.{Key}
 use Rattle.nb_datagram.specs.Key.{key_cmp}
 use Rattle.nb_table.specs.Limits.{of_source}
-use Rattle.nb_entries.specs.Shared.MapsLemmas.{T_left, T_right, and_left}
+use Rattle.nb_entries.specs.Shared.MapsLemmas.{T_left, T_right}
 use Rattle.nb_table.proofs.Limits.GroupLemmas.{source_decides}
 use Rattle.nb_table.specs.Shared.TableLemmas.{keys_kept}
+use Rattle.nb_table.specs.Code.SourceCounts.{ip_cmp}
 
 -- ---- addresses in order
-
-abbrev pub ip_cmp : List ℕ → List ℕ → Ordering
-ip_cmp = slice_cmp nat_cmp
 
 then_le : (r s : Ordering) → ordering_then r s ≡ Less → is_le r ≡ true
 then_le Less s h = refl
@@ -183,17 +180,9 @@ onward_all ip es =
 pub onward_new : {X : Type 0} (ip : List ℕ) (h : Key → Bool) (es : List (Key × X)) → filter (λ k. of_source ip k && h k) (map (λ e. e.0) (onward ip es)) ≡ filter (λ k. of_source ip k && h k) (map (λ e. e.0) es)
 onward_new ip h es =
     ap (filter (λ k. of_source ip k && h k)) (keys_kept (range_contains key_cmp (Included (first ip)) Unbounded) es)
-    ∙ filter_inside (λ k. of_source ip k && h k) (range_contains key_cmp (Included (first ip)) Unbounded) (λ k e. of_contained ip k (and_left _ _ e)) (map (λ e. e.0) es)
+    ∙ filter_inside (λ k. of_source ip k && h k) (range_contains key_cmp (Included (first ip)) Unbounded) (λ k e. of_contained ip k (and_parts _ _ e).0) (map (λ e. e.0) es)
 
 -- ---- turns of a loop over them
-
-pub not_true : (b : Bool) → not b ≡ true → b ≡ false
-not_true true h = sym h
-not_true false h = refl
-
-pub not_false : (b : Bool) → not b ≡ false → b ≡ true
-not_false true h = refl
-not_false false h = sym h
 
 -- what is left of the entries from the address on, at its first one
 pub record Left {X : Type 0} (ip : List ℕ) (es : List (Key × X)) : Type 0 where

@@ -17,13 +17,11 @@ use Rattle.nb_entries.specs.Entry.{EntryValue}
 use Rattle.nb_table.specs.Contents.{Contents}
 use Rattle.nb_table.specs.Limits.{of_source, held_keys}
 use Rattle.nb_table.specs.Merging.{first_unfit, new_keys, SourcesFit, IsUnfitSource}
-use Rattle.nb_entries.specs.Shared.MapsLemmas.{T_left, T_right, and_left}
+use Rattle.nb_entries.specs.Shared.MapsLemmas.{T_left, T_right, all_append}
 use Rattle.nb_table.proofs.Limits.GroupLemmas.{held_at_most, filter_at_most, source_decides}
-use Rattle.nb_table.proofs.Limits.SourceLemmas.{ip_cmp, is_less, lower_ip, lower_key, strictly}
-
-pub all_append : {X : Type 0} (P : X → Type 0) (xs ys : List X) → AllByRecursion P xs → AllByRecursion P ys → AllByRecursion P (xs ++ ys)
-all_append P [] ys h g = g
-all_append P (x ∷ xs) ys h g = (h.0, all_append P xs ys h.1 g)
+use Rattle.nb_table.proofs.Limits.SourceLemmas.{is_less, lower_ip, lower_key, strictly}
+use Rattle.std.proofs.lemmas.Bool.{and_parts}
+use Rattle.nb_table.specs.Code.SourceCounts.{ip_cmp}
 
 -- what is found among those that pass a test is one of them, and passes
 pub found_kept : {X : Type 0} (P : Key → Type 0) (h : Key → Bool) (es : List (Key × X)) → AllByRecursion (λ e. P e.0) es → (i : ℕ) (q : Key) → slice_get (filter h (map (λ e. e.0) es)) i ≡ Some q → P q × (h q ≡ true)
@@ -46,7 +44,7 @@ same_unfit n s t a b e = ap (λ (ip : List ℕ). first_unfit n (of_source ip) s 
 unfit_ip : (n : ℕ) (s t : Contents) (a k : Key) → unfit n s t a ≡ Some k → k.ip ≡ a.ip
 unfit_ip n s t a k h =
     let found = found_kept (λ q. Unit {0}) (λ q. of_source a.ip q && is_none (maps.get s q)) (maps.entries t) (all_units (maps.entries t)) (n - held_keys (of_source a.ip) s) k h in
-    (source_decides a.ip k).0 (and_left _ _ found.1)
+    (source_decides a.ip k).0 (and_parts _ _ found.1).0
   where
     all_units : (es : List (Key × EntryValue)) → AllByRecursion (λ e. Unit {0}) es
     all_units [] = tt
@@ -60,7 +58,7 @@ all_fit n s t all ip = step (first_unfit n (of_source ip) s t) refl
     step None h = refl
     step (Some q) h =
         let found = found_kept (λ k. unfit n s t k ≡ None) (λ k. of_source ip k && is_none (maps.get s k)) (maps.entries t) all (n - held_keys (of_source ip) s) q h in
-        let same : q.ip ≡ ip = (source_decides ip q).0 (and_left _ _ found.1) in
+        let same : q.ip ≡ ip = (source_decides ip q).0 (and_parts _ _ found.1).0 in
         absurd (none-some q (sym found.0 ∙ ap (λ (i : List ℕ). first_unfit n (of_source i) s t) same ∙ h))
 
 -- the key that doesn't fit, of the first address of which there is one, is the least

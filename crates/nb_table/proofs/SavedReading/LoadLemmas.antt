@@ -1,6 +1,6 @@
 -- What a judged input comes to, and the table that is kept of it.
 use Rattle.std.proofs.Common.{◌≡◌, ◌<◌, ◌≤◌, ◌⊎◌, inl, inr, ℕ, List, map, filter, length, Bool, true, false, None, Ok, Err, refl, sym, ap, subst, ◌∙◌, arith, ◌≢◌, ◌+◌, ◌-◌, ◌&&◌, ◌++◌, nat_lt, cond, [], ◌∷◌, Option, Some}
-use Rattle.std.proofs.lemmas.Bool.{true≢false, ltb-true, lt-ltb, and_from}
+use Rattle.std.proofs.lemmas.Bool.{true≢false, ltb-true, lt-ltb, and_from, and_parts}
 use Rattle.std.specs.Prelude.{Decides, IsTrue}
 use Rattle.std.specs.FinMap as maps
 use Rattle.nb_datagram.specs.declared.key.Key.{Key}
@@ -24,9 +24,9 @@ use Rattle.std.proofs.lemmas.Cmp.{nat_list_cmp_total}
 use Rattle.std.specs.Cmp.{tied_itself}
 use Rattle.std.specs.List.{AllByRecursion}
 use Rattle.nb_table.specs.declared.saved.Sources.{Sources}
-use Rattle.nb_entries.specs.Shared.MapsLemmas.{and_left, and_right}
 use Rattle.nb_table.proofs.Limits.GroupLemmas.{source_decides}
-use Rattle.nb_table.proofs.Limits.SourceLemmas.{ip_cmp, lower_ip, same_ip, strictly, le_both, itself_le}
+use Rattle.nb_table.proofs.Limits.SourceLemmas.{lower_ip, same_ip, strictly, le_both, itself_le}
+use Rattle.nb_table.specs.Code.SourceCounts.{ip_cmp}
 
 -- a judged input has no fault
 pub judged_sound : (input : List ℕ) (limit most count : ℕ) (short few : Bool) → IsJudged input limit most count short few → (f : LoadFault) → IsRead input (Err f) → ⊥
@@ -214,7 +214,7 @@ sources_turn n ks before k s r room so after is few left = record {
     few_then : IsTrue r.are_few → AreFew n (ks ++ k ∷ [])
     few_then h ip =
         let both = sym few ∙ h in
-        at_ip ip (of_source ip k) refl (so.few.0 (and_left s.are_few (nat_lt 0 room) both) ip) (ltb-true 0 room (and_right s.are_few (nat_lt 0 room) both))
+        at_ip ip (of_source ip k) refl (so.few.0 (and_parts s.are_few (nat_lt 0 room) both).0 ip) (ltb-true 0 room (and_parts s.are_few (nat_lt 0 room) both).1)
 
     before_few : AreFew n (ks ++ k ∷ []) → AreFew n ks
     before_few h ip = let more = count_more ip ks k in let most = h ip in omega (arith, more, most)

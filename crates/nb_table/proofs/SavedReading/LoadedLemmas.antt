@@ -19,14 +19,13 @@ use Rattle.nb_entries.specs.SavedReading.{gives, goes_on, whole, good, Field, is
 use Rattle.nb_entries.specs.declared.slot.Slot.TheVariants.{Held, Spoilt}
 use Rattle.nb_entries.specs.Maps.{OnHeld}
 use Rattle.nb_names.specs.Labels.{StandsAt, NumberAt}
-use Rattle.nb_entries.specs.Shared.MapsLemmas.{sorted_entries, T_left, T_right}
+use Rattle.nb_entries.specs.Shared.MapsLemmas.{sorted_entries, T_left, T_right, T_both}
 use Rattle.nb_table.proofs.Limits.CountLemmas.{all_short_decides}
 use Rattle.nb_table.proofs.SavedReading.FoundLemmas.{key_found, entries_found, read_found, magic_size}
 use Rattle.nb_entries.specs.Shared.RowLemmas.{entry_formed, entry_plain}
 use Rattle.std.proofs.lemmas.Option.{none-some, same_Some}
-use Rattle.std.specs.declared.cmp.Ordering.{Ordering}
 use Rattle.std.specs.declared.cmp.Ordering.TheVariants.{Less}
-use Rattle.std.specs.Ordering.{is_lt, eq_by_cmp}
+use Rattle.std.specs.Ordering.{eq_by_cmp}
 use Rattle.std.proofs.lemmas.List.{take_all, drop_more}
 use Rattle.nb_names.specs.PacketFacts.{stands_fits}
 use Rattle.nb_datagram.specs.declared.limits.TheConstants.{MAX_LENGTH}
@@ -36,12 +35,9 @@ use Rattle.nb_entries.specs.Shared.FoundLemmas.{Spells, spells_then}
 use Rattle.nb_entries.specs.Shared.SavedLemmas.{each_found}
 use Rattle.nb_entries.specs.Shared.ReadBackLemmas.{InForm, any_form, byte_back, facts_back, split}
 use Rattle.nb_table.proofs.Limits.SourceLemmas.{is_less}
-use Rattle.nb_table.specs.Shared.TreeLemmas.{T_both}
+use Rattle.nb_table.specs.Shared.TreeLemmas.{less_is}
 
 -- ---- keys ascend
-
-pub less_is : (r : Ordering) → r ≡ Less → T (is_lt r)
-less_is r e = subst (λ x. T (is_lt x)) (sym e) tt
 
 pub below_less : (b k : Key) (es : List (Key × EntryValue)) → key_cmp b k ≡ Less → T (below_all key_cmp k es) → T (below_all key_cmp b es)
 below_less b k [] h t = tt

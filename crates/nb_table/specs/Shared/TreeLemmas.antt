@@ -1,5 +1,5 @@
 -- The entries of a tree map as a finite map: what a look-up, an insert and a loan do to it.
-use Rattle.std.proofs.Common.{◌≡◌, List, [], ◌∷◌, Bool, true, false, cond, Option, Some, None, is_some, refl, sym, ◌∙◌, ap, subst, length, ◌&&◌}
+use Rattle.std.proofs.Common.{◌≡◌, List, [], ◌∷◌, Bool, true, false, cond, Option, Some, None, is_some, refl, sym, ◌∙◌, ap, subst, length}
 use Rattle.std.specs.Prelude.{T}
 use Rattle.std.specs.List.{AllByRecursion}
 use Rattle.std.specs.List.Sorted.{IsStrictlySortedBy}
@@ -18,6 +18,7 @@ use Rattle.std.specs.Map.{lookup}
 use Rattle.std.specs.BTreeMap as tree
 use Rattle.std.specs.BTreeMap.{BTreeMap}
 use Rattle.std.specs.FinMap as map
+use Rattle.nb_entries.specs.Shared.MapsLemmas.{T_both, sorted_entries}
 
 find_is : {K X : Type 0} (R : K → K → Ordering) (q : K) (es : List (K × X)) → map.find R q es ≡ lookup (tree.is_at (R q)) es
 find_is R q [] = refl
@@ -47,11 +48,7 @@ changed_is o exact m n k v w found t = insert_is o exact m n k w (t.3 (sym (ap i
 
 -- ---- the entries in order
 
-pub T_both : (a b : Bool) → T a → T b → T (a && b)
-T_both true b g h = h
-T_both false b g h = absurd g
-
-less_is : (r : Ordering) → r ≡ Less → T (is_lt r)
+pub less_is : (r : Ordering) → r ≡ Less → T (is_lt r)
 less_is r e = subst (λ x. T (is_lt x)) (sym e) tt
 
 below_is : {K X : Type 0} (R : K → K → Ordering) (k : K) (es : List (K × X)) → AllByRecursion (λ y. R k y ≡ Less) (keys_of es) → T (below_all R k es)
@@ -64,10 +61,7 @@ sorted_is R (e ∷ es) h = T_both _ _ (below_is R e.0 es (sorted_head R e.0 (key
 
 -- the finite map of a tree's entries has these entries
 pub entries_are : {K X : Type 0} {R : K → K → Ordering} → IsTotalOrder R → map.IsAntisymmetric R → (m : BTreeMap K X) → tree.IsOrdered R m → map.entries (map.from_entries {R = R} m.entries) ≡ m.entries
-entries_are {R = R} o exact m h =
-    let s = sorted_is R m.entries h in
-    ap map.entries (map.same_map o exact _ _ (λ q. map.get-from_entries o m.entries q ∙ sym (map.get-from_sorted R m.entries q s)))
-    ∙ map.entries-from_sorted R m.entries s
+entries_are {R = R} o exact m h = sorted_entries o exact m.entries (sorted_is R m.entries h)
 
 -- and it has as many
 pub len_is : {K X : Type 0} {R : K → K → Ordering} → IsTotalOrder R → map.IsAntisymmetric R → (m : BTreeMap K X) → tree.IsOrdered R m → map.len (map.from_entries {R = R} m.entries) ≡ tree.btree_map_len m

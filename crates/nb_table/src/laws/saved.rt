@@ -1,4 +1,6 @@
 //! Saved tables: what their bytes tell, and what is read of bytes.
+#![tactic(auto, using(crate::proofs::LawLemmas::saved_laws))]
+
 ghost use Rattle.std.specs.Prelude.{◌≡◌, ℕ, List, Ok, length, ◌↔◌, ◌<◌, ◌^◌, None, Some};
 ghost use Rattle.std.specs.FinMap as maps;
 ghost use Rattle.nb_datagram.specs.declared.key.Key.{Key};

@@ -1,4 +1,4 @@
-use Rattle.nb_member.proofs.EventLemmas.OneSaying.{PacketsKnown}
+use Rattle.nb_member.proofs.EventLemmas.{PacketsKnown}
 use Rattle.nb_member.proofs.TakingLemmas.Payloads.{says_and_does, does_what_is_said, room_where_no_memory, refused_keeps}
 use Rattle.nb_member.proofs.laws.a_member_does_what_is_said.Goals as goal
 

@@ -1,4 +1,4 @@
-use Rattle.nb_member.proofs.EventLemmas.OneSaying.{PacketsKnown, one_saying, one_sayings}
+use Rattle.nb_member.proofs.EventLemmas.{PacketsKnown, one_saying, one_sayings}
 use Rattle.nb_member.proofs.laws.an_event_says_one_thing.Goals as goal
 
 pub returns-clause-event : goal.returns-clause-event

@@ -1,5 +1,5 @@
 use Rattle.std.proofs.Common.{[]}
-use Rattle.nb_member.proofs.LiveLemmas.LiveTables.{live_is_all, live_is_valid}
+use Rattle.nb_member.proofs.LiveLemmas.{live_is_all, live_is_valid}
 use Rattle.nb_member.proofs.laws.live_fragments_are_the_valid_ones.Goals as goal
 
 pub returns-clause-fragments : goal.returns-clause-fragments

@@ -1,4 +1,4 @@
-use Rattle.nb_member.proofs.LiveLemmas.LiveTables.{TablesKnown, rooms, same_live}
+use Rattle.nb_member.proofs.LiveLemmas.{TablesKnown, rooms, same_live}
 use Rattle.nb_member.proofs.laws.the_same_fragments_make_the_same_table.Goals as goal
 
 pub returns-clause-room : goal.returns-clause-room

@@ -1,5 +1,5 @@
 use Rattle.std.proofs.Common.{length, ap, arith}
-use Rattle.nb_member.proofs.LineLemmas.HeldBytes.{too_long_feed, too_long_open}
+use Rattle.nb_member.proofs.LineLemmas.Ending.{too_long_feed, too_long_open}
 use Rattle.nb_member.proofs.LineLemmas.Seeking.{hands_line}
 use Rattle.nb_member.proofs.line_reading.take_first.Goals as goal
 use Rattle.nb_member.proofs.line_reading.take_first.Goals.{in_default-via-in-Some+else-at-le-MAX_LINE, in_default-via-in-None+else-size-le-MAX_LINE}

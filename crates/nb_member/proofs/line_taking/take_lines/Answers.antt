@@ -33,11 +33,10 @@ lines-preserved g c =
 pub returns-in_err-take_line-in-Ok-Some-clause-taken : goal.returns-in_err-take_line-in-Ok-Some-clause-taken
 returns-in_err-take_line-in-Ok-Some-clause-taken g c =
     let p = err_from_is_err_and c.from_residual.result c.from_residual.ensures.1 in
-    let e = c.in_err-take_line-in-Ok-Some in
     let i = c.lines.invariant in
     let line = c.in-Ok-Some.line.now in
     let r = of_line _ _ _ _ _ _ c.next_from.result _ c.in-Ok-Some.line c.in-Ok-Some.is c.in-Ok-Some.field-0-is c.next_from.follows.holds-at-none in
-    let fails = fault_alike g.T.LineTaker.fails _ _ _ (c.lines.number + 1) line _ _ _ i.same e.ensures.fault in
+    let fails = fault_alike g.T.LineTaker.fails _ _ _ (c.lines.number + 1) line _ _ _ i.same c.in_err-take_line-in-Ok-Some.ensures.fault in
     rw (p.1, p.2) (ends_at_line _ _ _ _ _ _ _ _ _ _ _ _ line c.lines.number _ _ _ _ i.taking r fails)
 
 pub returns-in_err-take_line-in-Ok-Some-clause-beside : goal.returns-in_err-take_line-in-Ok-Some-clause-beside

@@ -1,7 +1,7 @@
 use Rattle.std.proofs.Common.{◌≡◌, List, sym, ap, ◌∙◌, subst, rules}
 use Rattle.std.specs.FinMap as maps
 use Rattle.nb_datagram.specs.declared.key.Key.{Key}
-use Rattle.nb_member.proofs.TakingLemmas.MergedMoments.{AreAnswered, answered, answered_on}
+use Rattle.nb_member.proofs.MemberLemmas.Timers.{AreAnswered, answered, answered_on}
 use Rattle.nb_member.proofs.starts.begin_each.Goals as goal
 use Rattle.nb_member.specs.Member.{Moments}
 use Rattle.nb_member.specs.Code.Members.{begun_each}

@@ -1,6 +1,6 @@
 use Rattle.std.proofs.Common.{◌≡◌}
 use Rattle.std.specs.FinMap as maps
-use Rattle.nb_member.proofs.TakingLemmas.MergedMoments.{AreAnswered}
+use Rattle.nb_member.proofs.MemberLemmas.Timers.{AreAnswered}
 use Rattle.nb_member.proofs.starts.begin_each.Given as goal
 use Rattle.nb_member.specs.Code.Members.{begun_each}
 

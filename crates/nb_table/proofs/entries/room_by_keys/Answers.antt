@@ -6,8 +6,9 @@ use Rattle.nb_datagram.specs.Key.{key_cmp, key_cmp_total, key_cmp_exact}
 use Rattle.nb_entries.specs.Entry.{EntryValue}
 use Rattle.nb_table.specs.Limits.{of_source}
 use Rattle.nb_table.specs.Shared.TreeLemmas.{entries_are, sorted_is}
-use Rattle.nb_table.proofs.Limits.SourceLemmas.{Left, onward, onward_all, left_begun, left_next, none_counts, one_counts, not_true, not_false}
+use Rattle.nb_table.proofs.Limits.SourceLemmas.{Left, onward, onward_all, left_begun, left_next, none_counts, one_counts}
 use Rattle.nb_table.proofs.entries.room_by_keys.Goals as goal
+use Rattle.std.proofs.lemmas.Bool.{not-true, not-false}
 
 pub loop-key-init : goal.loop-key-init
 loop-key-init c =
@@ -26,31 +27,26 @@ returns-then-ne c =
     let is = c.in-Some.ensures.steps in
     let e : Key × EntryValue = (c.in-Some.key.now, c.in-Some._entry.now) in
     let left = subst (Left ip) is c.loop-key.invariant.1 in
-    let none = ap (λ fs. length (filter (of_source ip) (map (λ f. f.0) fs))) is ∙ none_counts ip e c.next.new.self left (not_true _ (sym c.ne.ensures ∙ c.if-ne.true)) in
-    let now = c.loop-key.invariant.0 in
-    omega (arith, now, none, same)
+    let none = ap (λ fs. length (filter (of_source ip) (map (λ f. f.0) fs))) is ∙ none_counts ip e c.next.new.self left (not-true _ (sym c.ne.ensures ∙ c.if-ne.true)) in
+    omega (arith, c.loop-key.invariant.0, none, same)
 
 pub returns-then-room-eq0 : goal.returns-then-room-eq0
 returns-then-room-eq0 c =
     let held = entries_are key_cmp_total key_cmp_exact c.args.map.now c.range-key-items.ensures.ordered in
     let same = ap (λ fs. length (filter (of_source c.args.ip) (map (λ e. e.0) fs))) held in
-    let now = c.loop-key.invariant.0 in
-    let zero = c.if-room-eq0.true in
-    omega (arith, now, zero, same)
+    omega (arith, c.loop-key.invariant.0, c.if-room-eq0.true, same)
 
 pub returns : goal.returns
 returns c =
     let held = entries_are key_cmp_total key_cmp_exact c.args.map.now c.range-key-items.ensures.ordered in
     let same = ap (λ fs. length (filter (of_source c.args.ip) (map (λ e. e.0) fs))) held in
     let none = ap (λ fs. length (filter (of_source c.args.ip) (map (λ f. f.0) fs))) c.in-None.ensures.steps.0 in
-    let now = c.loop-key.invariant.0 in
-    omega (arith, now, none, same)
+    omega (arith, c.loop-key.invariant.0, none, same)
 
 pub loop-key-preserved : goal.loop-key-preserved
 loop-key-preserved c =
     let ip = c.args.ip in
     let is = c.in-Some.ensures.steps in
     let e : Key × EntryValue = (c.in-Some.key.now, c.in-Some._entry.now) in
-    let one = ap (λ fs. length (filter (of_source ip) (map (λ f. f.0) fs))) is ∙ one_counts (of_source ip) e c.next.new.self (not_false _ (sym c.ne.ensures ∙ c.if-ne.false)) in
-    let now = c.loop-key.invariant.0 in
-    (omega (arith, now, one), left_next ip e c.next.new.self (subst (Left ip) is c.loop-key.invariant.1))
+    let one = ap (λ fs. length (filter (of_source ip) (map (λ f. f.0) fs))) is ∙ one_counts (of_source ip) e c.next.new.self (not-false _ (sym c.ne.ensures ∙ c.if-ne.false)) in
+    (omega (arith, c.loop-key.invariant.0, one), left_next ip e c.next.new.self (subst (Left ip) is c.loop-key.invariant.1))

@@ -6,6 +6,4 @@ use Rattle.nb_table.proofs.sources.is_full_of.Goals as goal
 pub returns-then-len-most : goal.returns-then-len-most
 returns-then-len-most c =
     let most = held_at_most (of_source c.args.ip) c.args.entries.now in
-    let count = c.len.ensures.count in
-    let fewer = c.if-len-most.true in
-    (λ h. absurd (cc h), λ h. absurd (omega (arith, most, count, fewer, h)))
+    (λ h. absurd (cc h), λ h. absurd (omega (arith, most, c.len.ensures.count, c.if-len-most.true, h)))

@@ -6,8 +6,9 @@ use Rattle.nb_datagram.specs.declared.key.Key.{Key}
 use Rattle.nb_datagram.specs.Key.{key_cmp}
 use Rattle.nb_entries.specs.Entry.{EntryValue}
 use Rattle.nb_table.specs.Limits.{held_keys, of_source}
-use Rattle.nb_table.proofs.Limits.SourceLemmas.{Left, onward, onward_new, left_begun, left_next, none_unfit, one_out, one_in, first_in, not_true, not_false}
+use Rattle.nb_table.proofs.Limits.SourceLemmas.{Left, onward, onward_new, left_begun, left_next, none_unfit, one_out, one_in, first_in}
 use Rattle.nb_table.proofs.sources.unfit_of.Goals as goal
+use Rattle.std.proofs.lemmas.Bool.{not-true, not-false}
 
 pub loop-key-init : goal.loop-key-init
 loop-key-init c =
@@ -29,7 +30,7 @@ returns-then-ne c =
     let is = c.in-Some.ensures.steps in
     let e : Key × EntryValue = (c.in-Some.key.now, c.in-Some._entry.now) in
     let left = subst (Left ip) is c.loop-key.invariant.1 in
-    sym (none_unfit ip (λ k. is_none (maps.get s k)) e c.next.new.self room left (not_true _ (sym c.ne.ensures ∙ c.if-ne.true)))
+    sym (none_unfit ip (λ k. is_none (maps.get s k)) e c.next.new.self room left (not-true _ (sym c.ne.ensures ∙ c.if-ne.true)))
     ∙ sym (ap (λ fs. slice_get (filter p (map (λ f. f.0) fs)) room) is)
     ∙ c.loop-key.invariant.0
 
@@ -51,23 +52,21 @@ loop-key-preserved-then-contains_key c =
     let e : Key × EntryValue = (k, c.in-Some._entry.now) in
     let left = subst (Left ip) is c.loop-key.invariant.1 in
     let held : is_none (maps.get s k) ≡ false = lacked (maps.get s k) true (sym c.contains_key.ensures ∙ c.if-contains_key.true) in
-    let out : p k ≡ false = ap (λ b. of_source ip k && b) held ∙ ap (λ b. b && false) (not_false _ (sym c.ne.ensures ∙ c.if-ne.false)) in (
+    let out : p k ≡ false = ap (λ b. of_source ip k && b) held ∙ ap (λ b. b && false) (not-false _ (sym c.ne.ensures ∙ c.if-ne.false)) in (
       sym (ap (λ fs. slice_get (filter p (map (λ f. f.0) fs)) room) is ∙ one_out p e c.next.new.self room out) ∙ c.loop-key.invariant.0,
       left_next ip e c.next.new.self left,
     )
 
 pub returns-then-room-eq0 : goal.returns-then-room-eq0
 returns-then-room-eq0 c =
-    let ip = c.args.ip in
     let s = c.args.entries.now in
-    let p = λ (k : Key). of_source ip k && is_none (maps.get s k) in
+    let p = λ (k : Key). of_source c.args.ip k && is_none (maps.get s k) in
     let k = c.in-Some.key.now in
-    let is = c.in-Some.ensures.steps in
     let e : Key × EntryValue = (k, c.in-Some._entry.now) in
     let new : is_none (maps.get s k) ≡ true = lacked (maps.get s k) false (sym c.contains_key.ensures ∙ c.if-contains_key.false) in
-    let passes : p k ≡ true = ap₂ ◌&&◌ (not_false _ (sym c.ne.ensures ∙ c.if-ne.false)) new in
+    let passes : p k ≡ true = ap₂ ◌&&◌ (not-false _ (sym c.ne.ensures ∙ c.if-ne.false)) new in
     sym (first_in p e c.next.new.self passes)
-    ∙ sym (ap (λ fs. slice_get (filter p (map (λ f. f.0) fs)) 0) is)
+    ∙ sym (ap (λ fs. slice_get (filter p (map (λ f. f.0) fs)) 0) c.in-Some.ensures.steps)
     ∙ ap (slice_get (filter p (map (λ f. f.0) c.loop-key.key-iterator))) (sym (sym c.known_room-room.ensures ∙ c.if-room-eq0.true))
     ∙ c.loop-key.invariant.0
 
@@ -82,7 +81,7 @@ loop-key-preserved c =
     let e : Key × EntryValue = (k, c.in-Some._entry.now) in
     let left = subst (Left ip) is c.loop-key.invariant.1 in
     let new : is_none (maps.get s k) ≡ true = lacked (maps.get s k) false (sym c.contains_key.ensures ∙ c.if-contains_key.false) in
-    let passes : p k ≡ true = ap₂ ◌&&◌ (not_false _ (sym c.ne.ensures ∙ c.if-ne.false)) new in (
+    let passes : p k ≡ true = ap₂ ◌&&◌ (not-false _ (sym c.ne.ensures ∙ c.if-ne.false)) new in (
       sym (ap (λ fs. slice_get (filter p (map (λ f. f.0) fs)) room) is
           ∙ ap (slice_get (filter p (map (λ f. f.0) (e ∷ c.next.new.self)))) (sym c.known_room-room.ensures)
           ∙ one_in p e c.next.new.self c.known_room-room.result passes c.if-room-eq0.false) ∙ c.loop-key.invariant.0,

@@ -8,13 +8,7 @@ use Rattle.nb_table.proofs.sources.unfit_source.Goals as goal
 
 pub returns-then-len-from-clause-fit : goal.returns-then-len-from-clause-fit
 returns-then-len-from-clause-fit c _ =
-    let s = c.args.entries.now in
-    let t = c.args.others.now in
-    let count = c.len.ensures.count in
-    let count_too = c.len-2.ensures.count in
-    let limit = c.from.ensures in
-    let few = c.if-len-from.true in
-    few_fit c.args.most s t (omega (arith, count, count_too, limit, few))
+    few_fit c.args.most c.args.entries.now c.args.others.now (omega (arith, c.len.ensures.count, c.len-2.ensures.count, c.from.ensures, c.if-len-from.true))
 
 pub loop-key-init : goal.loop-key-init
 loop-key-init c =

@@ -1,5 +1,4 @@
-use Rattle.nb_member.proofs.DeliveryLemmas.WholeKeys.{DatagramsKnown}
-use Rattle.nb_member.proofs.DeliveryLemmas.MadeOnce.{all_of_key, all_from_none, all_heard_from_none}
+use Rattle.nb_member.proofs.DeliveryLemmas.WholeKeys.{DatagramsKnown, all_of_key, all_from_none, all_heard_from_none}
 use Rattle.nb_member.proofs.laws.deliveries.a_whole_key_is_handed_over_once.Goals as goal
 
 pub returns-clause-made : goal.returns-clause-made

@@ -1,5 +1,5 @@
 use Rattle.std.proofs.Common.{[]}
-use Rattle.nb_member.proofs.LiveLemmas.LiveTables.{TablesKnown}
+use Rattle.nb_member.proofs.LiveLemmas.{TablesKnown}
 use Rattle.nb_member.proofs.DeliveryLemmas.WholeKeys.{DatagramsKnown}
 use Rattle.nb_member.proofs.AgreementLemmas.SameDeliveries.{first_once, second_once, the_same}
 use Rattle.nb_member.proofs.laws.deliveries.both_hand_over_the_same.Goals as goal

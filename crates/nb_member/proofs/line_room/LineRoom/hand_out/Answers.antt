@@ -1,6 +1,6 @@
 use Rattle.std.proofs.Common.{◌≤◌, length, take, drop, ap, arith}
 use Rattle.nb_member.specs.LineReading.{RoomValue}
-use Rattle.nb_member.proofs.LineLemmas.HeldBytes.{handed_out_is}
+use Rattle.nb_member.proofs.LineLemmas.Ending.{handed_out_is}
 use Rattle.nb_member.proofs.line_room.LineRoom.hand_out.Goals as goal
 
 pub returns : goal.returns

@@ -1,6 +1,6 @@
 use Rattle.std.proofs.Common.{take, sym, arith, rules}
 use Rattle.std.proofs.lemmas.List.{length-take-le}
-use Rattle.nb_member.proofs.LineLemmas.HeldBytes.{take-written, front_written}
+use Rattle.nb_member.proofs.LineLemmas.Ending.{take-written, front_written}
 use Rattle.nb_member.proofs.line_room.moving.read_into.Goals as goal
 
 pub returns-in-Ok : goal.returns-in-Ok

@@ -27,11 +27,9 @@ invariant_of-self-then-len-keys c =
 pub returns-then-len-keys-clause-joined : goal.returns-then-len-keys-clause-joined
 returns-then-len-keys-clause-joined c =
     let f = c.args.fragment.now in
-    let t = c.self.inside.table in
-    let known = known_key t c.insert_with.new.self f c.len-keys.result c.len.result c.len-keys.ensures.count c.len.ensures.count c.in_ok-change.ensures.joined c.if-len-keys.true in
+    let known = known_key c.self.inside.table c.insert_with.new.self f c.len-keys.result c.len.result c.len-keys.ensures.count c.len.ensures.count c.in_ok-change.ensures.joined c.if-len-keys.true in
     let already = begun_already c.self.inside.starts f.key c.args.moment (c.self.invariant f.key ∙ known) in
-    let joined = c.in_ok-change.ensures.joined in
-    rw (← c.self.view_is) (λ i. record { table = joined i; moments = sym already i })
+    rw (← c.self.view_is) (λ i. record { table = c.in_ok-change.ensures.joined i; moments = sym already i })
 
 pub begin_or_drop-requires : goal.begin_or_drop-requires
 begin_or_drop-requires c =
@@ -52,7 +50,6 @@ invariant_of-self-in_err-begin_or_drop c =
 pub returns-in_err-begin_or_drop-clause-refused : goal.returns-in_err-begin_or_drop-clause-refused
 returns-in_err-begin_or_drop-clause-refused c =
     let f = c.args.fragment.now in
-    let known = c.in_err-begin_or_drop.ensures in
     let new = new_key c.self.inside.table c.insert_with.new.self f c.len-keys.result c.len.result c.len-keys.ensures.count c.len.ensures.count c.in_ok-change.ensures.joined c.if-len-keys.false in
     let p = err_from_is_err_and c.from_residual-in_err-begin_or_drop.result c.from_residual-in_err-begin_or_drop.ensures.1 in
     rw (p.1, p.2) (rw (← c.self.view_is) (let needs = new_needs_memory c.self.inside.table f c.in_ok-change.ensures.taken new in (needs.0, (needs.1, needs.2, needs.3))))
@@ -68,11 +65,10 @@ returns-in_err-begin_or_drop-clause-kept c =
 
 pub invariant_of-self-2 : goal.invariant_of-self-2
 invariant_of-self-2 c =
-    let f = c.args.fragment.now in
     let known = c.in_ok-begin_or_drop.ensures in
     let started = known.begun ∙ ap (λ (j : Key). begun c.self.inside.starts j c.args.moment) c.key.ensures in
     let table = known.kept ∙ c.in_ok-change.ensures.joined in
     λ k.
     ap (λ (m : Moments). maps.contains_key m k) started
-    ∙ (one_set_after c.self.inside.table.contents c.self.inside.starts (core_of f) c.args.moment c.self.invariant k
+    ∙ (one_set_after c.self.inside.table.contents c.self.inside.starts (core_of c.args.fragment.now) c.args.moment c.self.invariant k
     ∙ sym (ap (λ (t : TableValue). maps.contains_key t.contents k) table))

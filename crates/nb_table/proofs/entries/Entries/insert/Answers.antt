@@ -30,9 +30,7 @@ count_more-requires c =
     let m = c.self.inside.map in
     let s : Contents = maps.from_entries {R = key_cmp} m.entries in
     let size = len_is key_cmp_total key_cmp_exact m c.len-len.ensures.ordered in
-    let is = c.len-len.ensures.len in
-    let few = c.len-len.ensures.small in
-    room_for_one c.self.inside.counts s c.args.key.ip (omega (arith, size, is, few)) c.self.invariant
+    room_for_one c.self.inside.counts s c.args.key.ip (omega (arith, size, c.len-len.ensures.len, c.len-len.ensures.small)) c.self.invariant
 
 pub invariant_of-self-in-Ok : goal.invariant_of-self-in-Ok
 invariant_of-self-in-Ok c =

@@ -6,8 +6,7 @@ use Rattle.nb_table.proofs.plain.conflicting.passes_end.Goals as goal
 
 pub returns-then-not-is_empty : goal.returns-then-not-is_empty
 returns-then-not-is_empty c =
-    let tested = c.if-not-is_empty.ensures in
-    let some : 0 < length c.bytes.result.now = grind (arith, nat_tests, tested) in
+    let some : 0 < length c.bytes.result.now = grind (arith, nat_tests, c.if-not-is_empty.ensures) in
     past_end_decides (core_of c.args.one.now) (core_of c.args.other.now) c.in-Some.end c.reach.result
     (sym c.end_of_one.ensures ∙ c.in-Some.is) (subst (λ xs. 0 < length xs) c.bytes.ensures.value some) c.reach.ensures
 

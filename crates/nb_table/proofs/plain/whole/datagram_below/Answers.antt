@@ -8,5 +8,4 @@ use Rattle.nb_table.proofs.plain.whole.datagram_below.Goals as goal
 pub datagram_from-requires : goal.datagram_from-requires
 datagram_from-requires c =
     let b = below_found (cover_in (with_key c.args.key.now (cores_of c.args.fragments.now))).bytes c.args.end c.in-Some.bytes (sym c.in_ok-bytes.ensures ∙ c.in-Some.is) in
-    let most = c.requires in
-    omega (arith, b.count, most)
+    omega (arith, b.count, c.requires)

@@ -8,7 +8,7 @@ use Rattle.nb_table.specs.Limits.{TableValue, KeepsLimits}
 use Rattle.nb_entries.specs.Change.{DataChange}
 use Rattle.nb_table.specs.Change.{IsChange}
 use Rattle.nb_table.specs.Insert.{Refuses, Takes}
-use Rattle.nb_table.specs.Shared.FragmentLemmas.{join_one}
+use Rattle.nb_table.specs.Shared.TableLemmas.{join_one}
 use Rattle.nb_table.proofs.Changes.{short_more, memory_alone, spared, insert_keeps, change_at}
 use Rattle.nb_table.proofs.table.Table.insert_with.Goals.{After-from_residual}
 use Rattle.nb_table.proofs.table.Table.insert_with.Goals as goal

@@ -1,6 +1,5 @@
 use Rattle.std.proofs.Common.{◌≤◌, rules}
 use Rattle.nb_datagram.specs.declared.limits.TheConstants.{MAX_LENGTH}
-use Rattle.nb_table.specs.Limits.{TableValue}
 use Rattle.nb_table.proofs.Changes.{short_more}
 use Rattle.nb_table.proofs.Limits.MergingLemmas.{others_short}
 use Rattle.nb_table.proofs.table.Table.preview.Goals as goal
@@ -12,7 +11,5 @@ preview_entries-requires-clause-own c k e h =
 
 pub preview_entries-requires-clause-other : goal.preview_entries-requires-clause-other
 preview_entries-requires-clause-other c k e h =
-    let was : TableValue = record { contents = c.self.inside.entries; limits = record { keys = c.self.inside.keys; per_source = c.self.inside.per_source; longest = c.self.inside.longest } } in
-    let other : TableValue = record { contents = c.other.inside.entries; limits = record { keys = c.other.inside.keys; per_source = c.other.inside.per_source; longest = c.other.inside.longest } } in
     let most : c.self.inside.longest ≤ MAX_LENGTH = search rules in
-    short_more c.self.inside.longest MAX_LENGTH e most (others_short was c.args.self.now other c.args.other.now c.self.view_is c.other.view_is c.in_ok-fits.ensures.fits k e h)
+    short_more c.self.inside.longest MAX_LENGTH e most (others_short _ c.args.self.now _ c.args.other.now c.self.view_is c.other.view_is c.in_ok-fits.ensures.fits k e h)

@@ -9,12 +9,10 @@ pub returns-clause-fits : goal.returns-clause-fits
 returns-clause-fits c =
     let few : c.self.inside.keys < 2 ^ 32 = search rules in
     let most : c.self.inside.longest ≤ MAX_LENGTH = search rules in
-    let t : TableValue = record { contents = c.self.inside.entries; limits = record { keys = c.self.inside.keys; per_source = c.self.inside.per_source; longest = c.self.inside.longest } } in
-    rw (← c.self.view_is) (table_fits t c.self.invariant few most (rw c.as_map.ensures at c.in_ok-saved.ensures.named))
+    rw (← c.self.view_is) (table_fits _ c.self.invariant few most (rw c.as_map.ensures at c.in_ok-saved.ensures.named))
 
 pub returns-clause-read_again : goal.returns-clause-read_again
 returns-clause-read_again c =
     let most : c.self.inside.longest ≤ MAX_LENGTH = search rules in
-    let t : TableValue = record { contents = c.self.inside.entries; limits = record { keys = c.self.inside.keys; per_source = c.self.inside.per_source; longest = c.self.inside.longest } } in
     let fits = subst (λ (x : TableValue). FitsSaved x.contents) (sym c.self.view_is) (returns-clause-fits c) in
-    rw (← c.self.view_is) (subst (λ b. IsReadAs b t.contents) (sym (rw c.as_map.ensures at c.in_ok-saved.ensures.value)) (table_read t c.self.invariant most fits))
+    rw (← c.self.view_is) (subst (λ b. IsReadAs b c.self.inside.entries) (sym (rw c.as_map.ensures at c.in_ok-saved.ensures.value)) (table_read _ c.self.invariant most fits))

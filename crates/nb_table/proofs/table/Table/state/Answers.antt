@@ -4,10 +4,8 @@ use Rattle.nb_table.proofs.table.Table.state.Goals as goal
 
 pub returns-in-Some : goal.returns-in-Some
 returns-in-Some c =
-    let m = c.self.inside.entries in
-    rw (← c.self.view_is) (state_at m c.args.key.now c.in-Some.entry.now c.state.result (sym c.in-Some.ensures) c.state.ensures)
+    rw (← c.self.view_is) (state_at c.self.inside.entries c.args.key.now c.in-Some.entry.now c.state.result (sym c.in-Some.ensures) c.state.ensures)
 
 pub returns-in-None : goal.returns-in-None
 returns-in-None c =
-    let m = c.self.inside.entries in
     rw (← c.self.view_is) (sym c.in-None.ensures)

@@ -2,8 +2,8 @@ use Rattle.std.proofs.Common.{ap, arith, Err}
 use Rattle.std.proofs.lemmas.Result.{err_from_is_err_and}
 use Rattle.nb_table.specs.Saved.{ill_formed}
 use Rattle.nb_table.proofs.SavedReading.LoadLemmas.{judged_sound, fault_same, judged_long, judged_crowded, judged_full, keeping_failed, kept_limits, kept_read, kept_saved}
-use Rattle.nb_table.proofs.Limits.SourceLemmas.{not_true, not_false}
 use Rattle.nb_table.proofs.table.loading.load.Goals as goal
+use Rattle.std.proofs.lemmas.Bool.{not-true, not-false}
 
 pub returns-in_err-form-clause-fault : goal.returns-in_err-form-clause-fault
 returns-in_err-form-clause-fault c =
@@ -24,19 +24,19 @@ returns-in_err-count-clause-only c fault h =
     rw (p.1, p.2) (ap Err (fault_same _ _ _ c.in_err-count.ensures.fault h))
 
 pub returns-then-not-within-clause-fault : goal.returns-then-not-within-clause-fault
-returns-then-not-within-clause-fault c = judged_long _ _ _ _ _ c.in_ok-count.ensures.found (not_true _ c.if-not-within.true)
+returns-then-not-within-clause-fault c = judged_long _ _ _ _ _ c.in_ok-count.ensures.found (not-true _ c.if-not-within.true)
 
 pub returns-then-not-within-clause-only : goal.returns-then-not-within-clause-only
 returns-then-not-within-clause-only c fault h = absurd (judged_sound _ _ _ _ _ _ c.in_ok-count.ensures.found fault h)
 
 pub returns-then-not-within-2-clause-fault : goal.returns-then-not-within-2-clause-fault
-returns-then-not-within-2-clause-fault c = judged_crowded _ _ _ _ _ c.in_ok-count.ensures.found (not_false _ c.if-not-within.false) (not_true _ c.if-not-within-2.true)
+returns-then-not-within-2-clause-fault c = judged_crowded _ _ _ _ _ c.in_ok-count.ensures.found (not-false _ c.if-not-within.false) (not-true _ c.if-not-within-2.true)
 
 pub returns-then-not-within-2-clause-only : goal.returns-then-not-within-2-clause-only
 returns-then-not-within-2-clause-only c fault h = absurd (judged_sound _ _ _ _ _ _ c.in_ok-count.ensures.found fault h)
 
 pub returns-then-count-keys-clause-fault : goal.returns-then-count-keys-clause-fault
-returns-then-count-keys-clause-fault c = judged_full _ _ _ _ _ c.in_ok-count.ensures.found (not_false _ c.if-not-within.false) (not_false _ c.if-not-within-2.false) c.if-count-keys.true
+returns-then-count-keys-clause-fault c = judged_full _ _ _ _ _ c.in_ok-count.ensures.found (not-false _ c.if-not-within.false) (not-false _ c.if-not-within-2.false) c.if-count-keys.true
 
 pub returns-then-count-keys-clause-only : goal.returns-then-count-keys-clause-only
 returns-then-count-keys-clause-only c fault h = absurd (judged_sound _ _ _ _ _ _ c.in_ok-count.ensures.found fault h)
@@ -44,13 +44,13 @@ returns-then-count-keys-clause-only c fault h = absurd (judged_sound _ _ _ _ _ _
 pub returns-in_err-entries-clause-fault : goal.returns-in_err-entries-clause-fault
 returns-in_err-entries-clause-fault c =
     let p = err_from_is_err_and c.from_residual-in_err-entries.result c.from_residual-in_err-entries.ensures.1 in
-    rw (p.1, p.2) (keeping_failed c.in_ok-form.form _ _ _ _ _ _ c.in_ok-form.ensures.found c.in_ok-count.ensures.found (not_false _ c.if-not-within.false) (not_false _ c.if-not-within-2.false) (omega arith) c.in_err-entries.ensures.fault)
+    rw (p.1, p.2) (keeping_failed c.in_ok-form.form _ _ _ _ _ _ c.in_ok-form.ensures.found c.in_ok-count.ensures.found (not-false _ c.if-not-within.false) (not-false _ c.if-not-within-2.false) (omega arith) c.in_err-entries.ensures.fault)
 
 pub returns-in_err-entries-clause-only : goal.returns-in_err-entries-clause-only
 returns-in_err-entries-clause-only c fault h = absurd (judged_sound _ _ _ _ _ _ c.in_ok-count.ensures.found fault h)
 
 pub invariant_of-result : goal.invariant_of-result
-invariant_of-result c = kept_limits c.in_ok-form.form _ (record { keys = c.args.keys; per_source = c.args.per_source; longest = c.args.longest }) _ _ _ _ c.in_ok-form.ensures.found c.in_ok-count.ensures.found (not_false _ c.if-not-within.false) (not_false _ c.if-not-within-2.false) (omega arith) c.in_ok-entries.ensures.kept
+invariant_of-result c = kept_limits c.in_ok-form.form _ (record { keys = c.args.keys; per_source = c.args.per_source; longest = c.args.longest }) _ _ _ _ c.in_ok-form.ensures.found c.in_ok-count.ensures.found (not-false _ c.if-not-within.false) (not-false _ c.if-not-within-2.false) (omega arith) c.in_ok-entries.ensures.kept
 
 pub returns-clause-found : goal.returns-clause-found
 returns-clause-found c = kept_read c.in_ok-form.form _ _ _ _ _ _ _ c.in_ok-form.ensures.found c.in_ok-count.ensures.found c.in_ok-entries.ensures.kept

@@ -1,13 +1,13 @@
 use Rattle.std.proofs.Common.{sym, subst}
 use Rattle.nb_entries.specs.Cover.{CoverFacts, AreCoverFacts}
-use Rattle.nb_entries.specs.Shared.MapsLemmas.{and_left}
 use Rattle.nb_entries.specs.Shared.CoverLemmas.{fit_of}
 use Rattle.nb_entries.proofs.Covers.{together_formed}
 use Rattle.nb_entries.proofs.KeptRuns.RunReadLemmas.{union_is}
 use Rattle.nb_entries.proofs.cover.uniting.CoverFactsFacts.together.Goals as goal
+use Rattle.std.proofs.lemmas.Bool.{and_parts}
 
 pub together-requires : goal.together-requires
-together-requires c = let agree = rw (← c.self.view_is, ← c.other.view_is) at c.requires in and_left _ _ agree
+together-requires c = let agree = rw (← c.self.view_is, ← c.other.view_is) at c.requires in (and_parts _ _ agree).0
 
 pub returns-clause-value : goal.returns-clause-value
 returns-clause-value c =

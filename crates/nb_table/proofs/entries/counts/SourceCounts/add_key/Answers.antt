@@ -9,8 +9,7 @@ use Rattle.nb_table.proofs.entries.counts.SourceCounts.add_key.Goals as goal
 pub overflow_add-count : goal.overflow_add-count
 overflow_add-count c =
     let is : count_of c.args.self.now c.args.ip ≡ c.in-Some.count.now = rw (← c.self.view_is) (ap (λ o. unwrap_or o 0) (get_is nat_list_cmp_total c.self.inside.counts c.args.ip ∙ sym c.in-Some.ensures.value)) in
-    let less = c.requires in
-    omega (arith, is, less)
+    omega (arith, is, c.requires)
 
 pub returns-in-Some-clause-counted : goal.returns-in-Some-clause-counted
 returns-in-Some-clause-counted c q =

@@ -21,16 +21,14 @@ returns-in_default c q =
     let s = maps.from_entries {R = ip_cmp} m.entries in
     let is : c.of-count.result ≡ count_of s c.args.ip = rw c.self.view_is c.of-count.ensures in
     let none : count_of s c.args.ip ≡ 0 = ap (λ o. unwrap_or o 0) (get_is nat_list_cmp_total m c.args.ip ∙ sym c.in_default.ensures.value) in
-    let more = c.if-count-gt1.true in
-    absurd (omega (arith, is, none, more))
+    absurd (omega (arith, is, none, c.if-count-gt1.true))
 
 pub returns-else-count-gt1 : goal.returns-else-count-gt1
 returns-else-count-gt1 c q =
     let m = c.self.inside.counts in
     let s = maps.from_entries {R = ip_cmp} m.entries in
     let is : c.of-count.result ≡ count_of s c.args.ip = rw c.self.view_is c.of-count.ensures in
-    let few = c.if-count-gt1.false in
-    let most : count_of s c.args.ip ≤ 1 = omega (arith, is, few) in
+    let most : count_of s c.args.ip ≤ 1 = omega (arith, is, c.if-count-gt1.false) in
     rw (← c.self.view_is) (ap (λ t. count_of t q) (remove_is nat_list_cmp_total ip_cmp_exact m c.remove.new.self c.args.ip c.remove.ensures.updates)
     ∙ gone_less s c.args.ip q most)
 
@@ -38,9 +36,8 @@ pub invariant_of-self : goal.invariant_of-self
 invariant_of-self c =
     let m = c.self.inside.counts in
     let less = c.of-count.result - 1 in
-    let more = c.if-count-gt1.true in
     subst HasNoZero (sym (changed_is nat_list_cmp_total ip_cmp_exact m (c.get_mut.follows.lender less) c.args.ip c.in-Some.kept.now less c.in-Some.ensures.value (c.get_mut.follows.holds less)))
-    (zero_put (maps.from_entries {R = ip_cmp} m.entries) c.args.ip less (λ h. omega (arith, h, more)) c.self.invariant)
+    (zero_put (maps.from_entries {R = ip_cmp} m.entries) c.args.ip less (λ h. omega (arith, h, c.if-count-gt1.true)) c.self.invariant)
 
 pub invariant_of-self-else-count-gt1 : goal.invariant_of-self-else-count-gt1
 invariant_of-self-else-count-gt1 c =

@@ -14,6 +14,5 @@ loop-key-preserved c =
 
 pub returns : goal.returns
 returns c =
-    let t = c.loop-key.entries in
     let none = nil_from_length c.loop-key.changes.items (sym c.loop-key.changes.ok.0 ∙ c.in_default.ensures.cases.0) in
-    sym (ap (taken_back t) none) ∙ c.loop-key.invariant
+    sym (ap (taken_back c.loop-key.entries) none) ∙ c.loop-key.invariant

@@ -37,17 +37,14 @@ returns-in-Err-clause-fault c =
 
 pub returns-in-Err-clause-before : goal.returns-in-Err-clause-before
 returns-in-Err-clause-before c =
-    let inv = c.loop-index.invariant in
-    let step = c.in-Some.ensures.steps in
     let taken : ℕ → Type 0 = λ n. AreTaken join (Fits c.args.first.now.limits) c.args.first.now.contents (map (λ t. t.contents) (take n c.args.others.items)) in
-    subst taken (sym step.1) (each_is_taken join (Fits c.args.first.now.limits) c.args.first.now.contents _ inv.taken)
+    subst taken (sym c.in-Some.ensures.steps.1) (each_is_taken join (Fits c.args.first.now.limits) c.args.first.now.contents _ c.loop-index.invariant.taken)
 
 pub returns-in-Err-clause-err : goal.returns-in-Err-clause-err
 returns-in-Err-clause-err c =
-    let step = c.in-Some.ensures.steps in
     ap (λ t. t.contents) c.in-Err.ensures.err
     ∙ c.loop-index.invariant.joined
-    ∙ ap (λ n. joined_all join c.args.first.now.contents (map (λ t. t.contents) (take n c.args.others.items))) (sym step.1)
+    ∙ ap (λ n. joined_all join c.args.first.now.contents (map (λ t. t.contents) (take n c.args.others.items))) (sym c.in-Some.ensures.steps.1)
 
 pub loop-index-preserved : goal.loop-index-preserved
 loop-index-preserved c =

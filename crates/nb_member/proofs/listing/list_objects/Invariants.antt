@@ -1,0 +1,6 @@
+use Rattle.std.proofs.Common.{◌≡◌, ◌++◌}
+use Rattle.nb_member.specs.ListingFields.{key_objects, listed_objects}
+use Rattle.nb_member.proofs.listing.list_objects.Given as goal
+
+abbrev pub invariant-loop-key : goal.invariant-loop-key
+invariant-loop-key l = l.objects.items ++ key_objects l.table.contents l.key-iterator ≡ listed_objects l.table.contents

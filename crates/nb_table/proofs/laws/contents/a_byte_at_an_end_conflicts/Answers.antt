@@ -1,5 +1,0 @@
-use Rattle.nb_table.proofs.Conflict.{at_end_conflicts}
-use Rattle.nb_table.proofs.laws.contents.a_byte_at_an_end_conflicts.Goals as goal
-
-pub returns : goal.returns
-returns c = at_end_conflicts

@@ -1,5 +1,0 @@
-use Rattle.nb_table.proofs.Contents.ContentsLemmas.{turned_cores}
-use Rattle.nb_table.proofs.laws.contents.lists_swapped_have_the_same_cores.Goals as goal
-
-pub returns : goal.returns
-returns c = turned_cores

@@ -1,5 +1,0 @@
-use Rattle.nb_table.proofs.Contents.SayingLemmas.{byte_exactly}
-use Rattle.nb_table.proofs.laws.contents.table_has_the_bytes_of_its_fragments.Goals as goal
-
-pub returns : goal.returns
-returns c = byte_exactly

@@ -1,5 +1,0 @@
-use Rattle.nb_table.proofs.Contents.SayingLemmas.{only_table}
-use Rattle.nb_table.proofs.laws.contents.table_of_a_list_is_the_only_one.Goals as goal
-
-pub returns : goal.returns
-returns c = only_table

@@ -1,0 +1,5 @@
+use Rattle.nb_table.proofs.Conflict.{past_end_exactly}
+use Rattle.nb_table.proofs.laws.past_an_end_a_place_is_covered.Goals as goal
+
+pub returns : goal.returns
+returns c = past_end_exactly

@@ -13,12 +13,10 @@ use Rattle.nb_table.specs.Merging.{IsRefused}
 use Rattle.nb_member.specs.Events.{limits_of}
 use Rattle.nb_member.specs.Member.{MemberValue, contents}
 use Rattle.nb_member.specs.Taking.{Absorbs, Previews}
-use Rattle.nb_c.specs.declared.refusal.Refusal.{Refusal}
-use Rattle.nb_c.specs.declared.refusal.Refusal.TheVariants.{Memory}
 use Rattle.nb_c.specs.Outputs.{Answers, Lent}
 use Rattle.nb_c.specs.Stations.{table_refusal}
 use Rattle.nb_c.specs.declared.statuses.TheConstants.{NO_ROLE}
-use Rattle.nb_c.specs.Statuses.{load_refusal}
+use Rattle.nb_c.specs.Statuses.{Refusal, Memory, load_refusal}
 use Rattle.nb_c.specs.Tables.{IsLoaded}
 
 -- what is written of a datagram: its key as in saved tables, MSG_TYPE, both spellings, how many bytes its data has, and

@@ -6,11 +6,9 @@ use Rattle.nb_member.specs.declared.line.Line.TheVariants.{Packet, Tick}
 use Rattle.nb_member.specs.declared.line_fault.LineFault.{LineFault}
 use Rattle.nb_c.specs.declared.captures.NbtLine.{NbtLine}
 use Rattle.nb_c.specs.declared.captures.TheConstants.{BLANK, PACKET, TICK}
-use Rattle.nb_c.specs.declared.refusal.Refusal.{Refusal}
-use Rattle.nb_c.specs.declared.refusal.Refusal.TheVariants.{Memory, Fault}
 use Rattle.nb_c.specs.declared.statuses.TheConstants as statuses
 use Rattle.nb_c.specs.Outputs.{fits, put_into, put_status, refused_status}
-use Rattle.nb_c.specs.Statuses.{line_refusal}
+use Rattle.nb_c.specs.Statuses.{Refusal, Memory, Fault, line_refusal}
 
 -- what is told of a line: its numbers, and the payload that it has
 pub record LineTold : Type 0 where
@@ -41,6 +39,10 @@ pub record LineLent : Type 0 where
   pub numbers : NbtLine
   pub buffer : List ℕ
   pub used : ℕ
+
+-- line_lent numbers buffer used: these
+abbrev pub line_lent : NbtLine → List ℕ → ℕ → LineLent
+line_lent numbers buffer used = record { numbers = numbers; buffer = buffer; used = used }
 
 -- WritesLine answer old new status: a call with this answer leaves what was lent so, and has this status
 abbrev pub WritesLine : Result LineTold Refusal → LineLent → LineLent → ℕ → Type 0

@@ -13,11 +13,9 @@ use Rattle.nb_datagram.specs.Fragment.{DatagramParts, FragmentParts}
 use Rattle.nb_datagram.specs.Packet.{name_bytes, packet_bytes}
 use Rattle.nb_datagram.specs.Pieces.{pieces}
 use Rattle.nb_c.specs.declared.cutting.Sent.{Sent}
-use Rattle.nb_c.specs.declared.refusal.Refusal.{Refusal}
-use Rattle.nb_c.specs.declared.refusal.Refusal.TheVariants.{Fault}
 use Rattle.nb_c.specs.declared.statuses.TheConstants.{UNKNOWN_TYPE, LONG_DATA, ZERO_PIECE, SOURCE_TEXT, DESTINATION_TEXT}
 use Rattle.nb_c.specs.Names.{IsRead}
-use Rattle.nb_c.specs.Statuses.{text_refusal}
+use Rattle.nb_c.specs.Statuses.{Refusal, Fault, text_refusal}
 
 -- the kind of datagram with this MSG_TYPE: hexadecimal 10, 11 and 12
 abbrev pub kind_with : ℕ → Option Kind

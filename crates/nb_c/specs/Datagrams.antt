@@ -12,8 +12,7 @@ use Rattle.nb_datagram.specs.Fragment.{FragmentParts}
 use Rattle.nb_datagram.specs.Header.{error_type, query_type}
 use Rattle.nb_datagram.specs.Packet.{type_of, Packet, QueryPacket, IsPacket, name_bytes}
 use Rattle.nb_c.specs.declared.datagrams.NbtDatagram.{NbtDatagram}
-use Rattle.nb_c.specs.declared.refusal.Refusal.{Refusal}
-use Rattle.nb_c.specs.Statuses.{datagram_refusal}
+use Rattle.nb_c.specs.Statuses.{Refusal, datagram_refusal}
 
 -- header_places type flags key used: what the header says, and how many bytes the packet has
 abbrev pub header_places : ℕ → ℕ → Key → ℕ → NbtDatagram

@@ -9,8 +9,6 @@ use Rattle.nb_datagram.specs.declared.limits.TheConstants.{DIRECT_HEADER_LENGTH}
 use Rattle.nb_datagram.specs.Fronts.{HasFront, LacksHeader}
 use Rattle.nb_datagram.specs.Packet.{name_bytes, packet_bytes}
 use Rattle.nb_c.specs.declared.fronts.NbtDatagramFront.{NbtDatagramFront}
-use Rattle.nb_c.specs.declared.refusal.Refusal.{Refusal}
-use Rattle.nb_c.specs.declared.refusal.Refusal.TheVariants.{FaultAt, Fault}
 use Rattle.nb_c.specs.declared.statuses.TheConstants.{TRUNCATED, UNKNOWN_TYPE, NO_ROLE}
 use Rattle.nb_names.specs.declared.text_fault.TextFault.{TextFault}
 use Rattle.nb_datagram.specs.declared.key.Key.{Key}
@@ -18,7 +16,7 @@ use Rattle.nb_datagram.specs.declared.packet.Packet.TheVariants.{Error, Query}
 use Rattle.nb_datagram.specs.declared.packet.QueryKind.{QueryKind}
 use Rattle.nb_datagram.specs.declared.packet.QueryKind.TheVariants.{Request, Positive, Negative}
 use Rattle.nb_c.specs.Names.{IsRead}
-use Rattle.nb_c.specs.Statuses.{text_refusal}
+use Rattle.nb_c.specs.Statuses.{Refusal, FaultAt, Fault, text_refusal}
 
 -- how many bytes the spelling of a name has that may be there
 abbrev pub spelled_length : Option NetbiosName → ℕ

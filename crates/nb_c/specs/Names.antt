@@ -9,10 +9,8 @@ use Rattle.nb_names.specs.Labels.{NameAt}
 use Rattle.nb_names.specs.Name.{NetbiosName, IsName, labels_of_name}
 use Rattle.nb_names.specs.NameFaults.{NetbiosFaultAt}
 use Rattle.nb_names.specs.NameText.{IsText, IsFaultOf, written}
-use Rattle.nb_c.specs.declared.refusal.Refusal.{Refusal}
-use Rattle.nb_c.specs.declared.refusal.Refusal.TheVariants.{FaultAt}
 use Rattle.nb_c.specs.declared.statuses.TheConstants.{NAME_TRAILING_BYTES, NO_ROLE}
-use Rattle.nb_c.specs.Statuses.{text_refusal, name_refusal}
+use Rattle.nb_c.specs.Statuses.{Refusal, FaultAt, text_refusal, name_refusal}
 
 -- IsRead text read: the text is of this name, or has this fault
 abbrev pub IsRead : List ℕ → Result NetbiosName TextFault → Type 0

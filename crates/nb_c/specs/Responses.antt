@@ -15,11 +15,9 @@ use Rattle.nb_service.specs.declared.limits.TheConstants.{MAX_RDATA}
 use Rattle.nb_service.specs.Encoding.{packet_bytes}
 use Rattle.nb_service.specs.Record.{ResourceData, ResourceRecord, of_bytes, of_domain, record_of}
 use Rattle.nb_service.specs.Requests.{one_answer, query_packet, status_packet, registration_packet, refresh_packet, release_packet}
-use Rattle.nb_c.specs.declared.refusal.Refusal.{Refusal}
-use Rattle.nb_c.specs.declared.refusal.Refusal.TheVariants.{Fault, FaultAt}
 use Rattle.nb_c.specs.declared.responses.Answered.{Answered}
 use Rattle.nb_c.specs.declared.statuses.TheConstants.{LONG_DATA, NAME_TRAILING_BYTES, NO_ROLE, UNKNOWN_REQUEST}
-use Rattle.nb_c.specs.Statuses.{text_refusal, name_refusal}
+use Rattle.nb_c.specs.Statuses.{Refusal, Fault, FaultAt, text_refusal, name_refusal}
 use Rattle.std.specs.Int.{w32, to_be_bytes}
 use Rattle.nb_service.specs.declared.address_entry.AddressEntry.{AddressEntry}
 use Rattle.nb_service.specs.Packet.{ServicePacket}

@@ -12,13 +12,11 @@ use Rattle.nb_service.specs.declared.node_name.NodeName.{NodeName}
 use Rattle.nb_service.specs.Record.{of_bytes}
 use Rattle.nb_service.specs.ServiceFaults.{DomainFails}
 use Rattle.nb_service.specs.Views.{AreEntries, IsStatus, entries_of_data, status_of_data}
-use Rattle.nb_c.specs.declared.refusal.Refusal.{Refusal}
-use Rattle.nb_c.specs.declared.refusal.Refusal.TheVariants.{Fault, FaultAt}
 use Rattle.nb_c.specs.declared.service_parts.NbtServiceAddress.{NbtServiceAddress}
 use Rattle.nb_c.specs.declared.service_parts.NbtServiceNode.{NbtServiceNode}
 use Rattle.nb_c.specs.declared.service_parts.NbtServiceUnit.{NbtServiceUnit}
 use Rattle.nb_c.specs.declared.statuses.TheConstants as statuses
-use Rattle.nb_c.specs.Statuses.{service_refusal}
+use Rattle.nb_c.specs.Statuses.{Refusal, Fault, FaultAt, service_refusal}
 
 -- Chosen P here other answer: the one is answered where P holds, and the other where it doesn't
 abbrev pub Chosen : {A : Type 0} → Type 0 → Result A Refusal → Result A Refusal → Result A Refusal → Type 0

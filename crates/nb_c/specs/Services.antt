@@ -13,13 +13,11 @@ use Rattle.nb_service.specs.Header.{PacketHeader, HasHeader}
 use Rattle.nb_service.specs.Items.{PacketItem, section_of, fields_of, name_of, ItemAt, ItemFails, IsExtent}
 use Rattle.nb_service.specs.Packet.{HasOutline}
 use Rattle.nb_service.specs.ServiceFaults.{PacketFails, item_count}
-use Rattle.nb_c.specs.declared.refusal.Refusal.{Refusal}
-use Rattle.nb_c.specs.declared.refusal.Refusal.TheVariants.{Fault, FaultAt}
 use Rattle.nb_c.specs.declared.service_reading.NbtServiceHeader.{NbtServiceHeader}
 use Rattle.nb_c.specs.declared.service_reading.NbtServiceItem.{NbtServiceItem}
 use Rattle.nb_c.specs.declared.statuses.TheConstants as statuses
 use Rattle.nb_c.specs.Names.{spelled_in_place}
-use Rattle.nb_c.specs.Statuses.{service_refusal}
+use Rattle.nb_c.specs.Statuses.{Refusal, Fault, FaultAt, service_refusal}
 
 -- ---- headers
 

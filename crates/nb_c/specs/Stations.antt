@@ -22,15 +22,13 @@ use Rattle.std.specs.FinMap as maps
 use Rattle.nb_member.specs.Member.{MemberValue, contents, with_timed, after_clock}
 use Rattle.nb_member.specs.Taking.{Takes}
 use Rattle.nb_c.specs.declared.handle.NbtStation.{NbtStation}
-use Rattle.nb_c.specs.declared.refusal.Refusal.{Refusal}
-use Rattle.nb_c.specs.declared.refusal.Refusal.TheVariants.{Memory, Fault, FaultAt}
 use Rattle.nb_c.specs.declared.statuses.TheConstants as statuses
 use Rattle.nb_c.specs.declared.taken.NbtTaken.{NbtTaken}
 use Rattle.nb_c.specs.declared.taken.TheConstants as outcomes
 use Rattle.nb_c.specs.Handles.{IsHere, IsNone}
 use Rattle.nb_c.specs.Names.{IsRead}
 use Rattle.nb_c.specs.Outputs.{Does, Lent, none_late, refused_status, at_refused}
-use Rattle.nb_c.specs.Statuses.{datagram_refusal}
+use Rattle.nb_c.specs.Statuses.{Refusal, Memory, Fault, FaultAt, datagram_refusal}
 
 -- ---- the names of a new station
 
@@ -193,6 +191,10 @@ pub record LentToTake : Type 0 where
   pub taken : NbtTaken
   pub buffer : List ℕ
   pub used : ℕ
+
+-- lent_for taken buffer used: these
+abbrev pub lent_for : NbtTaken → List ℕ → ℕ → LentToTake
+lent_for taken buffer used = record { taken = taken; buffer = buffer; used = used }
 
 -- Tells answer old new status: a call with this answer leaves what was lent so, and has this status
 abbrev pub Tells : Result Reported Refusal → LentToTake → LentToTake → ℕ → Type 0

@@ -11,10 +11,9 @@ use Rattle.nb_table.specs.Saved.{IsReadAs, LoadFails, saved}
 use Rattle.nb_table.specs.Merging.{Fits, IsRefused}
 use Rattle.nb_member.specs.Listing.{listing}
 use Rattle.nb_member.specs.ListingFields.{listed_objects}
-use Rattle.nb_c.specs.declared.refusal.Refusal.{Refusal}
 use Rattle.nb_c.specs.declared.statuses.TheConstants as statuses
 use Rattle.nb_c.specs.Stations.{table_refusal}
-use Rattle.nb_c.specs.Statuses.{load_refusal}
+use Rattle.nb_c.specs.Statuses.{Refusal, load_refusal}
 use Rattle.std.specs.Int.{w32, from_be_bytes}
 use Rattle.std.specs.FinMap as maps
 use Rattle.std.specs.declared.cmp.Ordering.{Ordering}

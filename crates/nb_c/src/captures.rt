@@ -1,6 +1,6 @@
 //! Lines of captures.
 ghost use Rattle.std.specs.Prelude.{◌≡◌, Ok, Some};
-ghost use Rattle.nb_c.specs.Captures.{TellsLine, WritesLine, line_answer, line_told};
+ghost use Rattle.nb_c.specs.Captures.{TellsLine, WritesLine, line_answer, line_told, line_lent};
 
 use crate::output::put;
 use crate::refusal::{line_refusal, status_of};
@@ -40,9 +40,8 @@ pub extern "C" fn nbt_capture_line(
     into: &mut [u8],
     used: &mut usize,
 ) -> u32
-    ensures { TellsLine line.now
-        (record { numbers = said.old; buffer = into.old; used = used.old })
-        (record { numbers = said.new; buffer = into.new; used = used.new }) result }
+    ensures { TellsLine line.now (line_lent said.old into.old used.old)
+        (line_lent said.new into.new used.new) result }
 {
     // For the clause: a line says one thing. The call does nothing.
     a_line_has_one_value();
@@ -56,9 +55,8 @@ fn tell_line(
     into: &mut [u8],
     used: &mut usize,
 ) -> u32
-    ensures { WritesLine (line_answer read.now)
-        (record { numbers = said.old; buffer = into.old; used = used.old })
-        (record { numbers = said.new; buffer = into.new; used = used.new }) result }
+    ensures { WritesLine (line_answer read.now) (line_lent said.old into.old used.old)
+        (line_lent said.new into.new used.new) result }
 {
     match read {
         Ok(None) => put_line(numbers(BLANK, 0, 0), &[], said, into, used),
@@ -69,9 +67,8 @@ fn tell_line(
 
 /// Tells what a line says.
 fn tell_value(line: &Line, said: &mut NbtLine, into: &mut [u8], used: &mut usize) -> u32
-    ensures { WritesLine (Ok (line_told (Some line.now)))
-        (record { numbers = said.old; buffer = into.old; used = used.old })
-        (record { numbers = said.new; buffer = into.new; used = used.new }) result }
+    ensures { WritesLine (Ok (line_told (Some line.now))) (line_lent said.old into.old used.old)
+        (line_lent said.new into.new used.new) result }
 {
     match line {
         Line::Packet {
@@ -105,8 +102,7 @@ fn put_line(
     used: &mut usize,
 ) -> u32
     ensures { WritesLine (Ok (record { numbers = numbers; payload = payload.now }))
-        (record { numbers = said.old; buffer = into.old; used = used.old })
-        (record { numbers = said.new; buffer = into.new; used = used.new }) result }
+        (line_lent said.old into.old used.old) (line_lent said.new into.new used.new) result }
 {
     if payload.len() <= into.len() {
         *said = numbers;

@@ -1,6 +1,6 @@
 //! Payloads, taken by a station.
 ghost use Rattle.std.specs.Prelude.{◌≤◌, length, Err};
-ghost use Rattle.nb_c.specs.Stations.{OnStation, Took, Tells, answer_told};
+ghost use Rattle.nb_c.specs.Stations.{OnStation, Took, Tells, answer_told, lent_for};
 ghost use Rattle.nb_c.specs.declared.refusal.Refusal.TheVariants.{Fault};
 ghost use Rattle.nb_c.specs.declared.statuses.TheConstants.{NO_STATION};
 ghost use Rattle.nb_c.specs.declared.taken.TheConstants.{TAKE_ROOM};
@@ -27,12 +27,10 @@ pub extern "C" fn nbt_station_take(
     used: &mut usize,
 ) -> u32
     ensures { OnStation station.old station.new
-        (λ m after. Took m moment payload.now after
-        (record { taken = taken.old; buffer = into.old; used = used.old })
-        (record { taken = taken.new; buffer = into.new; used = used.new }) result)
-        (Tells (Err (Fault NO_STATION))
-        (record { taken = taken.old; buffer = into.old; used = used.old })
-        (record { taken = taken.new; buffer = into.new; used = used.new }) result) }
+        (λ m after. Took m moment payload.now after (lent_for taken.old into.old used.old)
+        (lent_for taken.new into.new used.new) result)
+        (Tells (Err (Fault NO_STATION)) (lent_for taken.old into.old used.old)
+        (lent_for taken.new into.new used.new) result) }
 {
     match handle::taken(alloc, station) {
         None => NO_STATION,
@@ -53,9 +51,8 @@ fn take(
     into: &mut [u8],
     used: &mut usize,
 ) -> u32
-    ensures { Took member.old moment payload.now member.new
-        (record { taken = taken.old; buffer = into.old; used = used.old })
-        (record { taken = taken.new; buffer = into.new; used = used.new }) result }
+    ensures { Took member.old moment payload.now member.new (lent_for taken.old into.old used.old)
+        (lent_for taken.new into.new used.new) result }
 {
     if into.len() < TAKE_ROOM {
         *used = TAKE_ROOM;
@@ -74,9 +71,8 @@ fn take_in(
     used: &mut usize,
 ) -> u32
     requires { TAKE_ROOM ≤ length into.old }
-    ensures { Took member.old moment payload.now member.new
-        (record { taken = taken.old; buffer = into.old; used = used.old })
-        (record { taken = taken.new; buffer = into.new; used = used.new }) result }
+    ensures { Took member.old moment payload.now member.new (lent_for taken.old into.old used.old)
+        (lent_for taken.new into.new used.new) result }
 {
     let answer = member.take(moment, payload);
     tell_answer(&answer, taken, into, used)
@@ -90,9 +86,8 @@ fn tell_answer(
     used: &mut usize,
 ) -> u32
     requires { TAKE_ROOM ≤ length into.old }
-    ensures { Tells (answer_told answer.now)
-        (record { taken = taken.old; buffer = into.old; used = used.old })
-        (record { taken = taken.new; buffer = into.new; used = used.new }) result }
+    ensures { Tells (answer_told answer.now) (lent_for taken.old into.old used.old)
+        (lent_for taken.new into.new used.new) result }
 {
     match answer {
         Ok(outcome) => *used = tell(outcome, taken, into),

@@ -24,7 +24,3 @@ class Lines(unittest.TestCase):
         for line in [None, 7, ['tick 7']]:
             with self.subTest(line), self.assertRaises(TypeError):
                 nbt.capture_line(line)
-
-
-if __name__ == '__main__':
-    unittest.main()

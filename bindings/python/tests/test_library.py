@@ -43,7 +43,3 @@ class Library(unittest.TestCase):
             self.assertEqual(done.returncode, 1)
             last = done.stderr.splitlines()[-1]
             self.assertTrue(last.startswith('ImportError: ') and path in last and last.endswith(words), last)
-
-
-if __name__ == '__main__':
-    unittest.main()

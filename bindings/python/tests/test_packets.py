@@ -80,7 +80,3 @@ class Shown(unittest.TestCase):
         with ThreadPoolExecutor(4) as pool:
             texts = list(pool.map(lambda code: nbt.show(139, b'\x83\0\0\1' + bytes([code])), list(range(256)) * 8))
         self.assertEqual(texts, [f'negative code={code:02x} used=5\n' for code in range(256)] * 8)
-
-
-if __name__ == '__main__':
-    unittest.main()

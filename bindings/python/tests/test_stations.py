@@ -56,7 +56,3 @@ class Tables(unittest.TestCase):
         keys = [nbt.Key(address, port, identifier) for port in (137, 138) for identifier in (1, 2)]
         self.assertEqual(sorted(reversed(keys)), keys)
         self.assertEqual(len({*keys, nbt.Key(address, 137, 1)}), 4)
-
-
-if __name__ == '__main__':
-    unittest.main()

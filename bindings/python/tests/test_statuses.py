@@ -78,7 +78,3 @@ class NewerLibrary(unittest.TestCase):
         for each in Status:
             error = nbt.NbtError(each, None, 'words')
             self.assertEqual((error.status, error.number, str(error)), (each, each.value, 'words'))
-
-
-if __name__ == '__main__':
-    unittest.main()

@@ -135,7 +135,3 @@ class Ends(unittest.TestCase):
 
     def test_nothing_is_said(self):
         self.assertEqual(python('-X', 'dev', '-c', ENDS), (0, 'done\n'))
-
-
-if __name__ == '__main__':
-    unittest.main()

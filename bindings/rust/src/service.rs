@@ -4,10 +4,7 @@
 //! ```
 //! use nbt::service::{read, Entry, Operation, Rdata, Request};
 //!
-//! let entry = Entry {
-//!     nb_flags: 0,
-//!     address: "10.0.0.6".parse()?,
-//! };
+//! let entry = Entry { nb_flags: 0, address: "10.0.0.6".parse()? };
 //! let payload = Request::Registration(entry, 300_000).write(2, "FRED<20>", true)?;
 //! let packet = read(&payload)?;
 //! assert_eq!(packet.header.operation(), Ok(Operation::Registration));
@@ -66,8 +63,7 @@ impl Entry {
 
 /// What is asked about a name.
 #[derive(Clone, Copy, Debug, PartialEq, Eq, Hash)]
-#[cfg_attr(feature = "serde", derive(serde::Serialize, serde::Deserialize))]
-#[cfg_attr(feature = "serde", serde(rename_all = "snake_case"))]
+#[cfg_attr(feature = "serde", derive(serde::Serialize, serde::Deserialize), serde(rename_all = "snake_case"))]
 pub enum Request {
     /// Who has it?
     Query,

@@ -1,6 +1,8 @@
-/* The packets of a stream of port 139, however it was cut: a request, a retarget, and a message whose end is missing. */
+/* The packets of a stream of port 139, however it was cut: a request, a retarget, and a message whose end is missing; and a request that is
+ * written, whose body is two names. */
 #include <nbt.h>
 #include <stdio.h>
+#include <string.h>
 
 static void print(const uint8_t *spelling, size_t length, const char *after) {
     uint8_t text[64];
@@ -37,6 +39,23 @@ static void front(const uint8_t *bytes, size_t length) {
         printf("status %u, %zu missing\n", (unsigned)status, at);
 }
 
+/* Adds the spelling of a name to a body. */
+static size_t add(const char *name, uint8_t *body, size_t length, size_t room) {
+    size_t used, at;
+    return nbt_name_spell((const uint8_t *)name, strlen(name), body + length, room - length, &used, &at) == NBT_DONE ? length + used : 0;
+}
+
+static void write(uint8_t type) {
+    uint8_t body[2 * 255], packet[4 + sizeof body];
+    size_t length = add("FRED<20>", body, 0, sizeof body), used, at;
+    length = add("JOE<00>", body, length, sizeof body);
+    uint32_t status = nbt_session_write(type, body, length, packet, sizeof packet, &used, &at);
+    if (status == NBT_DONE)
+        printf("%zu bytes: %02x %02x %02x %02x\n", used, packet[0], packet[1], packet[2], packet[3]);
+    else
+        printf("status %u\n", (unsigned)status);
+}
+
 int main(void) {
     static const uint8_t stream[] = "\x81\0\0\x44" "\x20" "EGFCEFEECACACACACACACACACACACACA" "\0"
         "\x20" "EKEPEFCACACACACACACACACACACACAAA" "\0" "\x84\0\0\6" "\x0a\0\0\7" "\0\x8b" "\x85\0\0\0" "\0\1\2\3he";
@@ -52,6 +71,8 @@ int main(void) {
     front(stream + place, length - place);
     front(stream + place, 3);
     front((const uint8_t *)"\x7f\xfe\0\x05", 4);
+    write(0x81);
+    write(0x85);
     return 0;
 }
 /* Prints:
@@ -62,4 +83,6 @@ int main(void) {
  * type 00, flags 01, 66051 bytes of body
  * status 52, 1 missing
  * type 7f, flags fe, 5 bytes of body
+ * 72 bytes: 81 00 00 44
+ * status 54
  */

@@ -144,6 +144,8 @@ class Look:
         return None
 
     def show(self, item, shown, text):
+        if self.sink.number not in (None, item.frame.number):
+            return
         if isinstance(item, Packet):
             self.sink.packet(item, shown, text)
         elif isinstance(item, Cut):

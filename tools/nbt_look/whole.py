@@ -8,16 +8,17 @@ from .counts import counted, left_out_words
 from .listing import ends
 from .objects import ENCODE, Objects
 from .places import is_in_name, place_of
+from .screen import Sink
 
 ROW = 16
 
 
-class Whole:
+class Whole(Sink):
     """What stands in a frame: where it comes from, what it says, its fields and bytes, its fault, and how Wireshark finds it."""
 
     def __init__(self, screen, times, number, program):
-        self.screen, self.times, self.number, self.program = screen, times, number, program
-        self.status = 1
+        super().__init__(screen, times)
+        self.number, self.program, self.status = number, program, 1
 
     def packet(self, item, shown, _text):
         self.payload(item, shown, ['show'], 'refused' if 'refused' in shown else None)
@@ -27,8 +28,6 @@ class Whole:
         self.payload(item, {'at': len(item.digits) // 2, **shown}, ['show', '--partial'], 'left out')
 
     def payload(self, item, shown, words, style):
-        if item.frame.number != self.number:
-            return
         self.head(item.frame, ends(item, ()))
         self.screen.line(shown['brief'], style)
         self.screen.line('')
@@ -48,10 +47,9 @@ class Whole:
             self.screen.line('of the same: ' + wireshark(item, shown))
 
     def left_out(self, item):
-        if item.frame.number == self.number:
-            self.head(item.frame, ends(item.frame, ()))
-            self.screen.line('left out: ' + left_out_words(item), 'left out')
-            self.screen.line('Wireshark: frame.number == %d' % self.number)
+        self.head(item.frame, ends(item.frame, ()))
+        self.screen.line('left out: ' + left_out_words(item), 'left out')
+        self.screen.line('Wireshark: frame.number == %d' % self.number)
 
     def head(self, frame, addresses):
         if self.status == 0:
@@ -86,9 +84,6 @@ class Whole:
             text = ''.join(chr(byte) if 0x20 <= byte < 0x7f else '.' for byte in row)
             self.screen.line(('%05x  %-64s  %s' % (at, digits, text)).rstrip())
 
-    def opened(self, item):
-        """Nothing is said of it."""
-
     def finish(self, tally, _left_out):
         for each in why_none(self.number, tally) if self.status else ():
             self.screen.line(each)
@@ -99,23 +94,19 @@ class WholeObject(Objects):
 
     def __init__(self, screen, times, number, program):
         super().__init__(screen, times)
-        self.number, self.program = number, program
-        self.status = 1
+        self.number, self.program, self.status = number, program, 1
 
     def packet(self, item, shown, text):
-        if item.frame.number == self.number:
-            super().packet(item, shown, text)
-            self.add(item, shown)
+        super().packet(item, shown, text)
+        self.add(item, shown)
 
     def cut(self, item, shown):
-        if item.frame.number == self.number:
-            super().cut(item, shown)
-            self.add(item, shown)
+        super().cut(item, shown)
+        self.add(item, shown)
 
     def left_out(self, item):
-        if item.frame.number == self.number:
-            self.status = 0
-            super().left_out(item)
+        self.status = 0
+        super().left_out(item)
 
     def add(self, item, shown):
         """Takes more of the latest object."""

@@ -409,15 +409,14 @@ rust() {
     [ ! -f "$room/samba.txt" ] || node_statuses
 }
 
-# released: a package of the crate's examples, but for the one that needs serde, as programs: by itself the crate has them compiled with
-# what its tests need too.
+# released: a package of the crate's examples as programs: by itself the crate has them compiled with what its tests need too.
 released() {
     local each
     mkdir "$room/released"
     printf '[package]\nname = "released"\nversion = "0.1.0"\nedition = "2021"\n\n[dependencies]\nnbt.path = "%s"\n' "$room/bindings/rust" \
         >"$room/released/Cargo.toml"
     for each in "$room"/bindings/rust/examples/*.rs; do
-        [[ $each == */as_json.rs ]] || printf '\n[[bin]]\nname = "%s"\npath = "%s"\n' "$(basename "$each" .rs)" "$each"
+        printf '\n[[bin]]\nname = "%s"\npath = "%s"\n' "$(basename "$each" .rs)" "$each"
     done >>"$room/released/Cargo.toml"
 }
 

@@ -11,7 +11,7 @@ import re
 import sys
 
 sys.dont_write_bytecode = True
-from making import crates, grammar, javascript, python, rust, scripts, tools
+from making import crates, javascript, python, rust, scripts
 from making.header import HEADER, TOP, Header
 from making.within import OF_HEADER, WITHIN
 
@@ -45,7 +45,7 @@ def kept():
     """Each file that is kept, as it should be: include/nbt.h first, whose comments the others have."""
     yield HEADER, with_limits(HEADER, OF_HEADER, Header())
     header = Header()
-    yield TOP / 'tools/nbt_pcap/header.py', tools.tools_file(header)
+    yield TOP / 'tools/nbt_pcap/header.py', python.tools_file(header)
     for name, patterns in WITHIN.items():
         yield TOP / name, with_limits(TOP / name, patterns, header)
 
@@ -61,10 +61,10 @@ def check():
         cases += 1
         if number != wanted:
             faults.append(f'{name}: nbt.h has {number}, the crates have {wanted}')
-    for place, found, words in grammar.compared():
+    for place, found, words in crates.compared():
         cases += 1
         if found != words:
-            faults.append(f'{place}: {found}, and {grammar.FORMS} has {words}')
+            faults.append(f'{place}: {found}, and {crates.FORMS} has {words}')
     return faults, cases
 
 

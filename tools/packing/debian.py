@@ -4,7 +4,8 @@ import hashlib
 import os
 import time
 
-from .common import SECONDS, TOP, VERSION, bytes_of, fail, glibc_of, metadata, own, page_of, run, text_of
+from .common import SECONDS, VERSION, glibc_of, metadata, own, page_of
+from .files import TOP, bytes_of, fail, run, text_of
 
 
 class Deb:

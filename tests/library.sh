@@ -47,11 +47,11 @@ example() {
     count $? "$(basename "$1"), $2: $(head -n 1 "$room/errors")"
 }
 
-# Each call of the header has an example of its own. Their objects are kept for valgrind.
+# Each call of the header stands in an example. Their objects are kept for valgrind.
 examples() {
     local each object
     for each in $(calls); do
-        [ -f "$top/bindings/c/${each#nbt_}.c" ]
+        grep -qw "$each" "$top"/bindings/c/*.c
         count $? "an example of $each"
     done
     mkdir "$room/objects"
@@ -206,8 +206,8 @@ limits() {
         && [ "$(grep -cE '^(text: nbt_name_text|bytes: nbt_capture_line): ([0-9]+) of \2$' "$room/output")" -eq 2 ]
     count $? "the stack and the texts of calls: $(cat "$room/errors" <(grep nbt_ "$room/output") | head -n 4 | tr '\n' ' ')"
     sed -n 's/: [0-9]* of 65536$//p' "$room/output" | sort | same "$(calls | sed 's/^nbt_//' | grep -vx station_free)" 'the stack of each call is measured'
-    for each in create free list save take tick absorb; do
-        short_of_memory "station_$each"
+    for each in station station_absorb; do
+        short_of_memory "$each"
     done
     processors
 }
@@ -394,7 +394,7 @@ rust() {
     released
     in_rust build --offline --release --manifest-path "$room/released/Cargo.toml"
     lines "$payloads" 4
-    LD_LIBRARY_PATH=$room/root/lib ended "$room/target/release/show_lines" <"$room/lines4" >"$room/output" 2>"$room/errors"
+    LD_LIBRARY_PATH=$room/root/lib ended "$room/target/release/show_values" shown <"$room/lines4" >"$room/output" 2>"$room/errors"
     cmp -s "$room/lines4.wanted" "$room/output"
     count $? "nbt::show_into prints what nbt show prints: $(tail -n 1 "$room/errors")"
     LD_LIBRARY_PATH=$room/root/lib reads "$room/values" show_values.rs ended "$room/target/release/show_values"
@@ -409,15 +409,14 @@ rust() {
     [ ! -f "$room/samba.txt" ] || node_statuses
 }
 
-# released: a package of the crate's examples, but for the one that needs serde, as programs: by itself the crate has them compiled with
-# what its tests need too.
+# released: a package of the crate's examples as programs: by itself the crate has them compiled with what its tests need too.
 released() {
     local each
     mkdir "$room/released"
     printf '[package]\nname = "released"\nversion = "0.1.0"\nedition = "2021"\n\n[dependencies]\nnbt.path = "%s"\n' "$room/bindings/rust" \
         >"$room/released/Cargo.toml"
     for each in "$room"/bindings/rust/examples/*.rs; do
-        [[ $each == */as_json.rs ]] || printf '\n[[bin]]\nname = "%s"\npath = "%s"\n' "$(basename "$each" .rs)" "$each"
+        printf '\n[[bin]]\nname = "%s"\npath = "%s"\n' "$(basename "$each" .rs)" "$each"
     done >>"$room/released/Cargo.toml"
 }
 

@@ -3,7 +3,7 @@
 Python, its structures and calls; of modules of the tools those of the page.
 
 Usage: tools/lists.py --made writes what isn't kept in the repository: what makes the library or the page begins with it. --write writes that, and
-anew the file that is kept, the marked parts of others, and what stands within further ones, as limits in manual pages. --check says which of the
+anew the file that is kept, and what stands within others, as limits in manual pages. --check says which of the
 latter differ from that, which numbers of nbt.h aren't those of the crates' sources, and where the words that `nbt build` takes aren't those of
 crates/nbt/src/forms.rt; its last line is 'N passed, M failed', a case for each file, each number and each packet of a place.
 """
@@ -11,22 +11,12 @@ import re
 import sys
 
 sys.dont_write_bytecode = True
-from making import crates, grammar, javascript, python, rust, scripts, tools
+from making import crates, javascript, python, rust, scripts
 from making.header import HEADER, TOP, Header
 from making.within import OF_HEADER, WITHIN
 
-BEGIN, END = '// ---- tools/lists.py --write makes what follows of include/nbt.h.', '// ---- Up to here.'
-MADE = {'bindings/python/nbt/header.py': python.python_file, 'bindings/rust/src/header.rs': rust.rust_file}
-PARTS = {'bindings/javascript/nbt.mjs': javascript.in_module, 'bindings/javascript/nbt.d.mts': javascript.in_types}
-
-
-def with_part(text, part):
-    """A file with what is made in the place of what was."""
-    front, begin, rest = text.partition(BEGIN + '\n')
-    _, end, behind = rest.partition(END + '\n')
-    if not begin or not end:
-        raise SystemExit(f'tools/lists.py: {BEGIN} and {END} have to stand there')
-    return front + begin + part + end + behind
+MADE = {'bindings/python/nbt/header.py': python.python_file, 'bindings/rust/src/header.rs': rust.rust_file,
+        'bindings/javascript/header.mjs': javascript.module_file, 'bindings/javascript/header.d.mts': javascript.types_file}
 
 
 def write_made(header):
@@ -55,9 +45,7 @@ def kept():
     """Each file that is kept, as it should be: include/nbt.h first, whose comments the others have."""
     yield HEADER, with_limits(HEADER, OF_HEADER, Header())
     header = Header()
-    yield TOP / 'tools/nbt_pcap/header.py', tools.tools_file(header)
-    for name, maker in PARTS.items():
-        yield TOP / name, with_part((TOP / name).read_text(encoding='utf-8'), maker(header))
+    yield TOP / 'tools/nbt_pcap/header.py', python.tools_file(header)
     for name, patterns in WITHIN.items():
         yield TOP / name, with_limits(TOP / name, patterns, header)
 
@@ -73,10 +61,10 @@ def check():
         cases += 1
         if number != wanted:
             faults.append(f'{name}: nbt.h has {number}, the crates have {wanted}')
-    for place, found, words in grammar.compared():
+    for place, found, words in crates.compared():
         cases += 1
         if found != words:
-            faults.append(f'{place}: {found}, and {grammar.FORMS} has {words}')
+            faults.append(f'{place}: {found}, and {crates.FORMS} has {words}')
     return faults, cases
 
 

@@ -1,29 +1,50 @@
-/* A datagram, cut into pieces of at most four bytes: what goes to the network, packet by packet. */
+/* A datagram, cut into pieces of at most four bytes: what goes to the network, packet by packet; the error that answers one for a name that
+ * nobody has; and a question to a distribution server, with both answers. */
 #include <nbt.h>
 #include <stdio.h>
 #include <string.h>
 
 static const uint8_t *bytes(const char *text) { return (const uint8_t *)text; }
 
-int main(void) {
-    const char *source = "JOE<00>", *destination = "FRED<20>", *data = "hello, FRED";
+static void show(const uint8_t *packet, size_t length) {
+    uint8_t text[512];
+    size_t used;
+    if (nbt_show(138, packet, length, text, sizeof text, &used) == NBT_DONE)
+        fwrite(text, 1, used, stdout);
+}
+
+static void datagram(const char *source, const char *destination, const char *data) {
     uint8_t packets[1024];
-    size_t used, at, place = 0;
-    uint32_t status = nbt_datagram_write(0x11, 10, 0x0a000005, 138, bytes(source), strlen(source), bytes(destination),
-                                         strlen(destination), bytes(data), strlen(data), 4, packets, sizeof packets, &used, &at);
-    if (status != NBT_DONE)
-        return 1;
-    while (place < used) {
-        size_t length = (size_t)packets[place] << 8 | packets[place + 1];
-        const uint8_t *packet = packets + place + 2;
-        printf("%zu bytes, flags %02x, the last ones %.*s\n", length, packet[1], length == 85 ? 3 : 4,
-               (const char *)packet + length - (length == 85 ? 3 : 4));
-        place += 2 + length;
+    size_t used, at, place = 0, length;
+    if (nbt_datagram_write(0x11, 10, 0x0a000005, 138, bytes(source), strlen(source), bytes(destination), strlen(destination),
+                           bytes(data), strlen(data), 4, packets, sizeof packets, &used, &at) != NBT_DONE)
+        return;
+    /* Each packet stands after its length. */
+    for (; place < used; place += 2 + length) {
+        length = (size_t)packets[place] << 8 | packets[place + 1];
+        show(packets + place + 2, length);
     }
+}
+
+int main(void) {
+    uint8_t packet[600], type;
+    size_t used, at;
+    datagram("JOE<00>", "FRED<20>", "hello, FRED");
+    if (nbt_datagram_error(7, 0x0a000009, 138, 0x82, packet, sizeof packet, &used) == NBT_DONE)
+        show(packet, used);
+    for (type = 0x14; type <= 0x16; type++)
+        if (nbt_datagram_query(type, 7, 0x0a000005, 138, bytes("FRED<20>"), 8, packet, sizeof packet, &used, &at) == NBT_DONE)
+            show(packet, used);
+    printf("status %u\n", (unsigned)nbt_datagram_query(0x13, 7, 0x0a000005, 138, bytes("FRED<20>"), 8, packet, sizeof packet, &used, &at));
     return 0;
 }
 /* Prints:
- * 86 bytes, flags 03, the last ones hell
- * 86 bytes, flags 01, the last ones o, F
- * 85 bytes, flags 00, the last ones RED
+ * group flags=03 key=10.0.0.5:138/000a offset=0 source=JOE<00> destination=FRED<20> data=68656c6c used=86
+ * group flags=01 key=10.0.0.5:138/000a offset=4 source=JOE<00> destination=FRED<20> data=6f2c2046 used=86
+ * group flags=00 key=10.0.0.5:138/000a offset=8 source=JOE<00> destination=FRED<20> data=524544 used=85
+ * error flags=02 key=10.0.0.9:138/0007 code=82 used=11
+ * find flags=02 key=10.0.0.5:138/0007 destination=FRED<20> used=44
+ * found flags=02 key=10.0.0.5:138/0007 destination=FRED<20> used=44
+ * missing flags=02 key=10.0.0.5:138/0007 destination=FRED<20> used=44
+ * status 51
  */

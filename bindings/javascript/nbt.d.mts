@@ -5,15 +5,10 @@ export type Address = string | number;
 /** Milliseconds since any moment of the caller's choice. A bigint may have all 64 bits. */
 export type Moment = number | bigint;
 
-// ---- tools/lists.py --write makes what follows of include/nbt.h.
-/** Where a record stands. */
-export type Section = 'answer' | 'authority' | 'additional';
-/** What a request asks for. */
-export type RequestKind = 'query' | 'nodeStatus' | 'registration' | 'refresh' | 'release';
-/** What became of a payload. */
-export type TakenOutcome = 'KEPT' | 'SPOILT' | 'DELIVERED' | 'UNHEARD' | 'OTHER' | 'REFUSED';
-// ---- Up to here.
+// In the file that is handed out this line is what it names.
+import type { RequestKind, Section, TakenOutcome } from './header.mjs';
 
+export type { RequestKind, Section, TakenOutcome };
 /** The numbers of enum nbt_status, by their names without NBT_; nbt.h says when each comes. */
 export declare const Status: Readonly<Record<string, number>>;
 

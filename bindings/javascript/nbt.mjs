@@ -1,44 +1,10 @@
 /** NetBIOS packets over TCP and UDP (RFC 1001, RFC 1002): the library of nbt.h in WebAssembly, for node, deno and browsers.
  * nbt.d.mts says what each call is given and answers. */
 
-// ---- tools/lists.py --write makes what follows of include/nbt.h.
-/** The numbers of enum nbt_status. */
-export const Status = Object.freeze({
-    DONE: 0, NO_ROOM: 1, NO_MEMORY: 2, BAD_TEXT: 10, LONG_TEXT: 11, SOURCE_BAD_TEXT: 12, SOURCE_LONG_TEXT: 13,
-    DESTINATION_BAD_TEXT: 14, DESTINATION_LONG_TEXT: 15, NAME_TRUNCATED: 20, NAME_RESERVED_LABEL: 21, NAME_POINTER: 22,
-    NAME_LONG: 23, NAME_NOT_NETBIOS: 24, NAME_TRAILING_BYTES: 25, NAME_BAD_POINTER: 26, SOURCE_TRUNCATED: 30,
-    SOURCE_RESERVED_LABEL: 31, SOURCE_POINTER: 32, SOURCE_LONG: 33, SOURCE_NOT_NETBIOS: 34, SOURCE_BAD_POINTER: 36,
-    DESTINATION_TRUNCATED: 40, DESTINATION_RESERVED_LABEL: 41, DESTINATION_POINTER: 42, DESTINATION_LONG: 43,
-    DESTINATION_NOT_NETBIOS: 44, DESTINATION_BAD_POINTER: 46, TRUNCATED: 50, UNKNOWN_TYPE: 51, MORE: 52, RESERVED_FLAGS: 53,
-    BAD_LENGTH: 54, TRAILING_BYTES: 55, NAME_RDATA: 56, NO_ITEM: 57, OTHER_RDATA: 58, NO_PART: 59, UNKNOWN_REQUEST: 60,
-    ZERO_PIECE: 61, LONG_DATA: 62, TABLE_BAD_MAGIC: 70, TABLE_TRUNCATED: 71, TABLE_NOT_CANONICAL: 72, TABLE_LONG: 73,
-    TABLE_FULL_SOURCE: 74, TABLE_FULL: 75, SECOND_BAD_MAGIC: 80, SECOND_TRUNCATED: 81, SECOND_NOT_CANONICAL: 82,
-    SECOND_LONG: 83, SECOND_FULL_SOURCE: 84, SECOND_FULL: 85, MISPLACED_FIRST: 90, LONG: 91, FULL_SOURCE: 92, FULL: 93,
-    NAME_PRESENT: 100, TOO_MANY_NAMES: 101, NO_STATION: 102, OTHER_TYPE: 110, BAD_LINE: 120, UNKNOWN_STATUS: 255,
-});
-const TYPE = Object.freeze({
-    NS: 0x0002, NULL: 0x000a, NB: 0x0020, NBSTAT: 0x0021,
-});
-const SESSION = Object.freeze({
-    MESSAGE: 0x00, REQUEST: 0x81, POSITIVE: 0x82, NEGATIVE: 0x83, RETARGET: 0x84, KEEPALIVE: 0x85,
-});
-const LINES = ['blank', 'packet', 'tick'];
-const OUTCOMES = ['KEPT', 'SPOILT', 'DELIVERED', 'UNHEARD', 'OTHER', 'REFUSED'];
-const SECTIONS = ['question', 'answer', 'authority', 'additional'];
-const REQUESTS = ['query', 'nodeStatus', 'registration', 'refresh', 'release'];
-const KEYS = 1_024, MOST_KEYS = 65_535, TAKE_ROOM = 66_045;
-/** What a module has to have. */
-const CALLS = [
-    'heap_give_back', 'heap_limit', 'heap_take', 'nbt_brief', 'nbt_capture_line', 'nbt_datagram_error', 'nbt_datagram_front',
-    'nbt_datagram_query', 'nbt_datagram_read', 'nbt_datagram_write', 'nbt_json', 'nbt_name_spell', 'nbt_name_text',
-    'nbt_service_address', 'nbt_service_domain', 'nbt_service_header', 'nbt_service_item', 'nbt_service_items',
-    'nbt_service_node', 'nbt_service_read', 'nbt_service_request', 'nbt_service_response', 'nbt_service_unit',
-    'nbt_session_front', 'nbt_session_names', 'nbt_session_read', 'nbt_session_retarget', 'nbt_session_write', 'nbt_show',
-    'nbt_station_absorb', 'nbt_station_create', 'nbt_station_free', 'nbt_station_list', 'nbt_station_save', 'nbt_station_take',
-    'nbt_station_tick', 'nbt_status_text', 'nbt_table_differ', 'nbt_table_json', 'nbt_table_list', 'nbt_table_merge',
-    'nbt_version',
-];
-// ---- Up to here.
+// In the file that is handed out this line is what it names.
+import { CALLS, KEYS, LINES, MOST_KEYS, OUTCOMES, REQUESTS, SECTIONS, SESSION, Status, TAKE_ROOM, TYPE } from './header.mjs';
+
+export { Status };
 const STATUS_NAMES = new Map(Object.entries(Status).map(([name, number]) => [number, name]));
 const NO_LIMIT = 0xffff_ffff;
 // In front of the bytes that a call is given: how many it used, a place, and a structure of numbers. INTO is its room.

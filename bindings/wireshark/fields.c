@@ -1,6 +1,11 @@
-/* The protocol, its fields, what it says to experts, and its preferences. */
+/* The protocol, its fields, what it says to experts, and its preferences; and what Wireshark looks for in a plugin: it loads one that was
+ * compiled for its own version alone. */
 #include "shark.h"
 #include <epan/prefs.h>
+#include <epan/stats_tree.h>
+#if __has_include(<wsutil/plugins.h>)
+#include <wsutil/plugins.h>
+#endif
 
 int proto_nbt = -1;
 int hf_says = -1, hf_refused = -1, hf_place = -1, hf_follow = -1, hf_key = -1, hf_state = -1, hf_missing = -1,
@@ -65,7 +70,7 @@ static void begin_file(void)
     collect_from_all_ports();
 }
 
-void register_nbt(void)
+static void register_nbt(void)
 {
     proto_nbt = proto_register_protocol("NetBIOS over TCP and UDP, by nbt", "nbt", "nbt");
     register_fields();
@@ -77,8 +82,31 @@ void register_nbt(void)
     register_postdissector(create_dissector_handle(show_frame, proto_nbt));
 }
 
-void hand_off_nbt(void)
+static void hand_off_nbt(void)
 {
     hand_off_collecting();
     hand_off_datagrams();
+}
+
+WS_DLL_PUBLIC_DEF const gchar plugin_version[] = NBT_VERSION;
+WS_DLL_PUBLIC_DEF const int plugin_want_major = WIRESHARK_VERSION_MAJOR;
+WS_DLL_PUBLIC_DEF const int plugin_want_minor = WIRESHARK_VERSION_MINOR;
+WS_DLL_PUBLIC void plugin_register(void);
+
+/* Later versions ask what a plugin is. */
+#ifdef WS_PLUGIN_DESC_DISSECTOR
+WS_DLL_PUBLIC uint32_t plugin_describe(void);
+
+uint32_t plugin_describe(void)
+{
+    return WS_PLUGIN_DESC_DISSECTOR;
+}
+#endif
+
+void plugin_register(void)
+{
+    static proto_plugin protocol = {register_nbt, hand_off_nbt};
+    static tap_plugin statistics = {register_statistics};
+    proto_register_plugin(&protocol);
+    tap_register_plugin(&statistics);
 }

@@ -35,9 +35,6 @@ extern const char *station_names;       /* preference nbt.names */
 extern wireshark_bool phrases_in_info; /* preference nbt.info */
 extern wireshark_bool keys_time_out;   /* preference nbt.timer */
 
-void register_nbt(void);
-void hand_off_nbt(void);
-
 /* collect.c: the payloads of the frame that is dissected. -------------------------------------------------------------- */
 
 /* The bytes at the front of which a packet is looked for. */
@@ -123,11 +120,7 @@ const struct fragment *take_payload(packet_info *pinfo, const struct payload *pa
 /* Why no station listens for the names of the preference; NULL where one does. */
 const char *fault_of_names(void);
 
-/* datagram.c: data put together, and what is missing. -------------------------------------------------------------------- */
-
-void keep_data(struct fragment *fragment, const guint8 *data);
-void drop_data(struct datagram *datagram);
-void put_together(struct datagram *datagram);
+/* The words of what is missing; NULL where nothing is, or where the datagram is spoilt. */
 const char *missing_of(struct datagram *datagram);
 
 /* show.c, show_datagram.c: the tree and the columns. ---------------------------------------------------------------------- */

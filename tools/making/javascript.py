@@ -1,5 +1,7 @@
-"""The numbers of nbt.h for the package for JavaScript: parts of nbt.mjs and nbt.d.mts."""
+"""The numbers and words of nbt.h for the package for JavaScript: tools/targets puts them into nbt.mjs and nbt.d.mts."""
 from .header import in_lines
+
+MADE = '/** Of include/nbt.h, by tools/lists.py --made. */'
 
 # What a module has to have beside the calls of nbt.h.
 HEAP = 'heap_give_back', 'heap_limit', 'heap_take'
@@ -17,21 +19,20 @@ def words_of(header, name):
     return [f"'{words.get(number, '')}'" for number in range(max(words) + 1)]
 
 
-def in_module(header):
-    lines = []
+def module_file(header):
+    lines = [MADE]
     for name, enum in NUMBERS.items():
         numbers = in_lines([f'{each.name}: {each.digits},' for each in header.enums[enum]], '    ', 128)
-        front = '/** The numbers of enum nbt_status. */\nexport const' if enum == 'status' else 'const'
-        lines.append(f'{front} {name} = Object.freeze({{\n{numbers}\n}});')
-    lines += [f"const {name} = [{', '.join(words_of(header, name))}];" for name in LISTS]
-    lines.append('const ' + ', '.join(f'{name} = {header.limits[name]:_}' for name in LIMITS) + ';')
+        lines.append(f'export const {name} = Object.freeze({{\n{numbers}\n}});')
+    lines += [f"export const {name} = [{', '.join(words_of(header, name))}];" for name in LISTS]
+    lines.append('export const ' + ', '.join(f'{name} = {header.limits[name]:_}' for name in LIMITS) + ';')
     calls = sorted([*HEAP, *(name for _, name, _ in header.calls)])
-    lines.append('/** What a module has to have. */\nconst CALLS = [\n' + in_lines([f"'{name}'," for name in calls], '    ', 128) + '\n];')
+    lines.append('/** What a module has to have. */\nexport const CALLS = [\n' + in_lines([f"'{name}'," for name in calls], '    ', 128) + '\n];')
     return '\n'.join(lines) + '\n'
 
 
-def in_types(header):
+def types_file(header):
     unions = {name: words_of(header, words) for name, words in TYPES.items()}
     unions['Section'] = unions['Section'][1:]
     said = {'Section': 'Where a record stands.', 'RequestKind': 'What a request asks for.', 'TakenOutcome': 'What became of a payload.'}
-    return ''.join(f"/** {said[name]} */\nexport type {name} = {' | '.join(words)};\n" for name, words in unions.items())
+    return MADE + ''.join(f"\n/** {said[name]} */\nexport type {name} = {' | '.join(words)};" for name, words in unions.items()) + '\n'

@@ -1,10 +1,13 @@
-"""The numbers and structures of nbt.h for the package for Python."""
+"""The numbers and structures of nbt.h for the package for Python, and its limits and some of its numbers for the tools."""
 from .header import CONSTANTS, MADE, camel, in_lines
 
 IN_PYTHON = {'status': 'Status', 'line_kind': 'LineKind', 'operation': 'Operation', 'result_code': 'ResultCode', 'node_type': 'NodeType',
              'datagram_type': 'DatagramType', 'session_type': 'SessionType', 'request': 'Request', 'outcome': 'Outcome'}
 PYTHON_SAYS = {'status': 'Why a call did nothing; include/nbt.h says when each comes.', 'request': 'What a request asks for.'}
 PACKED = {'service_header', 'service_entry', 'service_address', 'service_node'}
+# The numbers of packets that the tools read.
+READ = {'record_type': ('NBSTAT',), 'name_flag': ('G',), 'datagram_flag': ('MORE', 'FIRST')}
+WORDS, QUERIES = ('UNIQUE', 'GROUP', 'BROADCAST'), ('FIND', 'FOUND', 'MISSING')
 LETTERS = {'uint8_t': 'B', 'uint16_t': 'H', 'uint32_t': 'I', 'uint64_t': 'Q', 'size_t': 'N'}
 
 
@@ -52,3 +55,14 @@ def python_file(header):
     parts.append('# Structures that are many, as they lie.\n'
                  + '\n'.join(f"{name.upper()} = struct.Struct('@{layout(header, name)}')" for name in header.structures if name in PACKED))
     return '\n\n\n'.join(parts) + '\n'
+
+
+def tools_file(header):
+    lines = [f'{name} = {number:_}' for name, number in header.limits.items()]
+    fragments = ', '.join(f"{it.digits}: '{it.name.lower()}'" for it in header.enums['datagram_type'] if it.name in WORDS)
+    services = ', '.join(it.digits for it in header.enums['port'])
+    numbers = [f'{it.name} = {it.digits}' for enum, names in READ.items() for it in header.enums[enum] if it.name in names]
+    queries = ', '.join(it.digits for it in header.enums['datagram_type'] if it.name in QUERIES)
+    types = ', '.join(it.digits for it in header.enums['session_type'])
+    return '\n'.join([f'"""The version and the limits of include/nbt.h, and its numbers that the tools read. {MADE}"""', f"VERSION = '{header.version}'", *lines,
+                      f'SERVICES = ({services})', '# Numbers of packets.', *numbers, '# MSG_TYPE of fragments in words, and of queries; TYPE of port 139.', f'FRAGMENTS = {{{fragments}}}', f'QUERIES = ({queries})', f'SESSION_TYPES = frozenset(({types}))']) + '\n'

@@ -7,9 +7,8 @@ from nbt_pcap.rows import is_joined, last
 from .fragments import FIELDS as FRAGMENT_FIELDS
 from .fragments import Unfinished
 from .items import Cut, Frame, LeftOut, Opened, Packet
-from .others import STATISTIC, Others
 from .screen import safe
-from .without import PACKET, Without
+from .tally import PACKET, STATISTIC, Others, Without
 
 # What a row has besides the fields that packets are made of.
 FIELDS = ('frame.interface_name', 'frame.interface_id', 'ieee8021ad.id', 'ieee8021ad.svid', 'ieee8021ad.cvid', 'vlan.id', 'eth.src', 'eth.dst',

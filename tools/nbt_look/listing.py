@@ -2,18 +2,17 @@
 from nbt_pcap.header import SERVICES
 
 from .counts import left_out_words
+from .screen import Sink
 
 # The least widths of the columns before the phrase, which grow with what stands in them.
 WIDTHS = (5, 9, 15, 15)
 
 
-class Listing:
+class Listing(Sink):
     """The list: frame, time, from, to, and what is said."""
 
-    status = 0
-
     def __init__(self, screen, times):
-        self.screen, self.times = screen, times
+        super().__init__(screen, times)
         self.widths = list(WIDTHS)
         self.interface = None
 
@@ -28,12 +27,6 @@ class Listing:
         frame = item.frame
         sizes = ', %d of %d bytes' % (frame.captured, frame.size) if frame.captured < frame.size else ''
         self.row(frame, ends(frame, tuple(map(str, SERVICES))), 'left out: ' + left_out_words(item) + sizes, 'left out')
-
-    def opened(self, item):
-        """Nothing is said of it."""
-
-    def finish(self, tally, left_out):
-        """All is listed."""
 
     def row(self, frame, addresses, phrase, style):
         source, target = addresses

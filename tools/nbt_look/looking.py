@@ -17,10 +17,9 @@ from . import trial
 from .filters import Filter
 from .frames import FIELDS, STATISTICS, Frames
 from .fronts import front_of, malformed_of
-from .items import Cut, Opened, Packet
+from .items import WINDOW, Cut, Opened, Ordering, Packet
 from .listing import Listing
 from .objects import Objects
-from .ordering import WINDOW, Ordering
 from .screen import Screen
 from .summary import Summary
 from .tally import Tally
@@ -144,6 +143,8 @@ class Look:
         return None
 
     def show(self, item, shown, text):
+        if self.sink.number not in (None, item.frame.number):
+            return
         if isinstance(item, Packet):
             self.sink.packet(item, shown, text)
         elif isinstance(item, Cut):

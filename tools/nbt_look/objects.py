@@ -2,19 +2,16 @@
 import json
 import re
 
+from .screen import Sink
+
 # Of what nbt says: how many bytes of the payload it read, and the flags of a packet of port 137.
 USED, FLAGS = re.compile('"used":([0-9]+)'), re.compile(r'"flags":\[([^]]*)\]')
 ENCODE = json.JSONEncoder(separators=(',', ':')).encode
 
 
-class Objects:
+class Objects(Sink):
     """The objects: what the frame has, and then what `nbt show --json` says; `flags` is a text of each port, and `trailing` what follows the
     packet in its payload."""
-
-    status = 0
-
-    def __init__(self, screen, times):
-        self.screen, self.times = screen, times
 
     def packet(self, item, shown, text):
         if shown and 'refused' in shown:
@@ -38,12 +35,6 @@ class Objects:
     def put(self, item, ends, members):
         """Prints an object: what the frame of an item has, whose ends these are, and then members."""
         self.screen.lines.append(self.front(item.frame, (ends.source, ends.target, ends.source_port, ends.target_port))[:-1] + ',' + members[1:])
-
-    def opened(self, item):
-        """Nothing is said of it."""
-
-    def finish(self, tally, left_out):
-        """All is listed."""
 
     def front(self, frame, ends):
         source, target, *ports = ends

@@ -25,6 +25,21 @@ def escaped(number):
     return '\\x%02x' % (number - 0xdc00 if 0xdc80 <= number <= 0xdcff else number)
 
 
+class Sink:
+    """What takes the packets of a capture, to print them: those of one frame alone where `number` says so."""
+
+    status, number = 0, None
+
+    def __init__(self, screen, times):
+        self.screen, self.times = screen, times
+
+    def opened(self, item):
+        """Nothing is said of a connection that is opened."""
+
+    def finish(self, tally, left_out):
+        """All is printed."""
+
+
 class Screen:
     """Standard output: whole lines. `width` is that of a terminal, None where it is none."""
 

@@ -5,6 +5,7 @@ import json
 from .counts import counted
 from .datagrams import Datagrams
 from .replaying import Replay, listing
+from .screen import Sink
 from .seen import Seen
 from .shown import TEXTS
 from .vocabulary import TABLES
@@ -25,13 +26,12 @@ class LeftOut:
         return 0
 
 
-class Summary:
+class Summary(Sink):
     """All parts of a summary, each with its rows."""
 
-    status = 0
-
     def __init__(self, screen, times, options, program):
-        self.screen, self.times, self.as_json, self.chosen = screen, times, options.json, options.tables
+        super().__init__(screen, times)
+        self.as_json, self.chosen = options.json, options.tables
         self.seen, self.datagrams, self.missed = Seen(options.session_ports), Datagrams(listing(program)), LeftOut()
         self.replay = Replay(program, self.datagrams)
         self.parts = [*self.seen.parts, self.datagrams, self.datagrams.failed, self.seen.faults, self.missed]

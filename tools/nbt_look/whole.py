@@ -1,23 +1,24 @@
-"""All of the packets of one frame."""
+"""All of the packets of one frame, and what to do about a fault, by its port."""
+import re
 import subprocess
 
 from nbt_pcap.process import say
 
-from .advice import of_port
 from .counts import counted, left_out_words
 from .listing import ends
 from .objects import ENCODE, Objects
 from .places import is_in_name, place_of
+from .screen import Sink
 
 ROW = 16
 
 
-class Whole:
+class Whole(Sink):
     """What stands in a frame: where it comes from, what it says, its fields and bytes, its fault, and how Wireshark finds it."""
 
     def __init__(self, screen, times, number, program):
-        self.screen, self.times, self.number, self.program = screen, times, number, program
-        self.status = 1
+        super().__init__(screen, times)
+        self.number, self.program, self.status = number, program, 1
 
     def packet(self, item, shown, _text):
         self.payload(item, shown, ['show'], 'refused' if 'refused' in shown else None)
@@ -27,8 +28,6 @@ class Whole:
         self.payload(item, {'at': len(item.digits) // 2, **shown}, ['show', '--partial'], 'left out')
 
     def payload(self, item, shown, words, style):
-        if item.frame.number != self.number:
-            return
         self.head(item.frame, ends(item, ()))
         self.screen.line(shown['brief'], style)
         self.screen.line('')
@@ -48,10 +47,9 @@ class Whole:
             self.screen.line('of the same: ' + wireshark(item, shown))
 
     def left_out(self, item):
-        if item.frame.number == self.number:
-            self.head(item.frame, ends(item.frame, ()))
-            self.screen.line('left out: ' + left_out_words(item), 'left out')
-            self.screen.line('Wireshark: frame.number == %d' % self.number)
+        self.head(item.frame, ends(item.frame, ()))
+        self.screen.line('left out: ' + left_out_words(item), 'left out')
+        self.screen.line('Wireshark: frame.number == %d' % self.number)
 
     def head(self, frame, addresses):
         if self.status == 0:
@@ -86,9 +84,6 @@ class Whole:
             text = ''.join(chr(byte) if 0x20 <= byte < 0x7f else '.' for byte in row)
             self.screen.line(('%05x  %-64s  %s' % (at, digits, text)).rstrip())
 
-    def opened(self, item):
-        """Nothing is said of it."""
-
     def finish(self, tally, _left_out):
         for each in why_none(self.number, tally) if self.status else ():
             self.screen.line(each)
@@ -99,23 +94,19 @@ class WholeObject(Objects):
 
     def __init__(self, screen, times, number, program):
         super().__init__(screen, times)
-        self.number, self.program = number, program
-        self.status = 1
+        self.number, self.program, self.status = number, program, 1
 
     def packet(self, item, shown, text):
-        if item.frame.number == self.number:
-            super().packet(item, shown, text)
-            self.add(item, shown)
+        super().packet(item, shown, text)
+        self.add(item, shown)
 
     def cut(self, item, shown):
-        if item.frame.number == self.number:
-            super().cut(item, shown)
-            self.add(item, shown)
+        super().cut(item, shown)
+        self.add(item, shown)
 
     def left_out(self, item):
-        if item.frame.number == self.number:
-            self.status = 0
-            super().left_out(item)
+        self.status = 0
+        super().left_out(item)
 
     def add(self, item, shown):
         """Takes more of the latest object."""
@@ -163,3 +154,23 @@ def wireshark(item, shown):
         address, _, rest = shown['key'].partition(':')
         return 'nbdgm.src.ip == %s && nbdgm.dgram_id == 0x%s' % (address, rest.partition('/')[2])
     return 'tcp.stream == %s' % item.stream if item.stream else 'udp.port == %d' % item.service
+
+
+# The words of a fault without what stands before a colon, and without its place.
+WORDS = re.compile(r'(?:.*: )?(.*?)(?: \d+)?$')
+# What `nbt help` says of some faults is about other ports or commands too: here stands what is about packets of each port.
+OF_EACH = {'truncated': 'the bytes end too early: capture whole packets, as by `tcpdump -s 0`',
+           'too long': 'a name passes 255 bytes: leave it out, its sender is broken or hostile'}
+OF_PORT = {
+    (137, 'reserved label'): 'no name stands there: perhaps other traffic',
+    (138, 'reserved label'): 'no name stands there: other traffic, or a later piece of a datagram cut by RFC 1002, section 5.3',
+    (139, 'reserved label'): 'no name stands there: perhaps other traffic',
+    (138, 'unknown type'): 'the first byte is no type of port 138, as 13 of `138 0 1302000700000000008a82` is: perhaps other traffic',
+    (139, 'unknown type'): 'the first byte is no type of port 139, as 85 of `139 0 85000000` is: perhaps other traffic, or a stream whose start is missing',
+    (139, 'trailing bytes'): 'bytes follow the two names with which a session request ends: leave it out, its sender is broken or hostile'}
+
+
+def of_port(port, refused):
+    """What to do about a fault, where that isn't all that `nbt help` says of it; or else None."""
+    words = WORDS.match(refused)[1]
+    return OF_PORT.get((port, words)) or OF_EACH.get(words)

@@ -1,5 +1,8 @@
-"""The times of frames."""
+"""The times of frames, and of IP fragments, for the packets that tshark puts together of them: it knows no timer."""
+import collections
 import time
+
+from .rows import values_of
 
 
 class Clock:
@@ -50,3 +53,40 @@ def year_text(second):
         return time.strftime('%Y-%m-%dT%H:%M:%S', time.gmtime(second))
     except (OverflowError, ValueError, OSError):
         return ''
+
+
+# How long fragments wait for the others, in nanoseconds: RFC 8200 section 4.5, and RFC 1122 section 3.3.2.
+TIMER = 60 * 10**9
+# Of how many fragments the time is known.
+MOST_FRAGMENTS = 262_144
+
+Span = collections.namedtuple('Span', 'first last why')
+FORGOTTEN = Span(0, 0, 'fragments of it are followed by %d others' % MOST_FRAGMENTS)
+
+
+class Fragments:
+    """The latest fragments, by the numbers of their frames."""
+
+    def __init__(self):
+        self.spans = collections.OrderedDict()
+
+    def keep(self, row, at):
+        """Takes a frame that is a fragment, and may be put together of others itself, in a tunnel."""
+        self.spans[row.number] = self.span(row, at)
+        if len(self.spans) > MOST_FRAGMENTS:
+            self.spans.popitem(last=False)
+
+    def why_not(self, row, at):
+        """Why a packet that was put together can't be taken; None where it can."""
+        return self.span(row, at).why
+
+    def span(self, row, at):
+        if row.contradictions or row.contradictions6:
+            return Span(at, at, 'its fragments differ where they overlap')
+        first = last = at
+        for number in values_of(row.fragments) + values_of(row.fragments6):
+            part = self.spans.get(number, FORGOTTEN) if number != row.number else Span(at, at, None)
+            if part.why:
+                return part
+            first, last = min(first, part.first), max(last, part.last)
+        return Span(first, last, 'its fragments lie more than 60 s apart' if last - first > TIMER else None)

@@ -1,6 +1,5 @@
 """Frames: the rows of tshark, and the lines that they give."""
-from .clock import Clock
-from .fragments import Fragments
+from .clock import Clock, Fragments
 from .layers import TCP_HEADER, UDP_HEADER, Segment, Unpaired, packets_of, shape_of
 from .process import Stopped
 from .reasons import BAD_LENGTH, CUT, FRAGMENTS, STOPPED, UNPAIRED

@@ -90,6 +90,16 @@ def run(main):
     sys.exit(status)
 
 
+def heed_signals():
+    """From here on SIGTERM and SIGHUP stop the tool."""
+    for each in (signal.SIGTERM, signal.SIGHUP):
+        signal.signal(each, stop)
+
+
+def stop(number, _frame):
+    raise Stopped(128 + number, 'ended by a signal')
+
+
 def words_of(error):
     """What an error of a device says, with the name of the file where it has one."""
     words = error.strerror or errno.errorcode.get(error.errno, str(error))

@@ -1,4 +1,4 @@
-"""How much of a file tshark has read, on a terminal that shows nothing else."""
+"""How far a tool is, on a terminal that shows nothing else: how much of a file tshark has read."""
 import os
 import stat
 import time
@@ -14,21 +14,22 @@ def is_shown():
     return os.isatty(1) or stat.S_ISFIFO(kind) or stat.S_ISSOCK(kind)
 
 
-class Progress:
-    """A line on standard error that is written over, at most twice a second, and erased at the end."""
+class Line:
+    """A line on standard error, or on a copy of that, which is written over, at most twice a second, and erased at the end."""
 
-    def __init__(self, options, process, silent=False):
-        """With `silent` nothing comes to standard output before the end."""
-        self.shown = 0
-        self.next = 0.0
-        self.path, self.process, self.place = options.file, process, None
-        self.wanted = not options.quiet and os.isatty(2) and (silent or not is_shown())
+    def __init__(self):
+        self.wanted, self.number = False, 2
+        self.shown, self.next = 0, 0.0
 
-    def show(self, frames):
+    def is_due(self):
+        """Whether it is to be written now."""
         if not self.wanted or time.monotonic() < self.next:
-            return
+            return False
         self.next = time.monotonic() + BETWEEN
-        text = '%s: %s' % (NAME, self.bytes_read() or '%d frames' % frames)
+        return True
+
+    def put(self, text):
+        text = '%s: %s' % (NAME, text)
         self.write('\r' + text.ljust(self.shown))
         self.shown = len(text)
 
@@ -39,9 +40,23 @@ class Progress:
 
     def write(self, text):
         try:
-            os.write(2, text.encode(errors='surrogateescape'))
+            os.write(self.number, text.encode(errors='surrogateescape'))
         except OSError:
             self.wanted = False
+
+
+class Progress(Line):
+    """How much of its file tshark has read."""
+
+    def __init__(self, options, process, silent=False):
+        """With `silent` nothing comes to standard output before the end."""
+        super().__init__()
+        self.path, self.process, self.place = options.file, process, None
+        self.wanted = not options.quiet and os.isatty(2) and (silent or not is_shown())
+
+    def show(self, frames):
+        if self.is_due():
+            self.put(self.bytes_read() or '%d frames' % frames)
 
     def bytes_read(self):
         """By what Linux knows of the file that tshark has open; None where it doesn't."""

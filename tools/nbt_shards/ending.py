@@ -1,9 +1,10 @@
 """Why a run is stopped, its exit status, and how far it is, on a terminal."""
+import os
 import signal
 import sys
-import time
 
-BETWEEN_PROGRESS = 0.5
+from nbt_pcap.process import NAME
+from nbt_pcap.progress import Line
 
 
 class Stopped(Exception):
@@ -14,42 +15,27 @@ class Stopped(Exception):
         self.status = status
 
 
-class Progress:
-    """How many are done, on a terminal: at most twice a second, and erased at the end."""
+class Progress(Line):
+    """How many are done."""
 
-    def __init__(self):
-        self.name = None
-        self.next = 0.0
-        self.shown = 0
-
-    def begin(self, name, quiet):
-        if not quiet and sys.stderr is not None and sys.stderr.isatty():
-            self.name = name
+    def begin(self, quiet):
+        self.wanted = not quiet and os.isatty(2)
 
     def show(self, count, of, what):
-        if self.name is None or time.monotonic() < self.next:
-            return
-        self.next = time.monotonic() + BETWEEN_PROGRESS
-        text = '%s: %d of %d %s' % (self.name, count, of, what)
-        print('\r' + text.ljust(self.shown), end='', file=sys.stderr, flush=True)
-        self.shown = len(text)
-
-    def erase(self):
-        if self.shown:
-            print('\r' + ' ' * self.shown + '\r', end='', file=sys.stderr, flush=True)
-        self.shown = 0
+        if self.is_due():
+            self.put('%d of %d %s' % (count, of, what))
 
 
 progress = Progress()
 
 
-def say(name, text):
+def say(text):
     """A line on standard error."""
     progress.erase()
-    print('%s: %s' % (name, text), file=sys.stderr, flush=True)
+    print('%s: %s' % (NAME, text), file=sys.stderr, flush=True)
 
 
-def run(name, main):
+def run(main):
     """Runs an engine; a failure is one line on standard error, and leaves OUT as it was. Ctrl-C, which waited until here, ends without a word
     once it is over."""
     try:
@@ -57,13 +43,13 @@ def run(name, main):
         main()
         progress.erase()
     except Stopped as why:
-        say(name, why)
+        say(why)
         sys.exit(why.status)
     except OSError as error:
-        say(name, '%s: %s' % (error.filename, error.strerror) if error.filename else error)
+        say('%s: %s' % (error.filename, error.strerror) if error.filename else error)
         sys.exit(3)
     except KeyboardInterrupt:
-        say(name, 'interrupted')
+        say('interrupted')
         sys.exit(130)
     finally:
         signal.signal(signal.SIGINT, signal.SIG_DFL)

@@ -109,7 +109,7 @@ class Work:
             return self.shards, kept
         others = self.others()
         if others:
-            say('nbt-parallel', '%s is of other captures, of another program, or of other words: begun anew' % self.top)
+            say('%s is of other captures, of another program, or of other words: begun anew' % self.top)
         judge_groups(self.options)
         for each in others + [self.folder]:
             shutil.rmtree(each, ignore_errors=True)

@@ -53,7 +53,7 @@ class Datagram(DatagramFront):
         """The packet at the front of a payload of port 138, which begins at an offset of the buffer; places count from there.
 
         NbtError: TRUNCATED, UNKNOWN_TYPE, SOURCE_TRUNCATED to SOURCE_NOT_NETBIOS, DESTINATION_TRUNCATED to
-        DESTINATION_NOT_NETBIOS.
+        DESTINATION_NOT_NETBIOS. ValueError for an offset past the end of the buffer, or before its begin.
         """
         found, (source, destination, data) = READ(payload, offset)
         return cls(DatagramType(found.type), found.flags, found.identifier, ipaddress.IPv4Address(found.address), found.port,

@@ -45,7 +45,8 @@ def named(kind: Type[Member], value: int) -> Union[Member, int]:
 
 
 def address_number(address: Address) -> int:
-    """An address as a number: '10.0.0.5' is 0x0a000005. TypeError where it is no address's text, number or bytes."""
+    """An address as a number: '10.0.0.5' is 0x0a000005. TypeError where it is neither a text, a number, four bytes nor an IPv4Address;
+    ValueError where it is one of these and no address's."""
     if not isinstance(address, (str, int, bytes, ipaddress.IPv4Address)):
         raise TypeError(f'address: {address!r} is none')
     return int(ipaddress.IPv4Address(address))

@@ -75,7 +75,7 @@ class ServicePacket:
 
         NbtError: TRUNCATED, and of the first question or record that doesn't stand whole its first fault, which is
         NAME_TRUNCATED, NAME_RESERVED_LABEL, NAME_LONG or NAME_BAD_POINTER of its name, TRUNCATED, the same four of a name
-        that is its RDATA, or NAME_RDATA.
+        that is its RDATA, or NAME_RDATA. ValueError for an offset past the end of the buffer, or before its begin.
         """
         packet, fault = ServicePacket.read_front(payload, offset)
         if fault is not None:

@@ -68,7 +68,7 @@ class SessionPacket:
         from there.
 
         MoreNeeded where it isn't there whole yet. NbtError: UNKNOWN_TYPE, RESERVED_FLAGS, BAD_LENGTH, and of a request
-        NAME_TRUNCATED to NAME_NOT_NETBIOS, TRAILING_BYTES.
+        NAME_TRUNCATED to NAME_NOT_NETBIOS, TRAILING_BYTES. ValueError for an offset past the end of the buffer, or before its begin.
         """
         found, (body,) = READ(data, offset)
         return cls(SessionType(found.type), body, found.used)

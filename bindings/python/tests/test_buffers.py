@@ -197,7 +197,3 @@ class Words(unittest.TestCase):
                      nbt.SessionPacket.read_front, lambda given: nbt.show(139, given)):
             self.assertRaisesRegex(TypeError, '^str is no buffer of bytes$', call, 'FRED')
         self.assertRaises(TypeError, nbt.text, 7)
-
-
-if __name__ == '__main__':
-    unittest.main()

@@ -177,7 +177,3 @@ for number, (call, *words) in enumerate(rows, 1):
     at = next(place for place, word in enumerate(words) if word in ('=', ':', '!'))
     if call not in WITHIN and words[at:] != ['!', 'no', 'station']:
         setattr(Rows, f'test_row_{number:03}_{call}', test_of(call, words[:at], words[at], words[at + 1:]))
-
-
-if __name__ == '__main__':
-    unittest.main()

@@ -58,7 +58,3 @@ class Refused(unittest.TestCase):
         for words in ((3, 'FRED<20>', b''), (3, b'FRED<20>', ()), (3, 'FRED<20>', 'text'), (3, 'FRED<20>', None), (3, 'FRED<20>', [ENTRY]),
                       (3, 'FRED<20>', (5,)), (3.0, 'FRED<20>', ()), (3, 'FRED<20>', (), '7')):
             self.assertRaises(TypeError, nbt.response, *words)
-
-
-if __name__ == '__main__':
-    unittest.main()

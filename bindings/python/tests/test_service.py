@@ -135,7 +135,3 @@ class Values(unittest.TestCase):
             for number in range(16):
                 text = text.replace(f': {number}>', '')
             self.assertEqual(eval(text, names), each)
-
-
-if __name__ == '__main__':
-    unittest.main()

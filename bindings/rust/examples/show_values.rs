@@ -1,5 +1,5 @@
 //! What payloads say, read as values: lines with a port and hexadecimal digits, or `empty`, from standard input. Also what
-//! stands at the front of those that are refused.
+//! stands at the front of those that are refused. With the word `shown` what `nbt show` prints of each.
 
 use std::error::Error;
 use std::fmt::Write as _;
@@ -12,10 +12,17 @@ use nbt::{Name, Spelling};
 
 fn main() -> Result<(), Box<dyn Error>> {
     let mut out = io::BufWriter::new(io::stdout().lock());
+    let (is_shown, mut text) = (std::env::args().nth(1).as_deref() == Some("shown"), Vec::new());
     for (index, line) in io::stdin().lock().lines().enumerate() {
         let line = line?;
         let (port, digits) = line.split_once(' ').ok_or("a port and digits")?;
-        writeln!(out, "{} {port} {}", index + 1, lines(port.parse()?, &bytes_of(digits)?))?;
+        write!(out, "{} {port} ", index + 1)?;
+        if is_shown {
+            nbt::show_into(port.parse()?, &bytes_of(digits)?, &mut text)?;
+            out.write_all(&text)?;
+        } else {
+            writeln!(out, "{}", lines(port.parse()?, &bytes_of(digits)?))?;
+        }
     }
     Ok(out.flush()?)
 }

@@ -6,8 +6,7 @@ use crate::Result;
 
 /// What a line of a capture says. Moments are in milliseconds since any moment of the capture's choice.
 #[derive(Clone, Debug, PartialEq, Eq, Hash)]
-#[cfg_attr(feature = "serde", derive(serde::Serialize, serde::Deserialize))]
-#[cfg_attr(feature = "serde", serde(rename_all = "lowercase"))]
+#[cfg_attr(feature = "serde", derive(serde::Serialize, serde::Deserialize), serde(rename_all = "lowercase"))]
 pub enum Line {
     /// A payload that came.
     Packet {
@@ -16,10 +15,7 @@ pub enum Line {
         /// When it came.
         moment: u64,
         /// Its bytes.
-        #[cfg_attr(
-            feature = "serde",
-            serde(serialize_with = "crate::serialized::digits", deserialize_with = "crate::serialized::bytes")
-        )]
+        #[cfg_attr(feature = "serde", serde(with = "crate::serialized::bytes"))]
         payload: Vec<u8>,
     },
     /// The clock.

@@ -12,8 +12,7 @@ macro_rules! statuses {
     ($(#[$of:meta])* $name:ident { $($(#[$each:meta])* $member:ident $constant:ident = $number:literal;)* }) => {
         $(#[$of])*
         #[derive(Clone, Copy, Debug, PartialEq, Eq, PartialOrd, Ord, Hash)]
-        #[cfg_attr(feature = "serde", derive(serde::Serialize, serde::Deserialize))]
-        #[cfg_attr(feature = "serde", serde(rename_all = "SCREAMING_SNAKE_CASE"))]
+        #[cfg_attr(feature = "serde", derive(serde::Serialize, serde::Deserialize), serde(rename_all = "SCREAMING_SNAKE_CASE"))]
         #[non_exhaustive]
         #[repr(u32)]
         pub enum $name {

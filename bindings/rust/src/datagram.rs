@@ -3,14 +3,8 @@
 //! ```
 //! use nbt::datagram::{read, Body, Datagram, Kind};
 //!
-//! let datagram = Datagram {
-//!     kind: Kind::Group,
-//!     identifier: 10,
-//!     sender: "10.0.0.5:138".parse()?,
-//!     source: "JOE<00>",
-//!     destination: "FRED<20>",
-//!     data: b"hello, FRED",
-//! };
+//! let (kind, sender, data) = (Kind::Group, "10.0.0.5:138".parse()?, b"hello, FRED");
+//! let datagram = Datagram { kind, identifier: 10, sender, source: "JOE<00>", destination: "FRED<20>", data };
 //! for payload in &datagram.cut(4)? {
 //!     let packet = read(payload)?;
 //!     if let Body::Fragment(fragment) = packet.body {
@@ -51,8 +45,7 @@ pub struct Packet<'a> {
 
 /// What a packet says.
 #[derive(Clone, Copy, Debug, PartialEq, Eq, Hash)]
-#[cfg_attr(feature = "serde", derive(serde::Serialize))]
-#[cfg_attr(feature = "serde", serde(rename_all = "lowercase"))]
+#[cfg_attr(feature = "serde", derive(serde::Serialize), serde(rename_all = "lowercase"))]
 pub enum Body<'a> {
     /// A piece of a datagram, or the whole of it.
     Fragment(Fragment<'a>),

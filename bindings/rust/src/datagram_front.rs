@@ -51,14 +51,8 @@ pub struct Front<'a> {
 /// ```
 /// use nbt::datagram::{read, read_front, Datagram, Kind};
 ///
-/// let datagram = Datagram {
-///     kind: Kind::Group,
-///     identifier: 10,
-///     sender: "10.0.0.5:138".parse()?,
-///     source: "JOE<00>",
-///     destination: "FRED<20>",
-///     data: b"hello, FRED",
-/// };
+/// let (kind, sender, data) = (Kind::Group, "10.0.0.5:138".parse()?, b"hello, FRED");
+/// let datagram = Datagram { kind, identifier: 10, sender, source: "JOE<00>", destination: "FRED<20>", data };
 /// let whole = datagram.cut(512)?;
 /// for payload in &whole {
 ///     let front = read_front(&payload[..60]);

@@ -1,9 +1,10 @@
-//! Why a call did nothing.
+//! Why a call did nothing: the statuses of the library, numbers that stand for one thing in all versions, and errors that have them.
 
 use std::{fmt, io};
 
-use crate::status::words;
-use crate::Status;
+use crate::header::nbt_status_text;
+use crate::room::{text_of, written};
+use crate::{Result, Status};
 
 /// Why a call did nothing, and where the fault stands. Its text is the library's words and the place, as in
 /// `bad text 4`; of a status that this version of the crate doesn't know it has the number, as in
@@ -80,5 +81,39 @@ impl From<Error> for io::Error {
             _ => io::ErrorKind::InvalidData,
         };
         io::Error::new(kind, error)
+    }
+}
+
+impl Status {
+    /// The number of `enum nbt_status`.
+    pub fn number(self) -> u32 {
+        self as u32
+    }
+
+    /// The status with this number.
+    fn from_number(number: u32) -> Status {
+        let known = Status::ALL.into_iter().find(|it| it.number() == number);
+        known.unwrap_or(Status::UnknownStatus)
+    }
+}
+
+/// The status with this number; an error that keeps the number, where none has it.
+impl TryFrom<u32> for Status {
+    type Error = Error;
+
+    fn try_from(number: u32) -> Result<Status> {
+        let known = Status::ALL.into_iter().find(|it| it.number() == number);
+        known.ok_or_else(|| Error::new(number, 0))
+    }
+}
+
+/// The library's words for a number.
+fn words(number: u32) -> Result<String> {
+    written!(nbt_status_text(number)).map(text_of)
+}
+
+impl fmt::Display for Status {
+    fn fmt(&self, out: &mut fmt::Formatter<'_>) -> fmt::Result {
+        out.pad(&words(self.number()).map_err(|_| fmt::Error)?)
     }
 }

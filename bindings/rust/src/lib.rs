@@ -52,9 +52,7 @@ mod responses;
 mod room;
 #[cfg(feature = "serde")]
 mod serialized;
-mod service_header;
 mod service_packets;
-mod status;
 mod tables;
 
 pub mod datagram;

@@ -14,8 +14,7 @@ use crate::Name;
 
 /// What a record says, by its type.
 #[derive(Clone, Debug)]
-#[cfg_attr(feature = "serde", derive(serde::Serialize))]
-#[cfg_attr(feature = "serde", serde(rename_all = "snake_case"))]
+#[cfg_attr(feature = "serde", derive(serde::Serialize), serde(rename_all = "snake_case"))]
 // A name lies in place.
 #[allow(clippy::large_enum_variant)]
 pub enum Rdata<'a> {

@@ -24,18 +24,10 @@ const STATISTICS_LENGTH: usize = 46;
 /// ```
 /// use nbt::service::{read, Answer, Entry, Operation, Rdata, Response};
 ///
-/// let claimed = [Entry {
-///     nb_flags: 0x6000,
-///     address: "10.0.0.6".parse()?,
-/// }];
+/// let claimed = [Entry { nb_flags: 0x6000, address: "10.0.0.6".parse()? }];
 /// // A positive registration response: R, OPCODE 5, AA, RD and RA.
-/// let response = Response {
-///     identifier: 2,
-///     word: 0xad80,
-///     name: "FRED<20>",
-///     time_to_live: 300_000,
-///     answer: Answer::Addresses(&claimed),
-/// };
+/// let answer = Answer::Addresses(&claimed);
+/// let response = Response { identifier: 2, word: 0xad80, name: "FRED<20>", time_to_live: 300_000, answer };
 /// let payload = response.write()?;
 /// let packet = read(&payload)?;
 /// assert_eq!(packet.header.operation(), Ok(Operation::Registration));
@@ -92,10 +84,7 @@ impl<'a> Response<'a> {
     /// ```
     /// use nbt::service::{read, NodeName, Rdata, Response};
     ///
-    /// let names = [NodeName {
-    ///     name: "FRED<20>".parse()?,
-    ///     flags: 0x0400,
-    /// }];
+    /// let names = [NodeName { name: "FRED<20>".parse()?, flags: 0x0400 }];
     /// let payload = Response::node_status(1, "FRED<20>", &names, [0, 0, 0, 1, 2, 3]).write()?;
     /// for record in read(&payload)?.answers() {
     ///     if let Rdata::NodeStatus(status) = record.rdata() {

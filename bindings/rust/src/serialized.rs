@@ -51,11 +51,17 @@ pub(crate) fn digits_if<S: Serializer>(bytes: &Option<impl AsRef<[u8]>>, out: S)
     digits.serialize(out)
 }
 
-/// The bytes with the digits that [`digits`] wrote.
-pub(crate) fn bytes<'de, D: Deserializer<'de>>(from: D) -> Result<Vec<u8>, D::Error> {
-    let digits = String::deserialize(from)?;
-    let wanted = &"two hexadecimal digits for each byte";
-    bytes_of(&digits).ok_or_else(|| D::Error::invalid_value(Unexpected::Str(&digits), wanted))
+/// Both ways.
+pub(crate) mod bytes {
+    use super::*;
+
+    pub(crate) use super::digits as serialize;
+
+    pub(crate) fn deserialize<'de, D: Deserializer<'de>>(from: D) -> Result<Vec<u8>, D::Error> {
+        let digits = String::deserialize(from)?;
+        let wanted = &"two hexadecimal digits for each byte";
+        bytes_of(&digits).ok_or_else(|| D::Error::invalid_value(Unexpected::Str(&digits), wanted))
+    }
 }
 
 fn digits_of(bytes: &[u8]) -> String {

@@ -4,10 +4,7 @@
 //! ```
 //! use nbt::service::{read, Entry, Operation, Rdata, Request};
 //!
-//! let entry = Entry {
-//!     nb_flags: 0,
-//!     address: "10.0.0.6".parse()?,
-//! };
+//! let entry = Entry { nb_flags: 0, address: "10.0.0.6".parse()? };
 //! let payload = Request::Registration(entry, 300_000).write(2, "FRED<20>", true)?;
 //! let packet = read(&payload)?;
 //! assert_eq!(packet.header.operation(), Ok(Operation::Registration));
@@ -24,7 +21,7 @@
 use std::net::Ipv4Addr;
 
 use crate::codes::flags;
-use crate::header::{name_flag, nbt_service_request, NODE_STATUS, QUERY, REFRESH, REGISTRATION, RELEASE};
+use crate::header::{name_flag, nbt_service_request, word, NODE_STATUS, QUERY, REFRESH, REGISTRATION, RELEASE};
 use crate::room::written;
 use crate::Result;
 
@@ -32,8 +29,46 @@ pub use crate::header::record_type::*;
 pub use crate::header::service::{NodeType, Operation, ResultCode, Section};
 pub use crate::rdata::{Addresses, NodeName, NodeNames, NodeStatus, Rdata};
 pub use crate::responses::{Answer, Response};
-pub use crate::service_header::Header;
 pub use crate::service_packets::{read, read_front, Front, Packet, Question, Questions, Record, Records};
+
+/// The header of a packet: RFC 1002 section 4.2.1.1.
+#[derive(Clone, Copy, Debug, PartialEq, Eq, Hash)]
+#[cfg_attr(feature = "serde", derive(serde::Serialize, serde::Deserialize))]
+pub struct Header {
+    /// NAME_TRN_ID.
+    pub identifier: u16,
+    /// R, OPCODE, NM_FLAGS and RCODE, as they stand.
+    pub word: u16,
+    /// QDCOUNT, ANCOUNT, NSCOUNT and ARCOUNT.
+    pub counts: [u16; 4],
+}
+
+impl Header {
+    /// OPCODE, or its number where none has it.
+    pub fn operation(&self) -> std::result::Result<Operation, u8> {
+        Operation::try_from((self.word >> 11 & 15) as u8)
+    }
+
+    /// RCODE, or its number where none has it.
+    pub fn result(&self) -> std::result::Result<ResultCode, u8> {
+        ResultCode::try_from((self.word & 15) as u8)
+    }
+}
+
+flags! { Header, word:
+    /// R: whether it is the header of a response.
+    is_response word::R;
+    /// AA.
+    is_authoritative word::AA;
+    /// TC.
+    is_truncated word::TC;
+    /// RD.
+    wants_recursion word::RD;
+    /// RA.
+    has_recursion word::RA;
+    /// B.
+    is_broadcast word::B;
+}
 
 impl NodeType {
     /// The type in NB_FLAGS, or in NAME_FLAGS.
@@ -66,8 +101,7 @@ impl Entry {
 
 /// What is asked about a name.
 #[derive(Clone, Copy, Debug, PartialEq, Eq, Hash)]
-#[cfg_attr(feature = "serde", derive(serde::Serialize, serde::Deserialize))]
-#[cfg_attr(feature = "serde", serde(rename_all = "snake_case"))]
+#[cfg_attr(feature = "serde", derive(serde::Serialize, serde::Deserialize), serde(rename_all = "snake_case"))]
 pub enum Request {
     /// Who has it?
     Query,

@@ -8,7 +8,7 @@ use crate::header::{
 };
 use crate::rdata::Rdata;
 use crate::room::{found, passed};
-use crate::service_header::Header;
+use crate::service::Header;
 use crate::{Error, Name, Result};
 
 /// Where the first question or record stands: behind the header.

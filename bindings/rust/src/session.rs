@@ -82,8 +82,7 @@ impl<'a> Packet<'a> {
 
 /// What stands at the front of what came over a connection.
 #[derive(Clone, Copy, Debug, PartialEq, Eq, Hash)]
-#[cfg_attr(feature = "serde", derive(serde::Serialize))]
-#[cfg_attr(feature = "serde", serde(rename_all = "lowercase"))]
+#[cfg_attr(feature = "serde", derive(serde::Serialize), serde(rename_all = "lowercase"))]
 pub enum Next<'a> {
     /// A packet.
     Packet(Packet<'a>),

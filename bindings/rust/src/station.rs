@@ -5,14 +5,8 @@
 //! use nbt::station::{Outcome, Station};
 //! use nbt::Limits;
 //!
-//! let datagram = Datagram {
-//!     kind: Kind::Unique,
-//!     identifier: 7,
-//!     sender: "10.0.0.5:138".parse()?,
-//!     source: "JOE<00>",
-//!     destination: "FRED<20>",
-//!     data: b"hello, FRED",
-//! };
+//! let (kind, sender, data) = (Kind::Unique, "10.0.0.5:138".parse()?, b"hello, FRED");
+//! let datagram = Datagram { kind, identifier: 7, sender, source: "JOE<00>", destination: "FRED<20>", data };
 //! let mut station = Station::new(&["FRED<20>"], "10.0.0.9:138".parse()?, Limits::default())?;
 //! let mut heard = Vec::new();
 //! for payload in &datagram.cut(6)? {
@@ -60,6 +54,13 @@ pub struct Key {
     pub sender: SocketAddrV4,
     /// DGM_ID.
     pub identifier: u16,
+}
+
+impl Key {
+    /// That of numbers.
+    pub(crate) fn of(address: u32, port: u16, identifier: u16) -> Key {
+        Key { sender: SocketAddrV4::new(Ipv4Addr::from(address), port), identifier }
+    }
 }
 
 impl fmt::Display for Key {
@@ -113,18 +114,14 @@ pub struct OwnedDelivery {
     /// DESTINATION_NAME.
     pub destination: Name,
     /// Its data.
-    #[cfg_attr(
-        feature = "serde",
-        serde(serialize_with = "crate::serialized::digits", deserialize_with = "crate::serialized::bytes")
-    )]
+    #[cfg_attr(feature = "serde", serde(with = "crate::serialized::bytes"))]
     pub data: Vec<u8>,
 }
 
 /// What became of a payload. An answer is an error packet, to be sent to where the payload came from; there is none where
 /// nothing is to be sent.
 #[derive(Clone, Copy, Debug, PartialEq, Eq, Hash)]
-#[cfg_attr(feature = "serde", derive(serde::Serialize))]
-#[cfg_attr(feature = "serde", serde(rename_all = "lowercase"))]
+#[cfg_attr(feature = "serde", derive(serde::Serialize), serde(rename_all = "lowercase"))]
 pub enum Outcome<'a> {
     /// A fragment, by which its datagram became neither whole nor spoilt.
     Kept(Key),
@@ -302,8 +299,7 @@ impl fmt::Debug for Station {
 
 /// What became of a payload, of which this was told and given.
 fn outcome_of<'a>(taken: &FoundTaken, given: &'a [u8]) -> Result<Outcome<'a>> {
-    let key =
-        Key { sender: SocketAddrV4::new(Ipv4Addr::from(taken.address), taken.port), identifier: taken.identifier };
+    let key = Key::of(taken.address, taken.port, taken.identifier);
     let answer = given.get(..taken.error_length).filter(|it| !it.is_empty());
     match taken.outcome {
         KEPT => Ok(Outcome::Kept(key)),

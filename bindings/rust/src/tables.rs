@@ -1,8 +1,6 @@
 //! Saved tables: what is known of datagrams, as the command `nbt save` writes it, as bytes instead of digits (our
 //! choice). docs/FORMATS.md has both forms, NBT1 and NBT2.
 
-use std::net::{Ipv4Addr, SocketAddrV4};
-
 use crate::header::{nbt_table_differ, nbt_table_json, nbt_table_list, nbt_table_merge, FoundDifference, DONE, KEYS};
 use crate::room::{found, text_of, written};
 use crate::station::Key;
@@ -95,7 +93,5 @@ pub fn differ(first: &[u8], second: &[u8]) -> Result<Option<Key>> {
     if status != DONE {
         return Err(Error::new(status, at));
     }
-    let key =
-        Key { sender: SocketAddrV4::new(Ipv4Addr::from(found.address), found.port), identifier: found.identifier };
-    Ok((found.differ != 0).then_some(key))
+    Ok((found.differ != 0).then_some(Key::of(found.address, found.port, found.identifier)))
 }

@@ -59,13 +59,8 @@ fn number<T: TryFrom<u64>>(word: &str) -> T {
     T::try_from(number.unwrap()).ok().unwrap()
 }
 
-/// What a call answered: bytes, words of values, or that it is done.
-enum Said {
-    Bytes(Vec<u8>),
-    Words(String),
-    Done,
-}
-use Said::{Bytes, Done, Words};
+/// What a call answered: bytes, or words of values; none of one that is done.
+type Said = Vec<u8>;
 
 fn hex(bytes: &[u8]) -> String {
     bytes.iter().map(|byte| format!("{byte:02x}")).collect()
@@ -119,12 +114,12 @@ fn lines(port: u16, payload: &[u8]) -> String {
 /// The lines after the first, or why there are none.
 fn front(port: u16, payload: &[u8], fault: Option<Error>) -> Result<Said> {
     let lines = lines(port, payload);
-    lines.split_once(", ").map(|(_, rest)| Words(rest.into())).ok_or_else(|| fault.unwrap())
+    lines.split_once(", ").map(|(_, rest)| rest.into()).ok_or_else(|| fault.unwrap())
 }
 
 /// What a packet of port 139 has, in words; `None` of one that has no such part.
 fn part(bytes: &[u8], words: impl Fn(&Packet<'_>) -> Option<String>) -> Option<Result<Said>> {
-    Packet::try_from(bytes).map(|packet| words(&packet).map(Words)).transpose()
+    Packet::try_from(bytes).map(|packet| words(&packet).map(Said::from)).transpose()
 }
 
 fn names(packet: &Packet<'_>) -> Option<String> {
@@ -151,29 +146,29 @@ impl Rows {
         let limits = |at: usize| Limits { keys: number(words[at]), per_source: number(words[at + 1]) };
         let of = |at: usize| bytes(words[at], &self.names);
         Some(match (call, words) {
-            ("status_text", [it]) => Ok(Bytes(Status::try_from(number::<u32>(it)).ok()?.to_string().into())),
-            ("name_spell", [it]) => spell(&self.text(it)).map(Bytes),
-            ("name_text", _) => text(&of(0)).map(|it| Bytes(it.into())),
-            ("show", [port, _]) => show(number(port), &of(1)).map(|it| Bytes(it.into())),
-            ("json", [port, _]) => json(number(port), &of(1)).map(|it| Bytes(it.into())),
-            ("brief", [port, _]) => brief(number(port), &of(1)).map(|it| Bytes(it.into())),
-            ("capture_line", _) => capture_line(&of(0)).map(|it| Words(line(it))),
-            ("service_read", _) => service::read(&of(0)).map(|_| Words(lines(137, &of(0)))),
+            ("status_text", [it]) => Ok(Status::try_from(number::<u32>(it)).ok()?.to_string().into()),
+            ("name_spell", [it]) => spell(&self.text(it)),
+            ("name_text", _) => text(&of(0)).map(Said::from),
+            ("show", [port, _]) => show(number(port), &of(1)).map(Said::from),
+            ("json", [port, _]) => json(number(port), &of(1)).map(Said::from),
+            ("brief", [port, _]) => brief(number(port), &of(1)).map(Said::from),
+            ("capture_line", _) => capture_line(&of(0)).map(|it| line(it).into()),
+            ("service_read", _) => service::read(&of(0)).map(|_| lines(137, &of(0)).into()),
             ("service_header", _) => front(137, &of(0), service::read_front(&of(0)).fault),
-            ("datagram_read", _) => datagram::read(&of(0)).map(|_| Words(lines(138, &of(0)))),
+            ("datagram_read", _) => datagram::read(&of(0)).map(|_| lines(138, &of(0)).into()),
             ("datagram_front", _) => front(138, &of(0), datagram::read_front(&of(0)).fault),
-            ("session_read", _) => Packet::try_from(&of(0)[..]).map(|_| Words(lines(139, &of(0)))),
+            ("session_read", _) => Packet::try_from(&of(0)[..]).map(|_| lines(139, &of(0)).into()),
             ("session_front", _) => front(139, &of(0), session::read_front(&of(0)).fault),
             ("session_names", _) => return part(&of(0), names),
             ("session_retarget", _) => return part(&of(0), |packet| packet.retarget().map(|it| it.to_string())),
-            ("table_merge", _) => merge(&of(0), &of(1), limits(2)).map(Bytes),
-            ("table_list", _) => list_table(&of(0)).map(|it| Bytes(it.into())),
-            ("table_json", _) => table_json(&of(0)).map(|it| Bytes(it.into())),
+            ("table_merge", _) => merge(&of(0), &of(1), limits(2)),
+            ("table_list", _) => list_table(&of(0)).map(Said::from),
+            ("table_json", _) => table_json(&of(0)).map(Said::from),
             ("table_differ", _) => {
-                differ(&of(0), &of(1)).map(|it| Words(it.map_or("none".into(), |key| key.to_string())))
+                differ(&of(0), &of(1)).map(|it| it.map_or("none".into(), |key| key.to_string().into()))
             }
             _ if call.starts_with("station") => self.on_station(call, words),
-            _ => return self.written(call, words).map(|it| it.map(Bytes)),
+            _ => return self.written(call, words),
         })
     }
 
@@ -225,21 +220,21 @@ impl Rows {
                 let address = SocketAddrV4::new(number::<u32>(words[1]).into(), number(words[2]));
                 let station = Station::new(texts, address, limits)?;
                 self.stations.insert(name, station);
-                Ok(Done)
+                Ok(Said::new())
             }
             "station_take" => {
                 let payload = bytes(words[2], &self.names);
-                self.station(words[0]).take(number(words[1]), &payload).map(|it| Words(taken(it)))
+                self.station(words[0]).take(number(words[1]), &payload).map(|it| taken(it).into())
             }
-            "station_tick" => self.station(words[0]).tick(number(words[1])).map(|it| Words(it.to_string())),
-            "station_save" => self.station(words[0]).save().map(Bytes),
-            "station_list" => self.station(words[0]).list().map(|it| Bytes(it.into())),
+            "station_tick" => self.station(words[0]).tick(number(words[1])).map(|it| it.to_string().into()),
+            "station_save" => self.station(words[0]).save(),
+            "station_list" => self.station(words[0]).list().map(Said::from),
             _ => {
                 let table = bytes(words[2], &self.names);
                 let found = self.station(words[0]).absorb(number(words[1]), &table)?;
                 let said: Vec<_> =
                     found.map(|it| handed(it.key, it.kind, [it.source, it.destination], it.data)).collect();
-                Ok(Words(if said.is_empty() { "none".into() } else { said.join(" and ") }))
+                Ok(if said.is_empty() { "none".into() } else { said.join(" and ").into() })
             }
         }
     }
@@ -259,11 +254,11 @@ impl Rows {
         let (given, rest) = (&words[..at], &words[at + 1..]);
         match (words[at], self.answer(call, given)) {
             ("!", Some(Err(error))) => error.to_string() == rest.join(" "),
-            ("=", Some(Ok(Bytes(found)))) => found == bytes(rest[0], &self.names),
-            (":", Some(Ok(Words(found)))) if !rest.is_empty() => {
-                found == rest.iter().map(|word| self.wanted(word)).collect::<Vec<_>>().join(" ")
+            ("=", Some(Ok(found))) => found == bytes(rest[0], &self.names),
+            (":", Some(Ok(found))) => {
+                let wanted: Vec<_> = rest.iter().map(|word| self.wanted(word)).collect();
+                rest.is_empty() || found == wanted.join(" ").into_bytes()
             }
-            (":", Some(Ok(_))) => rest.is_empty(),
             (_, None) => true,
             _ => false,
         }

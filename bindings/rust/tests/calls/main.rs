@@ -1,9 +1,7 @@
 //! What the calls answer, by rows and by examples: the bytes that several of them have, and how a refusal looks.
 
-mod captures;
 mod cases;
 mod datagrams;
-mod errors;
 mod names;
 mod responses;
 #[cfg(feature = "serde")]

@@ -1,8 +1,10 @@
-//! What `nbt show` prints of a payload, and what statuses say.
+//! What `nbt show` prints of a payload, and what statuses say; lines of captures, of which none has its line feed; what an error becomes,
+//! and which numbers are statuses.
 
-use std::thread;
+use std::{io, thread};
 
-use nbt::{brief_into, json_into, show, show_into, version, Status};
+use crate::refused;
+use nbt::{brief_into, capture_line, json_into, show, show_into, spell, text, version, Error, Name, Status};
 
 /// The crate's version is the library's.
 #[test]
@@ -44,4 +46,39 @@ fn threads_show() {
 #[test]
 fn words_are_padded() {
     assert_eq!(format!("{:>12}", Status::BadText), "    bad text");
+}
+
+#[test]
+fn a_line_is_without_its_line_feed() {
+    for line in ["tick 7\n", "# an office\n", "\n", "tick 7\r"] {
+        assert_eq!(refused(capture_line(line.as_bytes())), (Status::BadLine, None), "{line:?}");
+    }
+}
+
+#[test]
+fn errors_of_streams() {
+    for (error, kind) in [
+        (spell("FRED").unwrap_err(), io::ErrorKind::InvalidInput),
+        (text(b"").unwrap_err(), io::ErrorKind::InvalidData),
+        (Status::try_from(130).unwrap_err(), io::ErrorKind::Other),
+    ] {
+        assert_eq!(error.missing(), None);
+        let found = io::Error::from(error);
+        assert_eq!((found.kind(), found.to_string()), (kind, error.to_string()));
+        let within = found.get_ref().and_then(|it| it.downcast_ref::<Error>());
+        assert_eq!(within, Some(&error));
+    }
+    let question_mark = || -> io::Result<Name> { Ok("FRED".parse::<Name>()?) };
+    assert_eq!(question_mark().unwrap_err().kind(), io::ErrorKind::InvalidInput);
+}
+
+#[test]
+fn numbers_are_statuses() {
+    for status in Status::ALL {
+        assert_eq!(Status::try_from(status.number()), Ok(status));
+    }
+    for number in [0, 1, 3, 130, u32::MAX] {
+        let error = Status::try_from(number).unwrap_err();
+        assert_eq!((error.status(), error.number(), error.at()), (Status::UnknownStatus, number, None));
+    }
 }

@@ -1,13 +1,20 @@
 //! The lines of a capture.
 
 use crate::bad;
-use crate::basics::{read_digits, read_line, space_in};
-use std::io::{self, BufReader, Read};
+use memchr::memchr;
+use std::io::{self, BufRead, BufReader, Read};
 
 /// The most bytes of a line, its line feed not counted.
 const LONGEST_LINE: usize = 262_200;
 pub const MOST_INPUT: u64 = 16_777_216;
 pub const BUFFER: usize = 65_536;
+
+/// Puts the bytes that the digits stand for in the place of what was there. Says whether they are
+/// digits, two for each byte.
+pub fn read_digits(digits: &[u8], bytes: &mut Vec<u8>) -> bool {
+    bytes.resize(digits.len() / 2, 0);
+    hex::decode_to_slice(digits, bytes).is_ok()
+}
 
 pub enum Line {
     Tick(u64),
@@ -43,7 +50,7 @@ fn parse(line: &[u8], payload: &mut Vec<u8>) -> Option<Line> {
         b"139 " => 139,
         _ => return None,
     };
-    let space = space_in(&rest[..rest.len().min(21)])?;
+    let space = memchr(b' ', &rest[..rest.len().min(21)])?;
     let moment = read_moment(&rest[..space])?;
     match &rest[space + 1..] {
         b"" => return None,
@@ -52,6 +59,21 @@ fn parse(line: &[u8], payload: &mut Vec<u8>) -> Option<Line> {
         _ => return None,
     }
     Some(Line::Payload(port, moment))
+}
+
+/// Adds what comes up to the line feed, and at most so many bytes. std's own way is slower.
+fn read_line(input: &mut impl BufRead, most: usize, line: &mut Vec<u8>) -> io::Result<()> {
+    loop {
+        let read = input.fill_buf()?;
+        let read = &read[..read.len().min(most - line.len())];
+        let feed = memchr(b'\n', read);
+        let count = feed.map_or(read.len(), |feed| feed + 1);
+        line.extend_from_slice(&read[..count]);
+        input.consume(count);
+        if feed.is_some() || count == 0 {
+            return Ok(());
+        }
+    }
 }
 
 /// Gives each line's number, what it says, and its payload.

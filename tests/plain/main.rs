@@ -4,7 +4,6 @@
 //!
 //! usage: plain replay NAME | plain show | plain save | plain merge | plain ROUNDS
 
-mod basics;
 mod capture;
 mod merge;
 mod names;

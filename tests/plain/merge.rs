@@ -1,12 +1,11 @@
 //! The join of saved tables: their entries sorted by key, of which those of one key are joined.
 
 use crate::bad;
-use crate::basics::read_digits;
-use crate::capture::MOST_INPUT;
+use crate::capture::{read_digits, MOST_INPUT};
 use crate::names::read_name;
-use crate::packets::{two_bytes, Key};
+use crate::packets::{four_bytes, two_bytes, Key};
 use crate::report::Report;
-use crate::save::{save_front, save_held, save_number, save_run, save_spoilt, HELD, MAGIC, SPOILT};
+use crate::save::{save_front, save_held, save_run, save_spoilt, HELD, MAGIC, SPOILT};
 use std::io::{self, Read};
 
 /// An entry as it is saved, its key left out, and what it says, if its key isn't spoilt.
@@ -88,7 +87,7 @@ impl<'a> Rest<'a> {
     }
 
     fn entry(&mut self) -> Option<Entry<'a>> {
-        let key = Key::from_bytes(self.take(8)?.try_into().ok()?);
+        let key = Key::from_be_bytes(self.take(8)?.try_into().ok()?);
         let all = self.0;
         let held = match self.byte()? {
             SPOILT => None,
@@ -103,7 +102,7 @@ impl<'a> Rest<'a> {
 /// Adds the entries of a saved table, if it is well formed.
 fn read_table<'a>(table: &'a [u8], entries: &mut Vec<Entry<'a>>) -> Option<()> {
     let mut rest = Rest(table.strip_prefix(MAGIC)?);
-    let count = rest.number()? << 16 | rest.number()?;
+    let count = four_bytes(rest.take(4)?, 0);
     let mut last = None;
     for _ in 0..count {
         let entry = rest.entry()?;
@@ -116,16 +115,12 @@ fn read_table<'a>(table: &'a [u8], entries: &mut Vec<Entry<'a>>) -> Option<()> {
 }
 
 fn tables(input: &[u8]) -> Option<Vec<Vec<u8>>> {
-    let lines = input.strip_suffix(b"\n")?;
-    let mut tables = Vec::new();
-    for line in lines.split(|character| *character == b'\n') {
+    let lines = input.strip_suffix(b"\n")?.split(|character| *character == b'\n');
+    let table = |line| {
         let mut bytes = Vec::new();
-        if !read_digits(line, &mut bytes) {
-            return None;
-        }
-        tables.push(bytes);
-    }
-    Some(tables)
+        read_digits(line, &mut bytes).then_some(bytes)
+    };
+    lines.map(table).collect()
 }
 
 /// The bytes of entries of one key, and where in them each run begins.
@@ -161,7 +156,6 @@ impl Joined {
     }
 
     fn save(&self, report: &mut Report) {
-        save_number(self.runs.len() as u32, report);
         for (index, (start, at)) in self.runs.iter().enumerate() {
             let next = self.runs.get(index + 1);
             let end = next.map_or(self.bytes.len(), |(_, next)| *next);
@@ -193,7 +187,7 @@ fn join(entries: &[Entry], joined: &mut Joined, report: &mut Report) -> Option<(
     if !held.iter().all(same) || !end.is_none_or(within) {
         return None;
     }
-    save_held(entries[0].key, &[held[0].kind_and_names], [end, promise], report);
+    save_held(entries[0].key, &[held[0].kind_and_names], [end, promise], joined.runs.len(), report);
     joined.save(report);
     Some(())
 }
@@ -214,8 +208,7 @@ pub fn merge(report: &mut Report) -> io::Result<()> {
     for entries in of_one_key() {
         match entries {
             [entry] => {
-                report.digits(&entry.key.bytes());
-                report.digits(entry.saved);
+                report.digits(&entry.key.to_be_bytes()).digits(entry.saved);
             }
             _ if join(entries, &mut joined, report).is_some() => {}
             _ => save_spoilt(entries[0].key, report),

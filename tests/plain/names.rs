@@ -70,17 +70,8 @@ pub fn is_netbios(label: &[u8]) -> bool {
     label.len() == 32 && are_letters(label)
 }
 
-/// The sixteen bytes that a label stands for, if it is the first one of a NetBIOS name.
-pub fn label_bytes(label: &[u8]) -> Option<[u8; 16]> {
-    is_netbios(label).then(|| letter_bytes(label))
-}
-
-/// The sixteen bytes of a name that was read.
-pub fn name_bytes(spelling: &[u8]) -> [u8; 16] {
-    letter_bytes(&spelling[1..FIRST_LABEL])
-}
-
-fn letter_bytes(letters: &[u8]) -> [u8; 16] {
+/// The sixteen bytes that a name's letters stand for.
+pub fn letter_bytes(letters: &[u8]) -> [u8; 16] {
     let mut bytes = [0; 16];
     for (byte, pair) in bytes.iter_mut().zip(letters.chunks_exact(2)) {
         *byte = ((pair[0] - b'A') << 4) | (pair[1] - b'A');

@@ -3,42 +3,18 @@
 use crate::names::read_name;
 
 /// The sender's address and port and the datagram's identifier, in this order in one number.
-#[derive(Clone, Copy, PartialEq, Eq, PartialOrd, Ord, Hash)]
-pub struct Key(u64);
+pub type Key = u64;
 
-impl Key {
-    /// The key that stands in the header of a packet.
-    pub fn of(packet: &[u8]) -> Key {
-        let address_and_port = packet[4..10].iter().fold(0, |number, byte| number << 8 | *byte as u64);
-        Key(address_and_port << 16 | two_bytes(packet, 2) as u64)
-    }
-
-    pub fn from_bytes(bytes: [u8; 8]) -> Key {
-        Key(u64::from_be_bytes(bytes))
-    }
-
-    pub fn bytes(self) -> [u8; 8] {
-        self.0.to_be_bytes()
-    }
-
-    pub fn address(self) -> u32 {
-        (self.0 >> 32) as u32
-    }
-
-    pub fn port(self) -> u16 {
-        (self.0 >> 16) as u16
-    }
-
-    pub fn identifier(self) -> u16 {
-        self.0 as u16
-    }
+/// The key that stands in the header of a packet.
+pub fn key_of(packet: &[u8]) -> Key {
+    let address_and_port = packet[4..10].iter().fold(0, |number, byte| number << 8 | *byte as u64);
+    address_and_port << 16 | two_bytes(packet, 2) as u64
 }
 
 pub const UNIQUE: u8 = 0x10;
 pub const BROADCAST: u8 = 0x12;
 const MORE: u8 = 1;
 pub const FIRST: u8 = 2;
-pub const NOT_PRESENT: u8 = 0x82;
 
 pub struct Fragment<'a> {
     pub kind: u8,
@@ -78,6 +54,10 @@ pub fn two_bytes(bytes: &[u8], at: usize) -> u16 {
     u16::from_be_bytes([bytes[at], bytes[at + 1]])
 }
 
+pub fn four_bytes(bytes: &[u8], at: usize) -> u32 {
+    (two_bytes(bytes, at) as u32) << 16 | two_bytes(bytes, at + 2) as u32
+}
+
 /// What stands in a packet, if it is a good one.
 pub fn decode(packet: &[u8]) -> Option<Packet<'_>> {
     match packet.get(..10)?[0] {
@@ -96,7 +76,7 @@ fn fragment(packet: &[u8]) -> Option<Fragment<'_>> {
     Some(Fragment {
         kind: header[0],
         flags: header[1],
-        key: Key::of(whole),
+        key: key_of(whole),
         offset: two_bytes(header, 12) as u32,
         names: &whole[14..end],
         source_length: middle - 14,

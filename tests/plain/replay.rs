@@ -3,49 +3,35 @@
 use crate::bad;
 use crate::capture::{each_line, Line};
 use crate::names::{spelling_of, FIRST_LABEL};
-use crate::packets::{decode, Fragment, Packet, BROADCAST, NOT_PRESENT, UNIQUE};
+use crate::packets::{decode, Fragment, Packet, BROADCAST, UNIQUE};
 use crate::report::Report;
 use crate::tables::{Change, Table};
 use std::io;
 
-struct Station {
-    table: Table,
-    /// The spelling of its name.
-    name: Vec<u8>,
-}
+const KINDS: [&str; 3] = [" unique ", " group ", " broadcast "];
 
-impl Station {
-    /// Acts on a payload of port 138, and reports it.
-    fn take(&mut self, moment: u64, payload: &[u8], report: &mut Report) -> Option<()> {
-        let Packet::Direct(fragment) = decode(payload)? else {
-            report.words("other");
-            return Some(());
-        };
-        match self.table.insert(moment, &fragment)? {
-            Change::Kept => report.what("kept ", fragment.key),
-            Change::Spoilt => report.what("spoilt ", fragment.key),
-            Change::Whole(datagram) if hears(&self.name, &fragment) => report.delivered(&fragment, datagram.data()),
-            Change::Whole(_) => {
-                report.what("unheard ", fragment.key);
-                if fragment.kind == UNIQUE {
-                    report.error(fragment.key, NOT_PRESENT);
-                }
-            }
-        }
-        Some(())
+/// Acts on a payload of port 138 in a station with this name, and reports it.
+fn take(table: &mut Table, name: &[u8], moment: u64, payload: &[u8], report: &mut Report) -> Option<()> {
+    let Packet::Direct(fragment) = decode(payload)? else {
+        report.words("other");
+        return Some(());
+    };
+    let (what, data) = match table.insert(moment, &fragment)? {
+        Change::Kept => ("kept ", None),
+        Change::Spoilt => ("spoilt ", None),
+        Change::Whole(datagram) if hears(name, &fragment) => ("delivered ", Some(datagram.data())),
+        Change::Whole(_) => ("unheard ", None),
+    };
+    report.words(what).key(fragment.key);
+    if let Some(data) = data {
+        let (source, destination) = fragment.both_names();
+        report.words(KINDS[(fragment.kind - UNIQUE) as usize]).name(source).words(" ").name(destination);
+        report.words(" ").data(data);
+    } else if what == "unheard " && fragment.kind == UNIQUE {
+        // An error packet to answer: it comes from 0.0.0.0:138, and says that the name isn't there.
+        report.words(" error 1302").digits(&payload[2..4]).words("00000000008a82");
     }
-
-    fn act(&mut self, line: Line, payload: &[u8], report: &mut Report) -> Option<()> {
-        match line {
-            Line::Tick(now) => {
-                report.words("dropped ");
-                report.number(self.table.tick(now) as u64);
-            }
-            Line::Payload(138, moment) => self.take(moment, payload, report)?,
-            Line::Payload(..) => report.words("passed"),
-        }
-        Some(())
-    }
+    Some(())
 }
 
 /// Whether a station with this name hears a datagram; a broadcast is heard by its scope.
@@ -56,14 +42,14 @@ fn hears(name: &[u8], fragment: &Fragment) -> bool {
 }
 
 pub fn replay(text: &str, report: &mut Report) -> io::Result<()> {
-    let name = spelling_of(text).ok_or_else(bad)?;
-    let table = Table::default();
-    let mut station = Station { table, name };
+    let (mut table, name) = (Table::default(), spelling_of(text).ok_or_else(bad)?);
     each_line(|number, line, payload| {
-        report.number(number);
-        report.words(" ");
-        station.act(line, payload, report).ok_or_else(bad)?;
-        report.words("\n");
-        report.print_if_long()
+        report.number(number).words(" ");
+        match line {
+            Line::Tick(now) => drop(report.words("dropped ").size(table.tick(now))),
+            Line::Payload(138, moment) => take(&mut table, &name, moment, payload, report).ok_or_else(bad)?,
+            Line::Payload(..) => drop(report.words("passed")),
+        }
+        report.words("\n").print_if_long()
     })
 }

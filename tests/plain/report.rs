@@ -1,9 +1,8 @@
-//! What is printed: the lines of a replay's report, and what all commands write in it.
+//! What is printed: what all commands write, in one buffer.
 
-use crate::basics::push_digits;
 use crate::capture::BUFFER;
-use crate::names::{is_plain, label_bytes, labels, name_bytes, FIRST_LABEL, FRONT};
-use crate::packets::{Fragment, Key, UNIQUE};
+use crate::names::{is_netbios, is_plain, labels, letter_bytes, FIRST_LABEL, FRONT};
+use crate::packets::Key;
 use std::fs::File;
 use std::io::{self, Write};
 use std::os::fd::AsFd;
@@ -34,135 +33,109 @@ impl Report {
         self.print()
     }
 
-    pub fn words(&mut self, words: &str) {
+    pub fn words(&mut self, words: &str) -> &mut Report {
         self.0.extend_from_slice(words.as_bytes());
+        self
     }
 
-    pub fn number(&mut self, mut number: u64) {
-        let mut digits = [0; 20];
-        let mut first = digits.len();
+    pub fn number(&mut self, number: impl Into<u64>) -> &mut Report {
+        let (mut digits, mut first, mut number) = ([0; 20], 20, number.into());
         loop {
             first -= 1;
             digits[first] = b'0' + (number % 10) as u8;
             number /= 10;
             if number == 0 {
-                return self.0.extend_from_slice(&digits[first..]);
+                self.0.extend_from_slice(&digits[first..]);
+                return self;
             }
         }
     }
 
-    pub fn digits(&mut self, bytes: &[u8]) {
-        push_digits(bytes, &mut self.0);
+    pub fn size(&mut self, size: usize) -> &mut Report {
+        self.number(size as u64)
     }
 
-    pub fn data(&mut self, bytes: &[u8]) {
+    /// The two digits of each byte.
+    pub fn digits(&mut self, bytes: &[u8]) -> &mut Report {
+        let length = self.0.len();
+        self.0.resize(length + 2 * bytes.len(), 0);
+        hex::encode_to_slice(bytes, &mut self.0[length..]).expect("room for two digits a byte");
+        self
+    }
+
+    pub fn data(&mut self, bytes: &[u8]) -> &mut Report {
         match bytes {
             [] => self.words("empty"),
             _ => self.digits(bytes),
         }
     }
 
-    pub fn address(&mut self, bytes: &[u8]) {
+    pub fn address(&mut self, bytes: &[u8]) -> &mut Report {
         for (byte, mark) in bytes.iter().zip(["", ".", ".", "."]) {
-            self.words(mark);
-            self.number(*byte as u64);
+            self.words(mark).number(*byte);
         }
+        self
     }
 
-    pub fn key(&mut self, key: Key) {
-        self.address(&key.address().to_be_bytes());
-        self.words(":");
-        self.number(key.port() as u64);
-        self.words("/");
-        self.digits(&key.identifier().to_be_bytes());
+    pub fn key(&mut self, key: Key) -> &mut Report {
+        let bytes = key.to_be_bytes();
+        self.address(&bytes[..4]).words(":").number((key >> 16) as u16).words("/").digits(&bytes[6..])
     }
 
     /// The names of the bits that are set.
-    pub fn set(&mut self, word: u16, names: &[(u16, &str)]) {
+    pub fn set(&mut self, word: u16, names: &[(u16, &str)]) -> &mut Report {
         let mut mark = "";
-        for (bit, name) in names {
-            if word & bit != 0 {
-                self.words(mark);
-                self.words(name);
-                mark = "+";
-            }
+        for (_, name) in names.iter().filter(|(bit, _)| word & bit != 0) {
+            self.words(mark).words(name);
+            mark = "+";
         }
-        if mark.is_empty() {
-            self.words("none");
-        }
+        self.words(if mark.is_empty() { "none" } else { "" })
     }
 
-    fn items(&mut self, bytes: &[u8]) {
+    fn items(&mut self, bytes: &[u8]) -> &mut Report {
         if bytes.iter().all(|byte| is_plain(*byte)) {
-            return self.0.extend_from_slice(bytes);
+            self.0.extend_from_slice(bytes);
+            return self;
         }
         for byte in bytes {
             if is_plain(*byte) {
                 self.0.push(*byte);
             } else {
-                self.words("\\");
-                self.digits(&[*byte]);
+                self.words("\\").digits(&[*byte]);
             }
         }
+        self
     }
 
     /// The sixteen bytes of a name, without its scope.
-    pub fn sixteen(&mut self, bytes: &[u8]) {
+    pub fn sixteen(&mut self, bytes: &[u8]) -> &mut Report {
         let length = bytes[..FRONT].iter().rposition(|byte| *byte != b' ').map_or(0, |last| last + 1);
-        self.items(&bytes[..length]);
-        self.words("<");
-        self.digits(&bytes[FRONT..]);
-        self.words(">");
+        self.items(&bytes[..length]).words("<").digits(&bytes[FRONT..]).words(">")
     }
 
-    pub fn name(&mut self, spelling: &[u8]) {
-        self.sixteen(&name_bytes(spelling));
+    /// The name of this spelling.
+    pub fn name(&mut self, spelling: &[u8]) -> &mut Report {
+        self.sixteen(&letter_bytes(&spelling[1..FIRST_LABEL]));
         let mut scope = &spelling[FIRST_LABEL..];
         while let [length @ 1..=63, rest @ ..] = scope {
             let (label, after) = rest.split_at(*length as usize);
-            self.words(".");
-            self.items(label);
+            self.words(".").items(label);
             scope = after;
         }
+        self
     }
 
     /// The domain name that was read at an offset of the packet.
-    pub fn domain(&mut self, packet: &[u8], at: usize) {
+    pub fn domain(&mut self, packet: &[u8], at: usize) -> &mut Report {
         let mut labels = labels(packet, at);
-        let Some(first) = labels.next() else {
-            return self.words(".");
+        match labels.next() {
+            None => self.words("."),
+            Some(first) if is_netbios(first) => self.sixteen(&letter_bytes(first)),
+            Some(first) => self.items(first),
         };
-        match label_bytes(first) {
-            Some(bytes) => self.sixteen(&bytes),
-            None => self.items(first),
-        }
         for label in labels {
-            self.words(".");
-            self.items(label);
+            self.words(".").items(label);
         }
-    }
-
-    /// An error packet to answer; it comes from 0.0.0.0:138.
-    pub fn error(&mut self, key: Key, code: u8) {
-        self.words(" error 1302");
-        self.digits(&key.identifier().to_be_bytes());
-        self.words("00000000008a");
-        self.digits(&[code]);
-    }
-
-    pub fn what(&mut self, what: &str, key: Key) {
-        self.words(what);
-        self.key(key);
-    }
-
-    pub fn delivered(&mut self, fragment: &Fragment, data: &[u8]) {
-        let (source, destination) = fragment.both_names();
-        self.what("delivered ", fragment.key);
-        self.words([" unique ", " group ", " broadcast "][(fragment.kind - UNIQUE) as usize]);
-        self.name(source);
-        self.words(" ");
-        self.name(destination);
-        self.words(" ");
-        self.data(data);
+        self
     }
 }

@@ -43,48 +43,40 @@ pub fn save(report: &mut Report) -> io::Result<()> {
 }
 
 pub fn save_front(count: usize, report: &mut Report) {
-    report.digits(MAGIC);
-    report.digits(&(count as u32).to_be_bytes());
+    report.digits(MAGIC).digits(&(count as u32).to_be_bytes());
 }
 
 pub fn save_spoilt(key: Key, report: &mut Report) {
-    report.digits(&key.bytes());
-    report.digits(&[SPOILT]);
+    report.digits(&key.to_be_bytes()).digits(&[SPOILT]);
 }
 
-/// What of a datagram stands before its runs.
-pub fn save_held(key: Key, kind_and_names: &[&[u8]], places: [Option<u32>; 2], report: &mut Report) {
-    report.digits(&key.bytes());
-    report.digits(&[HELD]);
+/// What of a datagram stands before its runs, and their number.
+pub fn save_held(key: Key, kind_and_names: &[&[u8]], places: [Option<u32>; 2], runs: usize, report: &mut Report) {
+    report.digits(&key.to_be_bytes()).digits(&[HELD]);
     for bytes in kind_and_names {
         report.digits(bytes);
     }
     for place in places {
         match place {
             None => report.digits(&[0]),
-            Some(place) => {
-                report.digits(&[1]);
-                save_number(place, report);
-            }
-        }
+            Some(place) => report.digits(&[1]).digits(&number(place)),
+        };
     }
+    report.digits(&number(runs as u32));
 }
 
 /// A number of at most 65,535.
-pub fn save_number(number: u32, report: &mut Report) {
-    report.digits(&(number as u16).to_be_bytes());
+fn number(number: u32) -> [u8; 2] {
+    (number as u16).to_be_bytes()
 }
 
 pub fn save_run(start: u32, bytes: &[u8], report: &mut Report) {
-    save_number(start, report);
-    save_number(bytes.len() as u32, report);
-    report.digits(bytes);
+    report.digits(&number(start)).digits(&number(bytes.len() as u32)).digits(bytes);
 }
 
 fn save_datagram(key: Key, datagram: &Datagram, report: &mut Report) {
     let places = [datagram.end, datagram.promise];
-    save_held(key, &[&[datagram.kind], &datagram.names], places, report);
-    save_number(datagram.runs.len() as u32, report);
+    save_held(key, &[&[datagram.kind], &datagram.names], places, datagram.runs.len(), report);
     for (start, bytes) in &datagram.runs {
         save_run(*start, bytes, report);
     }

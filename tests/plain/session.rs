@@ -36,33 +36,16 @@ pub fn show_session(bytes: &[u8], report: &mut Report) -> Option<()> {
     let whole = whole(bytes)?;
     let body = &whole[4..];
     match whole[0] {
-        MESSAGE => {
-            report.words("message length=");
-            report.number(body.len() as u64);
-            report.words(" data=");
-            report.data(body);
-        }
+        MESSAGE => report.words("message length=").size(body.len()).words(" data=").data(body),
         REQUEST => {
-            let middle = middle(whole)?;
-            report.words("request called=");
-            report.name(&whole[4..middle]);
-            report.words(" calling=");
-            report.name(&whole[middle..]);
+            let (called, calling) = whole.split_at(middle(whole)?);
+            report.words("request called=").name(&called[4..]).words(" calling=").name(calling)
         }
         POSITIVE => report.words("positive"),
-        NEGATIVE => {
-            report.words("negative code=");
-            report.digits(body);
-        }
-        RETARGET => {
-            report.words("retarget address=");
-            report.address(&body[..4]);
-            report.words(" port=");
-            report.number(two_bytes(body, 4) as u64);
-        }
+        NEGATIVE => report.words("negative code=").digits(body),
+        RETARGET => report.words("retarget address=").address(&body[..4]).words(" port=").number(two_bytes(body, 4)),
         _ => report.words("keepalive"),
-    }
-    report.words(" used=");
-    report.number(whole.len() as u64);
+    };
+    report.words(" used=").size(whole.len());
     Some(())
 }

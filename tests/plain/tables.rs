@@ -1,7 +1,7 @@
 //! Datagrams that are put together, and the table of their keys.
 
-use crate::basics::{kept, Kept};
 use crate::packets::{Fragment, Key, FIRST};
+use arrayvec::ArrayVec;
 use std::collections::hash_map::Entry as Slot;
 use std::collections::{BTreeMap, HashMap};
 
@@ -13,7 +13,8 @@ const HELD_FOR: u64 = 2_000;
 /// What is known of a datagram.
 pub struct Datagram {
     pub kind: u8,
-    pub names: Kept,
+    /// Two spellings of names, in place.
+    pub names: ArrayVec<u8, 510>,
     /// The bytes that came, by their first offset; a gap lies between any two runs.
     pub runs: BTreeMap<u32, Vec<u8>>,
     pub end: Option<u32>,
@@ -26,7 +27,7 @@ impl Datagram {
     fn new(fragment: &Fragment) -> Datagram {
         Datagram {
             kind: fragment.kind,
-            names: kept(fragment.names),
+            names: ArrayVec::try_from(fragment.names).expect("at most two names"),
             runs: BTreeMap::new(),
             end: None,
             promise: None,

@@ -8,6 +8,9 @@ from wire import FRED, datagram, first_level
 ROOT = os.path.dirname(os.path.dirname(os.path.dirname(os.path.abspath(__file__))))
 LONGEST_WORD = 131_000
 NAMES = ['FRED<20>', 'JOE<00>', 'ANN<03>.A', '*<00>', r'\2d<20>', r'\00<ff>.NETBIOS.COM']
+VALUES = ('10.0.0.5:138/0001', '10.0.0.5', '0001', '0000', '82', '139', '0', '1', '65535', '65536', 'empty', '00010203', '4294967295',
+          '255.255.255.255:65535/ffff')
+OPTIONS = ('--keys', '--bytes', '--broadcast', '--help', '--', '-', '-h', '--keys=3', '--per-source=2', '-V', 'query', 'group')
 
 
 def capture_lines():
@@ -111,17 +114,9 @@ class Maker:
     def word(self):
         """A word of a command line."""
         rng = self.rng
-        how = rng.randrange(12)
-        if how < 3:
-            return self.text(rng.choice(NAMES))
-        if how < 5:
-            return rng.choice(self.payloads).hex()[:LONGEST_WORD]
-        if how < 7:
-            return rng.choice(('10.0.0.5:138/0001', '10.0.0.5', '0001', '0000', '82', '139', '0', '1', '65535', '65536', 'empty',
-                               '00010203', '4294967295', '255.255.255.255:65535/ffff'))
-        if how < 10:
-            return rng.choice(('--keys', '--bytes', '--broadcast', '--help', '--', '-', '-h', '--keys=3', '--per-source=2', '-V', 'query', 'group'))
-        return self.text(rng.choice(('10.0.0.5:138/0001', '10.0.0.5', '0001', '300000')))
+        return rng.choice((lambda: self.text(rng.choice(NAMES)),) * 3 + (lambda: rng.choice(self.payloads).hex()[:LONGEST_WORD],) * 2
+                          + (lambda: rng.choice(VALUES),) * 2 + (lambda: rng.choice(OPTIONS),) * 3
+                          + (lambda: self.text(rng.choice(('10.0.0.5:138/0001', '10.0.0.5', '0001', '300000'))),) * 2)()
 
     def text(self, text):
         """A text of few changes, without zero bytes, which no word has."""

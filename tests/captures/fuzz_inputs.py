@@ -1,17 +1,16 @@
 """Captures, saved tables and command lines made by chance, for tests/fuzz.py."""
 import os
 
-from example_lines import definitions
+from example_lines import definitions as example_bytes  # noqa: F401: for those who make payloads of them
 from model.captures import LONGEST_LINE
-from model.names import Name, spelling_of
+from wire import FRED, datagram, first_level
 
 ROOT = os.path.dirname(os.path.dirname(os.path.dirname(os.path.abspath(__file__))))
 LONGEST_WORD = 131_000
 NAMES = ['FRED<20>', 'JOE<00>', 'ANN<03>.A', '*<00>', r'\2d<20>', r'\00<ff>.NETBIOS.COM']
-
-def example_bytes():
-    """The words for bytes that the examples define."""
-    return definitions()
+VALUES = ('10.0.0.5:138/0001', '10.0.0.5', '0001', '0000', '82', '139', '0', '1', '65535', '65536', 'empty', '00010203', '4294967295',
+          '255.255.255.255:65535/ffff')
+OPTIONS = ('--keys', '--bytes', '--broadcast', '--help', '--', '-', '-h', '--keys=3', '--per-source=2', '-V', 'query', 'group')
 
 
 def capture_lines():
@@ -78,10 +77,9 @@ class Maker:
         end = rng.randrange(start, len(whole) + 1)
         data = whole[start:end] if rng.random() < 0.95 else rng.randbytes(end - start)
         flags = (2 if start == 0 else 0) | (1 if end < len(whole) else 0)
-        names = spelled(rng.choice(('JOE', 'ANN')) if rng.random() < 0.1 else 'JOE') + spelled('FRED')
-        header = bytes([rng.choice((16, 17, 18))] if rng.random() < 0.1 else [17]) + bytes([flags])
-        header += rng.randrange(3).to_bytes(2, 'big') + bytes([10, 0, 0, 5, 0, 138])
-        return header + (len(names) + len(data)).to_bytes(2, 'big') + start.to_bytes(2, 'big') + names + data
+        names = spelled(rng.choice(('JOE', 'ANN')) if rng.random() < 0.1 else 'JOE') + FRED
+        kind = rng.choice((16, 17, 18)) if rng.random() < 0.1 else 17
+        return datagram(rng.randrange(3), data, kind=kind, flags=flags, offset=start, names=names)
 
     def line(self):
         """A line of a capture, mostly a well formed one."""
@@ -116,17 +114,9 @@ class Maker:
     def word(self):
         """A word of a command line."""
         rng = self.rng
-        how = rng.randrange(12)
-        if how < 3:
-            return self.text(rng.choice(NAMES))
-        if how < 5:
-            return rng.choice(self.payloads).hex()[:LONGEST_WORD]
-        if how < 7:
-            return rng.choice(('10.0.0.5:138/0001', '10.0.0.5', '0001', '0000', '82', '139', '0', '1', '65535', '65536', 'empty',
-                               '00010203', '4294967295', '255.255.255.255:65535/ffff'))
-        if how < 10:
-            return rng.choice(('--keys', '--bytes', '--broadcast', '--help', '--', '-', '-h', '--keys=3', '--per-source=2', '-V', 'query', 'group'))
-        return self.text(rng.choice(('10.0.0.5:138/0001', '10.0.0.5', '0001', '300000')))
+        return rng.choice((lambda: self.text(rng.choice(NAMES)),) * 3 + (lambda: rng.choice(self.payloads).hex()[:LONGEST_WORD],) * 2
+                          + (lambda: rng.choice(VALUES),) * 2 + (lambda: rng.choice(OPTIONS),) * 3
+                          + (lambda: self.text(rng.choice(('10.0.0.5:138/0001', '10.0.0.5', '0001', '300000'))),) * 2)()
 
     def text(self, text):
         """A text of few changes, without zero bytes, which no word has."""
@@ -152,8 +142,8 @@ class Maker:
 
 
 def spelled(text):
-    """A name of these letters and spaces as packets spell it, and its last byte 20."""
-    return spelling_of(Name(text.ljust(16).encode(), ()))
+    """A name of these letters as packets spell it, whose last byte is 20."""
+    return first_level(text, 0x20)
 
 
 def likely_port(payload):

@@ -3,6 +3,7 @@ tests/fuzz.py."""
 from model.names import Name, spelling_of
 from model.packets import FIRST, MORE
 from model.tables import LONGEST, TIMER
+from wire import KEEPALIVE, datagram, session
 
 SCOPES = [(), (), (), (b'NETBIOS', b'COM'), (b'A',), (b'a',), (b'\x00.<', b'x' * 63)]
 FRONTS = [b'JOE', b'FRED', b'ANN', b'*' + bytes(14), b'', b'-', b'fred', b'A B', b'FIFTEEN LETTERS', b'\xff\\<.']
@@ -23,9 +24,7 @@ class Datagram:
     def packet(self, start, end, flags):
         """The payload of a part of it."""
         address, port, identifier = self.key
-        names, data = b''.join(map(spelling_of, self.names)), self.data[start:end]
-        header = bytes([self.kind, flags]) + identifier.to_bytes(2, 'big') + address + port.to_bytes(2, 'big')
-        return header + (len(names) + len(data)).to_bytes(2, 'big') + start.to_bytes(2, 'big') + names + data
+        return datagram(identifier, self.data[start:end], address, self.kind, flags, start, b''.join(map(spelling_of, self.names)), port)
 
     def part(self, start, end):
         """The same, with the flags that it has."""
@@ -176,38 +175,24 @@ def capture_of(payloads, port=138, moment=0):
 
 def session_packet(rng, name):
     """A session packet, mostly a good one."""
+    names = lambda: spelling_of(name()) + spelling_of(name())
     how = rng.randrange(12)
-    if how < 4:
-        return header(0x00, body := rng.randbytes(rng.choice((0, 1, 3, 4, 5, 40)))) + body
-    if how < 6:
-        return header(0x81, body := spelling_of(name()) + spelling_of(name())) + body
-    if how == 6:
-        return bytes.fromhex('82000000')
-    if how == 7:
-        return bytes.fromhex('83000001') + rng.randbytes(1)
-    if how == 8:
-        return bytes.fromhex('84000006') + rng.randbytes(6)
-    if how == 9:
-        return bytes.fromhex('85000000')
-    return faulty_session_packet(rng, name)
+    if how >= 10:
+        return faulty_session_packet(rng, names)
+    message = 0x00, lambda: rng.randbytes(rng.choice((0, 1, 3, 4, 5, 40)))
+    others = (0x82, bytes), (0x83, lambda: rng.randbytes(1)), (0x84, lambda: rng.randbytes(6)), (0x85, bytes)
+    kind, body = (message, message, message, message, (0x81, names), (0x81, names), *others)[how]
+    return session(kind, body())
 
 
-def faulty_session_packet(rng, name):
+def faulty_session_packet(rng, names):
     """One that is refused, or a message that is long."""
-    how = rng.randrange(5)
-    if how == 0:
-        return rng.randbytes(4)
-    if how == 1:
-        return bytes([rng.choice((0x00, 0x81, 0x85)), 1 << rng.randrange(8), 0, rng.randrange(2)])
-    if how == 2:
-        body = bytearray(spelling_of(name()) + spelling_of(name()) + rng.choice((b'', b'', b'\0', b'rest')))
+    def spoilt():
+        body = bytearray(names() + rng.choice((b'', b'', b'\0', b'rest')))
         body[rng.randrange(len(body))] = rng.choice((0, 1, 0x40, 0xc0, 0x51, 0xff))
-        return header(0x81, body) + body
-    if how == 3:
-        return bytes([rng.choice((0x81, 0x82, 0x83, 0x84)), 0]) + rng.randrange(600).to_bytes(2, 'big')
-    return header(0x00, body := bytes(rng.choice((65_535, 65_536, 70_000)))) + body if rng.random() < 0.1 else b'\x85\0\0\0'
+        return session(0x81, body)
 
-
-def header(kind, body):
-    """The header of a session packet with this body: a length of 17 bits."""
-    return bytes([kind, len(body) >> 16]) + (len(body) & 0xffff).to_bytes(2, 'big')
+    return rng.choice((lambda: rng.randbytes(4),
+                       lambda: bytes([rng.choice((0x00, 0x81, 0x85)), 1 << rng.randrange(8), 0, rng.randrange(2)]), spoilt,
+                       lambda: bytes([rng.choice((0x81, 0x82, 0x83, 0x84)), 0]) + rng.randrange(600).to_bytes(2, 'big'),
+                       lambda: session(0x00, bytes(rng.choice((65_535, 65_536, 70_000)))) if rng.random() < 0.1 else KEEPALIVE))()

@@ -1,5 +1,5 @@
 #!/usr/bin/env python3
-"""Captures for tests/look.sh.  Usage: tests/captures/look_captures.py WHAT FILE"""
+"""Captures for tests/look.sh, a file of the name of each.  Usage: tests/captures/look_captures.py FOLDER"""
 import random
 import struct
 import sys
@@ -177,10 +177,13 @@ def chance():
     return pcap([(each, rng.choice(heads) + rng.randbytes(rng.randrange(1, 200)), rng.choice((None, 20, 40, 60))) for each in range(2_000)])
 
 
+CAPTURES = (snapped, evil, backwards, interfaces, nameless, qinq, others, usb, fragments, life, fronts, gaps, chance)
+
+
 def main():
-    _, what, path = sys.argv
-    with open(path, 'wb') as file:
-        file.write(globals()[what]())
+    for each in CAPTURES:
+        with open(f'{sys.argv[1]}/{each.__name__}.pcap', 'wb') as file:
+            file.write(each())
 
 
 if __name__ == '__main__':

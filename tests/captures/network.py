@@ -31,11 +31,14 @@ class Network:
         self.comment = None
         self.file.write(pcap_header(link))
 
-    def frame(self, moment, packet, captured=None, tag=b'', inner=None):
-        """A frame at so many milliseconds, of which only so many bytes were captured; with a packet in a tunnel, perhaps."""
+    def frame(self, moment, packet, captured=None, tag=b'', inner=None, gives=None):
+        """A frame at so many milliseconds, of which only so many bytes were captured; with a packet in a tunnel, perhaps. It gives a line of a
+        port and a payload, or none of these."""
         kind = b'\x86\xdd' if packet[0] >> 4 == 6 else b'\x08\x00'
         self.record(moment, bytes(12) + tag + kind + packet, captured)
         self.tells(moment, inner or packet)
+        if gives:
+            self.gives((gives[0], moment, gives[1]))
 
     def record(self, moment, data, captured=None):
         self.file.write(pcap_record((700 + moment) * 1000, data, captured))
@@ -58,19 +61,15 @@ class Network:
 def datagrams(network):
     """Ports 137 and 138, and what stands beside them."""
     network.frame(0, ip(UDP, udp(53, 53, b'no NetBIOS')))
-    network.frame(250, ip(UDP, udp(137, 137, QUERY)), tag=b'\x81\0\0\x05')
-    network.gives((137, 250, QUERY))
+    network.frame(250, ip(UDP, udp(137, 137, QUERY)), tag=b'\x81\0\0\x05', gives=(137, QUERY))
     whole = udp(138, 138, DATAGRAM)
     network.frame(900, ip(UDP, whole[800:], fragment=100, identifier=7))
     network.frame(1100, ip(UDP, whole[:800], fragment=0x2000, identifier=7))
     network.gives(('tick', 1000), (138, 1100, DATAGRAM))
     network.frame(1200, ip(ICMP, struct.pack('>BBHL', 3, 3, 0, 0) + ip(UDP, udp(137, 137, QUERY))))
-    network.frame(1300, ip6(UDP, udp(137, 137, QUERY)))
-    network.gives((137, 1300, QUERY))
-    network.frame(1350, ip(UDP, udp(137, 40_000, RESPONSE), SERVER, CLIENT))
-    network.gives((137, 1350, RESPONSE))
-    network.frame(1400, ip(UDP, udp(138, 138, b'')))
-    network.gives((138, 1400, 'empty'))
+    network.frame(1300, ip6(UDP, udp(137, 137, QUERY)), gives=(137, QUERY))
+    network.frame(1350, ip(UDP, udp(137, 40_000, RESPONSE), SERVER, CLIENT), gives=(137, RESPONSE))
+    network.frame(1400, ip(UDP, udp(138, 138, b'')), gives=(138, 'empty'))
     network.frame(1450, ip(UDP, udp(138, 138, DATAGRAM)), captured=142)
     network.gives(('# frame 9 is left out: its UDP length is 1090, and the file has 100 bytes of its payload',))
 
@@ -84,9 +83,10 @@ class Side:
         self.target = target
         self.first = first
 
-    def sends(self, moment, place, payload, flags=ACK, captured=None):
+    def sends(self, moment, place, payload, flags=ACK, captured=None, gives=None):
         ends = (SERVER, CLIENT) if self.source == 139 else (CLIENT, SERVER)
-        self.network.frame(moment, ip(TCP, tcp(self.source, self.target, self.first + place, payload, flags, 0), *ends), captured)
+        packet = ip(TCP, tcp(self.source, self.target, self.first + place, payload, flags, 0), *ends)
+        self.network.frame(moment, packet, captured, gives=gives and (139, gives))
 
 
 def session(network):
@@ -96,19 +96,14 @@ def session(network):
     sent = REQUEST + SHORT + OTHER + LONG
     client.sends(1500, -1, b'', SYN)
     server.sends(1501, -1, b'', SYN | ACK)
-    client.sends(1510, 0, REQUEST)
-    network.gives((139, 1510, REQUEST))
-    server.sends(1520, 0, POSITIVE)
-    network.gives((139, 1520, POSITIVE))
+    client.sends(1510, 0, REQUEST, gives=REQUEST)
+    server.sends(1520, 0, POSITIVE, gives=POSITIVE)
     client.sends(1600, 80, sent[80:95])
     client.sends(1610, 0, REQUEST)
-    client.sends(1620, 72, sent[72:80])
-    network.gives((139, 1620, SHORT))
-    client.sends(1630, 95, sent[95:60_000])
-    network.gives((139, 1630, OTHER))
+    client.sends(1620, 72, sent[72:80], gives=SHORT)
+    client.sends(1630, 95, sent[95:60_000], gives=OTHER)
     client.sends(1640, 59_999, b'x')
-    client.sends(1700, 60_000, sent[60_000:])
-    network.gives((139, 1700, LONG))
+    client.sends(1700, 60_000, sent[60_000:], gives=LONG)
     client.sends(1800, len(sent) + 5, KEEPALIVE)
     client.sends(1810, len(sent), b'\0\0')
     client.sends(1820, len(sent) + 2, b'reset', RST)
@@ -147,11 +142,9 @@ def rarities(network):
     """A tunnel in UDP (VXLAN), a fragment alone, and UDP lengths other than IP's."""
     query = udp(137, 137, QUERY)
     tunnel = b'\x08' + bytes(7 + 12) + b'\x08\x00'
-    network.frame(20_500, ip(UDP, udp(50_000, 4789, tunnel + ip(UDP, query))), inner=ip(UDP, query))
-    network.gives((137, 20_500, QUERY))
+    network.frame(20_500, ip(UDP, udp(50_000, 4789, tunnel + ip(UDP, query))), inner=ip(UDP, query), gives=(137, QUERY))
     network.frame(20_600, ip(UDP, query[:32], fragment=0x2000, identifier=8))
-    network.frame(20_700, ip(UDP, query + b'surplus'))
-    network.gives((137, 20_700, QUERY))
+    network.frame(20_700, ip(UDP, query + b'surplus'), gives=(137, QUERY))
     network.frame(20_800, ip(UDP, struct.pack('>HHHH', 137, 137, 3, 0) + QUERY))
     network.gives(('# frame 36 is left out: its UDP length is 3, and the file has 0 bytes of its payload',))
 
@@ -175,8 +168,7 @@ def again(network):
     """Bytes that come again with other values: after they were cut, and while they wait for those before them."""
     client = Side(network, 1031, 139, 0)
     client.sends(20_950, 0, b'', SYN)
-    client.sends(20_951, 1, SHORT)
-    network.gives((139, 20_951, SHORT))
+    client.sends(20_951, 1, SHORT, gives=SHORT)
     client.sends(20_952, 1, SHORT)
     client.sends(20_953, 11, b'XY')
     network.gives(('# frame 47: 2 bytes of stream 6 from 10.0.0.5 port 1031 came before with other values, which are kept',))
@@ -218,16 +210,8 @@ def mapped(network):
 def main():
     with open(sys.argv[1], 'wb') as pcap:
         made = Network(pcap)
-        datagrams(made)
-        session(made)
-        strangers(made)
-        overlaps(made)
-        rarities(made)
-        cuts(made)
-        again(made)
-        starts(made)
-        closes(made)
-        mapped(made)
+        for part in (datagrams, session, strangers, overlaps, rarities, cuts, again, starts, closes, mapped):
+            part(made)
         made.gives(('# stream 2 from 10.0.0.5 port 1027: bytes left over: 16 (%s)' % FOREIGN.hex(),),
                    ('# stream 3 from 10.0.0.5 port 1028: bytes left over: 4 (%s)' % KEEPALIVE.hex(),),
                    ('# stream 5 from 10.0.0.5 port 1030: bytes left over: 4 (%s)' % OTHER[:4].hex(),))

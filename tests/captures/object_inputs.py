@@ -2,13 +2,14 @@
 
 Packets of port 137 are made here, of all kinds, with pointers good and bad; the others by fuzz_inputs.py and fuzz_traffic.py."""
 from fuzz_inputs import Maker, likely_port
-from fuzz_traffic import LONGEST_LAST_LABEL, Traffic, capture_of, digits, header, session_packet
+from fuzz_traffic import LONGEST_LAST_LABEL, Traffic, capture_of, digits, session_packet
 from model.captures import LONGEST_LINE, read_capture
 from model.limits import MOST_KEYS
 from model.names import Name, labels_of, spelling_of, text_of
 from model.packets import NB, NBSTAT, NS, SESSION_LENGTHS
 from model.reports import save
 from model.tables import Table
+from wire import session
 
 LATEST = (1 << 64) - 1
 LONGEST_PAYLOAD = 131_000
@@ -42,16 +43,10 @@ class ServicePacket:
     def labels(self):
         """Some labels, spelled out."""
         rng = self.rng
-        how = rng.randrange(10)
-        if how < 6:
-            return labels_of(self.any_name())
-        if how == 6:
-            return [rng.randbytes(rng.choice((1, 2, 31, 32, 33, 63))) for _ in range(rng.choice((0, 1, 2, 4)))]
-        if how == 7:
-            return [b'x' * 63] * rng.choice((1, 3, 4))
-        if how == 8:
-            return [b'CK' * 15 + rng.choice((b'AA', b'AQ', b'a1')), b'y' * rng.choice((1, 62, 63))]
-        return []
+        return rng.choice((lambda: labels_of(self.any_name()),) * 6 + (
+            lambda: [rng.randbytes(rng.choice((1, 2, 31, 32, 33, 63))) for _ in range(rng.choice((0, 1, 2, 4)))],
+            lambda: [b'x' * 63] * rng.choice((1, 3, 4)),
+            lambda: [b'CK' * 15 + rng.choice((b'AA', b'AQ', b'a1')), b'y' * rng.choice((1, 62, 63))], list))()
 
     def name(self):
         """A name: spelled out, or its labels and a pointer, mostly to labels before it."""
@@ -127,14 +122,14 @@ def session_request(rng, name):
     body = b''.join(map(spelling_of, names)) + rng.choice((b'', b'', b'\0', b'rest'))
     if rng.random() < 0.2:
         body = body[:rng.randrange(68, len(body) + 1)]
-    return header(0x81, body) + body
+    return session(0x81, body)
 
 
 def session_of_any_length(rng, _):
     """A session packet, or its header, of a length that its type just may have, or may not."""
     kind, (least, most) = rng.choice(list(SESSION_LENGTHS.items()))
     body = bytes(max(0, rng.choice((least, most)) + rng.choice((-1, 0, 1))))
-    return header(kind, body) + (body if rng.random() < 0.5 and len(body) < LONGEST_PAYLOAD else b'')
+    return session(kind, body)[:None if rng.random() < 0.5 and len(body) < LONGEST_PAYLOAD else 4]
 
 
 LIMITS = (1, 2, 3, MOST_KEYS)

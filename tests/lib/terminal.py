@@ -1,14 +1,19 @@
 #!/usr/bin/env python3
-"""Runs a command whose standard error is a terminal, and prints what it shows there.  Usage: tests/lib/terminal.py OUT COMMAND..
+"""Runs a command whose standard error is a terminal, and prints what it shows there.  Usage: tests/lib/terminal.py OUT|--columns=N COMMAND..
 
-Standard output goes to the file OUT. The status is that of the command.
+Standard output goes to the file OUT, or to the terminal too, which then has so many columns. The status is that of the command.
 """
 import os
 import subprocess
 import sys
+import termios
 
 terminal, side = os.openpty()
-with open(sys.argv[1], 'wb') as out, subprocess.Popen(sys.argv[2:], stdin=subprocess.DEVNULL, stdout=out, stderr=side) as command:
+where, _, columns = sys.argv[1].partition('=')
+if columns:
+    termios.tcsetwinsize(side, (24, int(columns)))
+with open(os.devnull if columns else where, 'wb') as out, \
+        subprocess.Popen(sys.argv[2:], stdin=side if columns else subprocess.DEVNULL, stdout=side if columns else out, stderr=side) as command:
     os.close(side)
     try:
         while data := os.read(terminal, 65_536):

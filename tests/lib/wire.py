@@ -56,9 +56,9 @@ def service(identifier, word, name, asked=None, told=b''):
     return struct.pack('>6H', identifier, word, 1, 0, 0, bool(told)) + question + (b'\xc0\x0c' + told if told else b'')
 
 
-def datagram(identifier, data, source=CLIENT, kind=0x11, flags=0x02, offset=0, names=JOE + FRED):
+def datagram(identifier, data, source=CLIENT, kind=0x11, flags=0x02, offset=0, names=JOE + FRED, port=138):
     """A group datagram in one packet, or a piece of another one."""
-    return struct.pack('>BBH4sHHH', kind, flags, identifier, source, 138, len(names) + len(data), offset) + names + data
+    return struct.pack('>BBH4sHHH', kind, flags, identifier, source, port, len(names) + len(data), offset) + names + data
 
 
 def session(kind, body=b''):

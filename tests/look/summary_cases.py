@@ -9,7 +9,7 @@ with a port where it isn't the service's own; WORDS are
   skip N          N bytes of a stream that aren't in the capture
 
 and an option is cut=N, a snap length; mac=DIGITS, the last two of the sender's MAC; patch=AT:HEX, other bytes of the payload, from AT on; or
-front=N, so many bytes of the payload alone. A table is `-- TITLE`, a line with the columns that are compared, and a line for each row, with
+front=N, so many bytes of the payload alone. A table is `-- TITLE: COLUMNS`, those that are compared, and a line for each row, with
 ` | ` between. Tables that aren't there must not be shown, but for those of what is left out and, unless it is there, of stations.
 """
 import glob
@@ -61,13 +61,12 @@ def cases_in(path):
                 found.append(Case(os.path.basename(path), line[3:]))
                 table = None
             elif line.startswith('-- '):
-                table = found[-1].tables[line[3:]] = Table([])
+                title, _, columns = line[3:].partition(': ')
+                table = found[-1].tables[title] = Table(columns.split(BETWEEN))
             elif not line or line.startswith('#'):
                 continue
             elif table is None:
                 found[-1].packets.append(line)
-            elif not table.columns:
-                table.columns = line.split(BETWEEN)
             else:
                 table.rows.append(line.split(BETWEEN))
     return found

@@ -13,20 +13,16 @@ rubbish  FOLDER/rubbish: 70,000 payloads that look like fragments and have no na
 """
 import os
 import random
-import struct
 import sys
 
 sys.path.insert(1, f'{sys.path[0]}/../lib')
-from wire import FRED, JOE
-
-NAMES = JOE + FRED
+from wire import datagram
 
 
 def line(moment, sender, identifier, data, offset=0, more=False):
     """A capture's line for a piece of a group datagram of 10.0.0.SENDER."""
-    flags = 2 * (offset == 0) + more
-    header = struct.pack('>BBH4sHHH', 0x11, flags, identifier, bytes([10, 0, 0, sender]), 138, len(NAMES) + len(data), offset)
-    return '138 %d %s\n' % (moment, (header + NAMES + data).hex())
+    packet = datagram(identifier, data, bytes([10, 0, 0, sender]), flags=2 * (offset == 0) + more, offset=offset)
+    return '138 %d %s\n' % (moment, packet.hex())
 
 
 def pieces(sender, identifier, data, most):
@@ -90,7 +86,7 @@ def wide(rng, _folder):
 
 def rubbish(rng, _folder):
     for place in range(70_000):
-        yield '138 0 %s%s\n' % (struct.pack('>BBH4sHHH', 0x11, 2, place & 0xffff, rng.randbytes(4), 138, 44, 0).hex(), 'ff' * 44)
+        yield '138 0 %s\n' % datagram(place & 0xffff, b'\xff' * 44, rng.randbytes(4), names=b'').hex()
     yield line(0, 1, 1, b'there')
 
 

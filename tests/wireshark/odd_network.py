@@ -24,8 +24,7 @@ def tunnels(network):
     for wrap, header in ((ip, 34), (ip6, 54)):
         outer = wrap(UDP, udp(50_000, 4789, TUNNEL + query))
         whole = header + 8 + len(TUNNEL) + len(query)
-        network.frame(0, outer, inner=query)
-        network.gives((137, 0, QUERY))
+        network.frame(0, outer, inner=query, gives=(137, QUERY))
         network.frame(0, outer, whole - len(QUERY))
         network.gives(('# frame %d is left out: its UDP length is %d, and the file has 0 bytes of its payload'
                        % (network.number, 8 + len(QUERY)),))
@@ -73,16 +72,13 @@ def ports_again(network):
     """After the end of a stream its bytes again, and then a stream of the same ports whose start isn't captured."""
     client = Side(network, 1025, 139, 10_000)
     client.sends(0, -1, b'', SYN)
-    client.sends(1, 0, SHORT)
-    network.gives((139, 1, SHORT))
-    client.sends(2, len(SHORT), OTHER, FIN | ACK)
-    network.gives((139, 2, OTHER))
+    client.sends(1, 0, SHORT, gives=SHORT)
+    client.sends(2, len(SHORT), OTHER, FIN | ACK, gives=OTHER)
     client.sends(3, 0, SHORT + OTHER)
     client.sends(4, -1, b'', SYN)
     client.sends(5, -1_000, OTHER)
     network.gives(('# stream 0 from 10.0.0.5 port 1025: frame 6 is taken for its start, which the file lacks',), (139, 5, OTHER))
-    client.sends(6, -1_000 + len(OTHER), SHORT)
-    network.gives((139, 6, SHORT))
+    client.sends(6, -1_000 + len(OTHER), SHORT, gives=SHORT)
     print('7 frames, 7 of these ports, 0 left out')
 
 

@@ -1,6 +1,7 @@
 /** Datagrams put together, by the library: the table of a file, what it lists, and what a station with chosen names is handed. */
 import { digitsOf } from '../containers/digits.js';
 import { MOST_KEYS, PORT } from '../made/vocabulary.js';
+import { keyText } from '../model/keys.js';
 import { throughStation } from './station.js';
 
 const MOST_DELIVERIES = 10_000;
@@ -59,9 +60,9 @@ export async function handedTo(tap, names) {
 /** @param {import('../../../bindings/javascript/nbt.mjs').Delivery} delivery @param {number | null} row
  * @param {number | bigint} moment
  * @returns {Handed} */
-function described({ address, port, identifier, source, destination, data }, row, moment) {
-    const key = `${address}:${port}/${identifier.toString(16).padStart(4, '0')}`;
-    return { row, moment: String(moment), key, source, destination, data: digitsOf(data) };
+function described(delivery, row, moment) {
+    const { source, destination, data } = delivery;
+    return { row, moment: String(moment), key: keyText(delivery), source, destination, data: digitsOf(data) };
 }
 
 /** What the library lists of a table: a line a key.

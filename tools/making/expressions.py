@@ -132,7 +132,8 @@ class Expressions:
         whole, place = self.of(node.value), node.slice
         if isinstance(place, ast.Slice):
             return self.helper('slice', whole, *('undefined' if each is None else self.of(each) for each in (place.lower, place.upper)))
-        return f'{whole}[{self.of(place)}]' if is_plain(place) else self.helper('at', whole, self.of(place))
+        # A number or a word that stands there is a place of a list, or of an object of JSON.
+        return f'{whole}[{self.of(place)}]' if isinstance(place, ast.Constant) else self.helper('at', whole, self.of(place))
 
     def of_tuple(self, node):
         return f"[{', '.join(self.all(node.elts))}]"
@@ -195,8 +196,3 @@ def is_truth(node):
     if isinstance(node, ast.Call):
         return (node.func.attr if isinstance(node.func, ast.Attribute) else node.func.id) in TRUTHS
     return isinstance(node, ast.Compare) or isinstance(node, ast.UnaryOp) and isinstance(node.op, ast.Not)
-
-
-def is_plain(place):
-    """Whether a place is a number or a word that stands there, as of lists and objects of JSON."""
-    return isinstance(place, ast.Constant)

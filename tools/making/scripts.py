@@ -7,7 +7,7 @@ import enum
 import importlib
 import json
 
-from .expressions import Expressions, is_plain
+from .expressions import Expressions
 from .header import TOP
 from .page import page_file
 
@@ -146,9 +146,7 @@ class Script:
 
     def assigned(self, target, value, depth):
         """Puts a value to a target; answers what it may be read by then."""
-        if isinstance(target, ast.Subscript) and is_plain(target.slice):
-            self.put(depth, f'{self.expressions.of(target)} = {value};')
-        elif isinstance(target, ast.Subscript):
+        if isinstance(target, ast.Subscript) and not isinstance(target.slice, ast.Constant):
             self.put(depth, self.expressions.helper('put', self.expressions.of(target.value), self.expressions.of(target.slice), value) + ';')
         elif isinstance(target, ast.Tuple) and any(isinstance(each, ast.Subscript) for each in target.elts):
             parts = [f'part{at}' for at in range(len(target.elts))]

@@ -104,7 +104,9 @@ test('times', () => {
 test('columns, texts and blocks grow', () => {
     const column = new Column(Uint16Array);
     for (let at = 0; at < 5_000; at++) column.push(at);
-    assert.deepEqual([column.length, column.at(4_999), column.from(4_998).length], [5_000, 4_999, 2]);
+    column.extend(Uint16Array.from({ length: 9_000 }, (_, at) => 5_000 + at));
+    assert.deepEqual([column.length, column.at(4_999), column.at(13_999)], [14_000, 4_999, 13_999]);
+    assert.deepEqual([column.take(), column.length, column.take()], [Uint16Array.from({ length: 14_000 }, (_, at) => at), 0, new Uint16Array(0)]);
     const texts = new Texts();
     assert.deepEqual(['a', 'b', 'a'].map((each) => texts.number(each)), [0, 1, 0]);
     const blocks = new Blocks();

@@ -8,6 +8,8 @@ ORDER = {ast.Lt: '<', ast.LtE: '<=', ast.Gt: '>', ast.GtE: '>=', ast.Is: '===', 
 RENAMED = {'append': 'push', 'startswith': 'startsWith', 'endswith': 'endsWith'}
 METHODS = {'clear', 'extend', 'get', 'hex', 'insert', 'isdigit', 'items', 'partition', 'pop', 'removeprefix', 'rpartition', 'setdefault', 'strip', 'values'}
 AS_OTHERS = {'bool': 'is', 'tuple': 'list'}
+# Calls that answer true or false.
+TRUTHS = {'all', 'any', 'bool', 'isdigit', 'isinstance', 'startswith', 'endswith'}
 BUILT_IN = {'all', 'any', 'bool', 'bytearray', 'int', 'iter', 'len', 'list', 'max', 'min', 'next', 'sorted', 'str', 'sum', 'tuple', 'zip'}
 
 
@@ -38,10 +40,14 @@ class Expressions:
     def test(self, node):
         """An expression of which it counts alone whether it is true: what is empty isn't."""
         if isinstance(node, ast.BoolOp):
-            return '(%s)' % (' && ' if isinstance(node.op, ast.And) else ' || ').join(map(self.test, node.values))
+            return self.decided(node.op, map(self.test, node.values))
         if isinstance(node, ast.UnaryOp) and isinstance(node.op, ast.Not):
             return '!' + self.test(node.operand)
-        return self.of(node) if isinstance(node, ast.Compare) else self.helper('is', self.of(node))
+        return self.of(node) if is_truth(node) else self.helper('is', self.of(node))
+
+    def decided(self, op, words):
+        """What the operators of JavaScript decide as those of Python do: all words but the last are true or false."""
+        return '(%s)' % (' && ' if isinstance(op, ast.And) else ' || ').join(words)
 
     def of_constant(self, node):
         return json.dumps(node.value)
@@ -92,6 +98,8 @@ class Expressions:
 
     def of_boolop(self, node):
         """The value that decides it. What follows is asked for where it is wanted."""
+        if all(map(is_truth, node.values[:-1])):
+            return self.decided(node.op, self.all(node.values))
         name = 'and' if isinstance(node.op, ast.And) else 'or'
         first, *rest = self.all(node.values)
         for each in rest:
@@ -110,6 +118,8 @@ class Expressions:
         if isinstance(op, (ast.Is, ast.IsNot)) and other == 'null':
             return f"({one} {'==' if isinstance(op, ast.Is) else '!='} null)"
         if isinstance(op, (ast.Eq, ast.NotEq)):
+            if isinstance(left, ast.Constant) or isinstance(right, ast.Constant):
+                return f"({one} {'===' if isinstance(op, ast.Eq) else '!=='} {other})"
             return '!' * isinstance(op, ast.NotEq) + self.helper('same', one, other)
         if isinstance(left, ast.Tuple):
             one, other = self.helper('order', one, other), '0'
@@ -122,7 +132,8 @@ class Expressions:
         whole, place = self.of(node.value), node.slice
         if isinstance(place, ast.Slice):
             return self.helper('slice', whole, *('undefined' if each is None else self.of(each) for each in (place.lower, place.upper)))
-        return self.helper('at', whole, self.of(place))
+        # A number or a word that stands there is a place of a list, or of an object of JSON.
+        return f'{whole}[{self.of(place)}]' if isinstance(place, ast.Constant) else self.helper('at', whole, self.of(place))
 
     def of_tuple(self, node):
         return f"[{', '.join(self.all(node.elts))}]"
@@ -154,7 +165,8 @@ class Expressions:
             for test in each.ifs:
                 items += f'.filter({given} => {self.test(test)})'
             is_last = at == len(generators) - 1
-            made = f"{items}.{'map' if is_last else 'flatMap'}({given} => {made})"
+            is_itself = is_last and made == given[1:-1] and (at or each.ifs)
+            made = items if is_itself else f"{items}.{'map' if is_last else 'flatMap'}({given} => {made})"
         return made
 
     def target(self, node):
@@ -175,3 +187,12 @@ class Expressions:
         return f"yield{'*' * isinstance(node, ast.YieldFrom)} {self.of(node.value)}"
 
     of_yieldfrom = of_yield
+
+
+def is_truth(node):
+    """Whether an expression is true or false, and nothing else."""
+    if isinstance(node, ast.BoolOp):
+        return all(map(is_truth, node.values))
+    if isinstance(node, ast.Call):
+        return (node.func.attr if isinstance(node.func, ast.Attribute) else node.func.id) in TRUTHS
+    return isinstance(node, ast.Compare) or isinstance(node, ast.UnaryOp) and isinstance(node.op, ast.Not)

@@ -133,7 +133,8 @@ class Script:
                 self.assigned(target, self.expressions.of(each), depth)
             return
         value = self.expressions.of(node.value)
-        for each in node.targets:
+        # Names first: the value is made once, and read by its name then.
+        for each in sorted(node.targets, key=lambda target: not isinstance(target, ast.Name)):
             value = self.assigned(each, value, depth)
 
     def are_apart(self, target, value):
@@ -145,7 +146,7 @@ class Script:
 
     def assigned(self, target, value, depth):
         """Puts a value to a target; answers what it may be read by then."""
-        if isinstance(target, ast.Subscript):
+        if isinstance(target, ast.Subscript) and not isinstance(target.slice, ast.Constant):
             self.put(depth, self.expressions.helper('put', self.expressions.of(target.value), self.expressions.of(target.slice), value) + ';')
         elif isinstance(target, ast.Tuple) and any(isinstance(each, ast.Subscript) for each in target.elts):
             parts = [f'part{at}' for at in range(len(target.elts))]

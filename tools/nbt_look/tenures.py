@@ -20,7 +20,7 @@ class Tenure:
     since: int = None
     until: int = None
     lifetime: int = None             # in seconds; 0 where it has no end
-    counted: int = 0                 # when the lifetime began
+    over: int = None                 # when its lifetime is over; None where it has no end
     due: int = None                  # after which moment silence makes it held
     is_silent: bool = False          # it is held because nobody objected
     asking: object = None            # to which request
@@ -32,7 +32,7 @@ class Tenure:
     def begin(self, standing, at, frame=None):
         """Takes a standing; one that ended before begins anew, and has no lifetime yet."""
         if self.standing not in KEPT:
-            self.since, self.until, self.lifetime = at, None, None
+            self.since, self.until, self.lifetime, self.over = at, None, None, None
         if self.standing not in CLAIMING and frame is not None:
             self.began = frame
         self.standing, self.is_silent = standing, False
@@ -40,19 +40,15 @@ class Tenure:
     def renew(self, lifetime, at):
         """Counts the lifetime from now on."""
         if lifetime is not None:
-            self.lifetime, self.counted = lifetime, at
+            self.lifetime = lifetime
+            self.over = at + nanoseconds(lifetime) if lifetime else None
 
     def end(self, standing, at):
         self.standing, self.until, self.due = standing, at, None
 
-    def over(self):
-        """When its lifetime is over; None where it has no end."""
-        return self.counted + nanoseconds(self.lifetime) if self.lifetime else None
-
     def stands(self, at):
         """Whether a station claims or holds the name then."""
-        over = self.over()
-        return self.standing in CLAIMING and (over is None or at < over)
+        return self.standing in CLAIMING and (self.over is None or at < self.over)
 
     def settle(self, at):
         """Looks at the clock: answers when silence made it held, if it did, and ends it where its lifetime is over."""
@@ -60,7 +56,6 @@ class Tenure:
         if self.due is not None and self.due < at:
             held, self.due = self.due, None
             self.standing, self.is_silent = Standing.HOLDS, True
-        over = self.over()
-        if self.standing in KEPT and over is not None and over <= at:
-            self.end(Standing.EXPIRED, over)
+        if self.over is not None and self.over <= at and self.standing in KEPT:
+            self.end(Standing.EXPIRED, self.over)
         return held

@@ -10,6 +10,12 @@ export function digitsOf(bytes) {
     return text;
 }
 
+/** Bytes as a text, in which a point stands for each that isn't printable.
+ * @param {Uint8Array} bytes */
+export function printable(bytes) {
+    return Array.from(bytes, (each) => (each >= 0x20 && each < 0x7f ? String.fromCharCode(each) : '.')).join('');
+}
+
 /** The bytes that digits stand for: pairs of them, and nothing else.
  * @param {string} digits */
 export function bytesOf(digits) {

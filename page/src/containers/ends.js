@@ -14,10 +14,27 @@ export function portOf(end) {
     return colon < 0 ? '' : end.slice(colon + 1);
 }
 
+/** Of how many ends the parts are known at most. */
+const MOST_KNOWN = 65_536;
+/** @typedef {{host: string, port: string}} Parts
+ * @type {Map<string, Parts>} */
+const known = new Map();
+
+/** An end in its parts: of those that come often they are known.
+ * @param {string} end */
+export function partsOf(end) {
+    const found = known.get(end);
+    if (found) return found;
+    const parts = { host: hostOf(end), port: portOf(end) };
+    if (known.size >= MOST_KNOWN) known.clear();
+    known.set(end, parts);
+    return parts;
+}
+
 /** An end as it is shown: without a port that is the service's own.
  * @param {string} end @param {readonly string[]} own */
 export function shown(end, own) {
     if (end === '') return '-';
-    const port = portOf(end);
-    return port === '' || own.includes(port) ? hostOf(end) : end;
+    const { host, port } = partsOf(end);
+    return port === '' || own.includes(port) ? host : end;
 }

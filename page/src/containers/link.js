@@ -11,9 +11,9 @@ const LEAST_TYPE = 0x0600;
 /** How LLC goes on where IP follows: its own service point, or that of SNAP (RFC 1042). */
 const [IP_POINT, SNAP_POINT, SNAP_HEADER] = [0x0606, 0xaaaa, 8];
 const MOST_TAGS = 4;
-/** Link types of tcpdump.org. */
-const [NULL_LOOPBACK, ETHERNET, RAW_BSD, RAW_OPENBSD, RAW, LOOPBACK, COOKED, IPV4_ALONE, IPV6_ALONE, COOKED_2] =
-    [0, 1, 12, 14, 101, 108, 113, 228, 229, 276];
+/** Link types of tcpdump.org. Those of raw packets: of BSD, of OpenBSD, of all others, of IPv4 alone, of IPv6 alone. */
+const [NULL_LOOPBACK, ETHERNET, LOOPBACK, COOKED, COOKED_2] = [0, 1, 108, 113, 276];
+const RAW = [12, 14, 101, 228, 229];
 /** AF_INET, and AF_INET6 of NetBSD, FreeBSD, Darwin and Linux. */
 const FAMILY_4 = 2;
 const FAMILIES_6 = new Set([24, 28, 30, 10]);
@@ -27,25 +27,11 @@ const FAMILIES_6 = new Set([24, 28, 30, 10]);
  * @param {number} link @param {Uint8Array} bytes
  * @returns {Packet | WhyNoPacket} */
 export function packetIn(link, bytes) {
-    switch (link) {
-        case ETHERNET:
-            return afterType(bytes, 12, macOf(bytes, 6));
-        case COOKED:
-            return afterType(bytes, 14, word(bytes, 4) === 6 ? macOf(bytes, 6) : null);
-        case COOKED_2:
-            return cooked2(bytes);
-        case RAW:
-        case RAW_BSD:
-        case RAW_OPENBSD:
-        case IPV4_ALONE:
-        case IPV6_ALONE:
-            return bytes.length ? { at: 0, mac: null, vlan: null } : 'cut';
-        case NULL_LOOPBACK:
-        case LOOPBACK:
-            return afterFamily(bytes);
-        default:
-            return 'unknown link type';
-    }
+    if (link === ETHERNET) return afterType(bytes, 12, macOf(bytes, 6));
+    if (link === COOKED) return afterType(bytes, 14, word(bytes, 4) === 6 ? macOf(bytes, 6) : null);
+    if (link === COOKED_2) return cooked2(bytes);
+    if (RAW.includes(link)) return bytes.length ? { at: 0, mac: null, vlan: null } : 'cut';
+    return link === LOOPBACK || link === NULL_LOOPBACK ? afterFamily(bytes) : 'unknown link type';
 }
 
 /** @param {Uint8Array} bytes

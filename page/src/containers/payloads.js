@@ -100,7 +100,7 @@ export class PayloadReader {
         this.report.mark.destination = `${internet.destination}:${ports.destination}`;
         const segment = internet.protocol === TCP ? segmentIn(internet) : null;
         const stream = segment?.payload ? this.streamOf(segment) : 0;
-        if (!isOurs(internet)) {
+        if (!isOurs(internet, ports)) {
             this.unread(wrappingOf(internet));
             return this.other('another port');
         }
@@ -191,10 +191,9 @@ export class PayloadReader {
 
 /** Whether what begins so is of these ports; null where that isn't known.
  * @param {{protocol: number, payload: Uint8Array}} packet */
-function isOurs(packet) {
-    if (packet.protocol !== UDP && packet.protocol !== TCP) return false;
-    const ports = portsIn(packet.payload);
+function isOurs({ protocol, payload }, ports = portsIn(payload)) {
+    if (protocol !== UDP && protocol !== TCP) return false;
     if (!ports) return null;
-    const both = [ports.source, ports.destination];
-    return packet.protocol === TCP ? both.includes(PORT.SESSIONS) : both.includes(PORT.NAMES) || both.includes(PORT.DATAGRAMS);
+    const ours = protocol === TCP ? [PORT.SESSIONS] : [PORT.NAMES, PORT.DATAGRAMS];
+    return ours.includes(ports.source) || ours.includes(ports.destination);
 }

@@ -8,10 +8,6 @@ export const TCP_HEADER = 20;
 /** How much of a header of TCP has to be there: up to its checksum. */
 const LEAST_OF_TCP = 16;
 
-/** A datagram. `payload` is what the file has of its bytes, of which there were `size`; it is null where the header isn't whole.
- * @typedef {object} Datagram
- * @property {number} source @property {number} destination @property {Uint8Array | null} payload @property {number} size */
-
 /** A segment. `payload` is what the file has of its bytes, of which there were `size`; it is null where the header isn't whole.
  * @typedef {object} Segment
  * @property {number} source @property {number} destination @property {number} sequence
@@ -25,15 +21,13 @@ export function portsIn(bytes) {
     return bytes.length < 4 ? null : { source: word(bytes, 0), destination: word(bytes, 2) };
 }
 
-/** The datagram that is in a packet of IP whose ports are known.
- * @param {import('./internet.js').Internet} packet
- * @returns {Datagram} */
-export function datagramIn(packet) {
-    const bytes = packet.payload;
-    const ports = { source: word(bytes, 0), destination: word(bytes, 2) };
-    if (bytes.length < 6) return { ...ports, payload: null, size: 0 };
+/** The datagram that is in a packet of IP whose ports are known: what the file has of its bytes, of which there were `size`; null where its
+ * header isn't whole.
+ * @param {import('./internet.js').Internet} packet */
+export function datagramIn({ payload: bytes }) {
+    if (bytes.length < 6) return { payload: null, size: 0 };
     const size = word(bytes, 4) - UDP_HEADER;
-    return { ...ports, payload: bytes.subarray(UDP_HEADER, Math.max(UDP_HEADER, UDP_HEADER + size)), size };
+    return { payload: bytes.subarray(UDP_HEADER, Math.max(UDP_HEADER, UDP_HEADER + size)), size };
 }
 
 /** The segment that is in a packet of IP whose ports are known.

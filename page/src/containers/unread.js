@@ -5,7 +5,8 @@ import { UDP, portsIn } from './transport.js';
  * @typedef {{kind: 'unread', frame: number, link: string, why: string}} Unread */
 
 /** Protocols of IP that carry packets (RFC 2003, RFC 4213, RFC 2784, RFC 4302). */
-const [IPV4_INSIDE, IPV6_INSIDE, GRE, AUTHENTICATION] = [4, 41, 47, 51];
+const WRAPPINGS = new Map([[4, 'IP in IP'], [47, 'GRE'], [51, 'AH']]);
+const IPV6_INSIDE = 41;
 /** The port of RFC 7348. */
 const VXLAN = 4789;
 /** Link types of tcpdump.org, in words. */
@@ -23,16 +24,7 @@ export function linkName(link) {
 /** What the payload of a packet of IP is wrapped in, if it carries another packet; an empty text where it carries none.
  * @param {import('./internet.js').Internet} packet */
 export function wrappingOf({ protocol, source, payload }) {
-    switch (protocol) {
-        case IPV4_INSIDE:
-            return 'IP in IP';
-        case IPV6_INSIDE:
-            return source.startsWith('[') ? 'IP in IP' : '6in4';
-        case GRE:
-            return 'GRE';
-        case AUTHENTICATION:
-            return 'AH';
-        default:
-            return protocol === UDP && portsIn(payload)?.destination === VXLAN ? 'VXLAN' : '';
-    }
+    if (protocol === IPV6_INSIDE) return source.startsWith('[') ? 'IP in IP' : '6in4';
+    if (protocol === UDP && portsIn(payload)?.destination === VXLAN) return 'VXLAN';
+    return WRAPPINGS.get(protocol) ?? '';
 }

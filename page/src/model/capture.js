@@ -48,16 +48,9 @@ export function* made({ packets, first }) {
 /** A line as text.
  * @param {CaptureLine} line */
 export function textOf(line) {
-    switch (line.kind) {
-        case 'payload':
-            return `${line.port} ${line.moment} ${digitsOf(line.bytes) || 'empty'}`;
-        case 'tick':
-            return `tick ${line.moment}`;
-        case 'comment':
-            return line.text;
-        default:
-            return '';
-    }
+    if (line.kind === 'payload') return `${line.port} ${line.moment} ${digitsOf(line.bytes) || 'empty'}`;
+    if (line.kind === 'tick') return `tick ${line.moment}`;
+    return line.kind === 'comment' ? line.text : '';
 }
 
 /** A comment as `nbt show --json` has it: a byte that isn't printable is a backslash and two digits.

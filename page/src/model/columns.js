@@ -16,12 +16,24 @@ export class Column {
 
     /** @param {T[number]} value */
     push(value) {
-        if (this.length === this.room.length) {
-            const room = new this.kind(2 * this.length);
-            room.set(/** @type {any} */ (this.room));
-            this.room = room;
-        }
+        if (this.length === this.room.length) this.grow(this.length + 1);
         this.room[this.length++] = value;
+    }
+
+    /** @param {T} values */
+    extend(values) {
+        this.grow(this.length + values.length);
+        this.room.set(/** @type {any} */ (values), this.length);
+        this.length += values.length;
+    }
+
+    /** Makes room for so many values.
+     * @param {number} count */
+    grow(count) {
+        if (count <= this.room.length) return;
+        const room = new this.kind(2 * count);
+        room.set(/** @type {any} */ (this.room));
+        this.room = room;
     }
 
     /** @param {number} at
@@ -30,10 +42,11 @@ export class Column {
         return this.room[at];
     }
 
-    /** The values from a place on, as a column of their own.
-     * @param {number} from */
-    from(from) {
-        return this.room.slice(from, this.length);
+    /** Takes all values out. */
+    take() {
+        const taken = this.room.slice(0, this.length);
+        this.length = 0;
+        return taken;
     }
 }
 

@@ -1,6 +1,7 @@
 /** What stands of a packet that the snap length cut, or that the library refuses to read: as far as its header, names and records are whole. */
 
 import { DATAGRAM_TYPE, PIECES, PORT, SECTIONS } from '../made/vocabulary.js';
+import { keyText } from './keys.js';
 
 /** Of port 137 the header, with its first four bytes, and what follows the name of a question. RFC 1002 section 4.2.1. */
 const HEADER = 12;
@@ -68,8 +69,7 @@ export function datagramFront(library, bytes) {
     const front = frontIn(library, bytes);
     const kind = front && PIECES[front.type - DATAGRAM_TYPE.UNIQUE];
     if (!front || !kind) return {};
-    const key = `${front.address}:${front.port}/${front.identifier.toString(16).padStart(4, '0')}`;
-    return { kind, key, ...(front.source !== null && { source: front.source }), ...(front.destination !== null && { destination: front.destination }) };
+    return { kind, key: keyText(front), ...(front.source !== null && { source: front.source }), ...(front.destination !== null && { destination: front.destination }) };
 }
 
 /** @param {Reader} library @param {Uint8Array} bytes */

@@ -9,6 +9,12 @@
  * @property {number} wide up to where anything is known or promised
  * @property {string} data digits of a whole one */
 
+/** The text of a key.
+ * @param {{address: string, port: number, identifier: number}} key */
+export function keyText({ address, port, identifier }) {
+    return `${address}:${port}/${identifier.toString(16).padStart(4, '0')}`;
+}
+
 /** @param {string} line
  * @returns {Key} */
 export function keyOf(line) {

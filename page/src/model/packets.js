@@ -29,6 +29,16 @@ export const LEFT_OUT = 0;
  * @property {string} said phrases with a line feed between them
  * @property {string[]} texts those that have numbers since the rows before */
 
+/** The columns of rows that have numbers of texts. */
+export const WORDED = /** @type {const} */ (['source', 'destination', 'sender', 'kinds', 'reason']);
+
+export function columnsOfRows() {
+    return {
+        frame: new Column(Uint32Array), time: new Column(BigInt64Array), port: new Column(Uint8Array), source: new Column(Uint32Array),
+        destination: new Column(Uint32Array), sender: new Column(Uint32Array), kinds: new Column(Uint32Array), reason: new Column(Uint32Array),
+    };
+}
+
 export class Packets {
     constructor() {
         this.texts = new Texts();

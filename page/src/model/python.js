@@ -3,13 +3,25 @@
 import { digitsOf } from '../containers/digits.js';
 import { Growing } from '../containers/growing.js';
 
+/** The latest key of several words, and its text: the next call often has the same one. */
+let [latest, text] = [null, ''];
+
 /** A key as a Map tells it apart: of several words their text. */
-const keyOf = (key) => (typeof key === 'object' && key !== null ? key.map(keyOf).join('\0') : key);
+function keyOf(key) {
+    if (typeof key !== 'object' || key === null) return key;
+    if (key === latest) return text;
+    let made = '';
+    for (const each of key) made += `${keyOf(each)}\0`;
+    [latest, text] = [key, made];
+    return made;
+}
 
 /** Entries by keys, which may be lists, in the order in which they came. */
 export class Dict {
     constructor(pairs = []) {
         this.pairs = new Map();
+        this.walk = this.pairs.values();
+        this.front = undefined;
         for (const [key, value] of pairs) this.set(key, value);
     }
 
@@ -27,7 +39,10 @@ export class Dict {
     }
 
     set(key, value) {
-        this.pairs.set(keyOf(key), [key, value]);
+        const text = keyOf(key);
+        const found = this.pairs.get(text);
+        if (found === undefined) this.pairs.set(text, [key, value]);
+        else found[1] = value;
     }
 
     delete(key) {
@@ -45,6 +60,14 @@ export class Dict {
     values() {
         return Array.from(this.pairs.values(), ([, value]) => value);
     }
+
+    /** The first key. What came before it is gone, and isn't passed over again. */
+    first() {
+        if (!this.front || this.pairs.get(keyOf(this.front[0])) !== this.front) {
+            this.front = this.walk.next().value ?? (this.walk = this.pairs.values()).next().value;
+        }
+        return this.front?.[0];
+    }
 }
 
 const isDict = (it) => it instanceof Dict;
@@ -52,7 +75,7 @@ const isDict = (it) => it instanceof Dict;
 // ---- What is true, and which are the same.
 
 export const len = (it) => it.length ?? it.size;
-export const is = (it) => (Array.isArray(it) || isDict(it) ? len(it) > 0 : Boolean(it));
+export const is = (it) => (typeof it === 'object' && (Array.isArray(it) || isDict(it)) ? len(it) > 0 : Boolean(it));
 export const or = (one, other) => (is(one) ? one : other());
 export const and = (one, other) => (is(one) ? other() : one);
 export const any = (items) => items.some(is);
@@ -69,11 +92,7 @@ export function list(it) {
 
 export const iter = (it) => it;
 
-/** The first key of a Dict, without a list of all, or the first of a list. */
-export function next(it) {
-    return isDict(it) ? it.pairs.values().next().value?.[0] : list(it)[0];
-}
-
+export const next = (it) => (isDict(it) ? it.first() : list(it)[0]);
 export const items = (it) => (isDict(it) ? it.items() : Object.entries(it));
 export const values = (it) => (isDict(it) ? it.values() : Object.values(it));
 export const zip = (one, other) => list(one).map((each, at) => [each, other[at]]);
@@ -83,7 +102,7 @@ export const insert = (it, place, each) => it.splice(place, 0, each);
 
 export function has(it, each) {
     if (isDict(it)) return it.has(each);
-    if (Array.isArray(it)) return it.some((one) => same(one, each));
+    if (Array.isArray(it)) return Array.isArray(each) ? it.some((one) => same(one, each)) : it.includes(each);
     return typeof it === 'string' ? it.includes(each) : each in it;
 }
 
@@ -94,7 +113,7 @@ export function get(it, key, missing = null) {
 
 export function at(it, key) {
     if (isDict(it)) return it.get(key);
-    return key < 0 ? it.at(key) : it[key];
+    return typeof key === 'number' && key < 0 ? it.at(key) : it[key];
 }
 
 export function put(it, key, value) {
@@ -153,8 +172,11 @@ export const bisect = {
 };
 
 export const sorted = (items, key = (it) => it) => list(items).map((each) => [key(each), each]).sort(([one], [other]) => order(one, other)).map(([, each]) => each);
-export const max = (...words) => (words.length > 1 ? words : words[0]).reduce((most, each) => (each > most ? each : most));
-export const min = (...words) => (words.length > 1 ? words : words[0]).reduce((least, each) => (each < least ? each : least));
+const greater = (one, other) => (other > one ? other : one);
+const less = (one, other) => (other < one ? other : one);
+/** Of two, or of a list. */
+export const max = (one, other) => (other === undefined ? one.reduce(greater) : greater(one, other));
+export const min = (one, other) => (other === undefined ? one.reduce(less) : less(one, other));
 export const sum = (items) => items.reduce((all, each) => all + Number(each), 0);
 export const int = (text, base = 10) => parseInt(text, base);
 export const modulo = (number, divisor) => ((number % divisor) + divisor) % divisor;
@@ -171,7 +193,14 @@ export function bytearray(bytes = new Uint8Array(0)) {
 
 export const str = String;
 export const isdigit = (text) => /^[0-9]+$/.test(text);
-export const strip = (text, letters) => text.replace(new RegExp(`^[${letters.replace(/[\]\\]/g, '\\$&')}]+|[${letters.replace(/[\]\\]/g, '\\$&')}]+$`, 'g'), '');
+
+export function strip(text, letters) {
+    let [from, to] = [0, text.length];
+    while (from < to && letters.includes(text[from])) from += 1;
+    while (from < to && letters.includes(text[to - 1])) to -= 1;
+    return text.slice(from, to);
+}
+
 export const removeprefix = (text, front) => (text.startsWith(front) ? text.slice(front.length) : text);
 
 const cutAt = (text, between, place) => [text.slice(0, place), between, text.slice(place + between.length)];

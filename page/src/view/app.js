@@ -2,7 +2,7 @@
 import { hashOf, placeOf } from './address.js';
 import { Advice } from './advice.js';
 import { Desk } from './desk.js';
-import { byId, counted, number, say } from './dom.js';
+import { byId, counted, element, number, say } from './dom.js';
 import { Header } from './header.js';
 import { NamesView } from './names.js';
 import { ExportView } from './export.js';
@@ -206,6 +206,12 @@ export class App {
      * @param {Partial<import('./address.js').Place>} change */
     move(change) {
         location.hash = hashOf({ ...this.place, ...change });
+    }
+
+    /** A link to the packets.
+     * @param {string} text @param {Partial<import('./address.js').Place>} change */
+    link(text, change) {
+        return element('a', { href: hashOf({ ...this.place, view: 'packets', frame: 0, packet: 1, filter: '', ...change }) }, text);
     }
 
     /** Keeps in the address what was chosen.

@@ -1,4 +1,5 @@
 /** A datagram as it is known: a bar of its places, and its data as text, with the bytes folded away. */
+import { bytesOf, printable } from '../containers/digits.js';
 import { counted, element } from './dom.js';
 import { known } from './keys.js';
 
@@ -34,7 +35,6 @@ export function folded(digits) {
 /** The first bytes of data as text.
  * @param {string} digits */
 export function preview(digits) {
-    const bytes = (digits.slice(0, 2 * MOST_SHOWN).match(/../g) ?? []).map((each) => parseInt(each, 16));
-    const text = bytes.map((each) => (each >= 0x20 && each < 0x7f ? String.fromCharCode(each) : '.')).join('');
+    const text = printable(bytesOf(digits.slice(0, 2 * MOST_SHOWN)));
     return digits.length > 2 * MOST_SHOWN ? `${text}..` : text;
 }

@@ -1,4 +1,5 @@
 /** A payload's bytes, sixteen a row, with the one marked at which a fault stands. */
+import { DIGITS, printable } from '../containers/digits.js';
 import { element } from './dom.js';
 
 const ROW = 16;
@@ -32,7 +33,7 @@ function rowsOf(bytes, from, to, mark) {
         const row = bytes.subarray(at, Math.min(at + ROW, to));
         const place = mark !== null && mark >= at && mark < at + ROW ? mark - at : -1;
         if (place < 0) {
-            text += `${front(at)}${digits(row, 0).padEnd(3 * ROW + 1)}  ${characters(row)}\n`;
+            text += `${front(at)}${digits(row, 0).padEnd(3 * ROW + 1)}  ${printable(row)}\n`;
             continue;
         }
         parts.push(text, ...marked(at, row, place));
@@ -51,9 +52,9 @@ function marked(at, row, place) {
     const after = place < row.length ? digits(row.subarray(place + 1), place + 1) : '';
     const rest = ' '.repeat(Math.max(0, 3 * ROW + 1 - before.length - gap.length - 2 - after.length));
     return [
-        `${front(at)}${before}${gap}`, element('mark', { title: words }, byte), `${after}${rest}  ${characters(row.subarray(0, place))}`,
-        ...(place < row.length ? [element('mark', { 'aria-hidden': 'true' }, characters(row.subarray(place, place + 1)))] : []),
-        `${characters(row.subarray(place + 1))}\n`,
+        `${front(at)}${before}${gap}`, element('mark', { title: words }, byte), `${after}${rest}  ${printable(row.subarray(0, place))}`,
+        ...(place < row.length ? [element('mark', { 'aria-hidden': 'true' }, printable(row.subarray(place, place + 1)))] : []),
+        `${printable(row.subarray(place + 1))}\n`,
     ];
 }
 
@@ -66,10 +67,5 @@ function front(at) {
  * @param {Uint8Array} bytes
  * @param {number} place where they begin in the row */
 function digits(bytes, place) {
-    return Array.from(bytes, (each, at) => `${place + at === ROW / 2 ? '  ' : ' '}${each.toString(16).padStart(2, '0')}`).join('');
-}
-
-/** @param {Uint8Array} bytes */
-function characters(bytes) {
-    return Array.from(bytes, (each) => (each >= 0x20 && each < 0x7f ? String.fromCharCode(each) : '.')).join('');
+    return Array.from(bytes, (each, at) => `${place + at === ROW / 2 ? '  ' : ' '}${DIGITS[each]}`).join('');
 }

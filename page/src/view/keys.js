@@ -1,4 +1,5 @@
 /** What is known of a key, in words. */
+import { runs_missing as runsMissing } from '../made/datagrams.js';
 import { counted } from './dom.js';
 
 /** @typedef {import('../model/keys.js').Key} Key */
@@ -14,18 +15,11 @@ export function known(key) {
 /** What is missing of a key that is partial.
  * @param {Key} key */
 function missing({ places, end }) {
-    const gaps = [];
-    let due = 0;
-    for (const [from, to] of places) {
-        if (from > due) gaps.push(span(due, from - 1));
-        due = to;
-    }
-    if (end === null) return `missing ${[...gaps, due ? `what follows byte ${due - 1}` : 'all of them'].join(', ')}; its length isn't known`;
-    if (due < end) gaps.push(span(due, end - 1));
-    return `missing ${gaps.join(', ')}`;
+    return `missing ${runsMissing(places, end).map(span).join(', ')}${end === null ? "; its length isn't known" : ''}`;
 }
 
-/** @param {number} from @param {number} last */
-function span(from, last) {
-    return from === last ? `byte ${from}` : `bytes ${from} to ${last}`;
+/** @param {{from: number, bytes: number | null}} run of bytes; null where it has no end */
+function span({ from, bytes }) {
+    if (bytes === null) return from ? `what follows byte ${from - 1}` : 'all of them';
+    return bytes === 1 ? `byte ${from}` : `bytes ${from} to ${from + bytes - 1}`;
 }

@@ -1,4 +1,5 @@
 /** The page begins here. */
+import { KINDS } from '../made/vocabulary.js';
 import { App } from './app.js';
 import { VIEWS } from './address.js';
 import { byId } from './dom.js';
@@ -29,6 +30,7 @@ function openWithin(id) {
     return openAll(app, [new File([bytesIn(id)], name)]);
 }
 
+byId('kinds', HTMLElement).textContent = KINDS.join(', ');
 takeFiles(app);
 byId('try', HTMLButtonElement).addEventListener('click', () => openWithin('sample'));
 byId('to-help', HTMLButtonElement).addEventListener('click', () => help.showModal());

@@ -1,6 +1,5 @@
 /** The names' view: conflicts and how they ended, who claims which name, stations, queries without an answer, sessions, refusals, and what is left out. */
 import { since } from '../model/times.js';
-import { hashOf } from './address.js';
 import { outcome, summary } from './conflicts.js';
 import { byId, counted, element, table } from './dom.js';
 import { TABLES, shownAs } from './tables.js';
@@ -64,30 +63,25 @@ export class NamesView {
 
     /** @param {number} frame */
     frame(frame) {
-        return this.link(`${this.app.unit} ${frame}`, { frame, filter: '' });
+        return this.app.link(`${this.app.unit} ${frame}`, { frame });
     }
 
     /** @param {number[]} frames */
     frames(frames) {
-        return element('span', {}, ...frames.flatMap((each, at) => [...(at ? [', '] : []), this.link(String(each), { frame: each, filter: '' })]));
+        return element('span', {}, ...frames.flatMap((each, at) => [...(at ? [', '] : []), this.app.link(String(each), { frame: each })]));
     }
 
     /** @param {string} title @param {any} row @param {string} column
      * @returns {Node | string} */
     cell(title, row, column) {
+        const { app } = this;
         const value = row[column];
-        const text = shownAs(title, row, column, (time) => since(time, this.app.tap?.first ?? null));
+        const text = shownAs(title, row, column, (time) => since(time, app.tap?.first ?? null));
         if (column === 'frames' && Array.isArray(value)) return this.frames(value);
-        if (column === 'answered' && value !== null) return this.link(text.replace('frame', this.app.unit), { frame: value, filter: '' });
-        if (column === 'frame') return this.link(text, { frame: Number(value), filter: '' });
-        if (column === 'reason') return this.link(text, { filter: row.frames === undefined ? 'malformed' : 'left-out' });
-        return FILTERS.includes(column) && text !== '-' ? this.link(text, { filter: text }) : text;
-    }
-
-    /** A link to the packets.
-     * @param {string} text @param {Partial<import('./address.js').Place>} change */
-    link(text, change) {
-        return element('a', { href: hashOf({ ...this.app.place, view: 'packets', frame: 0, packet: 1, ...change }) }, text);
+        if (column === 'answered' && value !== null) return app.link(text.replace('frame', app.unit), { frame: value });
+        if (column === 'frame') return app.link(text, { frame: Number(value) });
+        if (column === 'reason') return app.link(text, { filter: row.frames === undefined ? 'malformed' : 'left-out' });
+        return FILTERS.includes(column) && text !== '-' ? app.link(text, { filter: text }) : text;
     }
 }
 

@@ -1,4 +1,5 @@
 /** All of one packet: where it comes from, what it says, its fault, its fields and bytes. */
+import { digitsOf } from '../containers/digits.js';
 import { hostOf } from '../containers/ends.js';
 import { is_in_name as isInName, place_of as placeOf } from '../made/places.js';
 import { since } from '../model/times.js';
@@ -95,7 +96,7 @@ function wireshark(packet) {
     const filters = [`frame.number == ${packet.frame}`];
     const { told, bytes } = packet;
     if (packet.port === 137 && bytes.length >= 2) {
-        filters.push(`nbns.id == 0x${Array.from(bytes.subarray(0, 2), (each) => each.toString(16).padStart(2, '0')).join('')}`);
+        filters.push(`nbns.id == 0x${digitsOf(bytes.subarray(0, 2))}`);
     } else if (packet.port === 138 && typeof told?.key === 'string') {
         filters.push(`nbdgm.src.ip == ${hostOf(told.key.split('/')[0])} && nbdgm.dgram_id == 0x${told.key.split('/')[1]}`);
     }

@@ -1,7 +1,6 @@
 /** The reassembly's view: each key as a bar, and what a station with chosen names is handed, and when. */
 import { keyOf } from '../model/keys.js';
 import { MOST_NAMES } from '../made/vocabulary.js';
-import { hashOf } from './address.js';
 import { bar, folded, preview } from './bars.js';
 import { byId, counted, element, number, table } from './dom.js';
 import { known } from './keys.js';
@@ -25,19 +24,13 @@ export class ReassemblyView {
         const answer = await app.ask('listed');
         if (!answer || tap !== app.tap) return;
         const keys = answer.lines.map(keyOf);
-        this.keys.replaceChildren(...tableOf(keys, ({ key }) => this.link(key, answer.firsts.get(key))));
+        this.keys.replaceChildren(...tableOf(keys, ({ key }) => (answer.firsts.has(key) ? app.link(key, { frame: answer.firsts.get(key) }) : key)));
         this.handed.replaceChildren();
         const names = Array.from(new Set(keys.flatMap((/** @type {import('../model/keys.js').Key} */ key) => key.destination || [])));
         byId('station-names', HTMLDataListElement).replaceChildren(...names.slice(0, MOST_NAMES).map((value) => element('option', { value })));
         this.names.value = names.slice(0, MOST_NAMES).join(', ');
         byId('station-form', HTMLFormElement).hidden = tap?.kind === 'table';
         if (tap?.kind !== 'table' && names.length) await this.hand();
-    }
-
-    /** A key that leads to its first frame, where there is one.
-     * @param {string} key @param {number | undefined} frame */
-    link(key, frame) {
-        return frame === undefined ? key : element('a', { href: hashOf({ ...this.app.place, view: 'packets', frame, packet: 1, filter: '' }) }, key);
     }
 
     /** Shows what the station is handed. */

@@ -1,23 +1,22 @@
 /** The rows of a file as the page has them: columns, and which of them are shown. */
 import { Column } from '../model/columns.js';
+import { columnsOfRows } from '../model/packets.js';
 
 /** How many rows are judged before the page draws again. */
 const PART = 20_000;
 /** The bound on rows by which a row's number and its frame's go into one number. */
 const ROWS = 2 ** 21;
 
-/** @typedef {'source' | 'destination' | 'sender' | 'kinds' | 'reason'} Worded */
+/** @typedef {typeof import('../model/packets.js').WORDED[number]} Worded */
 
 export class Rows {
     constructor() {
-        this.frame = new Column(Uint32Array);
-        this.time = new Column(BigInt64Array);
-        this.port = new Column(Uint8Array);
-        /** @type {Record<Worded, Column<Uint32Array>>} */
-        this.worded = {
-            source: new Column(Uint32Array), destination: new Column(Uint32Array), sender: new Column(Uint32Array),
-            kinds: new Column(Uint32Array), reason: new Column(Uint32Array),
-        };
+        this.columns = columnsOfRows();
+        const { frame, time, port, ...worded } = this.columns;
+        this.frame = frame;
+        this.time = time;
+        this.port = port;
+        this.worded = worded;
         /** @type {string[]} */
         this.said = [];
         /** @type {string[]} */
@@ -43,20 +42,14 @@ export class Rows {
 
     /** @param {import('../model/packets.js').Rows} batch */
     add(batch) {
+        const from = this.count;
+        if (!batch.frame.length) return;
         this.texts.push(...batch.texts);
-        const said = batch.frame.length ? batch.said.split('\n') : [];
-        for (let at = 0; at < batch.frame.length; at++) {
-            const row = this.count;
-            if (row && batch.frame[at] < this.frame.at(row - 1)) this.isSorted = false;
-            this.frame.push(batch.frame[at]);
-            this.time.push(batch.time[at]);
-            this.port.push(batch.port[at]);
-            for (const [key, column] of Object.entries(this.worded)) column.push(batch[/** @type {Worded} */ (key)][at]);
-            this.said.push(said[at]);
-            for (const [key, counts] of Object.entries(this.counts)) {
-                const text = batch[/** @type {Worded} */ (key)][at];
-                counts.set(text, (counts.get(text) ?? 0) + 1);
-            }
+        this.said.push(...batch.said.split('\n'));
+        for (const [key, column] of Object.entries(this.columns)) column.extend(Reflect.get(batch, key));
+        for (const [key, counts] of Object.entries(this.counts)) count(counts, batch[/** @type {Worded} */ (key)]);
+        for (let row = from; row < this.count; row++) {
+            if (row && this.frame.at(row) < this.frame.at(row - 1)) this.isSorted = false;
             if (!this.filter || this.filter.wants(this, row)) this.shown.push(row);
         }
     }
@@ -128,4 +121,10 @@ export class Rows {
         for (let at = 0; at < row; at++) if (this.frame.at(at) === frame) count += 1;
         return count;
     }
+}
+
+/** Counts each text of a column.
+ * @param {Map<number, number>} counts @param {Uint32Array} texts */
+function count(counts, texts) {
+    for (const each of texts) counts.set(each, (counts.get(each) ?? 0) + 1);
 }

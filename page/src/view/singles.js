@@ -7,7 +7,7 @@ const OFF = 'off';
 export class SingleKeys {
     constructor() {
         this.box = byId('single-keys', HTMLInputElement);
-        this.box.checked = kept() !== OFF;
+        this.box.checked = keep() !== OFF;
         this.box.addEventListener('change', () => this.change());
         this.show();
     }
@@ -27,22 +27,13 @@ export class SingleKeys {
     }
 }
 
-/** What is kept for the next time; null where nothing is, or the browser keeps nothing of this page. */
-function kept() {
+/** Keeps a value for the next time, if one is given, and answers what is kept; null where the browser keeps nothing of this page.
+ * @param {string} [value] */
+function keep(value) {
     try {
+        if (value !== undefined) localStorage.setItem(KEPT_AS, value);
         return localStorage.getItem(KEPT_AS);
     } catch {
         return null;
-    }
-}
-
-/** @param {string} value
- * @returns {boolean} whether the browser keeps it */
-function keep(value) {
-    try {
-        localStorage.setItem(KEPT_AS, value);
-        return true;
-    } catch {
-        return false;
     }
 }

@@ -1,5 +1,4 @@
 /** The view of two taps: what comes of them together, and by side what each knows and what only the join does. */
-import { hashOf } from './address.js';
 import { bar, folded } from './bars.js';
 import { byId, counted, element, number, table } from './dom.js';
 import { known } from './keys.js';
@@ -51,20 +50,11 @@ export class TapsView {
         const cells = rows.map(({ key, one, other, both }) => {
             const { source, destination, data, wide } = both.state === 'spoilt' ? one ?? other ?? both : both;
             const room = Math.max(wide, one?.wide ?? 0, other?.wide ?? 0, 1);
-            return [this.link(key), source || '-', destination || '-', ...[one, other, both].map((each) => side(each, room)),
+            const tap = this.firsts.findIndex((each) => each.has(key));
+            return [tap < 0 ? key : this.app.link(key, { tap, frame: this.firsts[tap].get(key) }), source || '-', destination || '-', ...[one, other, both].map((each) => side(each, room)),
                 both.state === 'whole' ? folded(data) : '-'];
         });
         return [table(title, ['key', 'from', 'to', 'tap 1', 'tap 2', 'the join', 'data'], cells)];
-    }
-
-    /** A key that leads to its first frame, at the first tap that has it.
-     * @param {string} key */
-    link(key) {
-        for (const [tap, firsts] of this.firsts.entries()) {
-            const frame = firsts.get(key);
-            if (frame !== undefined) return element('a', { href: hashOf({ ...this.app.place, view: 'packets', tap, frame, packet: 1, filter: '' }) }, key);
-        }
-        return key;
     }
 }
 

@@ -1,6 +1,6 @@
 /** Rows on their way to the page. */
 import { Texts } from '../model/columns.js';
-import { NO_TIME } from '../model/packets.js';
+import { NO_TIME, WORDED, columnsOfRows } from '../model/packets.js';
 
 /** A row: where a packet comes from and goes to, what it says, and the words by which it is filtered.
  * @typedef {object} Row
@@ -12,29 +12,29 @@ export class Batch {
     constructor() {
         this.texts = new Texts();
         this.sent = 0;
-        /** @type {Row[]} */
-        this.rows = [];
+        this.columns = columnsOfRows();
+        /** @type {string[]} */
+        this.said = [];
     }
 
     /** @param {Row} row */
     add(row) {
-        this.rows.push(row);
+        const { columns, texts } = this;
+        columns.frame.push(row.frame);
+        columns.time.push(row.time ?? NO_TIME);
+        columns.port.push(row.port);
+        for (const key of WORDED) columns[key].push(texts.number(row[key]));
+        this.said.push(row.said);
     }
 
     /** The rows since the last time.
      * @returns {import('../model/packets.js').Rows} */
     take() {
-        const { rows, texts } = this;
-        this.rows = [];
-        /** @param {'source' | 'destination' | 'sender' | 'kinds' | 'reason'} key */
-        const numbers = (key) => Uint32Array.from(rows, (row) => texts.number(row[key]));
-        const taken = {
-            frame: Uint32Array.from(rows, (row) => row.frame), time: BigInt64Array.from(rows, (row) => row.time ?? NO_TIME),
-            port: Uint8Array.from(rows, (row) => row.port), source: numbers('source'), destination: numbers('destination'),
-            sender: numbers('sender'), kinds: numbers('kinds'), reason: numbers('reason'), said: rows.map((row) => row.said).join('\n'),
-            texts: texts.texts.slice(this.sent),
-        };
-        this.sent = texts.texts.length;
+        const { columns, said, texts: { texts } } = this;
+        const numbers = Object.fromEntries(Object.entries(columns).map(([key, column]) => [key, column.take()]));
+        const taken = /** @type {any} */ ({ ...numbers, said: said.join('\n'), texts: texts.slice(this.sent) });
+        this.said = [];
+        this.sent = texts.length;
         return taken;
     }
 }

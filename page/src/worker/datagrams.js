@@ -3,12 +3,10 @@ import { Datagrams } from '../made/datagrams.js';
 import { Piece, Pieces } from '../made/pieces.js';
 import { PIECES, PORT } from '../made/vocabulary.js';
 import { keyOf } from '../model/keys.js';
-import { throughStation } from './station.js';
+import { taken, throughStation } from './station.js';
 
 /** A station that has this name alone: whether it hears a datagram or not, it says when one is whole. */
 const NAME = '*<00>';
-/** Why a station has no place for a piece. */
-const REFUSED = ['MISPLACED_FIRST', 'LONG', 'FULL_SOURCE', 'FULL'];
 
 /** @param {import('./tap.js').Tap} tap
  * @returns {Promise<Datagrams>} */
@@ -42,12 +40,8 @@ function pieceOf(tap, { moment, bytes }, row) {
 /** What a station reports of a piece, as `nbt replay --json` says it.
  * @param {import('../../../bindings/javascript/nbt.mjs').Station} station @param {Piece} piece */
 function reportOf(station, { moment, data }) {
-    try {
-        return { outcome: station.take(moment, data).outcome.toLowerCase() };
-    } catch (error) {
-        if (!REFUSED.includes(Reflect.get(Object(error), 'status'))) throw error;
-        return { refused: /** @type {Error} */ (error).message };
-    }
+    const { outcome, refused } = taken(station, moment, data);
+    return refused === null ? { outcome: outcome.toLowerCase() } : { refused };
 }
 
 /** @param {import('./tap.js').Tap} tap @param {Uint8Array[]} pieces */

@@ -5,6 +5,10 @@ import { pause } from './pause.js';
 /** How many lines are looked at before the worker looks whether something is wanted of it. */
 const PART = 256;
 
+/** Why a station doesn't take a fragment: for what stands in it, or also for keys that there are. */
+export const MALFORMED = ['MISPLACED_FIRST', 'LONG'];
+const REFUSED = [...MALFORMED, 'FULL', 'FULL_SOURCE'];
+
 /** @typedef {import('../../../bindings/javascript/nbt.mjs').Station} Station
  * @typedef {import('../model/capture.js').CaptureLine} CaptureLine */
 
@@ -25,5 +29,16 @@ export async function throughStation(tap, names, take, end) {
         return end(station);
     } finally {
         station.close();
+    }
+}
+
+/** What becomes of a payload at a station: what that answers, or the words with which it refuses it by one of these statuses.
+ * @param {Station} station @param {bigint} moment @param {Uint8Array} bytes */
+export function taken(station, moment, bytes, statuses = REFUSED) {
+    try {
+        return { ...station.take(moment, bytes), refused: null };
+    } catch (fault) {
+        if (!statuses.includes(Reflect.get(Object(fault), 'status'))) throw fault;
+        return { outcome: '', delivery: null, refused: /** @type {Error} */ (fault).message };
     }
 }

@@ -1,12 +1,10 @@
 /** Datagrams put together, by the library: the table of a file, what it lists, and what a station with chosen names is handed. */
 import { digitsOf } from '../containers/digits.js';
 import { MOST_KEYS, PORT } from '../made/vocabulary.js';
-import { throughStation } from './station.js';
+import { keyText } from '../model/keys.js';
+import { MALFORMED, taken, throughStation } from './station.js';
 
 const MOST_DELIVERIES = 10_000;
-/** Why a fragment isn't taken: for what stands in it, or for keys that there are. */
-const MALFORMED = ['MISPLACED_FIRST', 'LONG'];
-const NO_ROOM = ['FULL', 'FULL_SOURCE'];
 
 /** A datagram that a station is handed: by which frame or line, and when.
  * @typedef {object} Handed
@@ -21,23 +19,10 @@ const NO_ROOM = ['FULL', 'FULL_SOURCE'];
 export async function tableOf(tap) {
     if (tap.table) return tap.table;
     const table = await throughStation(tap, [], (station, line) => {
-        if (line.kind === 'payload' && line.port === PORT.DATAGRAMS) pass(() => station.take(0, line.bytes), MALFORMED);
+        if (line.kind === 'payload' && line.port === PORT.DATAGRAMS) taken(station, 0n, line.bytes, MALFORMED);
     }, (station) => station.save());
     if (tap.isRead) tap.table = table;
     return table;
-}
-
-/** Takes a payload; one that is refused with a status of these is passed over.
- * @template T
- * @param {() => T} take @param {string[]} statuses
- * @returns {T | null} */
-function pass(take, statuses) {
-    try {
-        return take();
-    } catch (error) {
-        if (statuses.includes(Reflect.get(Object(error), 'status'))) return null;
-        throw error;
-    }
 }
 
 /** What a station with these names is handed of a file.
@@ -50,7 +35,7 @@ export async function handedTo(tap, names) {
     return throughStation(tap, names, (station, line) => {
         if (line.kind === 'tick') station.tick(BigInt(line.moment));
         if (line.kind !== 'payload' || line.port !== PORT.DATAGRAMS) return;
-        const delivery = pass(() => station.take(BigInt(line.moment), line.bytes), [...MALFORMED, ...NO_ROOM])?.delivery;
+        const { delivery } = taken(station, BigInt(line.moment), line.bytes);
         if (delivery && handed.length === MOST_DELIVERIES) more += 1;
         else if (delivery) handed.push(described(delivery, line.row, line.moment));
     }, () => ({ handed, more }));
@@ -59,9 +44,9 @@ export async function handedTo(tap, names) {
 /** @param {import('../../../bindings/javascript/nbt.mjs').Delivery} delivery @param {number | null} row
  * @param {number | bigint} moment
  * @returns {Handed} */
-function described({ address, port, identifier, source, destination, data }, row, moment) {
-    const key = `${address}:${port}/${identifier.toString(16).padStart(4, '0')}`;
-    return { row, moment: String(moment), key, source, destination, data: digitsOf(data) };
+function described(delivery, row, moment) {
+    const { source, destination, data } = delivery;
+    return { row, moment: String(moment), key: keyText(delivery), source, destination, data: digitsOf(data) };
 }
 
 /** What the library lists of a table: a line a key.

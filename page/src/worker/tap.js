@@ -1,5 +1,5 @@
 /** What is known of one file. */
-import { hostOf, portOf, shown } from '../containers/ends.js';
+import { partsOf, shown } from '../containers/ends.js';
 import { made, written } from '../model/capture.js';
 import { Seen, withoutPlace } from '../model/seen.js';
 import { datagramFront, serviceFront } from '../model/fronts.js';
@@ -102,8 +102,8 @@ export class Tap {
     row(mark, port, kinds, reason, said) {
         const own = port === LEFT_OUT ? SERVICES : [String(port)];
         const { frame, time } = mark;
-        const ends = { source: shown(mark.source, own), destination: shown(mark.destination, own), sender: hostOf(mark.source) };
-        this.batch.add({ frame, time, port, kinds, reason, said, ...ends });
+        const [source, destination] = [shown(mark.source, own), shown(mark.destination, own)];
+        this.batch.add({ frame, time, port, source, destination, sender: partsOf(mark.source).host, kinds, reason, said });
     }
 
     /** The lines of the capture that the file gives, or that it is. */
@@ -126,11 +126,16 @@ export class Tap {
 /** @param {import('../containers/report.js').Mark} mark @param {number} port @param {string | null} mac
  * @returns {import('../model/seen.js').Item} */
 function itemOf({ frame, time, source, destination }, port, mac) {
-    return { ...endsOf(source, destination), frame: { number: frame, at: time, source_mac: mac }, service: port, stream: null };
+    const [from, to] = [partsOf(source), partsOf(destination)];
+    return {
+        source: from.host, source_port: from.port, target: to.host, target_port: to.port, frame: { number: frame, at: time, source_mac: mac },
+        service: port, stream: null,
+    };
 }
 
 /** @param {string} source @param {string} target
  * @returns {import('../model/seen.js').Ends} */
 function endsOf(source, target) {
-    return { source: hostOf(source), source_port: portOf(source), target: hostOf(target), target_port: portOf(target) };
+    const [from, to] = [partsOf(source), partsOf(target)];
+    return { source: from.host, source_port: from.port, target: to.host, target_port: to.port };
 }

@@ -2,6 +2,8 @@
 """What the bindings, the tools and the page list alike, made of one source each: of include/nbt.h its numbers, its limits and, for Rust and
 Python, its structures and calls; of modules of the tools those of the page.
 
+The refusals of man/nbt.1 are made too, of crates/nbt/src/refusals.rt.
+
 Usage: tools/lists.py --made writes what isn't kept in the repository: what makes the library or the page begins with it. --write writes that, and
 anew the file that is kept, the marked parts of others, and what stands within further ones, as limits in manual pages. --check says which of the
 latter differ from that, which numbers of nbt.h aren't those of the crates' sources, and where the words that `nbt build` takes aren't those of
@@ -11,7 +13,7 @@ import re
 import sys
 
 sys.dont_write_bytecode = True
-from making import crates, grammar, javascript, python, rust, scripts, tools
+from making import crates, grammar, javascript, python, refusals, rust, scripts, tools
 from making.header import HEADER, TOP, Header
 from making.within import OF_HEADER, WITHIN
 
@@ -59,7 +61,8 @@ def kept():
     for name, maker in PARTS.items():
         yield TOP / name, with_part((TOP / name).read_text(encoding='utf-8'), maker(header))
     for name, patterns in WITHIN.items():
-        yield TOP / name, with_limits(TOP / name, patterns, header)
+        text = with_limits(TOP / name, patterns, header)
+        yield TOP / name, refusals.with_refusals(text) if name == refusals.MANUAL else text
 
 
 def check():

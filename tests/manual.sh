@@ -174,7 +174,7 @@ prefixes() {
 offers() {
     cat <<'END'
 nbt s|show save
-nbt show -|--input-limit --comments --brief --partial --json --help
+nbt agree -|--list --help
 nbt save --|--keys --per-source --input-limit --help
 nbt replay --keys |
 nbt build r|registration refresh release response request retarget

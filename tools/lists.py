@@ -2,6 +2,8 @@
 """What the bindings, the tools and the page list alike, made of one source each: of include/nbt.h its numbers, its limits and, for Rust and
 Python, its structures and calls; of modules of the tools those of the page.
 
+The refusals of man/nbt.1 are made too, of crates/nbt/src/refusals.rt.
+
 Usage: tools/lists.py --made writes what isn't kept in the repository: what makes the library or the page begins with it. --write writes that, and
 anew the file that is kept, and what stands within others, as limits in manual pages. --check says which of the
 latter differ from that, which numbers of nbt.h aren't those of the crates' sources, and where the words that `nbt build` takes aren't those of
@@ -11,7 +13,7 @@ import re
 import sys
 
 sys.dont_write_bytecode = True
-from making import crates, javascript, python, rust, scripts
+from making import crates, javascript, python, refusals, rust, scripts
 from making.header import HEADER, TOP, Header
 from making.within import OF_HEADER, WITHIN
 
@@ -47,7 +49,8 @@ def kept():
     header = Header()
     yield TOP / 'tools/nbt_pcap/header.py', python.tools_file(header)
     for name, patterns in WITHIN.items():
-        yield TOP / name, with_limits(TOP / name, patterns, header)
+        text = with_limits(TOP / name, patterns, header)
+        yield TOP / name, refusals.with_refusals(text) if name == refusals.MANUAL else text
 
 
 def check():

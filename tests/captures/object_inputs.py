@@ -1,7 +1,10 @@
 """Payloads, captures and saved tables made by chance, for tests/program/beside_model.py and tests/fuzz.py.
 
 Packets of port 137 are made here, of all kinds, with pointers good and bad; the others by fuzz_inputs.py and fuzz_traffic.py."""
-from fuzz_inputs import Maker, likely_port
+import pathlib
+import re
+
+from fuzz_inputs import ROOT, Maker, likely_port
 from fuzz_traffic import LONGEST_LAST_LABEL, Traffic, capture_of, digits, session_packet
 from model.captures import LONGEST_LINE, read_capture
 from model.limits import MOST_KEYS
@@ -133,15 +136,10 @@ def session_of_any_length(rng, _):
 
 
 LIMITS = (1, 2, 3, MOST_KEYS)
-# The options of the commands that read captures or tables.
-OPTIONS = {
-    'show': ('--input-limit', '--comments', '--brief', '--partial', '--json'),
-    'replay': ('--keys', '--per-source', '--input-limit', '--comments', '--json'),
-    'save': ('--keys', '--per-source', '--input-limit'),
-    'merge': ('--keys', '--per-source'),
-    'list': ('--keys', '--per-source', '--json'),
-    'agree': ('--list',),
-}
+FORMATS = pathlib.Path(ROOT, 'docs/FORMATS.md')
+# The options of each command, as the page has them.
+OPTIONS = {command: tuple(re.findall(r'\[(--[a-z-]+)', words))
+           for command, words in re.findall(r'^\| `nbt (\w+)([^`]*)` \|', FORMATS.read_text('utf-8'), re.MULTILINE)}
 SESSIONS = (session_packet, session_packet, session_request, session_of_any_length)
 
 

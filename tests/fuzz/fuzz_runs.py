@@ -3,6 +3,7 @@ tests/fuzz.py."""
 import collections
 import contextlib
 import os
+import pathlib
 import re
 import resource
 import shlex
@@ -13,11 +14,12 @@ from fuzz_inputs import ROOT
 SECONDS = 30
 MEMORY = 512 << 20
 
-AT = r'\d+'
-NAME_FAULT = rf'(?:truncated|reserved label|pointer not allowed|bad pointer|too long|not netbios) {AT}'
-TEXTS = re.compile(rf'nbt: (?:{NAME_FAULT}|bad text {AT}|too long|full(?: source)?|bad magic|truncated|not canonical {AT}'
-                   rf'|zero piece|line {AT}|bad hex|trailing bytes {AT}|arguments|no tables|two tables wanted'
-                   rf'|too many names|read|write|memory)\n')
+# What a refusal may say by docs/FORMATS.md: the texts of these faults, and those of commands.
+PAGE = pathlib.Path(ROOT, 'docs/FORMATS.md').read_text('utf-8')
+FAULTS = re.findall(r'^\| `(?:Name|Text|Cut|Load)Fault` \| (.*) \|$', PAGE, re.MULTILINE)
+OF_COMMANDS = re.findall(r'^\| (`.*?`) \|', PAGE.partition('| Text | When |')[2].partition('\n\n')[0], re.MULTILINE)
+SAID = '|'.join(re.sub(r' (?:AT|N)$', r' \\d+', text) for text in re.findall('`(.*?)`', ' '.join(FAULTS + OF_COMMANDS)))
+TEXTS = re.compile(rf'nbt: (?:{SAID})\n')
 MEMORY_OR_DEVICE = re.compile(r'nbt: (?:read|write|memory)\n')
 FRONTS_ARE_LEFT_BY = ('show', 'replay')
 SILENT = ('name', 'build', 'save', 'merge', 'list')

@@ -2,8 +2,7 @@
 OF_TABLES = ((r'(How many keys the table holds at most, 1 to )\d+(\.\nWithout it they are )\d+', '{MOST_KEYS}', '{KEYS}'),
              (r'(How many keys of one source address the table holds at most, 1 to )\d+', '{MOST_KEYS}'))
 OF_NAMES = (r"(more than a station's )\d+", '{MOST_NAMES}'),
-OF_NBT = (*OF_TABLES, *OF_NAMES, (r'(How many bytes the capture may have, 1 to \d+\.\nWithout it they are )\d+', '{INPUT}'),
-          (r'(as in `--keys )\d+(?=`, or have)', '{MOST_KEYS}'), (r'(as in `--keys )\d+(?=`, or save)', '{KEYS}'))
+OF_NBT = (*OF_TABLES, (r'(How many bytes the capture may have, 1 to \d+\.\nWithout it they are )\d+', '{INPUT}'))
 OF_HEADER = ((r'(\* NBT_BAD_LINE for any other line, and for one of more than )[\d,]+', '{MOST_LINE:,}'),
              (r'(Of a payload of at most )[\d,]+', '{LINE_ROOM:,}'),
              (r'(/\* more than )\d+( names; \*at: where the text of the )\d+(?=th begins)', '{MOST_NAMES}', '{OVER_MOST_NAMES}'))
@@ -33,6 +32,7 @@ OF_SOURCES = {
     'crates/nbt/src/limits.rt': OF_NAMES,
     'tests/plain/capture.rs': ((r'(^const LONGEST_LINE: usize = )[\d_]+', '{MOST_LINE:_}'), (r'(^pub const MOST_INPUT: u64 = )[\d_]+', '{INPUT:_}')),
 }
-WITHIN = {'man/nbt.1': OF_NBT, 'man/nbt-station.1': OF_TABLES, 'tools/pkgconfig': ((r'(^Version: ).+', '{VERSION}'),),
+# The page of nbt last: what it lists of refusals is made of crates/nbt/src/limits.rt too.
+WITHIN = {'man/nbt-station.1': OF_TABLES, 'tools/pkgconfig': ((r'(^Version: ).+', '{VERSION}'),),
           **dict.fromkeys(('bindings/python/pyproject.toml', 'bindings/rust/Cargo.toml', 'bindings/javascript/package.json'), OF_PACKAGE),
-          **OF_PAGES, **OF_SOURCES}
+          **OF_PAGES, **OF_SOURCES, 'man/nbt.1': OF_NBT}

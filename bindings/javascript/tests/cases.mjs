@@ -6,8 +6,9 @@ import { bytesOf, wordsOf } from '../../../tests/library/rows.mjs';
 import { handed, keyOf, linesOf, outcomeOf } from '../../../tests/library/values.mjs';
 
 const REQUESTS = ['query', 'nodeStatus', 'registration', 'refresh', 'release'];
-// What the package asks within calls of its own, or otherwise; and what it has no word for.
-const WITHIN = ['version', 'service_item', 'service_items', 'service_address', 'service_node', 'service_unit'];
+const ROWS = readFileSync(new URL('../../../tests/library/cases.txt', import.meta.url), 'latin1');
+// What packages ask within calls of their own, or otherwise; and what this one has no word for.
+const WITHIN = ROWS.match(/^# Within: (.*)/m)[1].split(' ');
 const UNSAID = /! (no station|other type|unknown request)$|^service_domain .*18446744073709551615/;
 const hex = (bytes) => Buffer.from(bytes).toString('hex');
 
@@ -84,10 +85,10 @@ export function testRows(nbt) {
         }
     }
 
-    for (const line of readFileSync(new URL('../../../tests/library/cases.txt', import.meta.url), 'latin1').split('\n')) {
+    for (const line of ROWS.split('\n')) {
         const [call, ...words] = wordsOf(line, names) ?? ['version'];
         if (call === 'status_text' && words[1] === '=') numbers.push(Number(words[0]));
-        if (!WITHIN.includes(call) && !UNSAID.test(line)) test(line, () => run(call, words));
+        if ((call in calls || !WITHIN.includes(call)) && !UNSAID.test(line)) test(line, () => run(call, words));
     }
     test('the stations of the rows are closed', () => stations.forEach((station) => station.close()));
     return numbers;

@@ -27,7 +27,7 @@ use crate::Result;
 
 pub use crate::header::record_type::*;
 pub use crate::header::service::{NodeType, Operation, ResultCode, Section};
-pub use crate::rdata::{Addresses, NodeName, NodeNames, NodeStatus, Rdata};
+pub use crate::rdata::*;
 pub use crate::responses::{Answer, Response};
 pub use crate::service_packets::{read, read_front, Front, Packet, Question, Questions, Record, Records};
 

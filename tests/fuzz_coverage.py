@@ -2,7 +2,7 @@
 """The library under libFuzzer, with coverage counters and AddressSanitizer in its own code.
 
 Usage: tests/fuzz_coverage.py [--seconds N] [--module FILE] [--keep].  The module is what `make targets` or tools/module keeps, out/nbt.bc
-without it. What has to hold stands in tests/library/payloads.c. It begins with the inputs of tests/library/corpus.txt, a word of digits each;
+without it. What has to hold stands in tests/library/harness.c; what was found is held beside tests/model then, too. It begins with the inputs of tests/library/corpus.txt, a word of digits each;
 with --keep those that are needed for what was reached are written there, 2 MB at most. An input for which something doesn't hold
 is printed as lines of a capture, and its digits, and the status is 1; 2 where a tool is missing. The last lines say what was reached.
 """
@@ -22,7 +22,8 @@ CORPUS = os.path.join(TOP, 'tests', 'library', 'corpus.txt')
 MOST_BYTES, LINE = 2_000_000, 8_000
 CLANGS = [os.environ.get('FUZZ_CLANG'), 'clang-22', 'clang-19', 'clang-16', 'clang']
 WRAPPED = '-Wl,--wrap=malloc,--wrap=realloc,--wrap=free'
-PROGRAM = [*(f'{TOP}/tests/library/{name}.c' for name in ('payloads', 'harness', 'cases', 'memory')), f'-DCASES="{TOP}/tests/library/cases.txt"']
+SOURCES = ('calls', 'harness', 'cases', 'hostile', 'bounds', 'corpus', 'memory')
+PROGRAM = [*(f'{TOP}/tests/library/{name}.c' for name in SOURCES), f'-DCASES="{TOP}/tests/library/cases.txt"']
 LIMITS = ['-max_len=4000', '-timeout=20', '-rss_limit_mb=1500']
 REACHED = re.compile(r'^(?:UN)?COVERED_FUNC: hits: \d+ edges: (\d+)/(\d+) (\S+)', re.M)
 
@@ -79,29 +80,44 @@ def read_corpus(folder):
                 one.write(bytes.fromhex(digits))
 
 
-def write_corpus(folder):
-    """Short inputs first, as many as the limit has room for."""
-    inputs = []
+def inputs_in(folder):
     for name in os.listdir(folder):
         with open(os.path.join(folder, name), 'rb') as file:
-            inputs.append(file.read().hex())
-    short_first = sorted(filter(None, set(inputs)), key=lambda it: (len(it), it))
+            yield file.read()
+
+
+def write_corpus(folder):
+    """Short inputs first, as many as the limit has room for."""
+    inputs = {it.hex() for it in inputs_in(folder)}
+    short_first = sorted(filter(None, inputs), key=lambda it: (len(it), it))
     sizes = itertools.accumulate(len(it) + 1 for it in short_first)
     kept = [digits for digits, size in zip(short_first, sizes) if size <= MOST_BYTES]
     with open(CORPUS, 'w', encoding='ascii') as file:
         file.write(textwrap.fill(' '.join(kept), LINE) + '\n')
 
 
-def show_failures(room, alone, said):
+def lines_of(inputs):
+    """The payloads of some inputs, as lines of a port and digits."""
+    words = [sys.executable, f'{TOP}/tests/captures/payloads.py', 'inputs', '1000000000']
+    return run(words, input='\n'.join(it.hex() for it in inputs))
+
+
+def show_failures(room, said):
     """Prints each input for which something doesn't hold."""
-    found = [name for name in sorted(os.listdir(room)) if re.match('(crash|leak|timeout|oom)-', name)]
     print(*dict.fromkeys(re.findall(r'.*not so: .*|SUMMARY: .*', said)), sep='\n')
-    for name in found:
-        with open(os.path.join(room, name), 'rb') as file:
-            digits = file.read().hex()
-        print(subprocess.run([alone, 'print'], input=digits + '\n', stdout=subprocess.PIPE, text=True, check=True).stdout, end='')
-        print(f'input: {digits}')
-    return found
+    for name in sorted(os.listdir(room)):
+        if re.match('(crash|leak|timeout|oom)-', name):
+            with open(os.path.join(room, name), 'rb') as file:
+                data = file.read()
+            print(lines_of([data]).replace(' ', ' 0 '), f'input: {data.hex()}', sep='')
+
+
+def is_judged(folder, alone):
+    """Whether the calls answer of these inputs what tests/model does."""
+    rows = run([f'{TOP}/tests/library/payload_rows.py'], input=lines_of(inputs_in(folder)))
+    done = subprocess.run([alone, 'judged'], input=rows, stdout=subprocess.PIPE, stderr=subprocess.STDOUT, text=True, errors='replace')
+    print(f'beside the model: {done.stdout}', end='')
+    return done.returncode == 0
 
 
 def show_reached(said):
@@ -141,13 +157,13 @@ def main():
                               text=True, errors='replace')
         print(*[line for line in done.stdout.splitlines() if re.search('INITED|DONE', line)], sep='\n')
         if done.returncode:
-            show_failures(room, alone, done.stdout)
+            show_failures(room, done.stdout)
             return 1
         run([fuzz, *limits, '-merge=1', least, corpus])
         show_reached(run([blocks, *limits, '-runs=0', '-print_coverage=1', least]))
         if words.keep:
             write_corpus(least)
-    return 0
+        return not is_judged(least, alone)
 
 
 if __name__ == '__main__':

@@ -1,9 +1,9 @@
 #!/usr/bin/env bash
-# The library for C: that the bindings read no packet by themselves, what it is made of, the examples of bindings/c, a
-# caller's worst (tests/library/payloads.c) beside `nbt show`, sanitizers, memory that runs out, what payloads say beside a slow
-# model, the programs of examples/, the package for Python and its types, nbt-station, and the crate for Rust. Usage:
-# [AFTER_RT_CI=1] [MODULE=FILE] tests/library.sh [PROGRAM]; its last line is 'N passed, M failed, K skipped'. The library is
-# built over what `rt ci` has just left, where AFTER_RT_CI says so, and else by `rt lib`. MODULE then gets its LLVM module.
+# The library for C: that the bindings read no packet by themselves, what it is made of, the examples of bindings/c, its calls beside
+# tests/model (tests/library/calls.c), sanitizers, valgrind, memory that runs out, what payloads say beside a slow model, the programs of
+# examples/, the package for Python and its types, nbt-station, and the crate for Rust. Usage: [AFTER_RT_CI=1] [MODULE=FILE]
+# tests/library.sh [PROGRAM]; its last line is 'N passed, M failed, K skipped'. The library is built over what `rt ci` has just left,
+# where AFTER_RT_CI says so, and else by `rt lib`. MODULE then gets its LLVM module.
 set -uo pipefail
 # What stands last in a pipe counts its cases here.
 shopt -s lastpipe
@@ -30,65 +30,32 @@ files() {
     count $? "nb_c is proved and built: $(tail -n 1 "$room/log")"
     "$top/tools/library" "$archive" "$built" "$room/root" >"$room/log" 2>&1
     count $? "tools/library: $(tail -n 1 "$room/log")"
-    nm -D --defined-only "$built/libnbt.so.0" | awk '{ print $3 }' | sort | same "$(calls)" 'libnbt.so.0 exports the calls of the header'
-    nm -g --defined-only "$built/libnbt.a" | awk 'NF == 3 { print $3 }' | sort | same "$(calls)" 'libnbt.a exports the calls of the header'
     sed -n 's/^#define NBT_VERSION "\(.*\)"$/nbt \1/p' "$top/include/nbt.h" | same "$("$program" --version)" 'the version of the header'
-    readelf -d "$built/libnbt.so.0" | sed -n 's/.*(SONAME).*\[\(.*\)\]/\1/p' | same libnbt.so.0 'the soname'
-    readelf -d "$built/libnbt.so.0" | sed -n 's/.*(NEEDED).*\[\(.*\)\]/\1/p' | same libc.so.6 'libnbt.so.0 needs the C library alone'
-    readelf -lW "$built/libnbt.so.0" | grep GNU_STACK | grep -c E | same 0 'the stack of its callers is not made executable'
+    well_made '' "$built"
 }
 
-# example FILE WAY WORD..: an example, compiled and linked by these words, prints what it says.
-example() {
-    $CC "${strict[@]}" -o "$room/example" "${@:3}" >"$room/log" 2>&1
-    count $? "$(basename "$1"), $2: $(head -n 1 "$room/log")"
-    LD_LIBRARY_PATH=$built ended "$room/example" 2>"$room/errors" | sed 's/ *$//' | same "$(wanted "$1")" "$(basename "$1"), $2"
-    [ ! -s "$room/errors" ]
-    count $? "$(basename "$1"), $2: $(head -n 1 "$room/errors")"
-}
-
-# Each call of the header stands in an example. Their objects are kept for valgrind.
+# Each call of the header stands in an example.
 examples() {
-    local each object
+    local each run
     for each in $(calls); do
         grep -qw "$each" "$top"/bindings/c/*.c
         count $? "an example of $each"
     done
-    mkdir "$room/objects"
     for each in "$top"/bindings/c/*.c; do
-        object=$room/objects/$(basename "$each" .c).o
-        $CC "${strict[@]}" -c -o "$object" "$each" >"$room/log" 2>&1 || cat "$room/log"
-        example "$each" shared "$object" "-L$built" -lnbt
-        example "$each" static "$object" "$built/libnbt.a"
-        example "$each" sanitized "${sanitized[@]}" "$each" "$built/libnbt.a"
+        run=(env "LD_LIBRARY_PATH=$built")
+        example "$each" shared "$CC" "$each" "-L$built" -lnbt
+        run=()
+        example "$each" static "$CC" "$each" "$built/libnbt.a"
+        example "$each" sanitized "$CC" "${sanitized[@]}" "$each" "$built/libnbt.a"
     done
     printf '#include <nbt.h>\nint main() { return nbt_status_text(0, nullptr, 0, nullptr) == NBT_DONE; }\n' >"$room/header.cpp"
     c++ -Wall -Wextra -Werror "-I$top/include" -c -o "$room/header.o" "$room/header.cpp" >"$room/log" 2>&1
     count $? "the header in C++: $(head -n 1 "$room/log")"
 }
 
-# The examples under valgrind, which takes long to begin: they are linked into one program, tests/library/examples.c, in which each is a
-# process of its own.
 under_valgrind() {
-    local each number name status list='' folder=$room/valgrind
-    mkdir "$folder"
-    for each in "$top"/bindings/c/*.c; do
-        name=$(basename "$each" .c)
-        objcopy --redefine-sym "main=example_$name" "$room/objects/$name.o" "$folder/$name.o" >"$room/log" 2>&1
-        count $? "$name.c, valgrind: $(head -n 1 "$room/log")"
-        list+="EXAMPLE($name) "
-    done
-    $CC "${strict[@]}" "-DEXAMPLES=$list" -o "$room/examples" "$here/library/examples.c" "$folder"/*.o "$built/libnbt.a" >"$room/log" 2>&1 \
-        && ended valgrind -q --error-exitcode=99 --leak-check=full --read-inline-info=no "$room/examples" "$folder" \
-            >"$folder/statuses" 2>"$folder/found"
-    count $? "tests/library/examples.c, valgrind: $(cat "$room/log" "$folder/found" | head -n 1)"
-    for each in "$top"/bindings/c/*.c; do
-        name=$(basename "$each" .c) number='' status=''
-        IFS=' ' read -r number status < <(sed -n "s/ $name / /p" "$folder/statuses")
-        sed 's/ *$//' "$folder/$name.output" | same "$(wanted "$each")" "$name.c, valgrind"
-        [ "$status" = 0 ] && [ ! -s "$folder/$name.errors" ] && ! grep "^==$number==" "$folder/found" >"$room/errors"
-        count $? "$name.c, valgrind: status $status, $(head -n 1 "$room/errors")"
-    done
+    local each run=(valgrind -q --leak-check=full --read-inline-info=no)
+    for each in "$top"/bindings/c/*.c; do example "$each" valgrind "$CC" "$each" "$built/libnbt.a"; done
 }
 
 # instructions PROGRAM WORD..: how many a run takes, counted by valgrind.
@@ -110,60 +77,24 @@ chains() {
     done
 }
 
-# compiled NAME OPTION..: tests/library/payloads.c, compiled so, as $room/NAME.
-compiled() {
-    $CC "${strict[@]}" -o "$room/$1" "$here/library/payloads.c" "${rows[@]}" "${@:2}" "$built/libnbt.a" >"$room/log" 2>&1
-    count $? "tests/library/payloads.c, $1: $(head -n 1 "$room/log")"
-}
-
-# worst NAME LINES [ROOMS]: tests/library/payloads.c over lines, whose answers are those wanted.
-worst() {
-    ended "$room/$1" ${3:+"$3"} <"$2" >"$room/output" 2>"$room/errors"
-    count $? "tests/library/payloads.c, $1: $(tail -n 1 "$room/errors")"
-    cmp -s "$2.wanted" "$room/output"
-    count $? "tests/library/payloads.c, $1, prints what nbt show prints: $(diff "$2.wanted" "$room/output" | head -c 300)"
-}
-
-# objects LINES: the objects of payloads are those that `nbt show --json` prints, but for the members of their lines.
-objects() {
-    sed 's/ / 0 /' "$1" | ended "$program" show --json --input-limit 4294967296 \
-        | sed -E 's/^\{"line":([0-9]+),"port":([0-9]+),"moment":0,/\1 \2 {/' >"$1.objects"
-    ended "$room/plain" 0 json <"$1" 2>"$room/errors" | cmp -s "$1.objects" -
-    count $? "tests/library/payloads.c prints the objects of nbt show --json: $(tail -n 1 "$room/errors")"
-}
-
-# phrases LINES: the phrases of payloads are those that `nbt show --brief` prints.
-phrases() {
-    sed 's/ / 0 /' "$1" | ended "$program" show --brief --input-limit 4294967296 >"$1.phrases"
-    [ $? -eq 0 ] && [ -s "$1.phrases" ] && ended "$room/plain" 0 brief <"$1" 2>"$room/errors" | cmp -s "$1.phrases" -
-    count $? "tests/library/payloads.c prints the phrases of nbt show --brief: $(tail -n 1 "$room/errors")"
-}
-
+# The calls, beside the model.
 callers() {
-    compiled plain
-    compiled sanitized "${sanitized[@]}"
-    lines "$payloads" 1
-    worst plain "$room/lines1" 64
-    objects "$room/lines1"
-    phrases "$room/lines1"
-    worst sanitized "$room/lines1" 8
+    compiled plain "$CC" "$built/libnbt.a"
+    compiled sanitized "$CC" "$built/libnbt.a" "${sanitized[@]}"
+    rows_of 1 "$payloads"
+    judged plain "$room/rows1" "$room/plain" judged 64
+    judged sanitized "$room/rows1" "$room/sanitized" judged 8
 }
 
-# Each request of the library for memory refused in turn: the call says so, changes nothing, and then does what it should.
-# Every one is a run over all the payloads, so none is long.
 refused() {
-    [ -f "$room/plain" ] || compiled plain
-    lines 12 2 1000
-    worst plain "$room/lines2" 2
-    counted_by lib/every_request.py again "$room/refuse_memory.so" "$room/lines2" "$room/plain" 2
+    few_payloads 6
+    every x86-64 "$room/plain"
 }
 
-# hostile NAME OPTION..: a caller who goes to every limit of the header, compiled so; its calls answer the statuses listed there.
-hostile() {
-    $CC "${strict[@]}" -o "$room/hostile" "$here/library/hostile.c" "${rows[@]}" "${@:2}" "$built/libnbt.a" >"$room/log" 2>&1
-    count $? "tests/library/hostile.c, $1: $(head -n 1 "$room/log")"
-    ended "$room/hostile" >"$room/statuses" 2>"$room/errors"
-    count $? "tests/library/hostile.c, $1: $(grep -m 1 . "$room/errors")"
+# varied NAME: a caller who goes to every limit of the header; its calls answer the statuses listed there.
+varied() {
+    ended "$room/$1" varied <"$room/limits" >"$room/statuses" 2>"$room/errors"
+    count $? "calls at each limit, $1: $(tail -n 3 "$room/errors" | head -c 500)"
     "$here/library/statuses_reached.py" "$top/include/nbt.h" <"$room/statuses" >"$room/output" 2>&1
     count $? "each call answers what the header lists, $1: $(head -n 3 "$room/output" | head -c 300)"
 }
@@ -197,12 +128,12 @@ processors() {
 # The limits of what the header allows, and its bounds.
 limits() {
     local each
-    hostile plain
-    hostile sanitized "${sanitized[@]}"
-    $CC "${strict[@]}" -o "$room/bounds" "$here/library/bounds.c" "${rows[@]}" "$built/libnbt.a" >"$room/log" 2>&1
-    count $? "tests/library/bounds.c: $(head -n 1 "$room/log")"
-    { "$here/captures/payloads.py" --seed 5 library 500; "$here/captures/payloads.py" worst 6; } | sed 's/ / 0 /' \
-        | ended "$room/bounds" >"$room/output" 2>"$room/errors" && grep -q '^text: nbt_brief: 1633 of ' "$room/output" \
+    "$here/library/payload_rows.py" limits | cat "$here/library/cases.txt" - >"$room/limits"
+    varied plain
+    varied sanitized
+    { "$here/captures/payloads.py" --seed 5 library 500; "$here/captures/payloads.py" worst 6; } | "$here/library/payload_rows.py" \
+        | cat "$room/limits" - | ended "$room/plain" measured >"$room/output" 2>"$room/errors" \
+        && grep -q '^text: nbt_brief: 1633 of ' "$room/output" \
         && [ "$(grep -cE '^(text: nbt_name_text|bytes: nbt_capture_line): ([0-9]+) of \2$' "$room/output")" -eq 2 ]
     count $? "the stack and the texts of calls: $(cat "$room/errors" <(grep nbt_ "$room/output") | head -n 4 | tr '\n' ' ')"
     sed -n 's/: [0-9]* of 65536$//p' "$room/output" | sort | same "$(calls | sed 's/^nbt_//' | grep -vx station_free)" 'the stack of each call is measured'
@@ -219,9 +150,8 @@ in_python() {
 
 # What payloads say, as values, and what stands of those that are refused: those that are made by chance, and those of the corpus.
 values() {
-    [ -f "$room/plain" ] || compiled plain
     "$here/captures/payloads.py" --seed 11 values "$values" >"$room/values"
-    tr ' ' '\n' <"$here/library/corpus.txt" | "$room/plain" print | sed -n 's/^\(13[789]\) 0 /\1 /p' >>"$room/values"
+    "$here/captures/payloads.py" inputs 1000000 <"$here/library/corpus.txt" | grep -v '^table' >>"$room/values"
     said "$room/values"
     [ "$(grep -c '^[0-9]* 137 whole$' "$room/values.wanted")" -ge 4000 ] && [ "$(grep -c '^[0-9]* 137 refused ' "$room/values.wanted")" -ge 15000 ]
     count $? 'at least 19,000 payloads of port 137, of which some stand and many are refused'
@@ -244,6 +174,19 @@ programs() {
         'the claimants of names that Samba sends'
 }
 
+# shown CALL [OPTION]: what `nbt show` prints of payloads, with this option, the package has by this call.
+shown() {
+    sed 's/ / 0 /' "$room/lines3" | ended "$program" show ${2:+"$2"} --input-limit 4294967296 \
+        | sed -E 's/^\{"line":([0-9]+),"port":([0-9]+),"moment":0,/\1 \2 {/' >"$room/shown"
+    [ -s "$room/shown" ] && in_python -c '
+import sys, nbt
+for number, line in enumerate(sys.stdin, 1):
+    port, digits = line.split()
+    print(number, port, getattr(nbt, sys.argv[1])(int(port), bytes.fromhex(digits.replace("empty", ""))).removesuffix("\n"))
+' "$1" <"$room/lines3" 2>"$room/errors" | cmp -s "$room/shown" -
+    count $? "nbt.$1 prints what nbt show ${2:-} prints: $(tail -n 1 "$room/errors")"
+}
+
 # The package for Python, over the shared object, and beside `nbt show`.
 python() {
     (cd "$top/bindings/python" && NBT_LIBRARY=$built/libnbt.so.0 PYTHONDONTWRITEBYTECODE=1 PYTHONPATH=. \
@@ -251,14 +194,9 @@ python() {
     count $? "python3 -m unittest: $(tail -n 3 "$room/log" | head -c 300)"
     passed=$((passed + $(grep -cE '\.\.\. ok$' "$room/log")))
     lines "$payloads" 3
-    in_python -c '
-import sys, nbt
-for number, line in enumerate(sys.stdin, 1):
-    port, digits = line.split()
-    print(number, port, nbt.show(int(port), bytes.fromhex(digits.replace("empty", ""))), end="")
-' <"$room/lines3" >"$room/output" 2>"$room/errors"
-    cmp -s "$room/lines3.wanted" "$room/output"
-    count $? "nbt.show prints what nbt show prints: $(tail -n 1 "$room/errors")"
+    shown show
+    shown json --json
+    shown brief --brief
     replayed 9
     listed && in_python -c '
 import sys, nbt
@@ -307,17 +245,11 @@ installed() {
         count $? "a program by pkg-config $each: $(head -n 1 "$room/log")"
         LD_LIBRARY_PATH=$room/root/lib ended "$room/example" | same "$(wanted "$top/bindings/c/show.c")" "a program by pkg-config $each"
     done
-    # The programs with which docs/CALLING.md begins, and what it says that they print.
-    block c "$page" >"$room/first.c"
-    flags=$(PKG_CONFIG_PATH=$room/root/lib/pkgconfig pkg-config --cflags --libs nbt)
-    $CC -std=c11 -Wall -Wextra -Werror -o "$room/example" "$room/first.c" $flags >"$room/log" 2>&1
-    count $? "the program in C of docs/CALLING.md: $(head -n 1 "$room/log")"
-    LD_LIBRARY_PATH=$room/root/lib ended "$room/example" | same "$(block text "$page")" 'the program in C of docs/CALLING.md'
-    mkdir "$room/page" && cp "$room/first.c" "$room/page"
+    # The programs of docs/CALLING.md, of which its commands run the first ones, and what it says that they print.
+    mkdir "$room/page" && block c "$page" >"$room/page/first.c" && block python "$page" >"$room/page/first.py"
     commands 1 "$room/page" | same "$(block text "$page")" 'the commands for C of docs/CALLING.md'
-    block python "$page" >"$room/page/first.py"
     commands 2 "$room/page" | same "$(block text "$page" 2)" 'the command for Python of docs/CALLING.md'
-    for each in 1 2 3 4; do
+    for each in 2 3 4; do
         block python "$page" $each >"$room/first.py"
         PYTHONPATH=$room/root/share/nbt/python PYTHONDONTWRITEBYTECODE=1 ended python3 "$room/first.py" 2>&1 \
             | same "$(block text "$page" $((each + 1)))" "program $each in Python of docs/CALLING.md"
@@ -338,14 +270,13 @@ commands() {
 # does the package for Python. uninstall-lib leaves nothing of it.
 installed_below() {
     local flags
-    block python "$page" >"$room/first.py"
     make -s -C "$top" install-lib LIBRARY="$built" DESTDIR= PREFIX="$1" >"$room/log" 2>&1
     count $? "make install-lib PREFIX=$1: $(tail -n 1 "$room/log")"
     flags=$(PKG_CONFIG_PATH=$1/lib/pkgconfig pkg-config --cflags --libs nbt)
-    eval "$CC -std=c11 -o \"\$room/example\" \"\$room/first.c\" $flags \"-Wl,-rpath,\$1/lib\"" >"$room/log" 2>&1
+    eval "$CC -std=c11 -Wall -Wextra -Werror -o \"\$room/example\" \"\$room/page/first.c\" $flags \"-Wl,-rpath,\$1/lib\"" >"$room/log" 2>&1
     count $? "a program by pkg-config below $1: $(head -n 1 "$room/log")"
     ended env -u LD_LIBRARY_PATH "$room/example" | same "$(block text "$page")" "a program below $1"
-    env -u NBT_LIBRARY PYTHONPATH="$1/share/nbt/python" PYTHONDONTWRITEBYTECODE=1 "$timeout" 120 python3 "$room/first.py" 2>&1 \
+    env -u NBT_LIBRARY PYTHONPATH="$1/share/nbt/python" PYTHONDONTWRITEBYTECODE=1 "$timeout" 120 python3 "$room/page/first.py" 2>&1 \
         | same "$(block text "$page" 2)" "the package for Python below $1"
     make -s -C "$top" uninstall-lib LIBRARY="$built" DESTDIR= PREFIX="$1" >"$room/log" 2>&1
     find "$1" ! -type d | wc -l | same 0 "make uninstall-lib PREFIX=$1"
@@ -456,7 +387,6 @@ user_program() {
         "$timeout" -k 5 600 cargo run --quiet "${words[@]}") 2>&1
 }
 
-part shims compile refuse_memory
 part readers counted_by library/packet_readers.py
 parts files examples
 if command -v valgrind >/dev/null; then

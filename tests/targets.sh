@@ -34,11 +34,7 @@ files() {
         "$here/library/x86_64" "$module" "$out/lib"
     fi >"$room/log" 2>&1
     count $? "the library for x86-64: $(tail -n 1 "$room/log")"
-    aarch64-linux-gnu-nm -D --defined-only "$arm/libnbt.so.0" | awk '{ print $3 }' | sort | same "$(calls)" 'libnbt.so.0 of aarch64 exports the calls of the header'
-    aarch64-linux-gnu-nm -g --defined-only "$arm/libnbt.a" | awk 'NF == 3 { print $3 }' | sort | same "$(calls)" 'so does libnbt.a'
-    aarch64-linux-gnu-readelf -d "$arm/libnbt.so.0" | sed -nE 's/.*\((SONAME|NEEDED)\).*\[(.*)\]/\2/p' | sort \
-        | same $'libc.so.6\nlibnbt.so.0' 'the names of the library for aarch64, and of what it needs'
-    aarch64-linux-gnu-readelf -lW "$arm/libnbt.so.0" | grep GNU_STACK | grep -c E | same 0 'the stack of its callers is not made executable'
+    well_made aarch64-linux-gnu- "$arm"
     grep -c "^prefix=$room/root$" "$arm/nbt.pc" | same 1 'nbt.pc of aarch64'
     [ "$(gzip -9c "$out/nbt.wasm" | wc -c)" -lt 120000 ]
     count $? "nbt.wasm has $(gzip -9c "$out/nbt.wasm" | wc -c) bytes by gzip, which are 120,000 at most"
@@ -46,14 +42,6 @@ files() {
     "$top/tools/targets" make "$module" "$room/again" "$room/root" >"$room/log" 2>&1 && diff -r "$out/lib/aarch64" "$room/again/lib/aarch64" \
         && cmp "$out/nbt.wasm" "$room/again/nbt.wasm"
     count $? "the same files once more: $(tail -n 1 "$room/log")"
-}
-
-# compiled NAME SOURCE OPTION..: a program in C for aarch64, with the library in it, as $room/NAME.arm; and for x86-64, as $room/NAME.
-compiled() {
-    aarch64-linux-gnu-gcc "${strict[@]}" -o "$room/$1.arm" "$2" "${@:3}" "$out/lib/aarch64/libnbt.a" >"$room/log" 2>&1
-    count $? "$(basename "$2") for aarch64: $(head -n 1 "$room/log")"
-    ${CC:-cc} "${strict[@]}" -o "$room/$1" "$2" "${@:3}" "$out/lib/libnbt.a" >"$room/log" 2>&1
-    count $? "$(basename "$2") for x86-64: $(head -n 1 "$room/log")"
 }
 
 # alike NAME WANTED COMMAND..: what a command prints is what a file has, and it ends well.
@@ -64,55 +52,24 @@ alike() {
     count $? "$1 answers the same: $(diff "$2" "$room/output" | head -c 300)"
 }
 
-# asked LINES: what is asked of lines of payloads, as LINES.asked, and what the calls answer on x86-64, as LINES.wanted.
-asked() {
-    ended "$room/calls" ask <"$1" >"$1.asked" 2>"$room/errors" && ended "$room/calls" <"$1.asked" >"$1.wanted" 2>"$room/errors"
-    count $? "tests/library/targets.c: $(tail -n 1 "$room/errors")"
-}
-
 # All calls, with the same words.
 all_calls() {
-    compiled calls "$here/library/targets.c" "${rows[@]}"
-    lines "$payloads" 11
-    asked "$room/lines11"
-    [ "$(grep -cE '^[0-9]+ show 0 ' "$room/lines11.wanted")" -eq $((2 * payloads)) ] && [ "$(wc -l <"$room/lines11.wanted")" -gt $((70 * payloads)) ]
-    count $? 'it prints a line a call'
-    alike aarch64 "$room/lines11.wanted" "${qemu[@]}" "$room/calls.arm" <"$room/lines11.asked"
-    alike WebAssembly "$room/lines11.wanted" "${node[@]}" "$here/library/calls.mjs" "$out/nbt.wasm" <"$room/lines11.asked"
+    compiled calls "${CC:-cc}" "$out/lib/libnbt.a"
+    compiled calls.arm aarch64-linux-gnu-gcc "$out/lib/aarch64/libnbt.a"
+    rows_of 11 "$payloads"
+    ended "$room/calls" answers <"$room/rows11" >"$room/answers" 2>"$room/errors"
+    count $? "tests/library/calls.c: $(tail -n 1 "$room/errors")"
+    alike aarch64 "$room/answers" "${qemu[@]}" "$room/calls.arm" answers <"$room/rows11"
+    alike WebAssembly "$room/answers" "${node[@]}" "$here/library/calls.mjs" "$out/nbt.wasm" answers <"$room/rows11"
+    judged aarch64 "$room/rows11" "${qemu[@]}" "$room/calls.arm" judged 8
 }
 
-# Each request for memory refused in turn, on each target: what is answered then is the same.
+# Each request for memory refused in turn, on each target.
 refused() {
-    local each
-    # A datagram in two pieces, and a response; each call is made with its samples, too.
-    {
-        ended "$program" build group 10.0.0.5:138/0001 'JOE<00>' 'FRED<20>' 68656c6c6f2c2046524544 6 | tac
-        ended "$program" build response 0006 8500 'FRED<20>' 0020 300 60000a0000050000c0a80001
-    } | sed 's/ 0 / /' >"$room/few"
-    asked "$room/few"
+    few_payloads 2
     every x86-64 "$room/calls"
     every aarch64 "${qemu[@]}" "$room/calls.arm"
     every WebAssembly "${node[@]}" "$here/library/calls.mjs" "$out/nbt.wasm"
-}
-
-# every TARGET COMMAND..: a case for each request of a target.
-every() {
-    local each
-    ended "${@:2}" every "$room/few.wanted" <"$room/few.asked" >"$room/output" 2>"$room/errors"
-    count $? "each request is refused on $1: $(tail -n 2 "$room/errors" | tr '\n' ' ')"
-    wc -l <"$room/output" | same "$(tail -n 1 "$room/errors")" "as many as there are, on $1"
-    while IFS= read -r each; do
-        [[ $each == ok:* ]]
-        count $? "$1: $each"
-    done <"$room/output"
-}
-
-# tests/library/payloads.c, a caller's worst, on aarch64.
-worst() {
-    compiled worst "$here/library/payloads.c" "${rows[@]}"
-    lines "$payloads" 12
-    alike 'tests/library/payloads.c on aarch64' "$room/lines12.wanted" "${qemu[@]}" "$room/worst.arm" 8 <"$room/lines12"
-    alike 'show in WebAssembly' "$room/lines12.wanted" "${node[@]}" "$here/library/targets.mjs" "$out" show <"$room/lines12"
 }
 
 # A capture by a station in JavaScript, and its table, beside the program: of other targets the part calls has stations too.
@@ -128,31 +85,24 @@ stations() {
 
 # The examples of bindings/c on aarch64, over the shared object.
 examples() {
-    local each
-    for each in "$top"/bindings/c/*.c; do
-        aarch64-linux-gnu-gcc "${strict[@]}" -o "$room/example.arm" "$each" "-L$out/lib/aarch64" -lnbt >"$room/log" 2>&1
-        count $? "$(basename "$each") for aarch64: $(head -n 1 "$room/log")"
-        ended "${qemu[@]}" -E LD_LIBRARY_PATH="$out/lib/aarch64" "$room/example.arm" 2>&1 | sed 's/ *$//' | same "$(wanted "$each")" "$(basename "$each") on aarch64"
-    done
+    local each run=("${qemu[@]}" -E "LD_LIBRARY_PATH=$out/lib/aarch64")
+    for each in "$top"/bindings/c/*.c; do example "$each" aarch64 aarch64-linux-gnu-gcc "$each" "-L$out/lib/aarch64" -lnbt; done
 }
 
-# What was found to reach the most of the library (tests/fuzz_coverage.py), once more: on x86-64 under sanitizers, and on aarch64.
+# What was found to reach the most of the library (tests/fuzz_coverage.py), once more: on x86-64 under sanitizers, and on aarch64. A
+# place that is one off doesn't pass.
 corpus() {
-    local wanted inputs=$room/corpus.inputs
+    local inputs=$room/inputs wanted
     tr ' ' '\n' <"$here/library/corpus.txt" >"$inputs"
     wanted="$(wc -l <"$inputs") inputs"
-    ${CC:-cc} "${strict[@]}" "${sanitized[@]}" -o "$room/corpus" "$here/library/payloads.c" \
-        "${rows[@]}" "$out/lib/libnbt.a" >"$room/log" 2>&1
-    count $? "tests/library/payloads.c for x86-64, sanitized: $(head -n 1 "$room/log")"
-    ended "$room/corpus" corpus <"$inputs" 2>&1 | tail -n 1 | same "$wanted" 'the corpus on x86-64'
-    ended "${qemu[@]}" "$room/worst.arm" corpus <"$inputs" 2>&1 | tail -n 1 | same "$wanted" 'the corpus on aarch64'
-    ${CC:-cc} "${strict[@]}" -o "$room/off" "$here"/library/{payloads,place_off}.c "${rows[@]}" -Wl,--wrap=nbt_datagram_read \
-        "$out/lib/libnbt.a" >"$room/log" 2>&1
-    count $? "tests/library/place_off.c: $(head -n 1 "$room/log")"
-    ! ended "$room/off" corpus <"$inputs" >"$room/output" 2>&1 && grep -q 'not so: ' "$room/output"
-    count $? "the corpus finds a place that is one off: $(tail -n 1 "$room/output")"
-    echo 01000411000001020003ff | ended "$room/corpus" print >"$room/output" 2>/dev/null
-    same $'138 0 11000001\n139 0 ff' 'an input as lines of a capture' <"$room/output"
+    compiled sanitized "${CC:-cc}" "$out/lib/libnbt.a" "${sanitized[@]}"
+    ended "$room/sanitized" inputs <"$inputs" 2>&1 | tail -n 1 | same "$wanted" 'the corpus on x86-64'
+    ended "${qemu[@]}" "$room/calls.arm" inputs <"$inputs" 2>&1 | tail -n 1 | same "$wanted" 'the corpus on aarch64'
+    "$here/captures/payloads.py" inputs 1000000 <"$here/library/corpus.txt" | "$here/library/payload_rows.py" >"$room/rows"
+    judged 'of the corpus, sanitized' "$room/rows" "$room/sanitized" judged
+    compiled off "${CC:-cc}" "$out/lib/libnbt.a" "$here/library/place_off.c" -Wl,--wrap=nbt_datagram_read
+    ! ended "$room/off" judged <"$room/rows" >"$room/output" 2>&1 && grep -q 'not so: ' "$room/output"
+    count $? "rows find a place that is one off: $(tail -n 1 "$room/output")"
     [ "$(stat -c %s "$here/library/corpus.txt")" -lt 2000000 ]
     count $? 'the corpus has less than 2 MB'
 }
@@ -162,6 +112,8 @@ javascript() {
     ended "${node[@]}" --expose-gc "$top/bindings/javascript/tests/nbt.test.mjs" "$out" "$top/include/nbt.h" >"$room/log" 2>&1
     count $? "bindings/javascript/tests: $(grep -m 3 -E "^not ok|^ +error:" "$room/log" | tr '\n' ' ')"
     passed=$((passed + $(grep -c '^ok ' "$room/log")))
+    lines "$payloads" 12
+    alike 'show in JavaScript' "$room/lines12.wanted" "${node[@]}" "$here/library/targets.mjs" "$out" show <"$room/lines12"
     "$here/captures/payloads.py" --seed 14 values 9000 >"$room/values"
     said "$room/values"
     reads "$room/values" tests/library/values.mjs ended "${node[@]}" "$here/library/targets.mjs" "$out" values
@@ -219,7 +171,7 @@ for tool in aarch64-linux-gnu-gcc qemu-aarch64 node; do
     command -v $tool >/dev/null || lacking=${lacking:-$tool}
 done
 [ -n "$lacking" ] || "${node[@]}" -e "$memory64" 2>/dev/null || lacking='a node with memory64'
-parts=(files calls memory worst stations examples corpus javascript types dist lintian debian wheels npm crate missing)
+parts=(files calls memory stations examples corpus javascript types dist lintian debian wheels npm crate missing)
 if [ -n "$lacking" ]; then
     for each in "${parts[@]}"; do lacks "$each" "$lacking"; done
     finish
@@ -228,7 +180,7 @@ fi
 part files files
 part calls all_calls
 part memory refused
-parts worst stations examples corpus javascript
+parts stations examples corpus javascript
 if command -v tsc >/dev/null; then part types types; else lacks types tsc; fi
 packages
 part missing missing

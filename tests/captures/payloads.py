@@ -1,12 +1,13 @@
 #!/usr/bin/env python3
 """Payloads for the programs over the library, a line each: a port and digits, or `empty`.
 
-Usage: tests/captures/payloads.py [--seed N] [--longest BYTES] library|values|worst COUNT
+Usage: tests/captures/payloads.py [--seed N] [--longest BYTES] library|values|worst|inputs COUNT
 
 library  as those of tests/fuzz.py, good and changed; longer ones than --longest are left out
 values   for tests/model/values.py: packets of port 137 that are made by chance, with names that lead into each other and records of each
          type; some of these are changed, or cut at each length; any bytes after a header; and of other ports
 worst    those that cost the most, or of which the most is said, as long as they may be
+inputs   those of a fuzzer's inputs, words of digits on standard input, where saved tables have `table` for a port
 """
 import argparse
 import random
@@ -82,12 +83,26 @@ def worst(_, __):
     yield 137, bytes.fromhex('000180000000000000010000') + netbios + b'\0\2\0\1' + b'\xff' * 4 + b'\0\xff' + netbios
 
 
+def records(data):
+    """The ports and the payloads of an input, as tests/library/corpus.c cuts it."""
+    while len(data) >= 3:
+        end = 3 + int.from_bytes(data[1:3], 'big')
+        yield (137, 138, 139, 'table')[data[0] % 4], data[3:end]
+        data = data[end:]
+
+
+def inputs(_, __):
+    """The records of inputs."""
+    for each in sys.stdin.read().split():
+        yield from records(bytes.fromhex(each))
+
+
 def main():
     """Prints as many as are asked for."""
     parser = argparse.ArgumentParser()
     parser.add_argument('--seed', type=int, default=1)
     parser.add_argument('--longest', type=int)
-    parser.add_argument('kind', choices=('library', 'values', 'worst'))
+    parser.add_argument('kind', choices=('library', 'values', 'worst', 'inputs'))
     parser.add_argument('count', type=int)
     words = parser.parse_args()
     longest = words.longest or {'library': LONGEST_PAYLOAD}.get(words.kind, LONGEST)

@@ -38,20 +38,17 @@ static unsigned long writes;
 static unsigned long failing_write;
 static unsigned long rooms[3];
 
-static unsigned long asked(const char *name, unsigned long otherwise)
-{
+static unsigned long asked(const char *name, unsigned long otherwise) {
     const char *number = getenv(name);
     return number == NULL ? otherwise : strtoul(number, NULL, 10);
 }
 
-static ssize_t fails(int why)
-{
+static ssize_t fails(int why) {
     errno = why;
     return -1;
 }
 
-static int is_interrupted(struct interrupts *interrupts)
-{
+static int is_interrupted(struct interrupts *interrupts) {
     if (interrupts->waiting == 0) {
         interrupts->waiting = interrupts->each;
         return 0;
@@ -60,8 +57,7 @@ static int is_interrupted(struct interrupts *interrupts)
     return 1;
 }
 
-ssize_t read(int descriptor, void *bytes, size_t size)
-{
+ssize_t read(int descriptor, void *bytes, size_t size) {
     static read_some next;
     ssize_t count;
     if (next == NULL)
@@ -77,8 +73,7 @@ ssize_t read(int descriptor, void *bytes, size_t size)
     return count == 0 && end_fails ? fails(EIO) : count;
 }
 
-ssize_t write(int descriptor, const void *bytes, size_t size)
-{
+ssize_t write(int descriptor, const void *bytes, size_t size) {
     static write_some next;
     ssize_t count;
     if (next == NULL)
@@ -104,8 +99,7 @@ ssize_t write(int descriptor, const void *bytes, size_t size)
 }
 
 /* What a file holds, as a word. */
-static char *word_of(const char *path)
-{
+static char *word_of(const char *path) {
     FILE *file = fopen(path, "r");
     char *word = NULL;
     size_t room = 0;
@@ -117,8 +111,7 @@ static char *word_of(const char *path)
     return word;
 }
 
-__attribute__((constructor)) static void begin(int count, char **words)
-{
+__attribute__((constructor)) static void begin(int count, char **words) {
     int i;
     most = asked("NBT_MOST", 1UL << 30);
     read_interrupts.each = read_interrupts.waiting = asked("NBT_READ_INTERRUPTS", 0);
@@ -133,8 +126,7 @@ __attribute__((constructor)) static void begin(int count, char **words)
             words[i] = word_of(words[i] + 1);
 }
 
-__attribute__((destructor)) static void report(void)
-{
+__attribute__((destructor)) static void report(void) {
     const char *path = getenv("NBT_WRITES");
     FILE *file;
     unsigned long count = writes;

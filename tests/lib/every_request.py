@@ -6,7 +6,6 @@ Usage: every_request.py FORM SHIM INPUT COMMAND [WORD]..
 The program reads INPUT. SHIM is tests/lib/refuse_memory.c, compiled. With ample memory the program writes and answers what is compared
 with, and with a request refused that no longer comes it has to do so too. What it may do where one is refused, the FORM says:
 
-- `again`: as with ample memory, but that its last line of standard error counts one refusal: tests/library/payloads.c calls again.
 - `command`: end with status 3, `nbt: memory` and what the command leaves then: show and replay a front of the output that ends
   where a line does, the others nothing. Of words that are no command line it may also end as ever, but not at each request.
 - `digits`: the same, where the words have digits that are bad.
@@ -41,10 +40,6 @@ def is_front(front, whole):
     return not front or whole.startswith(front) and front.endswith(b'\n')
 
 
-def again(ample, ran, _):
-    return 'refused' if (ran.status, ran.output) == (0, ample.output) and ran.errors.endswith(b' 1 refusals\n') else None
-
-
 def of_command(ample, ran, words, as_ever):
     """What a command did, which may do as ever with this status."""
     if ran.status == 3 and ran.errors == b'nbt: memory\n':
@@ -73,7 +68,7 @@ def examples(ample, ran, _):
     return 'refused' if ran.status == 1 and [len(it) for it in (counts, calls, answers)] == [2, 1, 1] else None
 
 
-FORMS = {'again': again, 'command': command, 'digits': digits, 'examples': examples}
+FORMS = {'command': command, 'digits': digits, 'examples': examples}
 
 
 def tried(form, program):

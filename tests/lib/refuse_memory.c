@@ -33,8 +33,7 @@ static unsigned long call_refused;
 static unsigned long calls;
 static unsigned long call_requests[MOST_CALLS + 1];
 
-static int is_refused(void)
-{
+static int is_refused(void) {
     int is_of_call = 0;
     requests += 1;
     if (mark != NULL && calls < MOST_CALLS) {
@@ -47,8 +46,7 @@ static int is_refused(void)
     return 1;
 }
 
-void *malloc(size_t size)
-{
+void *malloc(size_t size) {
     static allocate next;
     void *block;
     if (next == NULL)
@@ -61,8 +59,7 @@ void *malloc(size_t size)
     return block;
 }
 
-void *realloc(void *block, size_t size)
-{
+void *realloc(void *block, size_t size) {
     static reallocate next;
     if (next == NULL)
         next = (reallocate)dlsym(RTLD_NEXT, "realloc");
@@ -74,15 +71,13 @@ void *realloc(void *block, size_t size)
     return is_refused() ? NULL : next(block, size);
 }
 
-static unsigned long asked(const char *name)
-{
+static unsigned long asked(const char *name) {
     const char *number = getenv(name);
     return number == NULL ? 0 : strtoul(number, NULL, 10);
 }
 
 /* Runs the program for each number. Each run returns from here as a child; what serves ends here. */
-static void serve(int numbers, int statuses)
-{
+static void serve(int numbers, int statuses) {
     while (read(numbers, &refused, sizeof refused) == sizeof refused) {
         pid_t child = fork();
         int status;
@@ -97,8 +92,7 @@ static void serve(int numbers, int statuses)
     _exit(0);
 }
 
-__attribute__((constructor)) static void begin(void)
-{
+__attribute__((constructor)) static void begin(void) {
     const char *served = getenv("NBT_SERVES");
     int numbers, statuses;
     refused = asked("NBT_REFUSED");
@@ -109,8 +103,7 @@ __attribute__((constructor)) static void begin(void)
 }
 
 /* Writes numbers into the file that a variable names, if it names one. */
-static void write_numbers(const char *name, const unsigned long *numbers, unsigned long count)
-{
+static void write_numbers(const char *name, const unsigned long *numbers, unsigned long count) {
     const char *path = getenv(name);
     unsigned long i;
     FILE *file;
@@ -121,8 +114,7 @@ static void write_numbers(const char *name, const unsigned long *numbers, unsign
     fclose(file);
 }
 
-__attribute__((destructor)) static void report(void)
-{
+__attribute__((destructor)) static void report(void) {
     unsigned long count = requests;
     refused = 0;
     mark = NULL;

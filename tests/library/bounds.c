@@ -1,28 +1,26 @@
-/* The bounds that include/nbt.h has: the stack that each call wants, and how long texts are. Usage: bounds <CAPTURE, whose payloads are given
- * to each call of calls.def, beside its samples; `payloads.py worst` makes some of those. Calls run on a stack of their own, whose bytes
- * are known, so that those that a call changes can be found. Prints the most of each; status 1 where one passes its bound. */
+/* The bounds that include/nbt.h has: the stack that each call of some rows wants, and how long texts are. Calls run on a stack of their own,
+ * whose bytes are known, so that those that a call changes can be found. Prints the most of each; status 1 where one passes its bound. */
 #define _GNU_SOURCE
-#include "../lib/payloads.h"
 #include "harness.h"
-#include <stdbool.h>
+#include <stdio.h>
+#include <stdlib.h>
 #include <sys/mman.h>
 #include <ucontext.h>
 
-enum { PAINT = 0x5a, STACK = 1 << 20, PAGE = 4096, KEYS = 2000 };
+enum { PAINT = 0x5a, STACK = 1 << 20, PAGE = 4096 };
 
 /* ---- the stack of a call */
 
 static uint8_t *stack;
 static ucontext_t caller;
-static enum call called;
-static struct asked asked;
-static uint8_t text[1 << 24], filled[MOST_FILLED];
+static struct sample row;
 static size_t used;
 static uint32_t status;
 
 static void start(void) {
+    static uint8_t text[1 << 24], filled[ENTRIES * 600];
     size_t at;
-    status = rows[called].call(&asked, filled, text, sizeof text, &used, &at);
+    status = rows[row.of].call(&row.asked, filled, text, sizeof text, &used, &at);
 }
 
 static uint8_t *new_stack(void) {
@@ -55,7 +53,7 @@ static struct {
     size_t most, bound;
 } measures[CALLS + 32];
 static size_t measure_count;
-static bool is_passed;
+static int is_passed;
 
 /* Keeps the most of what is measured by this name. */
 static void measured(const char *name, size_t value, size_t bound) {
@@ -70,7 +68,7 @@ static void measured(const char *name, size_t value, size_t bound) {
     }
     if (value > bound) {
         fprintf(stderr, "bounds: %s: %zu, and at most %zu\n", name, value, bound);
-        is_passed = true;
+        is_passed = 1;
     }
 }
 
@@ -90,108 +88,15 @@ static const struct text {
     {OF_table_json, "text: nbt_table_json", 0, 6},
 };
 
-/* A call, whose stack is measured, and its text; its bytes stand in `text` then. */
-static void called_with(enum call of, struct asked with) {
-    size_t i;
-    called = of;
-    asked = with;
-    measured(rows[of].name, depth(), NBT_STACK);
-    for (i = 0; status == NBT_DONE && i < COUNT(texts); i++)
-        if (texts[i].of == of)
-            measured(texts[i].name, used, texts[i].least + texts[i].each * with.in[0].length);
-    if (of == OF_station_create)
-        nbt_station_free(*asked.station);
-}
-
-#define WITH(name, ...) called_with(OF_##name, (struct asked){__VA_ARGS__})
-
-/* ---- payloads */
-
-/* A payload, by each call that has an input: with the numbers of its first sample, or this port. */
-static void given(uint16_t port, const uint8_t *bytes, size_t length) {
-    size_t i;
-    for (i = 0; i < sample_count; i++) {
-        enum call of = samples[i].of;
-        struct asked with = samples[i].asked;
-        if (!has_input(of, 0) || (i > 0 && samples[i - 1].of == of))
-            continue;
-        with.in[has_input(of, 2) ? 2 : 0] = (struct bytes){bytes, length};
-        if (of == OF_show || of == OF_json || of == OF_brief)
-            with.n[0] = port;
-        called_with(of, with);
-    }
-}
-
-/* The first records of a payload of port 137, and the parts of their RDATA. */
-static void items(const uint8_t *bytes, size_t length) {
-    const struct nbt_service_item *item = (const void *)filled;
-    size_t place = 12;
-    uint32_t number;
-    for (number = 0; number < 8; number++, place = item->next) {
-        WITH(service_item, .in = {{bytes, length}}, .n = {number, place});
-        if (status != NBT_DONE)
-            return;
-        struct nbt_service_item it = *item;
-        WITH(name_text, .in = {{it.name, it.name_length}});
-        WITH(service_address, .in = {{bytes + it.data, it.data_length}}, .n = {it.type});
-        WITH(service_node, .in = {{bytes + it.data, it.data_length}}, .n = {it.type});
-        WITH(service_unit, .in = {{bytes + it.data, it.data_length}}, .n = {it.type});
-        WITH(service_domain, .in = {{bytes, length}}, .n = {it.data, it.data_length});
-        memcpy(filled, &it, sizeof it);
-    }
-}
-
-/* How long the lines and the objects of a table are, and the calls that are given it. */
-static void lines(struct bytes table) {
-    WITH(table_list, .in = {table});
-    WITH(table_json, .in = {table});
-    WITH(table_differ, .in = {table, table});
-    WITH(table_merge, .in = {table, table}, .n = {UINT32_MAX, UINT32_MAX});
-}
-
-/* A table of spoilt keys, which have the longest lines for their bytes. */
-static void spoilt_keys(void) {
-    static uint8_t bytes[8 + 9 * KEYS] = {'N', 'B', 'T', '2', 0, 0, KEYS >> 8, KEYS & 255};
-    size_t i;
-    for (i = 0; i < KEYS; i++) {
-        uint8_t *key = bytes + 8 + 9 * i;
-        memset(key, 255, 6);
-        key[6] = (uint8_t)(i >> 8);
-        key[7] = (uint8_t)i;
-    }
-    lines((struct bytes){bytes, sizeof bytes});
-}
-
-/* The station that took all payloads: its table, taken in by another one twice. */
-static void tables(void) {
-    static struct nbt_station made;
-    struct nbt_station *open_station = station_named("OPEN");
-    struct bytes table;
-    WITH(station_list, .station = open_station);
-    WITH(station_save, .station = open_station);
-    table = keep(text, used);
-    CALL(station_create, .station = &made, .in = {BYTES("FRED<20> JOE<00>")}, .n = {1, 138, UINT32_MAX, UINT32_MAX});
-    WITH(station_absorb, .station = &made, .in = {table});
-    WITH(station_absorb, .station = &made, .in = {table});
-    WITH(station_tick, .station = &made, .n = {UINT64_MAX});
-    nbt_station_free(made);
-    lines(table);
-}
-
-int main(void) {
-    struct payloads all = read_payloads();
-    size_t i;
-    program = "bounds";
+int measure_rows(const char *text) {
+    size_t mark = kept_mark(), i;
     stack = new_stack();
-    make_samples();
-    for (i = 0; i < sample_count; i++)
-        called_with(samples[i].of, samples[i].asked);
-    for (i = 0; i < all.count; i++) {
-        given(all.all[i].port, all.all[i].bytes, all.all[i].length);
-        items(all.all[i].bytes, all.all[i].length);
+    for (; next_row(&text, &row); release(mark)) {
+        measured(rows[row.of].name, depth(), NBT_STACK);
+        for (i = 0; status == NBT_DONE && i < COUNT(texts); i++)
+            if (texts[i].of == row.of)
+                measured(texts[i].name, used, texts[i].least + texts[i].each * row.asked.in[0].length);
     }
-    tables();
-    spoilt_keys();
     free_stations();
     for (i = 0; i < measure_count; i++)
         printf("%s: %zu of %zu\n", measures[i].name, measures[i].most, measures[i].bound);

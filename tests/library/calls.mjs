@@ -1,14 +1,12 @@
-// The calls of tests/library/targets.c, in WebAssembly: it reads the same rows of calls.def and the same lines of what is asked, and prints
-// the same answers. Usage: node calls.mjs MODULE [every WANTED] <ASKED. With `every` each request for memory is refused in turn, and a
-// line a request says whether one call met it, whether the answers are those of the file WANTED, and whether memory stays as large. The
-// last line of standard error is how many requests there are.
+// The calls of rows in WebAssembly, as tests/library/calls.c makes them: it reads the same rows of calls.def and of standard input, and prints
+// the same. Usage: node calls.mjs MODULE answers|every [WANTED] <ROWS. With `every` it also looks whether memory stays as large.
 import { readFileSync, writeFileSync } from 'node:fs';
 import { bytesOf, wordsOf } from './rows.mjs';
 
-const [path, every, wanted] = process.argv.slice(2);
+const [path, way, wanted] = process.argv.slice(2);
 const { instance } = await WebAssembly.instantiate(readFileSync(path), {});
 const nbt = instance.exports;
-const DONE = 0, NO_ROOM = 1, NO_MEMORY = 2, FILL = 0xa5, UNSAID = 2n ** 64n - 89n, MOST_FILLED = 600;
+const DONE = 0, NO_ROOM = 1, NO_MEMORY = 2, FILL = 0xa5, UNSAID = 2n ** 64n - 89n, ENTRIES = 3, MOST_FILLED = ENTRIES * 600;
 const definitions = readFileSync(new URL('calls.def', import.meta.url), 'latin1');
 const rows = new Map(Array.from(definitions.matchAll(/^ROW\((\w+), (\w+), \w+, \((.*)\)\)$/gm),
     ([, name, structure, words]) => [name, { structure, words: words.split(', ') }]));
@@ -20,7 +18,7 @@ const SPACE = 1 << 21, big = BigInt;
 const base = Number(nbt.heap_take(big(5 * SPACE)));
 const [numbers, into, ...inputs] = [0, 1, 2, 3, 4].map((which) => base + which * SPACE);
 const [used, at, filled] = [numbers, numbers + 8, numbers + 1024], stationAt = (which) => numbers + 64 + 8 * which;
-const names = new Map();
+const names = new Map(), stations = new Map();
 let memory, view, out, number, refusals;
 
 function look() {
@@ -63,14 +61,15 @@ function askedOf(row, given) {
         } else if (word.startsWith('B')) {
             asked.values.set(word, [given[index] === '0' ? 0 : 1]);
         } else {
-            asked.values.set(word, [big(stationAt('ABC'.indexOf(given[index])))]);
+            if (!stations.has(given[index])) stations.set(given[index], stationAt(stations.size));
+            asked.values.set(word, [big(stations.get(given[index]))]);
         }
     });
     return asked;
 }
 
 // The words of a call, in a room.
-const WRITTEN = { FILLED: [big(filled)], ONE: [1n], USED: [big(used)], AT: [big(at)] };
+const WRITTEN = { FILLED: [big(filled)], ENTRIES: [big(ENTRIES)], USED: [big(used)], AT: [big(at)] };
 const values = (word, asked, room) => asked.values.get(word) ?? (word === 'OUT' ? [big(into), big(room), big(used)] : WRITTEN[word]);
 
 // A call in a room, made again where memory runs out.
@@ -91,18 +90,30 @@ function made(name, { structure, words }, asked, room) {
     }
 }
 
+/** Gives back the stations at these places. */
+function free(places) {
+    for (const place of places) {
+        nbt.nbt_station_free(view.getBigInt64(place, true));
+        look();
+        view.setBigUint64(place, 0n, true);
+    }
+}
+
 function answer(name, asked) {
     const row = rows.get(name), said = (place) => size(place) === UNSAID ? '-' : size(place);
+    const station = row.words.find((word) => word.startsWith('MADE'));
+    if (station) free([Number(asked.values.get(station)[0])]);
     let { status, count } = made(name, row, asked, 0);
     if (status === NO_ROOM) {
         const room = Number(size(used));
         expect(made(name, row, asked, room - 1).status === NO_ROOM && size(used) === big(room), `${name}: a byte too few`);
         ({ status, count } = made(name, row, asked, room + 3));
     }
-    let sum = 0;
-    if (status === DONE) {
-        sum = fields.filter((field) => field.structure === row.structure)
-            .reduce((before, { place, size }) => sumOf(before, filled + place, size), 0x811c9dc5);
+    const structures = status !== DONE ? 0 : row.words.includes('ENTRIES') ? Number(size(used)) : 1;
+    const written = fields.filter((field) => field.structure === row.structure), last = written.at(-1);
+    let sum = status === DONE ? 0x811c9dc5 : 0;
+    for (let which = 0; which < structures; which++) {
+        for (const { place, size } of written) sum = sumOf(sum, filled + which * (last.place + last.size) + place, size);
     }
     out.push(`${number} ${name} ${status} ${said(used)} ${said(at)} ${digitsOf(sumOf(0x811c9dc5, into, count))} ${digitsOf(sum)}\n`);
 }
@@ -111,33 +122,30 @@ function answer(name, asked) {
 function run(refused) {
     [out, number, refusals] = [[], 0, 0];
     look();
-    for (let which = 0; which < 3; which++) view.setBigUint64(stationAt(which), 0n, true);
+    for (const place of stations.values()) view.setBigUint64(place, 0n, true);
     nbt.heap_refuse(big(refused));
     for (const step of steps) {
         if (step) answer(...step);
         else number += 1;
     }
-    for (let which = 0; which < 3; which++) nbt.nbt_station_free(view.getBigInt64(stationAt(which), true));
+    free(stations.values());
     return [out.join(''), Number(nbt.heap_refuse(0n))];
 }
 
-/** What a line asks, null of one that begins with names of its own; undefined of one that gives a name. */
+/** What a line asks, null of one that begins a payload's; undefined of one that gives a name. */
 function stepOf(line) {
-    if (line !== 'line') {
-        const [name, ...given] = wordsOf(line, names) ?? [];
-        return name && [name, askedOf(rows.get(name), given)];
-    }
-    names.clear();
-    return null;
+    if (line === 'line') return null;
+    const [name, ...given] = wordsOf(line, names) ?? [];
+    return name && [name, askedOf(rows.get(name), given)];
 }
 
 const steps = readFileSync(0, 'latin1').split('\n').map(stepOf).filter((step) => step !== undefined);
 const [answered, requests] = run(0);
-if (every) {
+if (way === 'every') {
     const answers = readFileSync(wanted, 'latin1'), bytes = nbt.memory.buffer.byteLength;
     const isRight = (refused) => run(refused)[0] === answers && refusals === 1 && nbt.memory.buffer.byteLength === bytes;
     for (let each = 1; each <= requests; each += 1) console.log(`${isRight(each) ? 'ok' : 'failed'}: request ${each}`);
 } else {
     writeFileSync(1, answered);
 }
-console.error(`${number} payloads\n${requests}`);
+console.error(requests);

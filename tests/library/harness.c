@@ -16,7 +16,6 @@ enum { PAGE = 4096, OUTPUT = INPUTS, FILLED, AREAS, SPACE = 6144 * PAGE, MORE = 
 #define B(i) (it->n[i] != 0)
 #define OUT into, room, used
 #define USED used
-#define ONE 1
 #define AT at
 #define STATION it->station
 #define MADE &it->station->at
@@ -58,7 +57,7 @@ int has_input(enum call of, int input) {
 
 /* ---- what holds, and what was answered */
 
-const char *program = "calls", *doing = "";
+const char *doing = "";
 unsigned long line_number, call_count, refusal_count;
 struct trials trials;
 static uint8_t reached[CALLS][256];
@@ -67,7 +66,7 @@ void expect(int holds, const char *what) {
     if (holds)
         return;
     fflush(stdout);
-    fprintf(stderr, "%s: line %lu: nbt_%s: not so: %s\n", program, line_number, doing, what);
+    fprintf(stderr, "%s: line %lu: nbt_%.*s: not so: %s\n", program, line_number, (int)(strcspn(doing, "\n") % 300), doing, what);
     abort();
 }
 
@@ -110,7 +109,7 @@ size_t kept_mark(void) { return kept_length; }
 
 void release(size_t mark) { kept_length = mark > held_length ? mark : held_length; }
 
-void hold(void) { held_length = kept_length; }
+void hold(size_t mark) { held_length = mark; }
 
 struct bytes keep(const void *from, size_t length) {
     struct bytes made;
@@ -160,16 +159,37 @@ static struct asked placed(enum call of, const struct asked *asked, int side) {
 
 /* ---- a call */
 
+/* How many structures a call has room for, and how many it filled in. */
+static size_t structures(enum call of) { return has(of, "ENTRIES") ? ENTRIES : 1; }
+
+static size_t filled_count(enum call of, const struct answer *it) {
+    return it->status != NBT_DONE ? 0 : has(of, "ENTRIES") ? it->used : 1;
+}
+
+struct bytes fields_of(enum call of, const struct answer *it) {
+    static uint8_t all[ENTRIES * 600];
+    const uint8_t *structure = it->filled;
+    size_t count = filled_count(of, it), length = 0, i;
+    for (; count > 0; count--, structure += rows[of].fills)
+        for (i = 0; i < COUNT(fields); i++)
+            if (strcmp(fields[i].structure, rows[of].structure) == 0) {
+                memcpy(all + length, structure + fields[i].place, fields[i].size);
+                length += fields[i].size;
+            }
+    return keep(all, length);
+}
+
 /* What has to hold of each call, whatever it was given. */
 static void judge(enum call of, const struct answer *it, const struct asked *before, const struct asked *after, size_t room, int fill) {
+    size_t filled = filled_count(of, it), fills = rows[of].fills;
     int is_done = it->status == NBT_DONE, i;
     if (has(of, "OUT")) {
         expect(is_done ? it->used <= room : it->status == NBT_NO_ROOM ? it->used > room && it->used != UNSAID : it->used == UNSAID, "*used");
         expect(is_filled(it->bytes.at + (is_done ? it->used : 0), is_done ? room - it->used : room, fill), "bytes past *used stay as they were");
     } else {
-        expect(it->used == (is_done && has(of, "USED") ? 1 : UNSAID), "*used");
+        expect(is_done && has(of, "USED") ? it->used > 0 && it->used <= ENTRIES : it->used == UNSAID, "*used");
     }
-    expect(is_done || is_filled(it->filled, rows[of].fills, fill), "a structure is filled in at NBT_DONE alone");
+    expect(is_filled((const uint8_t *)it->filled + filled * fills, (structures(of) - filled) * fills, fill), "a structure is filled in at NBT_DONE alone");
     expect((it->at != UNSAID) == (has(of, "AT)") && has_place(it->status)), "*at is written at a status with a place alone");
     for (i = 0; i < INPUTS; i++)
         expect(is_same(before->in[i], after->in[i]), "inputs stay as they were");
@@ -185,7 +205,7 @@ struct answer attempt(enum call of, const struct asked *asked, size_t room, int 
     doing = row->name;
     do {
         struct asked made = placed(of, asked, side);
-        uint8_t *into = room == 0 && side == 0 ? NULL : area_at(OUTPUT, room, side, fill), *filled = area_at(FILLED, row->fills, side, fill);
+        uint8_t *into = room == 0 && side == 0 ? NULL : area_at(OUTPUT, room, side, fill), *filled = area_at(FILLED, structures(of) * row->fills, side, fill);
         it = (struct answer){.used = UNSAID, .at = UNSAID, .filled = filled};
         if (is_making)
             asked->station->at = filled;
@@ -210,19 +230,15 @@ struct answer attempt(enum call of, const struct asked *asked, size_t room, int 
 
 static struct answer kept_answer(enum call of, struct answer it) {
     it.bytes = keep(it.bytes.at, it.bytes.length);
-    it.filled = keep(it.filled, rows[of].fills).at;
+    it.filled = keep(it.filled, structures(of) * rows[of].fills).at;
     return it;
 }
 
 /* Two answers are one: their numbers, their bytes, and each field. */
 static void expect_same(enum call of, struct answer first, struct answer second) {
-    size_t i;
     expect(first.status == second.status && first.used == second.used && first.at == second.at, "the same numbers again");
     expect(is_same(first.bytes, second.bytes), "the same bytes again");
-    for (i = 0; first.status == NBT_DONE && i < COUNT(fields); i++)
-        if (strcmp(fields[i].structure, rows[of].structure) == 0)
-            expect(memcmp((const uint8_t *)first.filled + fields[i].place, (const uint8_t *)second.filled + fields[i].place, fields[i].size) == 0,
-                   "the same fields again, each of them written");
+    expect(is_same(fields_of(of, &first), fields_of(of, &second)), "the same fields again, each of them written");
 }
 
 static void expect_no_room(struct answer it, size_t wanted) {
@@ -270,8 +286,11 @@ static struct answer change(enum call of, const struct asked *asked) {
         it.status = NBT_NO_MEMORY;
         for (requests = trials.least; it.status != NBT_DONE && requests < trials.most; requests++)
             it = attempt(of, asked, room, 1, requests);
-        if (it.status != NBT_DONE)
+        if (it.status != NBT_DONE) {
+            uint32_t poor = it.status;
             it = attempt(of, asked, room, 0, SIZE_MAX);
+            expect(poor == NBT_NO_MEMORY || poor == it.status, "the same fault, or NBT_NO_MEMORY, where a request is refused");
+        }
         if (it.status != NBT_NO_ROOM)
             break;
         expect(room == 0, "the room that is wanted");

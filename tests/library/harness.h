@@ -6,7 +6,8 @@
 #include <nbt.h>
 #include <string.h>
 
-enum { INPUTS = 3, NUMBERS = 6, MOST_FILLED = 600 };
+/* ENTRIES is how many structures a call may fill in that fills in several. */
+enum { INPUTS = 3, NUMBERS = 6, ENTRIES = 3 };
 #define UNSAID (SIZE_MAX - 88)
 #define COUNT(list) (sizeof(list) / sizeof *(list))
 
@@ -59,8 +60,8 @@ struct answer {
     const void *filled;
 };
 
-/* A row of cases.txt: a call, what it is given, and its answer, which is bytes where `mark` is =, and else words. A station that a row
- * names is there once the samples are made; one that a row makes is another. */
+/* A row in the form of cases.txt: a call, what it is given, and its answer: bytes where `mark` is =, those of the fields of its structure
+ * where it is ~, words where it is : or !, and none where it is 0. */
 struct sample {
     enum call of;
     struct asked asked;
@@ -68,23 +69,15 @@ struct sample {
     struct bytes answer;
 };
 
-enum { MOST_SAMPLES = 1024 };
-extern const struct sample *const samples;
-extern size_t sample_count;
-void read_samples(void);
-void make_samples(void);
-struct nbt_station *station_named(const char *name);
+/* Passes over lines up to a row, which is read, and answers whether there is one. Names hold until the next `line`, those before the
+ * first one for ever. What is kept for a row may be released once it is done. */
+int next_row(const char **text, struct sample *made);
+void begin_rows(void);
+struct bytes bytes_named(const char *name);
 void free_stations(void);
 
-/* What a text begins with, in the form of a row, which is then passed over: bytes, a call, and what it is given. */
-struct bytes bytes_at(const char **text);
-enum call call_at(const char **text);
-struct asked asked_at(enum call of, const char **text);
-
-/* Gives bytes a name, as `NAME = BYTES` says; finds them; and forgets all names. */
-void name_bytes(const char *text);
-struct bytes bytes_named(const char *name);
-void forget_names(void);
+/* Whether a call answered what its row says; ends the program where it didn't. */
+void judge_answer(const struct sample *it, struct answer answer);
 
 /* Ends the program where something doesn't hold, with what was done last. */
 void expect(int holds, const char *what);
@@ -108,12 +101,15 @@ struct answer attempt(enum call of, const struct asked *asked, size_t room, int 
 struct answer answered(enum call of, const struct asked *asked);
 #define CALL(name, ...) answered(OF_##name, &(struct asked){__VA_ARGS__})
 
-/* What is kept, and let go of from a mark on: bytes, and the bytes that digits stand for. What is held is let go of never. */
+/* What is kept, and let go of from a mark on, but for what is held, up to a mark: bytes, and the bytes that digits stand for. */
 struct bytes keep(const void *from, size_t length);
 struct bytes bytes_of(const char *digits);
 size_t kept_mark(void);
 void release(size_t mark);
-void hold(void);
+void hold(size_t mark);
+
+/* The fields of the structures that a call filled in, one after the other. */
+struct bytes fields_of(enum call of, const struct answer *it);
 
 int is_same(struct bytes first, struct bytes second);
 int has_input(enum call of, int input);
@@ -124,8 +120,12 @@ uint8_t *area_at(int area, size_t length, int side, int fill);
 /* The statuses that calls answered, a line each. */
 void print_statuses(void);
 
-/* Numbers of several bytes, the higher byte first. */
-static inline uint32_t number_16(const uint8_t *at) { return (uint32_t)at[0] << 8 | at[1]; }
-static inline uint32_t number_32(const uint8_t *at) { return number_16(at) << 16 | number_16(at + 2); }
+/* What each way of calls.c does with rows; its status. */
+int answer_rows(const char *text);
+int refuse_each(const char *text, const char *wanted);
+int judge_rows(const char *text, size_t rooms);
+int vary_rows(const char *text);
+int measure_rows(const char *text);
+int run_inputs(const char *text);
 
 #endif

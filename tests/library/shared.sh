@@ -2,9 +2,9 @@
 top=$(realpath "$here/..")
 strict=(-std=c11 -O1 -g -Wall -Wextra -Wpedantic -Werror "-I$top/include")
 sanitized=(-fsanitize=address,undefined -fno-sanitize-recover=all)
-# What the programs over the rows of tests/library/calls.def have alike.
+# tests/library/calls.c, over the rows of calls.def.
 wrapped=(-Wl,--wrap=malloc,--wrap=realloc,--wrap=free)
-rows=("$here"/library/{harness,cases,memory}.c "-DCASES=\"$here/library/cases.txt\"" "${wrapped[@]}")
+rows=("$here"/library/{calls,harness,cases,hostile,bounds,corpus,memory}.c "-DCASES=\"$here/library/cases.txt\"" "${wrapped[@]}")
 
 # same WANTED NAME: whether standard input is what is wanted.
 same() {
@@ -25,9 +25,76 @@ block() {
         $0 == mark && ++found == wanted { shown = 1 }' "$2"
 }
 
-# lines COUNT SEED [LONGEST]: payloads, of so many bytes at most, and what `nbt show` prints of them.
+# well_made PREFIX FOLDER: what libnbt.so.0 and libnbt.a of a folder define and need, by binutils whose names begin so.
+well_made() {
+    "$1nm" -D --defined-only "$2/libnbt.so.0" | awk '{ print $3 }' | sort | same "$(calls)" 'libnbt.so.0 exports the calls of the header'
+    "$1nm" -g --defined-only "$2/libnbt.a" | awk 'NF == 3 { print $3 }' | sort | same "$(calls)" 'so does libnbt.a'
+    "$1readelf" -d "$2/libnbt.so.0" | sed -nE 's/.*\((SONAME|NEEDED)\).*\[(.*)\]/\2/p' | sort \
+        | same $'libc.so.6\nlibnbt.so.0' 'the soname, and the C library alone that is needed'
+    "$1readelf" -lW "$2/libnbt.so.0" | grep GNU_STACK | grep -c E | same 0 'the stack of its callers is not made executable'
+}
+
+# example FILE WAY COMPILER WORD..: an example that is compiled and linked by these words, and run by ${run[@]}, prints what it says alone.
+example() {
+    local name
+    name="$(basename "$1"), $2"
+    "$3" "${strict[@]}" -o "$room/example" "${@:4}" >"$room/log" 2>&1
+    count $? "$name: $(head -n 1 "$room/log")"
+    ended "${run[@]}" "$room/example" 2>"$room/errors" | sed 's/ *$//' | same "$(wanted "$1")" "$name"
+    [ ! -s "$room/errors" ]
+    count $? "$name: $(head -n 1 "$room/errors")"
+}
+
+# compiled NAME COMPILER ARCHIVE OPTION..: tests/library/calls.c, compiled so, as $room/NAME.
+compiled() {
+    "$2" "${strict[@]}" -o "$room/$1" "${rows[@]}" "${@:4}" "$3" >"$room/log" 2>&1
+    count $? "tests/library/calls.c, $1: $(head -n 1 "$room/log")"
+}
+
+# rows_of SEED COUNT [LONGEST]: payloads, and the rows of what the calls should answer of them, those of cases.txt before.
+rows_of() {
+    "$here/captures/payloads.py" --seed "$1" ${3:+--longest "$3"} library "$2" >"$room/lines$1"
+    { cat "$here/library/cases.txt"; "$here/library/payload_rows.py" <"$room/lines$1"; } >"$room/rows$1"
+    [ "$(grep -c '^line$' "$room/rows$1")" -eq "$2" ] && [ "$(wc -l <"$room/rows$1")" -gt $((35 * $2)) ]
+    count $? "the rows of $2 payloads"
+}
+
+# judged NAME ROWS COMMAND..: each call answers what its row says.
+judged() {
+    ended "${@:3}" <"$2" 2>"$room/errors" && tail -n 1 "$room/errors" | grep -qE '^[1-9][0-9]* rows, '
+    count $? "calls answer what rows say, $1: $(tail -n 3 "$room/errors" | head -c 500)"
+}
+
+# every NAME COMMAND..: each request for memory is refused in turn, in the calls of a few payloads: the call that meets it says so, changes
+# nothing, and then does what it should.
+every() {
+    local each
+    ended "${@:2}" answers <"$room/few" >"$room/few.wanted" 2>"$room/log"
+    ended "${@:2}" every "$room/few.wanted" <"$room/few" >"$room/output" 2>"$room/errors"
+    count $? "each request is refused, $1: $(tail -n 2 "$room/errors" | tr '\n' ' ')"
+    wc -l <"$room/output" | same "$(tail -n 1 "$room/errors")" "as many as there are, $1"
+    while IFS= read -r each; do
+        [[ $each == ok:* ]]
+        count $? "$1: $each"
+    done <"$room/output"
+}
+
+# few_payloads COUNT: a datagram in two pieces, a response, a registration, and two packets of port 139, or so many of these: $room/few.
+few_payloads() {
+    {
+        ended "$program" build group 10.0.0.5:138/0001 'JOE<00>' 'FRED<20>' 68656c6c6f2c2046524544 6 | tac
+        ended "$program" build response 0006 8500 'FRED<20>' 0020 300 60000a0000050000c0a80001
+        ended "$program" build registration 0002 'FRED<20>' 300000 0000 10.0.0.5
+        ended "$program" build request 'FRED<20>' 'JOE<00>'
+        ended "$program" build retarget 10.0.0.7 139
+    } 2>/dev/null | head -n "$1" | sed 's/ 0 / /' | "$here/library/payload_rows.py" >"$room/few"
+    [ "$(grep -c '^line$' "$room/few")" -eq "$1" ]
+    count $? 'the rows of a few payloads'
+}
+
+# lines COUNT SEED: payloads, and what `nbt show` prints of them.
 lines() {
-    "$here/captures/payloads.py" --seed "$2" ${3:+--longest "$3"} library "$1" >"$room/lines$2"
+    "$here/captures/payloads.py" --seed "$2" library "$1" >"$room/lines$2"
     sed 's/ / 0 /' "$room/lines$2" | ended "$program" show --input-limit 4294967296 >"$room/lines$2.wanted"
     [ $? -eq 0 ] && [ "$(grep -cE '^[0-9]+ 13[789] ' "$room/lines$2.wanted")" -eq "$1" ]
     count $? "$1 payloads of tests/captures/payloads.py, and nbt show of each"

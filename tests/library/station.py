@@ -18,8 +18,8 @@ sys.path[1:1] = [f'{sys.path[0]}/../{it}' for it in ('.', 'captures', 'lib')]
 import station_system
 from fuzz_inputs import Maker, capture_lines, example_bytes
 from limits import MOST_KEYS
-from station_runs import (ANN, EMPTY, GROUP, PATIENCE, SENDER, TRIES, UNIQUE, LeftOut, TooSlow, Wrong, begun, expect, nbt, packet, pieces,
-                          replayed, station, whole_tables)
+from station_runs import (ANN, EMPTY, ENDING, GROUP, OWN, PATIENCE, SENDER, TRIES, UNIQUE, LeftOut, TooSlow, Wrong, expect, nbt, packet, pieces,
+                          refused, replayed, station, whole_tables)
 from wire import FRED, JOE
 
 # How many payloads wait in the socket of a station that stands still.
@@ -47,7 +47,7 @@ def any_order_and_repeats():
 
 
 def saved_at_its_end():
-    for number in signal.SIGTERM, signal.SIGINT, signal.SIGHUP:
+    for number in ENDING:
         with station('--save', 'table', '--pid', 'pid') as each:
             each.send(*pieces(1, b'hello')[:1])
             each.reached()
@@ -59,7 +59,7 @@ def saved_at_its_end():
 
 def read_at_its_end():
     """What waits in the socket when a signal ends the station is taken, and its senders are answered."""
-    for number in signal.SIGTERM, signal.SIGINT, signal.SIGHUP:
+    for number in ENDING:
         with station('--save', 'table') as each:
             each.process.send_signal(signal.SIGSTOP)
             each.send(*(packet(GROUP, identifier, FRED, b'hi') for identifier in range(WAITING)), packet(UNIQUE, WAITING, ANN, b''))
@@ -175,10 +175,9 @@ def joined_tables():
             expect([line % (1, b'hello, FRED'.hex())], each.lines(3)[2:])
             expect(0, each.ended()[0])
             whole_tables(each.saved(), 5)
-        own = ('--bind', '127.0.0.1:0', '--save', os.path.join(folder, 'table'))
-        expect((1, f'nbt-station: {paths[2]}: line 2: bad hex'), begun(folder, *own, '--join', paths[2], 'FRED<20>'))
-        expect((1, f'nbt-station: {paths[0]}: line 1: table: full'), begun(folder, *own, '--keys', '1', '--join', paths[0], 'FRED<20>'))
-        expect((3, 'nbt-station: none: No such file or directory'), begun(folder, *own, '--join', 'none', 'FRED<20>'))
+        for status, why, *words in ((1, f'{paths[2]}: line 2: bad hex', paths[2]), (1, f'{paths[0]}: line 1: table: full', paths[0], '--keys', '1'),
+                                    (3, 'none: No such file or directory', 'none')):
+            refused(folder, status, why, *OWN, '--save', os.path.join(folder, 'table'), 'FRED<20>', '--join', *words)
         expect(['bad', 'one', 'other'], sorted(os.listdir(folder)))
 
 
@@ -186,15 +185,12 @@ def refused_beginnings():
     with tempfile.TemporaryDirectory() as folder, socket.socket(socket.AF_INET, socket.SOCK_DGRAM) as taken:
         taken.bind(('127.0.0.1', 0))
         busy = '127.0.0.1:%d' % taken.getsockname()[1]
-        own = ('--bind', '127.0.0.1:0')
-        expect((1, 'nbt-station: bad text 4'), begun(folder, *own, 'FRED'))
-        expect((1, 'nbt-station: bad text 8'), begun(folder, *own, 'FRED<20> JOE<00>'))
-        expect((1, 'nbt-station: bad text 0'), begun(folder, *own, ''))
-        expect((1, 'nbt-station: name: present 9'), begun(folder, *own, 'FRED<20>', 'FRED<20>'))
-        expect((3, f'nbt-station: {busy}: Address already in use'), begun(folder, '--bind', busy, 'FRED<20>'))
-        for words in ['--bind', 'localhost'], ['--keys', '0'], ['--per-source', str(MOST_KEYS + 1)], ['--port', 'x'], ['--bind', '::1']:
-            expect(2, begun(folder, *words, 'FRED<20>')[0])
-        expect(2, begun(folder, '--bind', '127.0.0.1:138', '--port', '139', 'FRED<20>')[0])
+        for why, *names in (('bad text 4', 'FRED'), ('bad text 8', 'FRED<20> JOE<00>'), ('bad text 0', ''), ('name: present 9', 'FRED<20>', 'FRED<20>')):
+            refused(folder, 1, why, *OWN, *names)
+        refused(folder, 3, f'{busy}: Address already in use', '--bind', busy, 'FRED<20>')
+        for words in (['--bind', 'localhost'], ['--keys', '0'], ['--per-source', str(MOST_KEYS + 1)], ['--port', 'x'], ['--bind', '::1'],
+                      ['--bind', '127.0.0.1:138', '--port', '139']):
+            refused(folder, 2, '', *words, 'FRED<20>')
         expect([], os.listdir(folder))
 
 

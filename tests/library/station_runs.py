@@ -15,6 +15,8 @@ from wire import FRED, JOE, first_level
 
 TOOL, PROGRAM = map(os.path.abspath, sys.argv[1:3])
 PATIENCE = 20
+OWN = ('--bind', '127.0.0.1:0')
+ENDING = signal.SIGTERM, signal.SIGINT, signal.SIGHUP
 FRONT = re.compile(r'[0-9]{4}-[0-9]{2}-[0-9]{2}T[0-9]{2}:[0-9]{2}:[0-9]{2}\.[0-9]{6}Z ((127|10)(\.[0-9]{1,3}){3}:[0-9]{1,5}|-) ')
 ANN, NOBODY = first_level('ANN', 0x20), first_level('NOBODY', 0x20)
 SENDER = bytes([10, 0, 0, 5, 0, 138])
@@ -98,23 +100,14 @@ class Station:
 
     def printed(self, count):
         """The lines themselves."""
-        until = time.monotonic() + PATIENCE
-        while True:
-            with open(self.out, encoding='ascii') as lines:
-                found = lines.read().splitlines()
-            if len(found) >= count or time.monotonic() > until:
-                return found
-            time.sleep(0.01)
+        lines = lambda: read(self.folder, self.out).splitlines()
+        until(lambda: len(lines()) >= count, f'it printed less than {count} lines')
+        return lines()
 
     def saved(self, name='table'):
         """What stands in the file of a saved table, once it is there."""
-        path, until = os.path.join(self.folder, name), time.monotonic() + PATIENCE
-        while not os.path.exists(path):
-            if time.monotonic() > until:
-                raise Wrong('no table was saved')
-            time.sleep(0.01)
-        with open(path, encoding='ascii') as line:
-            return line.read()
+        until(lambda: os.path.exists(os.path.join(self.folder, name)), 'no table was saved')
+        return read(self.folder, name)
 
     def ended(self, number=signal.SIGTERM):
         """The status with which it ends at a signal, and what it says then."""
@@ -155,10 +148,26 @@ def replayed(payloads, *names):
     return [line.split(' ', 1)[1] for line in lines if ' delivered ' in line]
 
 
-def begun(folder, *words):
-    """The status and the words of a tool that ends by itself."""
+def refused(folder, status, why, *words):
+    """The tool ends by itself, and says why, if that is asked for."""
     done = subprocess.run([TOOL, *words], cwd=folder, capture_output=True, text=True, timeout=PATIENCE)
-    return done.returncode, done.stderr.strip().splitlines()[-1]
+    said = done.stderr.strip().splitlines()[-1]
+    expect((status, f'nbt-station: {why}' if why else said), (done.returncode, said))
+
+
+def read(folder, name):
+    with open(os.path.join(folder, name), encoding='ascii') as file:
+        return file.read()
+
+
+def until(held, what):
+    """Waits until something holds, and answers it."""
+    last = time.monotonic() + PATIENCE
+    while not (found := held()):
+        if time.monotonic() > last:
+            raise Wrong(what)
+        time.sleep(0.01)
+    return found
 
 
 def whole_tables(table, count):

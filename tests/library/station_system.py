@@ -8,11 +8,10 @@ import sys
 import tempfile
 import time
 
-from station_runs import (EMPTY, GROUP, NOBODY, PATIENCE, PROGRAM, TOOL, UNIQUE, LeftOut, Station, Wrong, begun, expect, packet,
-                          pieces, station)
+from station_runs import (EMPTY, ENDING, GROUP, NOBODY, OWN, PATIENCE, PROGRAM, TOOL, UNIQUE, LeftOut, Station, Wrong, expect, packet, pieces, read,
+                          refused, station, until)
 from wire import FRED
 
-OWN = ('--bind', '127.0.0.1:0')
 # More lines than a pipe and the station's own room take: each has some 120,000 bytes.
 MANY, LONG = 110, bytes(60_000)
 # The path of a file in so many bytes that some of them fill a pipe.
@@ -42,41 +41,37 @@ def within_a_second(each, number):
     return ended
 
 
-def wait_for(held, what):
-    until = time.monotonic() + PATIENCE
-    while not held():
-        if time.monotonic() > until:
-            raise Wrong(what)
-        time.sleep(0.01)
-
-
 # ---- files
 
-def others_stay(folder, option, kind):
-    """The station begins with none of these as its file, and changes nothing."""
+def others_stay(option, kind, *texts):
+    """The station begins with none of these as its file, nor with one that has one of these texts, and changes nothing."""
+    with tempfile.TemporaryDirectory() as folder:
+        other_kinds_stay(folder, option, kind)
+        for text in texts:
+            written(folder, 'almost', text)
+            refused(folder, 3, f'almost: it is no {kind}, and stays as it is', *OWN, option, 'almost', 'FRED<20>')
+            expect(text, read(folder, 'almost'))
+
+
+def other_kinds_stay(folder, option, kind):
     other = written(folder, 'other', 'text\n')
     os.mkdir(os.path.join(folder, 'folder'))
     os.symlink(other, os.path.join(folder, 'link'))
     os.symlink('nowhere', os.path.join(folder, 'loose'))
     os.mkfifo(os.path.join(folder, 'pipe'))
-    for name, why in (('other', f'it is no {kind}, and stays as it is'), ('folder', 'it is a folder, and stays as it is'),
-                      ('link', 'it is a link, and stays as it is'), ('loose', 'it is a link, and stays as it is'),
-                      ('pipe', 'it is no regular file, and stays as it is'), ('/dev/null', 'it is no regular file, and stays as it is'),
+    stays = lambda what: f'it is {what}, and stays as it is'
+    for name, why in (('other', stays(f'no {kind}')), ('folder', stays('a folder')), ('link', stays('a link')), ('loose', stays('a link')),
+                      ('pipe', stays('no regular file')), ('/dev/null', stays('no regular file')),
                       ('none/file', 'No such file or directory'), ('other/file', 'Not a directory')):
-        expect((3, f'nbt-station: {name}: {why}'), begun(folder, *OWN, option, name, 'FRED<20>'))
+        refused(folder, 3, f'{name}: {why}', *OWN, option, name, 'FRED<20>')
     expect(['folder', 'link', 'loose', 'other', 'pipe'], sorted(os.listdir(folder)))
-    expect('text\n', open(other, encoding='ascii').read())
+    expect('text\n', read(folder, 'other'))
     expect(True, stat.S_ISCHR(os.stat('/dev/null').st_mode))
 
 
 def other_files_at_save():
     """Only a saved table, or an empty file, is replaced; it is judged before the station listens."""
-    with tempfile.TemporaryDirectory() as folder:
-        others_stay(folder, '--save', 'saved table')
-        for text in EMPTY[:-1], EMPTY * 2, EMPTY[:-1] + 'x\n', '4e425433\n':
-            path = written(folder, 'almost', text)
-            expect((3, 'nbt-station: almost: it is no saved table, and stays as it is'), begun(folder, *OWN, '--save', 'almost', 'FRED<20>'))
-            expect(text, open(path, encoding='ascii').read())
+    others_stay('--save', 'saved table', EMPTY[:-1], EMPTY * 2, EMPTY[:-1] + 'x\n', '4e425433\n')
 
 
 def modes_of_saved_tables():
@@ -96,22 +91,21 @@ def modes_of_saved_tables():
 def file_put_there_meanwhile():
     """What comes to stand where the table is to be saved stays, and the station goes on, and says so."""
     with station('--save', 'table') as each:
-        path = written(each.folder, 'table', 'text\n')
+        written(each.folder, 'table', 'text\n')
         each.process.send_signal(signal.SIGUSR1)
         expect(b'nbt-station: table: it is no saved table, and stays as it is\n', each.process.stderr.readline())
         each.reached()
         expect((3, 'nbt-station: table: it is no saved table, and stays as it is\n'), each.ended())
-        expect('text\n', open(path, encoding='ascii').read())
+        expect('text\n', read(each.folder, 'table'))
 
 
 def pid_files():
     """A pid file stands as long as the station listens, and leads to it."""
     with station('--pid', 'pid', '--save', 'table') as each:
-        path = os.path.join(each.folder, 'pid')
-        expect(f'{each.process.pid}\n', open(path, encoding='ascii').read())
-        os.kill(int(open(path, encoding='ascii').read()), signal.SIGUSR1)
+        expect(f'{each.process.pid}\n', read(each.folder, 'pid'))
+        os.kill(int(read(each.folder, 'pid')), signal.SIGUSR1)
         expect(EMPTY, each.saved())
-        expect((3, f'nbt-station: pid: the process {each.process.pid} is running'), begun(each.folder, *OWN, '--pid', 'pid', 'FRED<20>'))
+        refused(each.folder, 3, f'pid: the process {each.process.pid} is running', *OWN, '--pid', 'pid', 'FRED<20>')
         expect((0, ''), each.ended())
         expect(['out', 'table'], sorted(os.listdir(each.folder)))
     done = subprocess.Popen(['true'])
@@ -120,7 +114,7 @@ def pid_files():
         with tempfile.TemporaryDirectory() as folder:
             written(folder, 'pid', text)
             each = Station(folder, '--pid', 'pid')
-            expect(f'{each.process.pid}\n', open(os.path.join(folder, 'pid'), encoding='ascii').read())
+            expect(f'{each.process.pid}\n', read(folder, 'pid'))
             written(folder, 'pid', f'{os.getpid()}\n')
             expect((0, ''), each.ended())
             each.socket.close()
@@ -128,19 +122,16 @@ def pid_files():
 
 
 def other_files_at_pid():
+    others_stay('--pid', 'pid file', '0\n', '-1\n', '12 13\n', '9' * 20)
     with tempfile.TemporaryDirectory() as folder:
-        others_stay(folder, '--pid', 'pid file')
-        for text in '0\n', '-1\n', '12 13\n', '9' * 20:
-            written(folder, 'almost', text)
-            expect((3, 'nbt-station: almost: it is no pid file, and stays as it is'), begun(folder, *OWN, '--pid', 'almost', 'FRED<20>'))
-        expect((2, 'nbt-station: --pid and --save name one file'), begun(folder, *OWN, '--pid', 'new', '--save', './new', 'FRED<20>'))
+        refused(folder, 2, '--pid and --save name one file', *OWN, '--pid', 'new', '--save', './new', 'FRED<20>')
 
 
 # ---- standard streams and signals
 
 def unread_output():
     """While nobody reads its lines, a station takes payloads, saves its table and ends."""
-    for number in signal.SIGTERM, signal.SIGINT, signal.SIGHUP:
+    for number in ENDING:
         reader, writer = os.pipe()
         try:
             with station('--save', 'table', out=writer) as each:
@@ -212,7 +203,7 @@ def closed_streams():
         with open(os.path.join(folder, 'out'), 'wb') as out:
             each = subprocess.Popen(command('2>&- <&-', '--pid', 'pid', '--save', 'table'), cwd=folder, stdout=out)
         try:
-            wait_for(lambda: os.path.exists(os.path.join(folder, 'pid')) or each.poll() is not None, 'it didn\'t begin')
+            until(lambda: os.path.exists(os.path.join(folder, 'pid')) or each.poll() is not None, 'it didn\'t begin')
             each.send_signal(signal.SIGTERM)
             expect(0, each.wait(PATIENCE))
             expect(['out', 'table'], sorted(os.listdir(folder)))

@@ -12,20 +12,17 @@ from nbt.sessions import NAMES, RETARGET
 
 LIBRARY = pathlib.Path(__file__).parents[3] / 'tests/library'
 sys.path.append(str(LIBRARY))
+import rows as written
 from values_in_python import handed, lines_of, outcome_of
 
-WORD = re.compile(r"(?:'[^']*'|[^' ])+")
-PART = re.compile(r"(?:'([^']*)'|([A-Z]\w*)|([0-9a-f]*))(?:\*(\d+))?(?:\+|$)")
 # What the package asks within calls of its own, or otherwise.
 WITHIN = ('version', 'service_item', 'service_items', 'service_address', 'service_node', 'service_unit', 'service_domain')
-names, stations = {}, {}
+names, rows = written.read_cases()
+stations = {}
 
 
 def bytes_of(word):
-    """The bytes that a word of a row stands for."""
-    found = (part.groups() for part in PART.finditer(word))
-    return b''.join((text.encode() if text is not None else names[name] if name else bytes.fromhex(digits)) * int(times or 1)
-                    for text, name, digits, times in found)
+    return written.bytes_of(word, names)
 
 
 # What a word is, by the letter of a call below: a number, bytes, a text, a station, or the name of one.
@@ -162,18 +159,10 @@ class Rows(unittest.TestCase):
 
     def test_statuses(self):
         """Each status has a row."""
-        numbers = [int(row[1]) for row in rows if row[0] == 'status_text' and '=' in row]
+        numbers = [int(words[0]) for call, words, answer in rows if call == 'status_text' and answer[0] == '=']
         self.assertEqual(numbers, list(map(int, Status)))
 
 
-rows = []
-for row in (LIBRARY / 'cases.txt').read_text('ascii').splitlines():
-    if row.startswith('let '):
-        _, name, _, word = row.split(' ', 3)
-        names[name] = bytes_of(word)
-    elif row and not row.startswith('#'):
-        rows.append(WORD.findall(row))
-for number, (call, *words) in enumerate(rows, 1):
-    at = next(place for place, word in enumerate(words) if word in ('=', ':', '!'))
-    if call not in WITHIN and words[at:] != ['!', 'no', 'station']:
-        setattr(Rows, f'test_row_{number:03}_{call}', test_of(call, words[:at], words[at], words[at + 1:]))
+for number, (call, words, answer) in enumerate(rows, 1):
+    if call not in WITHIN and answer != ['!', 'no', 'station']:
+        setattr(Rows, f'test_row_{number:03}_{call}', test_of(call, words, answer[0], answer[1:]))

@@ -1,0 +1,179 @@
+/* The calls of rows on standard input, in the form of cases.txt, each with harness.c's eyes on it. Usage: calls WAY <ROWS:
+ *
+ * answers         prints what each call answers: the number of its `line`, the call, its status, *used, *at, and sums of the bytes and of
+ *                 the fields that it wrote. calls.mjs prints the same in WebAssembly
+ * every WANTED    refuses each request for memory in turn, and prints a line for each: whether one call met it, and whether the answers,
+ *                 as above, are those of the file WANTED
+ * judged [ROOMS]  each call answers what its row says, also in so many rooms that are too small, and with requests refused
+ * varied          so it does, and with its inputs and numbers changed: hostile.c
+ * measured        the stack that each call wants, and how long texts are: bounds.c
+ * inputs          no rows, but a fuzzer's inputs, lines of digits: corpus.c
+ *
+ * The last line of standard error counts what was done; that of `answers` and `every` is how many requests for memory there were. */
+#define _GNU_SOURCE
+#include "harness.h"
+#include <stdio.h>
+#include <stdlib.h>
+
+const char *program = "calls";
+
+/* ---- what is answered */
+
+static FILE *out;
+
+static uint32_t sum_of(uint32_t sum, struct bytes it) {
+    size_t i;
+    for (i = 0; i < it.length; i++)
+        sum = (sum ^ it.at[i]) * 0x01000193;
+    return sum;
+}
+
+static void print_number(size_t number) { fprintf(out, number == UNSAID ? " -" : " %zu", number); }
+
+/* A call without room, with a byte less than it wants, and with three more. */
+static void answer(const struct sample *row) {
+    struct answer it = attempt(row->of, &row->asked, 0, 0, SIZE_MAX);
+    if (it.status == NBT_NO_ROOM) {
+        size_t wanted = it.used;
+        it = attempt(row->of, &row->asked, wanted - 1, 1, SIZE_MAX);
+        expect(it.status == NBT_NO_ROOM && it.used == wanted, "a byte too few");
+        it = attempt(row->of, &row->asked, wanted + 3, 1, SIZE_MAX);
+    }
+    fprintf(out, "%lu %s %u", line_number, rows[row->of].name, (unsigned)it.status);
+    print_number(it.used);
+    print_number(it.at);
+    fprintf(out, " %08x %08x\n", (unsigned)sum_of(0x811c9dc5, it.bytes),
+            (unsigned)(it.status == NBT_DONE ? sum_of(0x811c9dc5, fields_of(row->of, &it)) : 0));
+}
+
+/* What all calls answer where a request is refused, in memory of its own. */
+static char *answers_of(const char *text, size_t refused) {
+    struct sample row;
+    size_t mark, size;
+    char *answers;
+    out = open_memstream(&answers, &size);
+    expect(out != NULL, "open_memstream");
+    begin_rows();
+    refusal_count = 0;
+    memory.requests = 0;
+    memory.refuse = refused;
+    for (mark = kept_mark(); next_row(&text, &row); release(mark))
+        answer(&row);
+    memory.refuse = 0;
+    free_stations();
+    fclose(out);
+    return answers;
+}
+
+int answer_rows(const char *text) {
+    fputs(answers_of(text, 0), stdout);
+    fprintf(stderr, "%zu\n", memory.requests);
+    return 0;
+}
+
+int refuse_each(const char *text, const char *wanted) {
+    size_t all, each;
+    free(answers_of(text, 0));
+    all = memory.requests;
+    for (each = 1; each <= all; each++) {
+        char *answers = answers_of(text, each);
+        printf("%s: request %zu\n", refusal_count == 1 && strcmp(answers, wanted) == 0 ? "ok" : "failed", each);
+        free(answers);
+    }
+    fprintf(stderr, "%zu\n", all);
+    return 0;
+}
+
+/* ---- what rows say */
+
+/* The text of a status, and its place if it has one. */
+static struct bytes refusal(struct answer answer) {
+    static char text[128];
+    size_t used = 0;
+    expect(nbt_status_text(answer.status, (uint8_t *)text, sizeof text, &used) == NBT_DONE, "the text of a status");
+    if (answer.at != UNSAID)
+        used += (size_t)snprintf(text + used, sizeof text - used, " %zu", answer.at);
+    return (struct bytes){(const uint8_t *)text, used};
+}
+
+static void print_bytes(const char *what, struct bytes it, int is_text) {
+    size_t i;
+    fprintf(stderr, "%s ", what);
+    for (i = 0; i < it.length && i < 300; i++)
+        fprintf(stderr, is_text ? "%c" : "%02x", it.at[i]);
+}
+
+void judge_answer(const struct sample *it, struct answer answer) {
+    int is_refusal = it->mark == '!', is_as_said = (answer.status == NBT_DONE) != is_refusal;
+    struct bytes found = answer.status != NBT_DONE ? refusal(answer) : it->mark == '~' ? fields_of(it->of, &answer) : answer.bytes;
+    is_as_said = it->mark == '\0' || (is_as_said && (it->mark == ':' || is_same(found, it->answer)));
+    if (!is_as_said) {
+        print_bytes("found", found, answer.status != NBT_DONE);
+        print_bytes(", wanted", it->answer, is_refusal);
+        fprintf(stderr, "\n");
+    }
+    expect(is_as_said, "what a row says");
+}
+
+/* Of a number in a register that has more bits than the parameter the others don't count. */
+static void wide(void) {
+    typedef uint32_t wide_show(uint32_t, const uint8_t *, size_t, uint8_t *, size_t, size_t *);
+    static wide_show *volatile show = (wide_show *)(void (*)(void))nbt_show;
+    const struct bytes payload = BYTES("\x84\0\0\6" "\x0a\0\0\5\0\x8b");
+    uint8_t text[256], wanted[256];
+    size_t used, length;
+    expect(nbt_show(138, payload.at, payload.length, wanted, sizeof wanted, &length) == NBT_DONE, "a text");
+    expect(show(0xabcd0000 | 138, payload.at, payload.length, text, sizeof text, &used) == NBT_DONE && used == length && memcmp(text, wanted, used) == 0,
+           "a port with more bits");
+}
+
+int judge_rows(const char *text, size_t rooms) {
+    struct sample row;
+    size_t mark, count = 0;
+    wide();
+    for (mark = kept_mark(); next_row(&text, &row); release(mark)) {
+        trials = (struct trials){.rooms = rooms, .least = count % 7, .most = count % 7 + 2};
+        count++;
+        judge_answer(&row, answered(row.of, &row.asked));
+    }
+    free_stations();
+    expect(memory.blocks == 0, "what is kept is given back");
+    fprintf(stderr, "%zu rows, %lu calls, %lu refusals\n", count, call_count, refusal_count);
+    return 0;
+}
+
+/* ---- the ways */
+
+#ifndef FUZZER
+/* All bytes of a file, and a zero byte, in memory that isn't counted. */
+static char *whole(FILE *file) {
+    size_t space = 1 << 20, count = 0, more, blocks = memory.blocks;
+    char *text = malloc(space);
+    expect(file != NULL && text != NULL, "a file");
+    while ((more = fread(text + count, 1, space - count - 1, file)) > 0) {
+        count += more;
+        if (count + 1 == space)
+            text = realloc(text, space *= 2);
+        expect(text != NULL, "memory");
+    }
+    text[count] = '\0';
+    memory.blocks = blocks;
+    return text;
+}
+
+int main(int words, char **word) {
+    const char *way = words > 1 ? word[1] : "", *more = words > 2 ? word[2] : NULL, *text = whole(stdin);
+    program = way;
+    if (strcmp(way, "answers") == 0)
+        return answer_rows(text);
+    if (strcmp(way, "every") == 0)
+        return refuse_each(text, whole(fopen(more, "r")));
+    if (strcmp(way, "judged") == 0)
+        return judge_rows(text, more == NULL ? 0 : strtoul(more, NULL, 10));
+    if (strcmp(way, "varied") == 0)
+        return vary_rows(text);
+    if (strcmp(way, "measured") == 0)
+        return measure_rows(text);
+    return strcmp(way, "inputs") == 0 ? run_inputs(text) : 2;
+}
+#endif

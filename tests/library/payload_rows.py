@@ -1,0 +1,245 @@
+#!/usr/bin/env python3
+"""What the calls of the library should answer of payloads, by tests/model: rows in the form of cases.txt, for calls.c and calls.mjs.
+
+Usage: payload_rows.py [limits] <LINES, each a port and the digits of a payload, or `empty`; `table` stands for the port of a saved table.
+The rows begin with the names of cases.txt. A payload has a `line`, and then rows of what it says, and a row for each call that needs
+no station with the payload for an input, beside what some row of cases.txt gives it; every sixteen have the rows of stations that took
+them. `limits` has no lines: stations at the limits of their names and keys.
+"""
+import re
+import sys
+from functools import partial
+from itertools import product
+from pathlib import Path
+from struct import pack
+
+sys.dont_write_bytecode = True
+sys.path.insert(1, f'{sys.path[0]}/..')
+from model.names import Refused, name_of, read_labels, spelled, spelling_of, text_of
+from model.packets import ERROR, FIRST, KINDS, MORE, REQUEST, RETARGET, Reader, domain, question, read, record
+from rows import read_cases
+from station_rows import Station, digits, table_rows, told_rows
+
+CALL = re.compile(r'^ROW\((\w+), \w+, \w+, \((.*)\)\)$', re.MULTILINE)
+GIVEN = re.compile(r'\b(IN|N|L|B)\(')
+# A word of a row that stands for many bytes.
+LONG = re.compile(r'\*\d{4}')
+TOGETHER, ENTRIES, MOST_ITEMS, LONGEST_CUT, MOST_PIECES, SPOILT_KEYS = 16, 3, 12, 4000, 50, 2000
+NAMES, SAID = 'FRED<20> JOE<00>', ('show', 'json', 'brief')
+MOST = (1 << 32) - 1
+
+
+def told(packet_fault, fields):
+    """What a reader answers: its fault, or the fields that it fills in."""
+    return f'! {packet_fault}' if packet_fault else f'~ {fields().hex()}'
+
+
+# ---- what a payload says
+
+def service_rows(payload):
+    packet = read(137, payload)
+    header = lambda used: lambda: pack('<6HQ', packet.identifier, packet.word, *packet.counts, used)
+    yield f'service_header P {told(None if packet.stands else packet.fault, header(12))}'
+    yield f'service_read P {told(packet.fault, header(packet.used))}'
+    entries, places, reader = [], [], Reader(payload, 12)
+    for section, it in ((section, it) for section, items in enumerate(packet.sections if packet.stands else ()) for it in items):
+        places.append(reader.at)
+        if len(places) <= MOST_ITEMS:
+            yield from name_rows(payload, reader, it.labels)
+        (record if section else question)(reader)
+        entries.append(entry(section, it, reader.at))
+        if section and len(places) <= MOST_ITEMS:
+            yield from (f'service_{part.format(it.type, digits(it.data))}' for part in ('address {} {} 0', 'node {} {} 1', 'unit {} {}'))
+    end = f'! {packet.fault or "no item"}'
+    for number, place in list(enumerate([*places, packet.used if packet.stands else 12]))[-MOST_ITEMS:]:
+        item = f'~ {entries[number][:293].hex()}' if entries[number:] else end
+        many = b''.join(entries[number:number + ENTRIES]).hex()
+        yield f'service_item P {number} {place} {item}'
+        yield f'service_items P {number} {place} {f"~ {many}" if many else end}'
+
+
+def name_rows(payload, reader, labels):
+    """The name of an item, which ends in one place, and its text."""
+    place, spelling = reader.at, spelled(labels)
+    domain(reader)
+    length, reader.at = reader.at - place, place
+    yield f'service_domain P {place} {length} = {spelling.hex()}'
+    yield from (f'service_domain P {place} {it} ! name rdata {place}' for it in (length + 1, (1 << 64) - 1))
+    try:
+        yield from text_rows(name_of(labels))
+    except Refused:
+        pass
+
+
+def text_rows(name):
+    text, spelling = text_of(name).encode().hex(), spelling_of(name).hex()
+    return f'name_text {spelling} = {text}', f'name_spell {text} = {spelling}'
+
+
+def entry(section, it, after):
+    """The fields of a question or a record, and of the name that is its RDATA."""
+    data, server = (len(it.data), it.domain) if section else (0, None)
+    try:
+        is_netbios = bool(name_of(it.labels))
+    except Refused:
+        is_netbios = False
+    name, server = spelled(it.labels), b'' if server is None else spelled(server)
+    numbers = section, it.ttl if section else 0, it.type, it.group, after - data, data, after
+    return pack('<IIHHQQQBB255sB255s', *numbers, is_netbios, len(name), name, len(server), server)
+
+
+def datagram_rows(payload):
+    packet = read(138, payload)
+    if not packet.stands:
+        yield from (f'datagram_{it} P ! {packet.fault}' for it in ('read', 'front'))
+        return
+    yield f'datagram_read P {told(packet.fault, lambda: datagram_fields(packet, payload))}'
+    yield f'datagram_front P ~ {front_fields(packet).hex()}'
+    if packet.is_whole():
+        yield from (row for it in (packet.source, packet.destination) if it for row in text_rows(it))
+        yield from written_rows(packet, payload[:packet.used])
+
+
+def front_fields(packet, is_whole=False):
+    """The fields of the front of a packet of port 138, to which the names of a fragment belong, and of one that is whole any."""
+    begin = 14 if packet.kind in KINDS else 10
+    source, destination = (spelling_of(it) if it and (begin == 14 or is_whole) else b'' for it in (packet.source, packet.destination))
+    address, port, identifier = packet.key
+    places = begin if source else 0, len(source), begin + len(source) if destination else 0, len(destination)
+    return pack('<BBHIHHQQQQ', packet.kind, packet.flags, identifier, int.from_bytes(address, 'big'), port, packet.offset or 0, *places)
+
+
+def datagram_fields(packet, payload):
+    """Those of a packet that is whole, with the place of its data, or of its code."""
+    data = payload[10:11] if packet.kind == ERROR else packet.data
+    place = 0 if data is None else packet.used - len(data)
+    return front_fields(packet, True) + pack('<QQQ', place, len(data or b''), packet.used)
+
+
+def written_rows(packet, whole):
+    """A packet is written again: a datagram that is whole in it as it is, an error or a query but for FLAGS."""
+    address, port, identifier = packet.key
+    numbers, names = f'{identifier} 0x{address.hex()} {port}', [text_of(it).encode().hex() for it in (packet.source, packet.destination) if it]
+    if packet.kind not in KINDS:
+        call = f'error {numbers} {packet.code}' if packet.kind == ERROR else f'query {packet.kind} {numbers} {names[0]}'
+        yield f'datagram_{call} = {whole[:1].hex()}02{whole[2:].hex()}'
+    elif packet.flags == FIRST and packet.offset == 0 and packet.used <= 65535:
+        most = max(1, len(packet.data) // MOST_PIECES, identifier % 60)
+        station, pieces = Station('CUT', text_of(packet.destination), 1, 1), cut(packet, whole, most)
+        for size, written in (65535, [whole]), (most, pieces):
+            yield (f'datagram_write {packet.kind} {numbers} {" ".join(names)} {digits(packet.data)} {size} = '
+                   + ''.join(f'{len(it):04x}{it.hex()}' for it in written))
+        yield from (station.row, *(station.take(0, it) for it in reversed(pieces)))
+
+
+def cut(packet, whole, most):
+    """A datagram in pieces of at most so many bytes."""
+    size, pieces = len(packet.data), []
+    for start in range(0, size, most) or [0]:
+        data, flags = packet.data[start:start + most], FIRST * (start == 0) | MORE * (start + most < size)
+        names = whole[14:len(whole) - size]
+        pieces.append(bytes([packet.kind, flags]) + whole[2:10] + pack('>HH', len(names) + len(data), start) + names + data)
+    return pieces
+
+
+def session_rows(payload):
+    packet = read(139, payload)
+    fault = packet.fault or packet.missing and f'more bytes needed {packet.missing}'
+    front = f'! {fault}' if not packet.stands else f'~ {pack("<BBQ", packet.kind, packet.flags, packet.length).hex()}'
+    yield f'session_front P {front}'
+    yield f'session_read P {told(fault, lambda: pack("<BQQQ", packet.kind, 4, packet.length, packet.used))}'
+    names = lambda: b''.join(pack('<B255s', len(it), it) for it in map(spelling_of, (packet.called, packet.calling)))
+    yield f'session_names P {told(fault or packet.kind != REQUEST and "other type", names)}'
+    target = lambda: packet.address[::-1] + pack('<H', packet.port)
+    yield f'session_retarget P {told(fault or packet.kind != RETARGET and "other type", target)}'
+    if not fault:
+        yield f'session_write {packet.kind} {digits(packet.body)} = {payload[:packet.used].hex()}'
+        for it in range(0, packet.used, packet.used // 12 + 1) if packet.used < LONGEST_CUT else (packet.used - 1,):
+            yield f'session_read {digits(payload[:it])} ! more bytes needed {read(139, payload[:it]).missing}'
+
+
+def rdata_rows(payload):
+    """Bytes as RDATA: of type NS where they are one name, of another type where they aren't too many."""
+    front = '000785000000000100000000' + spelled([b'EGFCEFEECACACACACACACACACACACACA']).hex()
+    written = lambda kind: f'= {front}{kind:04x}00010000004d{len(payload):04x}+P'
+    yield f"service_response 7 0x8500 'FRED<20>' 1 77 P {written(1) if len(payload) < 65536 else '! data too long'}"
+    try:
+        _, after = read_labels(payload, 0)
+        name = written(2) if after == len(payload) else f'! name: trailing bytes {after}'
+    except Refused as fault:
+        name = f'! name: {fault}'
+    yield f"service_response 7 0x8500 'FRED<20>' 2 77 P {name}"
+
+
+# ---- calls, whatever they are given
+
+def any_rows(number, given, words):
+    """A row for each call with a payload for one of its inputs, and with other numbers; a port has more bits than count."""
+    for call, rows in given.items():
+        kinds, row = words[call], list(rows[number % len(rows)])
+        inputs = [place for place, kind in enumerate(kinds) if kind == 'IN']
+        if number % 2:
+            row = [it if kind == 'IN' else (int(it, 0) + (number * 2654435761 >> 7 * place)) % (1 << 64) for place, (kind, it) in
+                   enumerate(zip(kinds, row))]
+        if inputs:
+            row[inputs[number % len(inputs)]] = 'P'
+        yield ' '.join(map(str, (call, *row)))
+
+
+def rows_of(number, port, payload, given, words):
+    """The rows of a payload."""
+    yield from ('line', f'let P = {digits(payload)}')
+    if port != 'table':
+        yield from (f'{call} {int(port) | 0xabcd0000} P' for call in SAID)
+        yield from {'137': service_rows, '138': datagram_rows, '139': session_rows}[port](payload)
+    yield from rdata_rows(payload)
+    yield from any_rows(number, given, words)
+
+
+def together_rows(together, number):
+    """The rows of stations that are given some payloads."""
+    return table_rows(*([payload for port, payload in together if port == it] for it in ('138', 'table')), number)
+
+
+# ---- limits
+
+def limit_rows(names):
+    """As many names as a station may have, and one more; stations with few keys, which take in tables, cut at each length, and their own; and
+    a table with long lines."""
+    texts = b' '.join(b'N%c%c<20>' % (65 + it // 16, 65 + it % 16) for it in range(255))
+    yield f'station_create {texts[:-8].hex()} 0 0 0 0 LONG_LIST :'
+    yield f'station_create {texts.hex()} 0 0 0 0 LONG_LIST ! too many names {254 * 8}'
+    for number, limits in enumerate(product((0, 1, 2, MOST), repeat=2)):
+        station = Station(f'K{number}', NAMES, *limits)
+        yield station.row
+        yield from (station.absorb((1 << 64) - 1, names['TWO_KEYS'][:it]) for it in range(len(names['TWO_KEYS'])))
+        yield from (station.absorb(0, names[it]) for it in ('ANOTHER_KEY', 'TWO_KEYS'))
+        yield from (station.save(), station.absorb(0, station.table.saved()), station.save())
+    # Spoilt keys have the longest lines for their bytes.
+    yield from told_rows([b'NBT2' + pack('>I', SPOILT_KEYS) + b''.join(b'\xff' * 6 + pack('>HB', it, 0) for it in range(SPOILT_KEYS))])
+
+
+def main():
+    (names, cases), say = read_cases(), partial(print, sep='\n')
+    if sys.argv[1:] == ['limits']:
+        return say(*limit_rows(names))
+    given = {}
+    for call, words, _ in cases:
+        if call not in SAID and not call.startswith('station_') and not LONG.search(' '.join(words)):
+            given.setdefault(call, []).append(words)
+    words = {call: GIVEN.findall(words) for call, words in CALL.findall((Path(__file__).parent / 'calls.def').read_text('ascii'))}
+    say(*(f'let {name} = {digits(data)}' for name, data in names.items()))
+    together = []
+    for number, line in enumerate(sys.stdin):
+        port, payload = line.split()
+        payload = bytes.fromhex(payload.replace('empty', ''))
+        say(*rows_of(number, port, payload, given, words))
+        together.append((port, payload))
+        if len(together) == TOGETHER:
+            say(*together_rows(together, number))
+            together.clear()
+    return say(*together_rows(together, number))
+
+
+if __name__ == '__main__':
+    main()

@@ -16,6 +16,20 @@ if ! command -v tshark >/dev/null; then
     exit
 fi
 with_tools "$program"
+PATH=$room/bin:$PATH
+files=$room/files
+
+# What the samples of tests/wireshark/cases.txt have at hand.
+mkdir "$files" "$files/bare"
+ln -s "$(realpath "$here/..")" "$files/top"
+ln -s top/examples "$files/examples"
+ln -s "$(realpath "$here/../tools/pcap2cap")" "$(realpath "$here/../tools/cap2pcap")" "$room/bin"
+ln -s "$(command -v cat)" "$(command -v env)" "$(python3 -c 'import sys; print(sys.executable)')" "$files/bare"
+echo '{"a": 1}' >"$files/words"
+: >"$files/empty"
+
+# cases PART: its samples.
+cases() { counted_by lib/samples.py "$files" "$here/wireshark/cases.txt" "$1"; }
 
 nbt() { ended "$program" "$@"; }
 pcap2cap() { ended "$here/../tools/pcap2cap" "$@"; }
@@ -127,153 +141,39 @@ summary+='with other bytes, 2 of a TCP stream whose start is missing, 1 with RST
 summary+='1 a length that the packet lacks'
 
 network() {
-    "$here/captures/network.py" "$room/network.pcap" >"$room/expected"
+    "$here/captures/network.py" "$files/network.pcap" >"$files/expected"
     mkdir "$room/own" && echo 'ip.defragment: FALSE' >"$room/own/preferences" && echo udp >"$room/own/disabled_protos"
-    WIRESHARK_CONFIG_DIR=$room/own pcap2cap "$room/network.pcap" >"$room/capture" 2>"$room/errors"
-    [ $? -eq 0 ] && diff "$room/expected" "$room/capture" && [ "$(cat "$room/errors")" = "$summary" ]
+    WIRESHARK_CONFIG_DIR=$room/own pcap2cap "$files/network.pcap" >"$room/capture" 2>"$room/errors"
+    [ $? -eq 0 ] && diff "$files/expected" "$room/capture" && [ "$(cat "$room/errors")" = "$summary" ]
     count $? "pcap2cap: the packets of a network, whatever the user's settings of tshark"
-    pcap2cap --bare --quiet "$room/network.pcap" 2>"$room/errors" | cmp -s - <(grep -v '^# frame [0-9]* 2023' "$room/expected") &&
+    pcap2cap --bare --quiet "$files/network.pcap" 2>"$room/errors" | cmp -s - <(grep -v '^# frame [0-9]* 2023' "$files/expected") &&
         [ ! -s "$room/errors" ]
     count $? 'pcap2cap --bare --quiet'
-    pcap2cap --no-ticks --quiet "$room/network.pcap" | cmp -s - <(grep -v '^tick' "$room/expected")
+    pcap2cap --no-ticks --quiet "$files/network.pcap" | cmp -s - <(grep -v '^tick' "$files/expected")
     count $? 'pcap2cap --no-ticks'
-    pcap2cap - <"$room/network.pcap" 2>"$room/errors" | cmp -s - "$room/expected" && [ "$(cat "$room/errors")" = "$summary" ] &&
-        cat "$room/network.pcap" | pcap2cap - 2>"$room/errors" | cmp -s - "$room/expected"
+    pcap2cap - <"$files/network.pcap" 2>"$room/errors" | cmp -s - "$files/expected" && [ "$(cat "$room/errors")" = "$summary" ] &&
+        cat "$files/network.pcap" | pcap2cap - 2>"$room/errors" | cmp -s - "$files/expected"
     count $? 'pcap2cap -, a file and a pipe'
-    pcap2cap --port 138=20138 --port 137=20137 --quiet "$room/network.pcap" | diff "$room/expected" - | grep '^> 137' >"$room/output"
-    [ "$(cut -d ' ' -f 1-4 "$room/output")" = "> 137 20980 $(awk '$1 == 137 { print $3; exit }' "$room/expected")" ]
+    pcap2cap --port 138=20138 --port 137=20137 --quiet "$files/network.pcap" | diff "$files/expected" - | grep '^> 137' >"$room/output"
+    [ "$(cut -d ' ' -f 1-4 "$room/output")" = "> 137 20980 $(awk '$1 == 137 { print $3; exit }' "$files/expected")" ]
     count $? 'pcap2cap --port 137=20137'
 
-    # What `nbt show` and tshark say of the same packets, in the words of `nbt show`. Empty payloads, those of which a part
-    # was captured, those that are no session packets, and segments that overlap are left to the cases above.
-    awk '$2 < 20000' "$room/capture" | nbt show | sed -E ':all;N;$!ball;s/\n  +/ /g' | grep -v -e ' tick ' -e ' refused ' | sed -E '
-        s/^[0-9]+ //; s/ used=[0-9]+//; s/ op=.* ar=[0-9]+ (question|answer)//; s/ class=[0-9a-f]+//
-        s/ data=[0-9a-f]+ entry flags=[0-9a-f]+ ont=[0-3]//; s/^(139 .*) data=.*/\1/' >"$room/shown"
-    fields "$room/network.pcap" '(nbns || nbdgm || nbss.type) && !icmp && frame.cap_len == frame.len && frame.time_relative < 20' \
-        nbns.id nbns.flags nbns.name nbns.type nbns.ttl nbns.addr nbdgm.type nbdgm.flags nbdgm.src.ip nbdgm.src.port \
-        nbdgm.dgram_id nbdgm.pkt_offset nbdgm.source_name nbdgm.destination_name data.data nbss.type nbss.length \
-        nbss.called_name nbss.calling_name | awk -F'\t' '
-        { gsub(/ \([A-Z][^)]*\)|0x/, "") }
-        $1 != "" { printf "137 id=%s word=%s %s type=%04x", $1, $2, $3, $4; print $5 != "" ? " ttl=" $5 " address=" $6 : "" }
-        $7 != "" {
-            split("unique group broadcast", kinds, " ")
-            printf "138 %s flags=%s key=%s:%s/%s offset=%s", kinds[$7 - 15], $8, $9, $10, $11, $12
-            printf " source=%s destination=%s data=%s\n", $13, $14, $15
-        }
-        $16 != "" {
-            count = split($16, types, ",")
-            split($17, lengths, ",")
-            for (i = 1; i <= count; i++) {
-                if (types[i] == "00") print "139 message length=" lengths[i]
-                if (types[i] == "81") print "139 request called=" $18 " calling=" $19
-                if (types[i] == "82") print "139 positive"
-                if (types[i] == "85") print "139 keepalive"
-            }
-        }' >"$room/dissected"
-    [ "$(wc -l <"$room/shown")" -eq 11 ] && diff "$room/shown" "$room/dissected"
-    count $? 'nbt show and tshark on the packets of a network'
-
     # From the capture to a pcap, and back: every payload is the same, and so is every byte of TCP.
-    cap2pcap <"$room/capture" >"$room/again.pcap" && pcap2cap "$room/again.pcap" >"$room/again"
+    cap2pcap <"$room/capture" >"$files/again.pcap" && pcap2cap "$files/again.pcap" >"$room/again"
     count $? 'cap2pcap: the packets of a network'
     [ "$(payloads "$room/capture" | wc -l)" -gt 12 ] && cmp -s <(payloads "$room/capture") <(payloads "$room/again")
     count $? 'the packets of a network, from pcap to capture to pcap to capture'
     cmp -s <(ends <"$room/capture") <(ends <"$room/again")
     count $? 'cap2pcap: times, addresses and ports are those of the comments'
-    fields "$room/network.pcap" 'udp.port in {137, 138} && !icmp && frame.cap_len == frame.len && frame.time_relative < 20' \
+    fields "$files/network.pcap" 'udp.port in {137, 138} && !icmp && frame.cap_len == frame.len && frame.time_relative < 20' \
         udp.payload >"$room/before"
-    [ -s "$room/before" ] && fields "$room/again.pcap" 'udp && frame.time_relative < 20' udp.payload | cmp -s "$room/before" -
+    [ -s "$room/before" ] && fields "$files/again.pcap" 'udp && frame.time_relative < 20' udp.payload | cmp -s "$room/before" -
     count $? 'payloads of UDP, as tshark has them before and after'
-    fields "$room/again.pcap" tcp.payload tcp.payload | tr -d '\n' | cmp -s - <(sed -n 's/^139 [0-9]* //p' "$room/capture" | tr -d '\n')
+    fields "$files/again.pcap" tcp.payload tcp.payload | tr -d '\n' | cmp -s - <(sed -n 's/^139 [0-9]* //p' "$room/capture" | tr -d '\n')
     count $? 'payloads of TCP, as tshark has them after'
 }
 
-# ---- Other forms of the file, and what can't be read or written.
-
-# refused TOOL TEXT STATUS MESSAGE [WORD..]: what a tool says of its input, or of its words, without any output.
-refused() {
-    local tool=$1 text=$2 status=$3 message=$4
-    shift 4
-    printf '%s\n' "$text" | ended "$here/../tools/$tool" "$@" >"$room/output" 2>"$room/errors"
-    [ "${PIPESTATUS[1]}" -eq "$status" ] && [ ! -s "$room/output" ] && [ "$(cat "$room/errors")" = "$message" ]
-    count $? "$tool $*: $message"
-}
-
-# closed TOOL MESSAGE WORD REDIRECTION: a standard stream is closed.
-closed() {
-    eval "ended '$here/../tools/$1' $3 2>'$room/errors' $4"
-    [ $? -eq 3 ] && [ "$(cat "$room/errors")" = "$2" ]
-    count $? "$1 $3 $4: $2"
-}
-
-others() {
-    ended tshark -r "$room/network.pcap" -w "$room/network.pcapng" 2>"$room/errors"
-    pcap2cap --quiet "$room/network.pcapng" | cmp -s - "$room/expected"
-    count $? 'pcap2cap: a pcapng file'
-    head -c 400 "$room/network.pcap" >"$room/cut.pcap"
-    pcap2cap "$room/cut.pcap" >"$room/output" 2>"$room/errors"
-    [ $? -eq 3 ] && cmp -s "$room/output" <(head -n 2 "$room/expected") && grep -q '^pcap2cap: tshark: .* cut short' "$room/errors"
-    count $? 'pcap2cap: a file that is cut off'
-    pcap2cap "$room/capture" >"$room/output" 2>"$room/errors"
-    [ $? -eq 2 ] && [ ! -s "$room/output" ] &&
-        [ "$(cat "$room/errors")" = "pcap2cap: $room/capture: the file holds no packets: it is the text of a capture" ]
-    count $? "pcap2cap: a capture's text"
-    cp "$here/../README.md" "$room/lines" && pcap2cap "$room/lines" >"$room/output" 2>"$room/errors"
-    [ $? -eq 2 ] && [ ! -s "$room/output" ] && [ -s "$room/errors" ]
-    count $? "pcap2cap: another text: $(cat "$room/errors")"
-    echo '{"a": 1}' | pcap2cap - >"$room/output" 2>"$room/errors"
-    [ "${PIPESTATUS[1]}" -eq 2 ] && [ "$(cat "$room/errors")" = 'pcap2cap: the file holds no packets: tshark takes it for JSON' ]
-    count $? 'pcap2cap: a file that is no pcap'
-    pcap2cap "$room/network.pcap" >/dev/full 2>"$room/errors"
-    [ $? -eq 3 ] && [ "$(cat "$room/errors")" = 'pcap2cap: standard output: No space left on device' ]
-    count $? 'pcap2cap, standard output full'
-    cap2pcap <"$room/capture" >/dev/full 2>"$room/errors"
-    [ $? -eq 3 ] && grep -q '^cap2pcap: text2pcap: ' "$room/errors"
-    count $? 'cap2pcap, standard output full'
-
-    refused pcap2cap '' 2 "pcap2cap: usage: pcap2cap FILE >CAPTURE, or -, --live or -i INTERFACE in place of FILE; --help says more"
-    refused pcap2cap '' 2 'pcap2cap: argument --port: a service and a port are wanted, as 137=20137; --help says more' --port 136=7 x
-    refused pcap2cap '' 2 'pcap2cap: --port: 137 stands for 137 and 138' --port 138=137 x
-    refused pcap2cap '' 3 "pcap2cap: $room/no"$'\xff'": No such file or directory" "$room/no"$'\xff'
-    refused pcap2cap '' 3 "pcap2cap: $room: it is a directory" "$room"
-    : >"$room/empty"
-    refused pcap2cap '' 2 "pcap2cap: $room/empty: the file holds no packets: it is empty" "$room/empty"
-    closed pcap2cap 'pcap2cap: standard output is closed' "$room/network.pcap" '>&-'
-    closed pcap2cap 'pcap2cap: standard input is closed' - '<&-'
-    closed cap2pcap 'cap2pcap: standard input is closed' '' '<&-'
-    closed cap2pcap 'cap2pcap: standard output is closed' '' '</dev/null >&-'
-    pcap2cap "$room/network.pcap" 2>&- | cmp -s - "$room/expected"
-    count $? 'pcap2cap, standard error closed'
-    refused cap2pcap "$(head -c 300000 /dev/zero | tr '\0' 0)" 1 'cap2pcap: line 1'
-    (ulimit -v 400000; cap2pcap </dev/zero >"$room/output" 2>"$room/errors")
-    [ $? -eq 1 ] && [ "$(cat "$room/errors")" = 'cap2pcap: line 1' ]
-    count $? 'cap2pcap: a line without an end'
-    cap2pcap <"$room" >"$room/output" 2>"$room/errors"
-    [ $? -eq 3 ] && [ "$(cat "$room/errors")" = 'cap2pcap: standard input: it is a directory' ]
-    count $? 'cap2pcap: a directory'
-    pcap2cap - <"$room" >"$room/output" 2>"$room/errors"
-    [ $? -eq 3 ] && [ "$(cat "$room/errors")" = 'pcap2cap: standard input: it is a directory' ]
-    count $? 'pcap2cap -: a directory'
-    cap2pcap <"$room/capture" 2>&- | cmp -s - "$room/again.pcap"
-    count $? 'cap2pcap, standard error closed'
-    refused cap2pcap '' 2 'cap2pcap: usage: cap2pcap <CAPTURE >PCAP' capture
-    refused cap2pcap $'# A capture\n137 0 0' 1 'cap2pcap: line 2'
-    refused cap2pcap '138 18446744073709551616 00' 1 'cap2pcap: line 1'
-    refused cap2pcap '138 4294967296000 00' 1 'cap2pcap: line 1: a pcap file holds no moment after 4294967295999'
-    refused cap2pcap "138 0 $(spelled '{HEX:65508}')" 1 'cap2pcap: line 1: a UDP packet holds at most 65507 bytes, not 65508'
-    mkdir "$room/bare" && ln -s "$(command -v cat)" "$(command -v env)" "$room/bare"
-    ln -s "$(python3 -c 'import sys; print(sys.executable)')" "$room/bare/python3"
-    PATH=$room/bare refused pcap2cap '' 3 "pcap2cap: tshark isn't installed; in Debian it is the package tshark" "$room/network.pcap"
-    PATH=$room/bare refused cap2pcap '' 3 "cap2pcap: text2pcap isn't installed; in Debian it comes with the package tshark"
-
-    # Lines that are no whole session packet, and empty ones.
-    printf '%s\n' '139 7 8500' '139 8 85000000' '138 9 empty' '139 9 8600000101' '139 10 empty' '139 11 82000000' >"$room/lines"
-    cap2pcap <"$room/lines" >"$room/output" && pcap2cap --bare --quiet "$room/output" | cmp -s - <(printf '%s\n' '139 1 85000000' '138 2 empty' \
-        '139 2 8600000101' '139 4 82000000' '# stream 0 from 192.0.2.1 port 1024: bytes left over: 2 (8500)')
-    count $? 'a stream ends with a line that is no session packet'
-}
-
-# ---- Long captures, readers that end, and terminals.
+# ---- Long captures, and terminals.
 
 # A pcap of so many queries, a millisecond apart.
 queries() {
@@ -282,19 +182,14 @@ queries() {
 }
 
 long() {
-    queries 100000 >"$room/long.pcap"
-    pcap2cap "$room/long.pcap" >"$room/output" 2>"$room/errors"
+    queries 100000 >"$files/long.pcap"
+    pcap2cap "$files/long.pcap" >"$room/output" 2>"$room/errors"
     [ $? -eq 0 ] && diff - "$room/errors" <<'EOF'
 pcap2cap: more than 16777216 bytes are written now: nbt reads them with --input-limit 18446744073709551615
 100000 frames, 100000 of these ports, 0 left out
 EOF
     count $? 'pcap2cap: more than one input'
-    pcap2cap "$room/long.pcap" 2>"$room/errors" | head -n 1 >"$room/output"
-    [ "${PIPESTATUS[0]}" -eq 3 ] && [ "$(cat "$room/errors")" = 'pcap2cap: the program that reads this ended' ]
-    count $? 'pcap2cap, its reader ends'
-    yes '138 0 00' | head -n 50000 | cap2pcap 2>"$room/errors" | head -c 1 >"$room/output"
-    [ "${PIPESTATUS[2]}" -eq 3 ] && [ "$(cat "$room/errors")" = 'cap2pcap: the program that reads this ended' ]
-    count $? 'cap2pcap, its reader ends'
+    cases readers
 
     # An hour of datagrams, one each second, through a pipe at once: each is delivered, and a tick drops its key.
     nbt build group 10.0.0.5:138/0001 'JOE<00>' 'FRED<20>' 6869 2 | awk '{ for (i = 0; i < 3600; i++)
@@ -306,15 +201,15 @@ EOF
 
     # On a terminal the progress comes, at most twice a second, and goes; not with --quiet.
     local each="$here/../tools/pcap2cap" began=$SECONDS took=''
-    ended "$here/lib/terminal.py" "$room/output" "$each" "$room/long.pcap" >"$room/shown" && took=$((SECONDS - began)) &&
+    ended "$here/lib/terminal.py" "$room/output" "$each" "$files/long.pcap" >"$room/shown" && took=$((SECONDS - began)) &&
         grep -q $'^\rpcap2cap: [0-9]* of [0-9]* bytes *\r.* *\rpcap2cap: more than' <<<"$(head -n 1 "$room/shown")" &&
         grep -qE $'(^| \r)100000 frames, 100000 of these ports, 0 left out\r$' <<<"$(tail -n 1 "$room/shown")"
     count $? 'pcap2cap on a terminal'
     [ -n "$took" ] && [ "$(tr '\r' '\n' <"$room/shown" | grep -c ' of [0-9]* bytes')" -le $((2 * took + 3)) ]
     count $? 'pcap2cap on a terminal: at most twice a second'
-    ended "$here/lib/terminal.py" "$room/output" "$each" --quiet "$room/network.pcap" >"$room/shown" && [ ! -s "$room/shown" ]
+    ended "$here/lib/terminal.py" "$room/output" "$each" --quiet "$files/network.pcap" >"$room/shown" && [ ! -s "$room/shown" ]
     count $? 'pcap2cap --quiet on a terminal'
-    ended "$here/lib/terminal.py" "$room/output" sh -c "'$each' '$room/long.pcap' | cat" >"$room/shown" && ! grep -q ' of [0-9]* bytes' "$room/shown"
+    ended "$here/lib/terminal.py" "$room/output" sh -c "'$each' '$files/long.pcap' | cat" >"$room/shown" && ! grep -q ' of [0-9]* bytes' "$room/shown"
     count $? 'pcap2cap on a terminal, into a pipe: no progress among what its reader prints'
 }
 
@@ -331,17 +226,9 @@ growing() {
     count $? "pcap2cap, peak of memory: $small and $large"
 }
 
-# examples/office.pcap, made once more.
-office() {
-    local example=$here/../examples/office
-    PATH=$room/bin:$PATH ended "$example.sh" >"$room/lines" && cap2pcap <"$room/lines" | cmp - "$example.pcap"
-    count $? 'examples/office.sh makes examples/office.pcap'
-    pcap2cap --bare --quiet "$example.pcap" | grep -v '^tick' | cmp - "$room/lines"
-    count $? 'examples/office.pcap has the packets that were built'
-}
-
 parts built snapped network odd
 if command -v node >/dev/null; then part random random; else lacks random nodejs; fi
-parts empties plugins early others long growing waits dumped office
+for each in empties others office; do part $each cases $each; done
+parts plugins early long growing waits dumped
 part page page docs/CAPTURES.md
 finish

@@ -1,5 +1,5 @@
-# Read by tests/wireshark.sh: what tools/pcap2cap does with what networks seldom send, with random captures, with files that have
-# no frame, and beside the user's plugins of tshark.
+# Read by tests/wireshark.sh: what tools/pcap2cap does with what networks seldom send, with random captures, and
+# beside the user's plugins of tshark.
 
 # Parts of tests/wireshark/odd_network.py; ticks are left to tests/captures/network.py.
 odd() {
@@ -13,22 +13,6 @@ odd() {
 
 # Captures made by chance, beside the page's reading of them.
 random() { counted_by wireshark/random_captures.py 30; }
-
-# without_frames NAME COMMAND: a file, or a pipe, that has no frame.
-without_frames() {
-    eval "$2" >"$room/output" 2>"$room/errors"
-    [ $? -eq 2 ] && [ ! -s "$room/output" ] &&
-        [ "$(cat "$room/errors")" = "pcap2cap: $1: the file holds no packets: it has no frame" ]
-    count $? "$2: $(cat "$room/errors")"
-}
-
-empties() {
-    head -c 24 "$room/network.pcap" >"$room/header.pcap"
-    without_frames 'standard input' ': | pcap2cap -'
-    without_frames 'standard input' 'cat "$room/header.pcap" | pcap2cap -'
-    without_frames 'standard input' 'pcap2cap - <"$room/header.pcap"'
-    without_frames "$room/header.pcap" 'pcap2cap --quiet "$room/header.pcap"'
-}
 
 # plugged PLACE VARIABLE..: a plugin, in a place where tshark finds it by these variables, that takes UDP away.
 plugged() {

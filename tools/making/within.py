@@ -28,7 +28,7 @@ OF_PAGES = {
 }
 # Programs and packages that take nothing of another file.
 OF_SOURCES = {
-    'bindings/rust/src/captures.rs': ((r'(one of more than )[\d,]+(?= bytes; `NoMemory`)', '{MOST_LINE:,}'),),
+    'bindings/rust/src/packets.rs': ((r'(one of more than )[\d,]+(?= bytes; `NoMemory`)', '{MOST_LINE:,}'),),
     'crates/nbt/src/limits.rt': OF_NAMES,
     'tests/plain/capture.rs': ((r'(^const LONGEST_LINE: usize = )[\d_]+', '{MOST_LINE:_}'), (r'(^pub const MOST_INPUT: u64 = )[\d_]+', '{INPUT:_}')),
 }

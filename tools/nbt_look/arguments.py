@@ -5,7 +5,7 @@ import ipaddress
 from nbt_pcap import arguments
 from nbt_pcap.process import NAME, Stopped
 
-from . import kindwords
+from .filters import advice
 from .vocabulary import KINDS, TABLES
 
 USAGE = 'usage: %s FILE.., or -, --live or -i INTERFACE in place of FILE; --help says more' % NAME
@@ -129,5 +129,5 @@ def kinds_in(text):
     wanted = text.split(',')
     for each in wanted:
         if each not in KINDS:
-            raise argparse.ArgumentTypeError(kindwords.advice(each))
+            raise argparse.ArgumentTypeError(advice(each))
     return wanted

@@ -36,7 +36,6 @@
 //! the folder of `nbt.pc`. With `NBT_STATIC=1` it is linked into the program.
 #![deny(missing_docs, unsafe_op_in_unsafe_fn)]
 
-mod captures;
 mod codes;
 mod datagram_front;
 mod error;
@@ -44,7 +43,6 @@ mod error;
 #[allow(dead_code)]
 #[rustfmt::skip]
 mod header;
-mod name;
 mod names;
 mod packets;
 mod rdata;
@@ -60,12 +58,10 @@ pub mod service;
 pub mod session;
 pub mod station;
 
-pub use captures::{capture_line, Line};
 pub use error::Error;
 pub use header::Status;
-pub use name::{Labels, Name};
-pub use names::{spell, text, Spelling};
-pub use packets::{brief, brief_into, json, json_into, show, show_into, version};
+pub use names::{spell, text, Labels, Name, Spelling};
+pub use packets::{brief, brief_into, capture_line, json, json_into, show, show_into, version, Line};
 pub use station::Station;
 pub use tables::{differ, list_table, merge, table_json, Limits};
 

@@ -4,7 +4,7 @@ Packets of port 137 are made here, of all kinds, with pointers good and bad; the
 import pathlib
 import re
 
-from fuzz_inputs import ROOT, Maker, likely_port
+from fuzz_inputs import Maker, likely_port
 from fuzz_traffic import LONGEST_LAST_LABEL, Traffic, capture_of, digits, session_packet
 from model.captures import LONGEST_LINE, read_capture
 from model.limits import MOST_KEYS
@@ -136,7 +136,7 @@ def session_of_any_length(rng, _):
 
 
 LIMITS = (1, 2, 3, MOST_KEYS)
-FORMATS = pathlib.Path(ROOT, 'docs/FORMATS.md')
+FORMATS = pathlib.Path(__file__).resolve().parents[2] / 'docs/FORMATS.md'
 # The options of each command, as the page has them.
 OPTIONS = {command: tuple(re.findall(r'\[(--[a-z-]+)', words))
            for command, words in re.findall(r'^\| `nbt (\w+)([^`]*)` \|', FORMATS.read_text('utf-8'), re.MULTILINE)}

@@ -12,8 +12,6 @@ ordinary() {
     "$here/join_examples.py" --check
     count $? 'the examples are joined (tests/join_examples.py)'
     enough "$(sed 's/ .*//' "$examples/../stdout")" "$(least nb_examples lines)" 'crates/nb_examples/stdout'
-    "$here/docs/rust_samples.py"
-    count $? 'the Rust samples of the pages stand in the sources (tests/docs/rust_samples.py)'
 
     # Names, texts and tables by the thousand, whose answers the model finds.
     for each in names tables; do

@@ -11,6 +11,7 @@ Usage: tests/docs/pages.py, whose last line is 'N passed, M failed'; --write wri
   a file of must-fail/, which says what is wrong and why, and stands in the table of named wrong bodies in docs/PROOFS.md, and each that
   stands there;
 - the crates of the table of costs in docs/PROOFS.md;
+- a paragraph of a Rust sample of README.md or docs/CALLING.md, which is lines of one source, indented as they may be;
 - how many words README.md has, and all pages that aren't made of the sources.
 """
 import functools
@@ -193,6 +194,24 @@ def made_lines():
         yield wanted == there, f'docs/{path.name} is what tests/docs/pages.py --write makes'
 
 
+def flat(text):
+    """A text whose lines have no indentation."""
+    return '\n'.join(map(str.strip, text.splitlines()))
+
+
+def rust_samples():
+    """Whether each paragraph of the Rust samples of README.md and docs/CALLING.md is lines of one source or example, and there are some."""
+    files = [it for pattern in ('crates/*/src/**/*.rt', 'bindings/rust/examples/*.rs') for it in ROOT.glob(pattern)]
+    texts = [f'\n{flat(it.read_text(encoding="utf-8"))}\n' for it in files]
+    found = False
+    for page in ('README.md', 'docs/CALLING.md'):
+        for sample in re.findall(r'^```rust\n(.*?)^```$', (ROOT / page).read_text(encoding='utf-8'), re.MULTILINE | re.DOTALL):
+            for paragraph in flat(sample).strip('\n').split('\n\n'):
+                found = True
+                yield any(f'\n{paragraph}\n' in it for it in texts), f'{page} has Rust that is in no source: {paragraph}'
+    yield found, 'the pages have Rust samples'
+
+
 def main(word=''):
     """Counts the cases that are right."""
     if word == '--write':
@@ -203,7 +222,7 @@ def main(word=''):
         for path, fields in edits():
             print(f'{path.parts[0]}/{path.stem}: {dict(fields)["what"]}\n    {dict(fields)["why"]}')
         return
-    checks = (places, names, promises, commented, wrong_bodies, named_bodies, costs, sizes, made_lines)
+    checks = (places, names, promises, commented, wrong_bodies, named_bodies, costs, sizes, made_lines, rust_samples)
     tally((case, not is_right) for check in checks for is_right, case in check())
 
 

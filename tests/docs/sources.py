@@ -14,13 +14,21 @@ PRIVATE_TRAIT = re.compile(r'^(?:pub\(\w+\) )?trait (\w+)', re.MULTILINE)
 BLOCK = re.compile(r'\b(?:unsafe\s+)?impl\b|\b(?:pub(?:\(\w+\))?\s+)?trait\s+\w+')
 FUNCTION = re.compile(r'\b(?:(pub(?:\(\w+\))?)\s+)?(?:unsafe\s+|extern\s+)*fn\s+(\w+)')
 CLAUSE = re.compile(r'\s*(requires|ensures)\*?\s*([\w-]*)\s*(?=\{)')
-GHOST = re.compile(r'\bghost\s+(\w+)\s*=\s*(?=\{)')
 DOC = re.compile(r'((?:^ *///[^\n]*\n)+)(?:^ *#\[[^\n]*\n)*^ *[^\n]*\Z', re.MULTILINE)
 
 
 def blank(text, pattern):
     """The text with spaces in place of what matches, as long as it was."""
     return pattern.sub(lambda it: ' ' * len(it[0]), text)
+
+
+class Source:
+    """A source file: its text, and as long as that `plain`, without comments, and `code`, without texts either, where braces are looked for."""
+
+    def __init__(self, path):
+        self.path, self.text = path, path.read_text(encoding='utf-8')
+        self.plain = blank(self.text, COMMENT)
+        self.code = blank(self.plain, QUOTED)
 
 
 def closed(text, start):
@@ -97,9 +105,8 @@ def doc_before(text, start):
 @functools.lru_cache(None)
 def functions(path):
     """The functions of a source file."""
-    text = path.read_text(encoding='utf-8')
-    plain = blank(text, COMMENT)
-    code = blank(plain, QUOTED)
+    source = Source(path)
+    text, plain, code = source.text, source.plain, source.code
     owners = list(blocks(code))
     found = []
     for it in FUNCTION.finditer(code):
@@ -119,17 +126,6 @@ def sources(crate):
 
 
 @functools.lru_cache(None)
-def ghosts(crate):
-    """The ghost members of a crate's types, as type, trait and name."""
-    found = set()
-    for path in sources(crate):
-        code = blank(blank(path.read_text(encoding='utf-8'), COMMENT), QUOTED)
-        for begin, end, (owner, trait) in blocks(code):
-            found |= {(owner, trait, it[1]) for it in GHOST.finditer(code, begin, end)}
-    return found
-
-
-@functools.lru_cache(None)
 def aliases(crate):
     """The types that names of types stand for, by these names."""
     text = '\n'.join(it.read_text(encoding='utf-8') for it in sources(crate))
@@ -144,7 +140,7 @@ def handed_out(crate):
     while left:
         path, folder = left.pop()
         files.add(path)
-        code = blank(path.read_text(encoding='utf-8'), COMMENT)
+        code = Source(path).plain
         for used in re.findall(r'^pub use ([^;]+);', code, re.MULTILINE):
             names |= set(re.findall(r'\w+', used))
         for module in re.findall(r'^pub mod (\w+);', code, re.MULTILINE):

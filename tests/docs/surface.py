@@ -8,7 +8,7 @@ main.rt takes from its modules. The examples' crates have no callers.
 """
 import re
 
-from sources import BLOCK, COMMENT, CRATES, QUOTED, ROOT, blank, closed, end_of_head, owner_of
+from sources import BLOCK, CRATES, ROOT, Source, closed, end_of_head, owner_of
 
 LISTED = re.findall(r'^(\w+)\b[^:#\n]*:', (ROOT / 'crates.txt').read_text(encoding='utf-8'), re.MULTILINE)
 ITEM = re.compile(
@@ -19,14 +19,11 @@ FLAGS = re.compile(r'^bitflag_items! \{\n    impl (\w+): (\w+) \{(.*?)\n    \}',
 USE = re.compile(r'^(pub )?use ([^;]+);', re.MULTILINE)
 
 
-class Source:
-    """A source file of a crate."""
+class Items(Source):
+    """A source file of a crate, and where its public items begin."""
 
     def __init__(self, path):
-        self.path, self.text = path, path.read_text(encoding='utf-8')
-        # As long as the text: without comments and attributes, and without texts where braces are looked for.
-        self.plain = blank(self.text, COMMENT)
-        self.code = blank(self.plain, QUOTED)
+        super().__init__(path)
         self.items = {it['name']: it.start() for it in ITEM.finditer(self.code)}
 
     def words(self, start, end):
@@ -89,7 +86,7 @@ class Crate:
 
     def __init__(self, name):
         self.name, self.src = name, CRATES / name / 'src'
-        self.sources = {path.relative_to(self.src).with_suffix('').parts: Source(path) for path in sorted(self.src.rglob('*.rt'))}
+        self.sources = {path.relative_to(self.src).with_suffix('').parts: Items(path) for path in sorted(self.src.rglob('*.rt'))}
         self.is_program = ('main',) in self.sources
         self.lines, self.types, self.traits = [], {}, set()
         self.walk((), 'main' if self.is_program else 'lib')

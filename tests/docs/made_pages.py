@@ -1,8 +1,9 @@
 """The pages that are made of the sources: docs/LAWS.md, docs/CALLS.md and docs/DEFINITIONS.md; for tests/docs/pages.py."""
 import collections
+import functools
 import re
 
-from sources import CRATES, ROOT, functions, heading, law_files, public
+from sources import CRATES, ROOT, functions, heading, law_files, sources
 from surface import Crate, one_line
 
 DOCS = ROOT / 'docs'
@@ -27,6 +28,7 @@ tests/docs/pages.py makes this page of the sources.
 '''
 # Traits whose calls have no rows of their own: their laws, texts and conversions are ghost members.
 PLAIN_TRAITS = ('From', 'fmt', 'Ord', 'PartialOrd', 'Eq', 'Flags', 'Facts', 'Iterator')
+surface_of = functools.lru_cache(None)(Crate)
 LINKED = re.compile(r'\[(`[^`]+`)\](?:\([^)]*\))?')
 DEFINITION = re.compile(r'^(?:abbrev pub|pub (?:data|record|abbrev)|pub(?! mod| use)) +([^\s:({]+)')
 
@@ -55,10 +57,11 @@ def laws(crates):
 def calls(crate):
     """The calls of a crate that have a row: those that are public, and of the command each function with a contract."""
     law = law_files(crate)
-    if crate != 'nbt':
-        return [it for it in public(crate) if it.path not in law and it.trait not in PLAIN_TRAITS and (it.doc or it.clauses)]
-    paths = sorted(it for it in (CRATES / crate / 'src').rglob('*.rt') if it not in law)
-    return [it for path in paths for it in functions(path) if it.is_public and not it.trait and it.clauses]
+    found = [it for path in sources(crate) if path not in law for it in functions(path)]
+    if crate == 'nbt':
+        return [it for it in found if it.is_public and not it.trait and it.clauses]
+    surface = surface_of(crate)
+    return [it for it in found if surface.hands_out(it) and it.trait not in PLAIN_TRAITS and (it.doc or it.clauses)]
 
 
 def is_of(words, function):
@@ -104,7 +107,7 @@ def calls_page(crates):
     """The page of the calls."""
     lines = [CALLS_HEAD]
     for crate in crates:
-        left = Crate(crate).surface()
+        left = surface_of(crate).surface()
         lines += [f'## {crate}\n', '| Call | What it says | Clauses |', '|---|---|---|', *(row(it, left) for it in calls(crate)), '']
         lines += [*(f'- {it}' for it in others(crate, left)), '']
     return '\n'.join(lines)

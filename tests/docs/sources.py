@@ -10,7 +10,6 @@ Function = collections.namedtuple('Function', 'owner trait name is_public head c
 
 QUOTED = re.compile(r'"(?:\\.|[^"\\])*"|\'(?:\\.|[^\'\\])\'')
 COMMENT = re.compile(r'//[^\n]*')
-PRIVATE_TRAIT = re.compile(r'^(?:pub\(\w+\) )?trait (\w+)', re.MULTILINE)
 BLOCK = re.compile(r'\b(?:unsafe\s+)?impl\b|\b(?:pub(?:\(\w+\))?\s+)?trait\s+\w+')
 FUNCTION = re.compile(r'\b(?:(pub(?:\(\w+\))?)\s+)?(?:unsafe\s+|extern\s+)*fn\s+(\w+)')
 CLAUSE = re.compile(r'\s*(requires|ensures)\*?\s*([\w-]*)\s*(?=\{)')
@@ -130,32 +129,6 @@ def aliases(crate):
     """The types that names of types stand for, by these names."""
     text = '\n'.join(it.read_text(encoding='utf-8') for it in sources(crate))
     return dict(re.findall(r'^pub(?:\(\w+\))? type (\w+)[^=;]*= (\w+)', text, re.MULTILINE))
-
-
-@functools.lru_cache(None)
-def handed_out(crate):
-    """The names that a crate hands out, and the files of its public modules."""
-    top = next(it for it in (CRATES / crate / 'src' / 'lib.rt', CRATES / crate / 'src' / 'main.rt') if it.exists())
-    names, files, left = set(), set(), [(top, top.parent)]
-    while left:
-        path, folder = left.pop()
-        files.add(path)
-        code = Source(path).plain
-        for used in re.findall(r'^pub use ([^;]+);', code, re.MULTILINE):
-            names |= set(re.findall(r'\w+', used))
-        for module in re.findall(r'^pub mod (\w+);', code, re.MULTILINE):
-            left.append((folder / f'{module}.rt', folder / module))
-    return names, files
-
-
-def public(crate):
-    """The public calls of a crate: those of its public modules, and of what it hands out, but for those of private traits."""
-    names, files = handed_out(crate)
-    private = {name for path in sources(crate) for name in PRIVATE_TRAIT.findall(path.read_text(encoding='utf-8'))}
-    for path in sources(crate):
-        for it in functions(path):
-            if it.is_public and it.trait not in private and (path in files or (it.owner or it.name) in names):
-                yield it
 
 
 def law_files(crate):

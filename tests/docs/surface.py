@@ -90,6 +90,7 @@ class Crate:
         self.is_program = ('main',) in self.sources
         self.lines, self.types, self.traits = [], {}, set()
         self.walk((), 'main' if self.is_program else 'lib')
+        self.names = {item for _, item, _ in self.lines}
         for source in self.sources.values():
             self.blocks(source)
 
@@ -164,6 +165,11 @@ class Crate:
         for name, bits, inner in FLAGS.findall(source.code):
             for flag, value in re.findall(r'\bconst (\w+) = (\w+);', inner) if name in self.types else ():
                 self.add(self.types[name], f'{name}::{flag}', f'pub const {flag}: {bits} = {value}')
+
+    def hands_out(self, function):
+        """Whether a caller can name a public function: a free one, or one of a type or a trait that is handed out, but for private traits."""
+        is_private = function.trait not in self.traits and re.search(rf'^(?:pub\(\w+\) )?trait {function.trait}\b', self.text(), re.MULTILINE)
+        return function.is_public and not (function.trait and is_private) and (function.owner or function.name) in self.names
 
     def text(self):
         """All that the crate's sources say."""

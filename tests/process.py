@@ -21,23 +21,17 @@ from limits import MANY
 from parts import check, counts, enough, finish, least, part, skip
 from process_inputs import CAPTURE, COMMANDS, FRED, READING, REPORT, captures, chained, forms, repeated, roomy
 from process_runs import (broken_pipe, bytes_of, closed, instructions, limited, lines_of, requests as counted_requests, rest_of,
-                          run, small_pipe, start, starts, wait)
+                          run, run_over, small_pipe, start, starts, wait)
 from process_terminals import advised, at_terminals, dropped, given_files, looked, mistaken, plain, short_of_memory
 
 
 def ordinary():
     """Each command by itself; with standard error closed, full, or a pipe that nobody reads, it ends as ever."""
-    for words, given, status, output, errors in COMMANDS:
+    for words, given, status, output, errors in (*COMMANDS, ([], b'', 2, b'', run([])[2])):
         name = 'nbt ' + ' '.join(words)
         check(run(words, given) == (status, output, errors), name)
-        check(run(words, given, before=closed(2), stderr=None) == (status, output, b''), f'{name}, standard error closed')
-        with broken_pipe() as pipe:
-            check(run(words, given, stderr=pipe) == (status, output, b''), f'{name}, standard error a broken pipe')
-        with open('/dev/full', 'wb') as full:
-            check(run(words, given, stderr=full) == (status, output, b''), f'{name}, standard error full')
-    check(run([], before=closed(2), stderr=None)[:2] == (2, b''), 'nbt, standard error closed')
-    with broken_pipe() as pipe:
-        check(run([], stderr=pipe)[:2] == (2, b''), 'nbt, standard error a broken pipe')
+        for device in ('closed', 'a broken pipe', 'full'):
+            check(run_over(words, given, 'stderr', device) == (status, output, b''), f'{name}, standard error {device}')
 
 
 def failing_outputs():
@@ -47,17 +41,12 @@ def failing_outputs():
     for words, given, status, output, errors in (*COMMANDS, (['--help'], b'', *run(['--help']))):
         wanted = (3, b'nbt: write\n') if output else (status, errors)
         name = 'nbt ' + ' '.join(words)
-        for how, before in [('a broken pipe', None), ('a broken pipe, SIGPIPE ignored', ignored)]:
-            with broken_pipe() as pipe:
-                status_and_errors = run(words, given, before=before, stdout=pipe)[::2]
-            check(status_and_errors == wanted, f'{name}, standard output {how}')
-        with broken_pipe() as pipe:
-            ended = run(words, given, before=closed(2), stdout=pipe, stderr=None)[0]
+        for device in ('a broken pipe', 'full', 'opened for reading', 'closed'):
+            check(run_over(words, given, 'stdout', device)[::2] == wanted, f'{name}, standard output {device}')
+        ended = run_over(words, given, 'stdout', 'a broken pipe', before=ignored)[::2]
+        check(ended == wanted, f'{name}, standard output a broken pipe, SIGPIPE ignored')
+        ended = run_over(words, given, 'stdout', 'a broken pipe', before=closed(2), stderr=None)[0]
         check(ended == wanted[0], f'{name}, standard output a broken pipe, standard error closed')
-        for how, path, mode in [('full', '/dev/full', 'wb'), ('opened for reading', os.devnull, 'rb')]:
-            with open(path, mode) as stream:
-                check(run(words, given, stdout=stream)[::2] == wanted, f'{name}, standard output {how}')
-        check(run(words, given, before=closed(1), stdout=None)[::2] == wanted, f'{name}, standard output closed')
         ended = run(words, before=closed(0, 1, 2), stdin=None, stdout=None, stderr=None)[0]
         check(ended in (1, 3), f'{name}, all streams closed')
 
@@ -121,24 +110,15 @@ def shown_lines():
 
 def inputs():
     """An input that is no file to be read, or that stops."""
+    unread = (3, b'', b'nbt: read\n')
     for words in READING:
         name = f'nbt {words[0]}'
-        directory = os.open('/', os.O_RDONLY)
-        check(run(words, stdin=directory) == (3, b'', b'nbt: read\n'), f'{name}, a directory as input')
-        ended = run(words, before=closed(2), stdin=directory, stderr=None)
+        for device in ('a directory', 'closed', 'opened for writing', 'one that would have to be waited for'):
+            check(run_over(words, b'', 'stdin', device) == unread, f'{name}, its input {device}')
+        ended = run_over(words, b'', 'stdin', 'a directory', before=closed(2), stderr=None)
         check(ended == (3, b'', b''), f'{name}, a directory as input, standard error closed')
-        os.close(directory)
-        check(run(words, before=closed(0), stdin=None) == (3, b'', b'nbt: read\n'), f'{name}, standard input closed')
-        with open(os.devnull, 'wb') as writing:
-            check(run(words, stdin=writing) == (3, b'', b'nbt: read\n'), f'{name}, an input opened for writing')
-        with open('/dev/zero', 'rb') as zeros:
-            wanted = (3, b'', b'nbt: read\n') if words[0] in ('merge', 'list', 'agree') else (1, b'', b'nbt: line 1\n')
-            check(run(words, stdin=zeros) == wanted, f'{name}, an input of zero bytes without end')
-        reading, writing = os.pipe()
-        os.set_blocking(reading, False)
-        check(run(words, stdin=reading) == (3, b'', b'nbt: read\n'), f'{name}, an input that would have to be waited for')
-        os.close(reading)
-        os.close(writing)
+        wanted = unread if words[0] in ('merge', 'list', 'agree') else (1, b'', b'nbt: line 1\n')
+        check(run_over(words, b'', 'stdin', 'zero bytes without end') == wanted, f'{name}, an input of zero bytes without end')
     for words in (['show'], ['replay', 'FRED<20>']):
         stopping_input(words)
 
@@ -234,16 +214,21 @@ def small_files(limit):
     return begin
 
 
+def ended_in(path, words, given, **how):
+    """The status and the errors of a run whose output is a file, and what the file has then."""
+    with open(path, 'wb') as stream:
+        ended = run(words, given, stdout=stream, **how)[::2]
+    with open(path, 'rb') as stream:
+        return ended, stream.read()
+
+
 def cut_files(path):
     """A file that takes fewer bytes than the output has, for each such number: it gets exactly those."""
     for words, given in [*((words, given) for words, given, *_ in COMMANDS), *forms()]:
         output = run(words, given)[1]
         for room in range(len(output)):
-            with open(path, 'wb') as stream:
-                ended = run(words, given, before=small_files(room), stdout=stream)[::2]
-            with open(path, 'rb') as stream:
-                written = stream.read()
-            check(ended == (3, b'nbt: write\n') and written == output[:room], f'nbt {" ".join(words)}, {room} bytes of room')
+            ended = ended_in(path, words, given, before=small_files(room))
+            check(ended == ((3, b'nbt: write\n'), output[:room]), f'nbt {" ".join(words)}, {room} bytes of room')
 
 
 def full_disk(name, path, before):
@@ -254,13 +239,10 @@ def full_disk(name, path, before):
     for words, given in [(['show'], given), (['replay', 'FRED<20>'], given), (['save'], given), (['merge'], table),
                          (['list'], table), (building, b'')]:
         whole = run(words, given)[1]
-        with open(path, 'wb') as output:
-            status, _, errors = run(words, given, before=before, stdout=output)
-        with open(path, 'rb') as output:
-            written = output.read()
+        ended, written = ended_in(path, words, given, before=before)
         os.remove(path)
-        check((status, errors) == (3, b'nbt: write\n') and 0 < len(written) <= 16_384 < len(whole)
-              and whole.startswith(written), f'nbt {words[0]}, {name}')
+        is_front = 0 < len(written) <= 16_384 < len(whole) and whole.startswith(written)
+        check(ended == (3, b'nbt: write\n') and is_front, f'nbt {words[0]}, {name}')
 
 
 def filled_disk(folder):
@@ -271,9 +253,7 @@ def filled_disk(folder):
     path = os.path.join(folder, 'output')
     for words, given, status, output, errors in COMMANDS:
         wanted = (3, b'nbt: write\n') if output else (status, errors)
-        with open(path, 'wb') as stream:
-            ended = run(words, given, stdout=stream)[::2]
-        check(ended == wanted and os.path.getsize(path) == 0, f'nbt {" ".join(words)}, output to a full disk')
+        check(ended_in(path, words, given) == (wanted, b''), f'nbt {" ".join(words)}, output to a full disk')
         with open(path, 'wb') as stream:
             ended = run(words, given, stderr=stream)[:2]
         check(ended == (status, output), f'nbt {" ".join(words)}, errors to a full disk')

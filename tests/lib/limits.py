@@ -10,10 +10,3 @@ MANY = ['--keys', str(MOST_KEYS)]
 # What stands in tests/cases for a limit, and for one more.
 NAMED = {'KEYS': KEYS, 'MOST_KEYS': MOST_KEYS, 'MOST_LINE': MOST_LINE, 'MOST_NAMES': MOST_NAMES}
 NAMED |= {f'OVER_{name}': limit + 1 for name, limit in NAMED.items()}
-
-
-def filled(line):
-    """A line of tests/cases in which limits stand for their names."""
-    for name, limit in NAMED.items():
-        line = line.replace(b'{%s}' % name.encode(), b'%d' % limit)
-    return line

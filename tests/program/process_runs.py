@@ -12,6 +12,7 @@ import termios
 TESTS = os.path.dirname(os.path.dirname(os.path.abspath(__file__)))
 PROGRAM = os.path.join(TESTS, '..', 'crates', 'nbt', 'out', 'nbt')
 SECONDS = 60
+STREAMS = ('stdin', 'stdout', 'stderr')
 
 program = os.path.realpath(sys.argv[1] if len(sys.argv) > 1 else PROGRAM)
 
@@ -32,6 +33,36 @@ def run(words, given=b'', before=None, **streams):
         process.communicate()
         return None, b'', b''
     return process.returncode, output or b'', errors or b''
+
+
+@contextlib.contextmanager
+def directory():
+    """A folder as an input."""
+    opened = os.open('/', os.O_RDONLY)
+    try:
+        yield opened
+    finally:
+        os.close(opened)
+
+
+@contextlib.contextmanager
+def unready():
+    """The end to read of a pipe that has nothing yet, which says so."""
+    reading, writing = os.pipe()
+    os.set_blocking(reading, False)
+    try:
+        yield reading
+    finally:
+        os.close(reading)
+        os.close(writing)
+
+
+def run_over(words, given, stream, device, before=None, **streams):
+    """A whole run in which one of the three streams is such a device."""
+    if device == 'closed':
+        return run(words, given, before=closed(STREAMS.index(stream)), **streams, **{stream: None})
+    with DEVICES[device]() as opened:
+        return run(words, given, before=before, **streams, **{stream: opened})
 
 
 def instructions(words, given):
@@ -122,6 +153,13 @@ def lines_of(stream, count):
 def rest_of(stream):
     """What a stream still gives up to its end, or within some seconds."""
     return bytes_of(stream.fileno(), 1 << 30)
+
+
+DEVICES = {
+    'a broken pipe': broken_pipe, 'full': lambda: open('/dev/full', 'wb'), 'opened for reading': lambda: open(os.devnull, 'rb'),
+    'a directory': directory, 'opened for writing': lambda: open(os.devnull, 'wb'), 'zero bytes without end': lambda: open('/dev/zero', 'rb'),
+    'one that would have to be waited for': unready,
+}
 
 
 def quiet_terminal():

@@ -1,46 +1,51 @@
 """What the program prints at a terminal, for tests/process.py; each function gives (whether it is right, a name) for each case."""
+import functools
 import os
-import re
 import time
 
-from limits import MANY, MOST_NAMES, filled
+from limits import MANY, MOST_NAMES
 from process_inputs import COMMANDS, FRED, READING, captures, packet
-from process_runs import (TESTS, at_terminal, limited, lines_of, quiet_terminal, rest_of, rest_of_terminal, run, start, starts, wait,
+from process_runs import (at_terminal, limited, lines_of, quiet_terminal, rest_of, rest_of_terminal, run, start, starts, wait,
                           with_errors_shown)
 
 LOOK = b'a pcap or pcapng file: `nbt-look FILE` shows it, `nbt-pcap2cap FILE` makes a capture of it\n'
-PACKETS = (b'query, status, registration, refresh, release, response, request, message, positive, negative, retarget, '
-           b'keepalive, unique, group, broadcast, error, find, found, missing')
+PACKETS = ('query, status, registration, refresh, release, response, request, message, positive, negative, retarget, '
+           'keepalive, unique, group, broadcast, error, find, found, missing')
 KEYED = ['10.0.0.5:138/0001', 'JOE<00>', 'FRED<20>']
-# The words after `build` that are refused as `arguments`, and what is said of them after that word.
+# What a field of a packet has to be.
+FIELDS = {
+    'ID': 'four hexadecimal digits, such as 0001', 'CODE': 'two hexadecimal digits, such as 82',
+    'TTL': 'a decimal number to 4294967295 without leading zeros, such as 300000', 'FLAGS': 'four hexadecimal digits, such as 0000',
+    'ADDRESS': 'four decimal numbers to 255 with dots between them, such as 10.0.0.5',
+    'PORT': 'a decimal number to 65535 without leading zeros, such as 139', 'KEY': 'ADDRESS:PORT/ID, such as 10.0.0.5:138/0001',
+    'HEX': 'two hexadecimal digits a byte, or `empty`, such as 00ff', 'TYPE': 'four hexadecimal digits, such as 0020',
+    'MOST': 'a decimal number to 65535 without leading zeros, such as 512',
+    'a name': 'two hexadecimal digits a byte, for TYPE 0002 those of a name, such as 00',
+}
+# The words after `build` of which one is refused as `arguments`: its place, its field, and whether it is repeated.
+WRONG = [
+    (['query', '1', 'FRED<20>'], 1, 'ID', True), (['query', '0x01', 'FRED'], 1, 'ID', True), (['negative', '8'], 1, 'CODE', True),
+    (['registration', '0001', 'FRED<20>', '01', '0000', '10.0.0.5'], 3, 'TTL', True),
+    (['release', '0001', 'FRED<20>', '0', '10.0.0.5'], 3, 'FLAGS', True), (['retarget', '10.0.0', '139'], 1, 'ADDRESS', True),
+    (['retarget', '10.0.0.5', '65536'], 2, 'PORT', True), (['error', '10.0.0.5/0001', '82'], 1, 'KEY', True),
+    (['message', '616'], 1, 'HEX', True), (['message', '6' * 41], 1, 'HEX', False), (['message', '\x1b[31m'], 1, 'HEX', False),
+    (['unique', *KEYED, '616263', 'some'], 5, 'MOST', True), (['response', '0001', '8500', 'FRED<20>', '20', '0', '00'], 4, 'TYPE', True),
+    (['response', '0001', '8500', 'FRED<20>', '0002', '0', '05'], 6, 'a name', True),
+]
+
+
+def wrong(words, place, field, is_repeated):
+    """What is said of a word that is refused."""
+    name = 'HEX' if field == 'a name' else field
+    return f'word {place} after {words[0]} is {name}, {FIELDS[field]}' + (f', and not {words[place]}' if is_repeated else '')
+
+
+# All that are refused so, with what is said.
 MISTAKES = [
-    (['nonsense'], b'WHAT is one of ' + PACKETS + b', and not nonsense'),
-    (['Query', '0001', 'FRED<20>'], b'WHAT is one of ' + PACKETS + b', and not Query'),
-    (['no\x1b[31m'], b'WHAT is one of ' + PACKETS),
-    (['query', '0001'], b'words after query: 2 wanted ID NAME, and not 1'),
-    (['keepalive', '1'], b'words after keepalive: 0 wanted, and not 1'),
-    (['query', '1', 'FRED<20>'], b'word 1 after query is ID, four hexadecimal digits, such as 0001, and not 1'),
-    (['query', '0x01', 'FRED'], b'word 1 after query is ID, four hexadecimal digits, such as 0001, and not 0x01'),
-    (['negative', '8'], b'word 1 after negative is CODE, two hexadecimal digits, such as 82, and not 8'),
-    (['registration', '0001', 'FRED<20>', '01', '0000', '10.0.0.5'],
-     b'word 3 after registration is TTL, a decimal number to 4294967295 without leading zeros, such as 300000, and not 01'),
-    (['release', '0001', 'FRED<20>', '0', '10.0.0.5'],
-     b'word 3 after release is FLAGS, four hexadecimal digits, such as 0000, and not 0'),
-    (['retarget', '10.0.0', '139'],
-     b'word 1 after retarget is ADDRESS, four decimal numbers to 255 with dots between them, such as 10.0.0.5, and not 10.0.0'),
-    (['retarget', '10.0.0.5', '65536'],
-     b'word 2 after retarget is PORT, a decimal number to 65535 without leading zeros, such as 139, and not 65536'),
-    (['error', '10.0.0.5/0001', '82'],
-     b'word 1 after error is KEY, ADDRESS:PORT/ID, such as 10.0.0.5:138/0001, and not 10.0.0.5/0001'),
-    (['message', '616'], b'word 1 after message is HEX, two hexadecimal digits a byte, or `empty`, such as 00ff, and not 616'),
-    (['message', '6' * 41], b'word 1 after message is HEX, two hexadecimal digits a byte, or `empty`, such as 00ff'),
-    (['message', '\x1b[31m'], b'word 1 after message is HEX, two hexadecimal digits a byte, or `empty`, such as 00ff'),
-    (['unique', *KEYED, '616263', 'some'],
-     b'word 5 after unique is MOST, a decimal number to 65535 without leading zeros, such as 512, and not some'),
-    (['response', '0001', '8500', 'FRED<20>', '20', '0', '00'],
-     b'word 4 after response is TYPE, four hexadecimal digits, such as 0020, and not 20'),
-    (['response', '0001', '8500', 'FRED<20>', '0002', '0', '05'],
-     b'word 6 after response is HEX, two hexadecimal digits a byte, for TYPE 0002 those of a name, such as 00, and not 05'),
+    (['nonsense'], f'WHAT is one of {PACKETS}, and not nonsense'), (['no\x1b[31m'], f'WHAT is one of {PACKETS}'),
+    (['Query', '0001', 'FRED<20>'], f'WHAT is one of {PACKETS}, and not Query'),
+    (['query', '0001'], 'words after query: 2 wanted ID NAME, and not 1'), (['keepalive', '1'], 'words after keepalive: 0 wanted, and not 1'),
+    *((row[0], wrong(*row)) for row in WRONG),
 ]
 # Words that give a file to a command, and how it says that files are read; nothing where it takes words, or they are no file.
 FILES = [
@@ -61,23 +66,18 @@ FILES = [
 PCAPS = ['a1b2c3d4', 'd4c3b2a1', 'a1b23c4d', '4d3cb2a1', '0a0d0d0a']
 
 
-def meanings():
-    """The line of `nbt help` of each refusal, by its words: those of tests/cases/refusals.txt."""
-    with open(os.path.join(TESTS, 'cases', 'refusals.txt'), 'rb') as cases:
-        lines = [filled(line) for line in cases if not line.startswith((b'#', b'$', b'&', b'\n'))]
-    return {re.sub(rb' (AT|N)$', b'', line.split(b': ')[0]): line for line in lines}
-
-
+@functools.lru_cache(None)
 def meaning(errors):
-    """The line that follows this one at a terminal."""
-    words = re.sub(rb' \d+$', b'', errors.rstrip(b'\n').split(b': ')[-1])
-    return meanings()[words]
+    """The line that follows this one at a terminal: that of `nbt help`."""
+    status, line, _ = run(['help', errors.decode().removesuffix('\n')])
+    assert status == 0 and line, errors
+    return line
 
 
 def shown(errors):
     """What a command prints at a terminal on standard error, that prints this otherwise."""
     if errors == b'nbt: arguments\n':
-        return errors + b'arguments: ' + MISTAKES[0][1] + b'\n'
+        return errors + f'arguments: {MISTAKES[0][1]}\n'.encode()
     return errors + meaning(errors) if errors.startswith(b'nbt: ') else errors
 
 
@@ -104,44 +104,33 @@ def at_terminals():
                f'nbt {words[0]}, its terminal gone')
 
 
-def refused():
-    """(words, input, the line on standard error) of each refusal of a command but `arguments`."""
-    bytes_of_name = ['name', '--bytes']
-    yield ['name', 'FRED'], b'', b'nbt: bad text 4\n'
-    yield ['replay', 'FRED'], b'', b'nbt: bad text 4\n'
-    yield ['build', 'query', '0001', 'FRED'], b'', b'nbt: bad text 4\n'
-    yield ['name', 'A' * 16 + '<20>'], b'', b'nbt: too long\n'
-    yield ['build', 'unique', *KEYED, '00' * 65_500, '65535'], b'', b'nbt: too long\n'
-    yield ['build', 'unique', *KEYED, '616263', '0'], b'', b'nbt: zero piece\n'
-    yield [*bytes_of_name, '0'], b'', b'nbt: bad hex\n'
-    yield [*bytes_of_name, FRED + '00'], b'', b'nbt: trailing bytes 34\n'
-    yield [*bytes_of_name, '20'], b'', b'nbt: truncated 1\n'
-    yield [*bytes_of_name, '40'], b'', b'nbt: reserved label 0\n'
-    yield [*bytes_of_name, 'c00c'], b'', b'nbt: pointer not allowed 0\n'
-    yield [*bytes_of_name, '0000'], b'', b'nbt: not netbios 0\n'
-    yield ['replay', *(f'N{it}<20>' for it in range(MOST_NAMES + 1))], b'', b'nbt: too many names\n'
-    for words in READING[:3]:
-        yield words, b'x\n', b'nbt: line 1\n'
-    yield ['merge'], b'00\n', b'nbt: bad magic\n'
-    yield ['merge'], b'4e425432\n', b'nbt: truncated\n'
-    yield ['list'], b'4e4254320000000000\n', b'nbt: not canonical 8\n'
-    yield ['merge'], b'', b'nbt: no tables\n'
-    yield ['agree'], b'', b'nbt: two tables wanted\n'
-    yield ['save', '--keys', '1'], captures(2), b'nbt: full\n'
-    yield ['save', '--per-source', '1'], captures(2), b'nbt: full source\n'
-    yield ['show', '--input-limit', '1'], b'tick 1\n', b'nbt: read\n'
+# (words, input, the reason on standard error) of each refusal of a command but `arguments`.
+REFUSED = [
+    *((words, b'', 'bad text 4') for words in (['name', 'FRED'], ['replay', 'FRED'], ['build', 'query', '0001', 'FRED'])),
+    (['name', 'A' * 16 + '<20>'], b'', 'too long'), (['build', 'unique', *KEYED, '00' * 65_500, '65535'], b'', 'too long'),
+    (['build', 'unique', *KEYED, '616263', '0'], b'', 'zero piece'),
+    *((['name', '--bytes', digits], b'', reason) for digits, reason in (
+        ('0', 'bad hex'), (FRED + '00', 'trailing bytes 34'), ('20', 'truncated 1'), ('40', 'reserved label 0'),
+        ('c00c', 'pointer not allowed 0'), ('0000', 'not netbios 0'))),
+    (['replay', *(f'N{it}<20>' for it in range(MOST_NAMES + 1))], b'', 'too many names'),
+    *((words, b'x\n', 'line 1') for words in READING[:3]),
+    (['merge'], b'00\n', 'bad magic'), (['merge'], b'4e425432\n', 'truncated'), (['list'], b'4e4254320000000000\n', 'not canonical 8'),
+    (['merge'], b'', 'no tables'), (['agree'], b'', 'two tables wanted'),
+    (['save', '--keys', '1'], captures(2), 'full'), (['save', '--per-source', '1'], captures(2), 'full source'),
+    (['show', '--input-limit', '1'], b'tick 1\n', 'read'),
+]
 
 
 def advised():
     """A command that is refused prints one line, and to a terminal that line and what `nbt help` says of it."""
-    for words, given, errors in refused():
-        name = f'nbt {" ".join(words)[:60]}'
+    for words, given, reason in REFUSED:
+        name, errors = f'nbt {" ".join(words)[:60]}', f'nbt: {reason}\n'.encode()
         status, output, plain_errors = run(words, given)
         yield plain_errors == errors, f'{name}: {errors}'
         yield with_errors_shown(words, given) == (status, output, errors + meaning(errors)), f'{name}, errors at a terminal'
     with open('/dev/full', 'wb') as full:
         ended = with_errors_shown(['name', 'FRED<20>'], stdout=full)
-    yield ended == (3, b'', b'nbt: write\n' + meaning(b'write')), 'nbt name, a full output, errors at a terminal'
+    yield ended == (3, b'', b'nbt: write\n' + meaning(b'nbt: write\n')), 'nbt name, a full output, errors at a terminal'
 
 
 def mistaken():
@@ -149,7 +138,7 @@ def mistaken():
     for words, said in MISTAKES:
         name = f'nbt build {words}'
         yield run(['build', *words]) == (1, b'', b'nbt: arguments\n'), name
-        wanted = b'nbt: arguments\narguments: ' + said + b'\n'
+        wanted = f'nbt: arguments\narguments: {said}\n'.encode()
         yield with_errors_shown(['build', *words]) == (1, b'', wanted), f'{name}, errors at a terminal'
 
 
@@ -213,7 +202,7 @@ def short_of_memory():
     many = captures(3_000, '5a' * 150)
     words = ['save', *MANY]
     whole = run(words, many)
-    refused_so = [(3, b'', b'nbt: memory\n' + said) for said in (b'', meaning(b'memory'))]
+    refused_so = [(3, b'', b'nbt: memory\n' + said) for said in (b'', meaning(b'nbt: memory\n'))]
     least = next(it for it in range(64, 65_536, 64) if starts(words, it << 10))
     for limit in range(least, least + 2_048, 64):
         ended = with_errors_shown(words, many, limited(limit << 10))

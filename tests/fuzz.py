@@ -7,10 +7,9 @@ each input are held against rules:
 
 - ends: within limits of time and memory, with a status of 0 to 3; standard error is empty at 0, one line `nbt: TEXT` at
   1 and 3, clap's text at 2; where they are refused `name`, `build`, `save`, `merge` and `list` print nothing;
-- told: `show`, `replay`, `save`, `merge`, `list` and `agree`, with options and limits, print what the model does (tests/model, written from the
+- told: `name`, `show`, `replay`, `save`, `merge`, `list` and `agree`, with options and limits, print what the model does (tests/model, written from the
   pages alone; tests/program/printed.py), of any capture and any lines, whatever the order and number of fragments and tables;
 - built: what `build` makes is no refused packet, and is shown as the model does;
-- named: `name` spells and reads names as the model does;
 - the same answer twice: the same words and input give the same output, errors and status;
 - short reads: so they do over devices that move few bytes or are interrupted (tests/lib/devices.c);
 - memory refused: with a request for memory refused (tests/lib/refuse_memory.c) it ends with `nbt: memory` and status 3, after
@@ -33,11 +32,11 @@ sys.path[1:1] = [f'{sys.path[0]}/{it}' for it in ('captures', 'fuzz', 'lib', 'pr
 from fuzz_inputs import NAMES, ROOT, capture_lines, example_bytes, spelled
 from fuzz_runs import Runner, Wrong, answers, expect
 from fuzz_traffic import Traffic, session_packet
-from model.names import Refused, name_of_text, read_name, spelling_of, text_of
+from model.names import text_of
 from object_inputs import Inputs
 from printed import Unknown, wanted
 
-RULES = ('ends', 'told', 'built', 'named', 'the same answer twice', 'short reads', 'memory refused')
+RULES = ('ends', 'told', 'built', 'the same answer twice', 'short reads', 'memory refused')
 LONGEST_PRINTED = 1_000
 
 
@@ -63,7 +62,7 @@ class Rules:
                 model = wanted(words, given)
             except Unknown:
                 return expect(made.status == 2 or made.status == 0 and b'--help' in made.output, f'it ends with {made.status}')
-            answers(made, model.output('--json' in words), model.status, made.errors if model.errors is None else model.errors.decode())
+            answers(made, model.output('--json' in words), model.status, model.errors.decode())
 
     def commands(self, given, *commands):
         for command in commands:
@@ -101,44 +100,14 @@ class Rules:
         text = text_of(Traffic(self.rng).name())
         text = self.rng.choice((text, text, self.inputs.maker.text(self.rng.choice(NAMES)))).encode('utf-8', 'replace').decode()
         digits = self.rng.choice((spelled('FRED').hex(), self.inputs.maker.saved().decode('latin-1').replace('\0', '0')))
-        for words, model in ((['name', '--', text], spelling), (['name', '--bytes', '--', digits], text_in)):
-            with self.runner.rule('named'):
-                answers(self.runner.run(words), *model(words[-1]))
+        for words in (['name', '--', text], ['name', '--bytes', '--', digits]):
+            self.told(words, b'')
 
     def words(self):
         """Any words."""
         maker, rng = self.inputs.maker, self.rng
         first = rng.choice(('name', 'show', 'build', 'replay', 'save', 'merge', 'list', 'agree', maker.word()))
         self.runner.run([first] + [maker.word() for _ in range(rng.randrange(5))], rng.choice((maker.capture(), maker.saved(), b'')))
-
-
-def refused(answer):
-    """What is printed of a name, or why it is refused."""
-    def answered(value):
-        try:
-            return f'{answer(value)}\n'.encode(), 0, ''
-        except Refused as fault:
-            return b'', 1, f'nbt: {fault}\n'
-    return answered
-
-
-@refused
-def spelling(text):
-    return spelling_of(name_of_text(text.encode('utf-8', 'surrogateescape'))).hex()
-
-
-@refused
-def text_in(digits):
-    try:
-        data = bytes.fromhex(digits) if digits.isascii() and not any(map(str.isspace, digits)) else None
-    except ValueError:
-        data = None
-    if data is None:
-        raise Refused('bad hex')
-    name, end = read_name(data, 0)
-    if end < len(data):
-        raise Refused(f'trailing bytes {end}')
-    return text_of(name)
 
 
 def seeds(runner):

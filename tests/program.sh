@@ -1,7 +1,7 @@
 #!/usr/bin/env bash
 # The built program as a process of its own: exit statuses, words, what it prints, how often it writes, and each request
-# for memory refused in turn. Usage: tests/program.sh [PROGRAM]; its last line is 'N passed, M failed, K
-# skipped'.
+# for memory refused in turn. Usage: tests/program.sh [PROGRAM [FILE..]], where FILE is one of tests/cases, which is run alone; its last
+# line is 'N passed, M failed, K skipped'.
 set -uo pipefail
 . "$(dirname "$0")/lib/counting.sh"
 program=${1:-$here/../crates/nbt/out/nbt}
@@ -22,7 +22,8 @@ holds() { printf '%s' "$2" | cmp -s - "$1"; }
 # output, those of its standard error behind `! `, and a status that isn't 0 before the last of these, as in `1! nbt: read`, or by itself,
 # as in `? 1`. `...` stands for text that isn't empty, {FRED} and the like for spellings, {KEYS} and the like for limits of
 # include/nbt.h, {OVER_KEYS} and the like for one more.
-# `hostile NAME=VALUE .. COMMAND` runs a command over the devices of tests/lib/devices.c.
+# `hostile NAME=VALUE .. COMMAND` runs a command over the devices of tests/lib/devices.c. What stands behind `% ` is held by the model
+# alone (tests/program/beside_model.py), as each name, show, replay, save, merge, list and agree of the other commands is too.
 
 spelled() {
     sed "s/{FRED}/$fred/g; s/{JOE}/$joe/g; s/{SCOPED}/$scoped/g; s/{WILDCARD}/$wildcard/g; s/{EMPTY}/$empty/g
@@ -47,10 +48,12 @@ samples() {
     done
 }
 
+# cases [FILE..]: those of these files, or of all.
 cases() {
     local file line told commands
     mkdir "$room/files"
-    for file in "$here"/cases/*.txt; do
+    [ $# -gt 0 ] || set -- "$here"/cases/*.txt
+    for file; do
         commands=() told=''
         while IFS= read -r line; do
             case $line in
@@ -59,10 +62,10 @@ cases() {
                 commands=("${line#'$ '}") told=''
                 ;;
             '& '*) commands+=("${line#'& '}") ;;
-            '' | '#'*) ;;
+            '' | '#'* | '% '*) ;;
             *) told+=$line$'\n' ;;
             esac
-        done < <(spelled "$file")
+        done < <(spelled "$here/cases/${file##*/}")
         samples "$told" "${commands[@]}"
     done
 }
@@ -176,6 +179,12 @@ with_tools "$program"
 printf '#!/bin/sh\nexec env LD_PRELOAD=%s/devices.so "$@"\n' "$room" >"$room/bin/hostile" && chmod +x "$room/bin/hostile"
 ln -s "$here/program/barred" "$room/bin"
 part shims compile devices refuse_memory
+if [ $# -gt 1 ]; then
+    cases "${@:2}"
+    counted_by program/beside_model.py --files "${@:2}" -- "$program"
+    total
+    exit
+fi
 parts cases pages saved
 # Beside the model: tables in every order and grouping; what is printed of captures and tables, phrases, and fronts of packets.
 part merges counted_by program/random_merges.py "$program" "$room/refuse_memory.so"

@@ -1,11 +1,12 @@
 #!/usr/bin/env python3
 """What the program prints of captures and saved tables, with `--json` and without, beside a model that reads payloads and tables.
 
-Usage: tests/program/beside_model.py [--seed N] [--payloads N] [PROGRAM]; its last line is 'N passed, M failed', the one before says what was
-compared. A case is a command with an input: those of tests/cases, the payloads of the examples of crates/nb_examples, the captures of examples/, the
-examples cut at each length, and captures and saved tables made by chance, until so many payloads (10,000) were shown. It prints what the model
-has, byte for byte, and ends as that says, with `--json` too, where the command takes it. A case is also each kind of front and each phrase of
-docs/FORMATS.md: there were some; and the two longest phrases are as long as that page has it, and none is longer.
+Usage: tests/program/beside_model.py [--seed N] [--payloads N] [--files FILE.. --] [PROGRAM]; its last line is 'N passed, M failed', the one before
+says what was compared. A case is a command with an input: those of tests/cases, also for the commands that read alike, the payloads of the
+examples of crates/nb_examples, the captures of examples/, the examples cut at each length, and captures and saved tables made by chance, until so
+many payloads (10,000) were shown. It prints what the model has, byte for byte, and ends as that says, with `--json` too, where the command takes
+it. A case is also each kind of front and each phrase of docs/FORMATS.md: there were some; and the two longest phrases are as long as that page has
+it, and none is longer. With --files there are the commands of these files of tests/cases alone.
 """
 import argparse
 import collections
@@ -28,13 +29,14 @@ from seeds import first_unlike
 
 TESTS = os.path.join(ROOT, 'tests')
 SECONDS, LONGEST_PRINTED = 600, 1_000
+COMMAND = re.compile(r'[$&%] (?=.*\bnbt\b).*\b(?:name|show|replay|save|merge|list|agree)\b')
 SPELLINGS = re.compile(r'^(\w+)=([0-9a-z$]+)$', re.MULTILINE)
 STATION = ['FRED<20>', 'JOE<00>', 'ANN<03>.A']
 LONGEST_PAYLOAD, LONGEST_EXAMPLE, IN_CAPTURE, FRONTS = 2_000, 400, 500, 10_000
 TABLES = 3
 RECORDER = '''#!/bin/sh
 case $1 in
-show | replay | save | merge | list | agree)
+name | show | replay | save | merge | list | agree)
     record=$(mktemp -d "$NBT_RECORDS/XXXXXX")
     cat >"$record/input"
     for word; do printf '%s\\n' "$word"; done >"$record/words"
@@ -79,7 +81,7 @@ class Cases:
         """A command with an input, and with `--json` where it takes that. Where the model knows no such command, clap answers."""
         command, *rest = [it for it in words if it != '--json']
         found = {}
-        for form in ([], ['--json'])[:1 + ('--json' in OPTIONS[command])]:
+        for form in ([], ['--json'])[:1 + ('--json' in OPTIONS.get(command, ()))]:
             made = subprocess.run([self.program, command, *form, *rest], input=given, capture_output=True, timeout=SECONDS, check=False)
             try:
                 model = found['model'] = found.get('model') or wanted([command, *rest], given)
@@ -105,7 +107,7 @@ class Cases:
 
 def unlike(made, model, is_json):
     """How a run isn't as the model has it, if it isn't."""
-    if (made.returncode, made.stderr) != (model.status, made.stderr if model.errors is None else model.errors):
+    if (made.returncode, made.stderr) != (model.status, model.errors):
         return f'it ends as {made.returncode}, {made.stderr}, not as {model.status}, {model.errors}'
     right = model.output(is_json)
     return '' if made.stdout == right else first_unlike(made.stdout.split(b'\n'), right.split(b'\n'))
@@ -123,20 +125,19 @@ def kind_of(front):
     return '138 with both' if 'destination' in front else '138 with source' if 'source' in front else '138 without names'
 
 
-def spelled_cases():
-    """The commands of tests/cases that read a capture or tables, with their spellings."""
+def spelled_cases(files):
+    """The commands of files of tests/cases that the model knows, with their spellings, and whether the model alone holds them."""
     with open(os.path.join(TESTS, 'program.sh'), encoding='utf-8') as script:
         spellings = dict(SPELLINGS.findall(script.read()))
     spellings['empty'] = spellings['empty'].replace('$joe', spellings['joe']).replace('$fred', spellings['fred'])
     spellings |= {name.lower(): str(limit) for name, limit in NAMED.items()}
-    for name in sorted(os.listdir(os.path.join(TESTS, 'cases'))):
+    for name in sorted(map(os.path.basename, files or os.listdir(os.path.join(TESTS, 'cases')))):
         with open(os.path.join(TESTS, 'cases', name), encoding='utf-8') as cases:
-            for line in cases:
-                if line.startswith(('$ ', '& ')) and re.search(r'\bnbt\b', line) and re.search(r'\b(show|replay|save|merge|list|agree)\b', line):
-                    yield re.sub(r'\{([A-Z_]+)\}', lambda it: spellings[it[1].lower()], line[2:].rstrip('\n'))
+            for line in filter(COMMAND.match, cases):
+                yield re.sub(r'\{([A-Z_]+)\}', lambda it: spellings[it[1].lower()], line[2:].rstrip('\n')), line.startswith('% ')
 
 
-def recorded(program):
+def recorded(cases, chosen):
     """The words and the input of each run of such a command; devices that fail are left out."""
     with tempfile.TemporaryDirectory() as room:
         records, tools, files = (os.path.join(room, it) for it in ('records', 'bin', 'files'))
@@ -146,14 +147,28 @@ def recorded(program):
             with open(os.path.join(tools, tool), 'w', encoding='utf-8') as written:
                 written.write(text)
             os.chmod(written.name, 0o755)
-        env = {**os.environ, 'PATH': f'{tools}:{os.environ["PATH"]}', 'NBT_RECORDS': records, 'NBT_PROGRAM': program}
-        for command in spelled_cases():
+        env = {**os.environ, 'PATH': f'{tools}:{os.environ["PATH"]}', 'NBT_RECORDS': records, 'NBT_PROGRAM': cases.program}
+        for command, is_alone in spelled_cases(chosen):
+            before = len(os.listdir(records))
             subprocess.run(['bash', '-c', command], cwd=files, env=env, stdin=subprocess.DEVNULL, stdout=subprocess.DEVNULL,
                            stderr=subprocess.DEVNULL, timeout=120, check=False)
+            if is_alone:
+                cases.count('' if len(os.listdir(records)) > before else f'the model holds nothing of: {command}')
         for record in sorted(os.listdir(records)):
-            with open(os.path.join(records, record, 'words'), encoding='utf-8') as words, \
+            with open(os.path.join(records, record, 'words'), encoding='utf-8', errors='surrogateescape') as words, \
                     open(os.path.join(records, record, 'input'), 'rb') as given:
                 yield words.read().split('\n')[:-1], given.read()
+
+
+def alike(words):
+    """The command lines that read what this one reads, with the same limits."""
+    command, *options = words
+    if command in ('merge', 'list'):
+        return [['list' if command == 'merge' else 'merge', *(it for it in options if it != '--json')]]
+    if command in ('show', 'save') and not {'--brief', '--partial'}.intersection(options):
+        words = [it for it in options if it not in ('--json', '--comments')]
+        return [['replay', *words, '--', 'FRED<20>'], *([['save', *words]] if command == 'show' else [])]
+    return []
 
 
 def capture_of(payloads):
@@ -226,13 +241,17 @@ def main():
     parser = argparse.ArgumentParser()
     parser.add_argument('--seed', type=int, default=1)
     parser.add_argument('--payloads', type=int, default=10_000)
+    parser.add_argument('--files', nargs='+')
     parser.add_argument('program', nargs='?', default=os.path.join(ROOT, 'crates', 'nbt', 'out', 'nbt'))
     given = parser.parse_args()
     if not os.access(given.program, os.X_OK):
         parser.error(f'{given.program} is missing: `make build` makes it')
     cases = Cases(given.program, random.Random(given.seed))
-    for words, capture in recorded(cases.program):
-        cases.check(words, capture)
+    for words, capture in recorded(cases, given.files):
+        for each in (words, *alike(words)):
+            cases.check(each, capture)
+    if given.files:
+        return cases.end()
     payloads = list(example_bytes())
     samples(cases, payloads)
     cases.check(['show', '--brief'], capture_of([NO_NAMES]))

@@ -6,7 +6,7 @@ from dataclasses import dataclass
 
 from model.captures import LONGEST_LINE, comment_text, numbered, read_capture
 from model.limits import INPUT, KEYS, MOST_KEYS, MOST_NAMES
-from model.names import Refused, name_of_text
+from model.names import Refused, name_of_text, read_name, spelling_of, text_of
 from model.objects import front_of, shown
 from model.phrases import said
 from model.reports import agrees, joined, listed, listed_text, report_text, reported, save
@@ -14,13 +14,14 @@ from model.tables import PER_SOURCE, Table
 from model.text import front_lines, lines_of
 from object_inputs import OPTIONS
 
+NAMING = ('--bytes',)
 MOST = {'--keys': MOST_KEYS, '--per-source': MOST_KEYS, '--input-limit': (1 << 64) - 1}
 USUAL = {'--keys': KEYS, '--per-source': PER_SOURCE, '--input-limit': INPUT}
 
 
 @dataclass
 class Wanted:
-    """What is printed, a text and objects a line each, the status, and standard error; None where names are refused, for some reason."""
+    """What is printed, a text and objects a line each, the status, and standard error."""
 
     lines: list
     objects: list
@@ -38,20 +39,25 @@ class Unknown(Exception):
 
 def wanted(words, given):
     """What a command prints of an input. Raises Unknown where clap answers."""
-    command, (options, names) = words[0], parsed(words)
-    if command in ('merge', 'list', 'agree'):
-        return of_tables(command, options, given)
-    station = stationed(names)
-    if command == 'replay' and station is None:
-        return Wanted([], [], 1, None)
-    if '--brief' in options and '--partial' in options:
-        return Wanted([], [], 1, b'nbt: arguments\n')
-    return saved(options, given) if command == 'save' else of_capture(command, options, station, given)
+    if any('\udc80' <= it <= '\udcff' for it in ''.join(words)):
+        return Wanted([], [], 3, b'nbt: read\n')
+    command, (options, others) = words[0], parsed(words)
+    try:
+        if command == 'name':
+            return Wanted([(text_in if options else spelling)(others[0])], [])
+        if command in ('merge', 'list', 'agree'):
+            return of_tables(command, options, given)
+        station = stationed(others)
+        if '--brief' in options and '--partial' in options:
+            raise Refused('arguments')
+        return saved(options, given) if command == 'save' else of_capture(command, options, station, given)
+    except Refused as refused:
+        return Wanted([], [], 1, f'nbt: {refused}\n'.encode())
 
 
 def parsed(words):
     """The options of a command line with their values, and the words that aren't options."""
-    options, names, rest = {}, [], list(words[1:])
+    options, names, rest, known = {}, [], list(words[1:]), NAMING if words[0] == 'name' else OPTIONS[words[0]]
     while rest:
         word = rest.pop(0)
         if word == '--':
@@ -61,10 +67,10 @@ def parsed(words):
             names.append(word)
             continue
         option, joined_by, value = word.partition('=')
-        if option not in OPTIONS[words[0]] or option in options:
+        if option not in known or option in options:
             raise Unknown(word)
         options[option] = value_of(option, joined_by, value, rest)
-    if bool(names) != (words[0] == 'replay'):
+    if len(names) != 1 if words[0] == 'name' else bool(names) != (words[0] == 'replay'):
         raise Unknown('names')
     return options, names
 
@@ -89,26 +95,45 @@ def number_of(options, option):
     return options.get(option, USUAL[option])
 
 
+def name_in(text):
+    """The name that a word says."""
+    return name_of_text(text.encode('utf-8', 'surrogateescape'))
+
+
+def spelling(text):
+    """What `nbt name` prints."""
+    return spelling_of(name_in(text)).hex()
+
+
+def text_in(digits):
+    """What `nbt name --bytes` prints."""
+    if not re.fullmatch(r'(?:[0-9A-Fa-f]{2})*', digits):
+        raise Refused('bad hex')
+    data = bytes.fromhex(digits)
+    name, end = read_name(data, 0)
+    if end < len(data):
+        raise Refused(f'trailing bytes {end}')
+    return text_of(name)
+
+
 def stationed(texts):
-    """The names of a station; None where one is refused, or there are too many."""
-    try:
-        names = {name_of_text(it.encode('utf-8', 'surrogateescape')) for it in texts}
-    except Refused:
-        return None
-    return None if len(names) > MOST_NAMES else names
+    """The names of a station, judged from the left."""
+    names = set()
+    for each in texts:
+        names.add(name_in(each))
+        if len(names) > MOST_NAMES:
+            raise Refused('too many names')
+    return names
 
 
 def of_tables(command, options, given):
     """What `nbt merge`, `list` and `agree` print."""
     if len(given) > INPUT:
         return Wanted([], [], 3, b'nbt: read\n')
-    try:
-        if command == 'agree':
-            lines = agrees(given, '--list' in options).decode().splitlines()
-            return Wanted(lines, [], int(lines != ['equal']))
-        table = joined(given, number_of(options, '--keys'), number_of(options, '--per-source'))
-    except Refused as refused:
-        return Wanted([], [], 1, f'nbt: {refused}\n'.encode())
+    if command == 'agree':
+        lines = agrees(given, '--list' in options).decode().splitlines()
+        return Wanted(lines, [], int(lines != ['equal']))
+    table = joined(given, number_of(options, '--keys'), number_of(options, '--per-source'))
     keys = listed(table)
     return Wanted([table.saved().hex()] if command == 'merge' else list(map(listed_text, keys)), keys)
 
@@ -121,10 +146,7 @@ def saved(options, given):
     """What `nbt save` prints."""
     _, lines, *ending = read_within(given, number_of(options, '--input-limit'))
     table = table_of(options)
-    try:
-        save(lines, table)
-    except Refused as refused:
-        return Wanted([], [], 1, f'nbt: {refused}\n'.encode())
+    save(lines, table)
     return Wanted([] if ending[0] else [table.saved().hex()], [], *ending)
 
 

@@ -1,6 +1,6 @@
 """The objects of `nbt show --json` (docs/FORMATS.md, "JSON" and "Packets in part"): dictionaries whose keys stand in the order of the
 page's tables."""
-from .names import Name, domain_text, text_of
+from .names import domain_text, text_of
 from .packets import ERROR, KEEPALIVE, KINDS, MESSAGE, NB, NBSTAT, NEGATIVE, POSITIVE, QUERIES, REQUEST, RETARGET, Service, Session, read
 
 SECTIONS = ('questions', 'answers', 'authorities', 'additional')
@@ -10,7 +10,6 @@ PACKET_FLAGS = {'AA': 0x0400, 'TC': 0x0200, 'RD': 0x0100, 'RA': 0x0080, 'B': 0x0
 NAME_FLAGS = {'G': 0x8000, 'DRG': 0x1000, 'CNF': 0x0800, 'ACT': 0x0400, 'PRM': 0x0200}
 DATAGRAMS = {**KINDS, ERROR: 'error', **QUERIES}
 SESSIONS = {MESSAGE: 'message', REQUEST: 'request', POSITIVE: 'positive', NEGATIVE: 'negative', RETARGET: 'retarget', KEEPALIVE: 'keepalive'}
-ENTRY, NODE_NAME, UNIT = 6, 18, 6
 
 
 def shown(port, payload):
@@ -74,45 +73,23 @@ def item(of):
     found['ttl'] = of.ttl
     if of.domain is not None:
         return found | {'domain': domain_text(of.domain)}
-    return found | {'data': of.data.hex()} | views(of.type, of.data)
+    return found | {'data': of.data.hex()} | views(of)
 
 
-def views(kind, data):
+def views(record):
     """What an RDATA says besides its bytes, by the kind of its record."""
-    if kind == NB:
-        return {'entries': list(map(entry, pieces(data, ENTRY))) if len(data) % ENTRY == 0 else []}
-    return node_status(data) if kind == NBSTAT else {}
+    if record.type == NB:
+        return {'entries': [flagged(flags) | {'address': address_text(address)} for flags, address in record.addresses() or ()]}
+    if record.type != NBSTAT:
+        return {}
+    names, unit = record.nodes() or ((), None)
+    found = [{'name': text_of(name)} | flagged(flags) | {'set': set_of(NAME_FLAGS, flags)} for name, flags in names]
+    return {'names': found} | ({} if unit is None else {'unit': unit.hex()})
 
 
-def pieces(data, size):
-    """Bytes in pieces of a size."""
-    return [data[at:at + size] for at in range(0, len(data), size)]
-
-
-def entry(data):
-    """An address entry of six bytes."""
-    flags = int.from_bytes(data[:2], 'big')
-    return {'flags': f'{flags:04x}', 'ont': node_type(flags), 'address': address_text(data[2:])}
-
-
-def node_type(flags):
-    """ONT, the two bits after the first."""
-    return flags >> 13 & 3
-
-
-def node_status(data):
-    """The names of a node status, and UNIT_ID, if there is one."""
-    end = 1 + NODE_NAME * data[0] if data else 1
-    if len(data) < end:
-        return {'names': []}
-    unit = data[end:end + UNIT]
-    return {'names': list(map(node_name, pieces(data[1:end], NODE_NAME)))} | ({'unit': unit.hex()} if len(unit) == UNIT else {})
-
-
-def node_name(data):
-    """A name of a node status, of sixteen bytes, and its flags."""
-    flags = int.from_bytes(data[16:], 'big')
-    return {'name': text_of(Name(data[:16], ())), 'flags': f'{flags:04x}', 'ont': node_type(flags), 'set': set_of(NAME_FLAGS, flags)}
+def flagged(flags):
+    """The flags of an entry or a name, and ONT, the two bits after the first."""
+    return {'flags': f'{flags:04x}', 'ont': flags >> 13 & 3}
 
 
 def called(number, words):

@@ -5,9 +5,10 @@ Of port 137 there is a line for the packet, one for its header and one for each 
 for the packet, and one for what stands at its front. A fault is the number of its status, and its place, or - where it has none."""
 import sys
 
-from .names import Name, Refused, domain_text, name_of, text_of
-from .objects import ENTRY, NODE_NAME, UNIT, address_text, key_text, pieces
-from .packets import KINDS, NB, NBSTAT, read
+from .captures import digits
+from .names import Refused, domain_text, name_of, text_of
+from .objects import address_text, key_text
+from .packets import KINDS, read
 
 NAME_FAULTS = {'truncated': 20, 'reserved label': 21, 'pointer not allowed': 22, 'too long': 23, 'not netbios': 24, 'bad pointer': 26}
 # What is added to them in a name of a datagram.
@@ -21,11 +22,6 @@ def refused(fault):
     words, place = (words, last) if last.isdigit() else (fault, '-')
     role, colon, name_fault = words.rpartition(': ')
     return f'refused {ROLES[role] + NAME_FAULTS[name_fault] if colon else FAULTS[words]} {place}'
-
-
-def digits(data):
-    """Bytes as digits."""
-    return data.hex() or 'empty'
 
 
 def service(packet):
@@ -53,17 +49,15 @@ def marked(labels):
 
 def rdata(record):
     """What RDATA says, by its type."""
-    data = record.data
     if record.domain is not None:
         return f'domain {domain_text(record.domain)}'
-    if record.type == NB and len(data) % ENTRY == 0:
-        return ' '.join(['addresses', *(f'{it[:2].hex()}/{address_text(it[2:])}' for it in pieces(data, ENTRY))])
-    end = 1 + NODE_NAME * data[0] if data else 1
-    if record.type == NBSTAT and end <= len(data):
-        unit = data[end:end + UNIT]
-        nodes = [f'{it[16:].hex()}/{text_of(Name(it[:16], ()))}' for it in pieces(data[1:end], NODE_NAME)]
-        return ' '.join(['nodes', unit.hex() if len(unit) == UNIT else '-', *nodes])
-    return f'bytes {digits(data)}'
+    addresses, nodes = record.addresses(), record.nodes()
+    if addresses is not None:
+        return ' '.join(['addresses', *(f'{flags:04x}/{address_text(address)}' for flags, address in addresses)])
+    if nodes is not None:
+        names, unit = nodes
+        return ' '.join(['nodes', unit.hex() if unit else '-', *(f'{flags:04x}/{text_of(name)}' for name, flags in names)])
+    return f'bytes {digits(record.data)}'
 
 
 def datagram(packet):

@@ -156,9 +156,9 @@ def rest_of(stream):
 
 
 DEVICES = {
-    'a broken pipe': broken_pipe, 'full': lambda: open('/dev/full', 'wb'), 'opened for reading': lambda: open(os.devnull, 'rb'),
-    'a directory': directory, 'opened for writing': lambda: open(os.devnull, 'wb'), 'zero bytes without end': lambda: open('/dev/zero', 'rb'),
-    'one that would have to be waited for': unready,
+    'a broken pipe': broken_pipe, 'a directory': directory, 'one that would have to be waited for': unready,
+    'full': lambda: open('/dev/full', 'wb'), 'zero bytes without end': lambda: open('/dev/zero', 'rb'),
+    'opened for reading': lambda: open(os.devnull, 'rb'), 'opened for writing': lambda: open(os.devnull, 'wb'),
 }
 
 

@@ -7,8 +7,9 @@ each input are held against rules:
 
 - ends: within limits of time and memory, with a status of 0 to 3; standard error is empty at 0, one line `nbt: TEXT` at
   1 and 3, clap's text at 2; where they are refused `name`, `build`, `save`, `merge` and `list` print nothing;
-- told: `name`, `show`, `replay`, `save`, `merge`, `list` and `agree`, with options and limits, print what the model does (tests/model, written from the
-  pages alone; tests/program/printed.py), of any capture and any lines, whatever the order and number of fragments and tables;
+- told: `name`, `show`, `replay`, `save`, `merge`, `list` and `agree`, with options and limits, print what the model does (tests/model,
+  written from the pages alone; tests/program/printed.py), of any capture and any lines, whatever the order and number of fragments and
+  tables;
 - built: what `build` makes is no refused packet, and is shown as the model does;
 - the same answer twice: the same words and input give the same output, errors and status;
 - short reads: so they do over devices that move few bytes or are interrupted (tests/lib/devices.c);

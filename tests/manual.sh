@@ -53,20 +53,6 @@ refusals() {
     done <"$room/refusals"
 }
 
-# The help of each installed tool says its installed name alone, and its page has each option of it.
-tool_words() {
-    local tool option
-    for tool in "${tools[@]}"; do
-        "$room/root/usr/bin/$tool" --help >"$room/help"
-        grep -q "$tool" "$room/help" && ! grep -qE "(^|[^-a-z_/])(pcap2cap|cap2pcap)" "$room/help"
-        count $? "the help of $tool has its name"
-        for option in $(grep -oE '(^|[^-a-z])--[a-z][a-z-]+' "$room/help" | grep -oE '[a-z][a-z-]+' | sort -u); do
-            grep -qE "Fl ([a-z] , )?-$option\b" "$here/../man/$tool.1"
-            count $? "man/$tool.1 has the option --$option"
-        done
-    done
-}
-
 # installing TARGET [PREFIX]: make install, uninstall, install-lib or uninstall-lib, without rt, of the built program and of what
 # stands for the library, below $room/root.
 installing() {
@@ -87,30 +73,27 @@ without_rt() {
     done
 }
 
-# The program and its tools, installed, in another folder: each prints its help. Uninstalled, what others put there stays.
-installed() {
-    local tool
-    without_rt
-    mkdir -p "$room/root/usr/bin" "$room/root/usr/share/man/man1"
-    touch "$room/root/usr/bin/other" "$room/root/usr/share/man/man1/other.1"
-    installing install
+# usable PREFIX: the program and its tools, installed below it, in another folder: each prints its help, which says its installed name
+# alone, and has a page with each option of it; pages and completions are there, and nothing that Python leaves.
+usable() {
+    local at=$room/root$1 tool option
     for tool in nbt "${tools[@]}"; do
-        (cd "$room" && ended "$room/root/usr/bin/$tool" --help) >"$room/output" 2>"$room/errors" && [ -s "$room/output" ] && [ ! -s "$room/errors" ]
-        count $? "$tool, installed: $(cat "$room/errors")"
-        [ -f "$room/root/usr/share/man/man1/$tool.1" ]
-        count $? "$tool, installed: its manual page"
+        (cd "$room" && ended "$at/bin/$tool" --help) >"$room/help" 2>"$room/errors" && grep -q "$tool" "$room/help" &&
+            ! grep -qE "(^|[^-a-z_/])(pcap2cap|cap2pcap)" "$room/help" && [ ! -s "$room/errors" ]
+        count $? "$tool, installed below $1, prints its help: $(cat "$room/errors")"
+        [ -f "$at/share/man/man1/$tool.1" ]
+        count $? "$tool, installed below $1: its manual page"
+        for option in $(grep -oE '(^|[^-a-z])--[a-z][a-z-]+' "$room/help" | grep -oE '[a-z][a-z-]+' | sort -u); do
+            grep -qE "Fl ([a-zA-Z] , )?-$option\b" "$at/share/man/man1/$tool.1"
+            count $? "man/$tool.1 has the option --$option"
+        done
     done
-    [ -f "$room/root/usr/share/doc/nbt/README.md" ] && [ -f "$room/root/usr/share/doc/nbt/docs/GUIDE.md" ]
-    count $? 'make install: the pages'
-    cmp -s "$here/../completions/nbt.bash" "$room/root/usr/share/bash-completion/completions/nbt-parallel" && [ -f "$room/root/usr/share/zsh/site-functions/_nbt" ]
-    count $? 'make install: the completions'
-    tool_words
-    [ -z "$(find "$room/root" -name __pycache__)" ]
-    count $? 'the installed tools leave nothing there'
-    installing uninstall
-    (cd "$room/root" && find . ! -type d | sort) >"$room/left"
-    printf '%s\n' ./usr/bin/other ./usr/share/man/man1/other.1 | cmp -s - "$room/left"
-    count $? "make uninstall: $(tr '\n' ' ' <"$room/left")"
+    [ -f "$at/share/doc/nbt/README.md" ] && [ -f "$at/share/doc/nbt/docs/GUIDE.md" ]
+    count $? "make install PREFIX=$1: the pages"
+    cmp -s "$here/../completions/nbt.bash" "$at/share/bash-completion/completions/nbt-parallel" && [ -f "$at/share/zsh/site-functions/_nbt" ]
+    count $? "make install PREFIX=$1: the completions"
+    [ -z "$(find "$at" -name __pycache__)" ]
+    count $? "the tools installed below $1 leave nothing there"
 }
 
 # placed NAME: the files and the folders of the project below $room/root, into $room/NAME.
@@ -126,8 +109,8 @@ left() {
 # apart PREFIX: below it the program and the library are put and taken away each by itself, and what others put there stays.
 apart() {
     rm -rf "$room/root"
-    mkdir -p "$room/root$1/share/nbt/python/nbt" "$room/root$1/lib/pkgconfig"
-    touch "$room/root$1/share/nbt/python/nbt/other.py" "$room/root$1/lib/pkgconfig/other.pc"
+    mkdir -p "$room/root$1/"{share/nbt/python/nbt,lib/pkgconfig,bin,share/man/man1}
+    touch "$room/root$1/"{share/nbt/python/nbt/other.py,lib/pkgconfig/other.pc,bin/other,share/man/man1/other.1}
     placed none
     installing install-lib "$1"
     grep -q "ldconfig.* $1/lib" "$room/output" && grep -qF -- "-Wl,-rpath,$1/lib" "$room/output"
@@ -136,8 +119,7 @@ apart() {
     count $? "nbt.pc below $1"
     placed library
     installing install "$1"
-    ended "$room/root$1/bin/nbt" --help >"$room/help" 2>&1 && [ -s "$room/help" ]
-    count $? "nbt, installed below $1"
+    usable "$1"
     placed both
     installing uninstall "$1"
     left library "make uninstall PREFIX=$1 takes the program alone"
@@ -163,7 +145,7 @@ refused_prefix() {
 # What is put where below all sorts of prefixes, and what takes it away.
 prefixes() {
     local each
-    [ -d "$room/no_rt" ] || without_rt
+    without_rt
     mkdir "$room/lib"
     touch "$room/lib/libnbt.a" "$room/lib/libnbt.so.0"
     for each in /usr "/it's here" '/a b&c|d;e'; do apart "$each"; done
@@ -261,7 +243,7 @@ part pages counted_by docs/pages.py
 part lists counted "$here/../tools/lists.py" --check
 part bash completion bash nbt.bash
 if command -v zsh >/dev/null; then part zsh completion zsh _nbt; else lacks zsh zsh; fi
-parts installed prefixes
+parts prefixes
 if command -v dpkg-deb >/dev/null; then part deb package; else lacks deb dpkg-deb; fi
 if command -v lintian >/dev/null; then part lintian package_lint; else lacks lintian lintian; fi
 finish

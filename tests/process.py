@@ -20,9 +20,10 @@ sys.path[1:1] = [f'{sys.path[0]}/{it}' for it in ('lib', 'program')]
 from limits import MANY
 from parts import check, counts, enough, finish, least, part, skip
 from process_inputs import CAPTURE, COMMANDS, FRED, READING, REPORT, captures, chained, forms, repeated, roomy
-from process_runs import (broken_pipe, bytes_of, closed, instructions, limited, lines_of, requests as counted_requests, rest_of,
-                          run, run_over, small_pipe, start, starts, wait)
+from process_runs import (broken_pipe, bytes_of, closed, instructions, limited, lines_of, program, rest_of, run, run_over,
+                          small_pipe, start, starts, wait)
 from process_terminals import advised, at_terminals, dropped, given_files, looked, mistaken, plain, short_of_memory
+from served import requests as counted_requests
 
 
 def ordinary():
@@ -298,7 +299,7 @@ def requests():
     """What a line takes is used again for the next one: ten times as many lines make as many requests for memory."""
     with tempfile.TemporaryDirectory() as folder:
         for words in (['show'], ['show', '--json'], ['replay', 'FRED<20>'], ['replay', '--json', 'FRED<20>'], ['save']):
-            few, many = (counted_requests(words, repeated(times), folder) for times in (100, 1_000))
+            few, many = (counted_requests(folder, [program, *words], input=repeated(times)) for times in (100, 1_000))
             check(0 < many == few, f'nbt {" ".join(words)}, requests for memory: {many} for 5,000 lines, {few} for 500')
 
 

@@ -50,23 +50,11 @@ samples() {
 
 # cases [FILE..]: those of these files, or of all.
 cases() {
-    local file line told commands
+    local file
     mkdir "$room/files"
     [ $# -gt 0 ] || set -- "$here"/cases/*.txt
     for file; do
-        commands=() told=''
-        while IFS= read -r line; do
-            case $line in
-            '$ '*)
-                samples "$told" "${commands[@]}"
-                commands=("${line#'$ '}") told=''
-                ;;
-            '& '*) commands+=("${line#'& '}") ;;
-            '' | '#'* | '% '*) ;;
-            *) told+=$line$'\n' ;;
-            esac
-        done < <(spelled "$here/cases/${file##*/}")
-        samples "$told" "${commands[@]}"
+        each_sample samples < <(spelled "$here/cases/${file##*/}" | grep -v '^$\|^#\|^% ')
     done
 }
 
@@ -76,7 +64,7 @@ pages() {
 }
 
 # Tables as another version saved them: each line of tests/program/saved.txt has one, and behind it, where it has no promise, the same
-# in the first form. Both are saved again as the first; of all of them, in either order, comes what that version made of them.
+# in the first form. Both are saved again as the first; of all of them, in either order, comes their join.
 saved() {
     local table first
     grep '^4e4254' "$here/program/saved.txt" >"$room/tables"

@@ -6,7 +6,8 @@ import sys
 
 import plain_program
 from bench import instructions
-from bench_rows import Row, call_seconds, compiled, least, printed, ratio, requests
+from bench_rows import Row, call_seconds, compiled, least, printed, ratio
+from served import requests
 
 LIB = os.path.dirname(os.path.abspath(__file__))
 TOP = os.path.join(LIB, '..', '..')
@@ -35,12 +36,15 @@ def objects(folder, library, path, count):
 
 def items(folder, library, path, count):
     """A packet of port 137 with all that it has, beside a reader in plain Rust, and how much memory the calls ask for."""
-    loop, shim = compiled(folder, os.path.join(LIB, 'service_loop.c'), library, INCLUDE), os.path.join(folder, 'refuse_memory.so')
-    subprocess.run([os.environ.get('CC', 'cc'), '-O1', '-shared', '-fPIC', '-o', shim, os.path.join(LIB, '..', 'lib', 'refuse_memory.c'), '-ldl'],
-                   check=True)
-    taken = sum(requests(shim, [loop, '1', *words], path) - requests(shim, [loop, '0'], path) for words in ([], ['judged']))
+    loop = compiled(folder, os.path.join(LIB, 'service_loop.c'), library, INCLUDE)
+
+    def asked(*words):
+        with open(path, 'rb') as given:
+            return requests(folder, [loop, *words], stdin=given)
+
     rows = [Row(title, a_payload([loop, *words], path, count), least(call_seconds, [loop, '1', *words], path))
             for title, words in (('nbt_service_header, each item and part, from C', []), ('the same after nbt_service_read', ['judged']))]
+    taken = asked('1') + asked('1', 'judged') - 2 * asked('0')
     memory = Row('requests of these calls for memory', of=float(taken), most=0.0)
     plain = plain_program.compiled(folder)
     if not plain:

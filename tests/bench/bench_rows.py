@@ -1,6 +1,5 @@
 """Rows of tests/bench_library.py: what a way costs, and the bar that it has to meet."""
 import os
-import re
 import resource
 import subprocess
 from dataclasses import dataclass
@@ -71,13 +70,3 @@ def compiled(folder, source, library, include):
     subprocess.run([os.environ.get('CC', 'cc'), '-O2', '-I' + include, '-o', made, source, os.path.join(library, 'libnbt.a')],
                    check=True)
     return made
-
-
-def requests(shim, command, path):
-    """How many requests for memory a command makes, by tests/lib/refuse_memory.c."""
-    counts = shim + '.count'
-    with open(path, 'rb') as given:
-        subprocess.run(command, stdin=given, stdout=subprocess.DEVNULL, check=True,
-                       env={**os.environ, 'LD_PRELOAD': shim, 'NBT_REQUESTS': counts})
-    with open(counts, encoding='ascii') as file:
-        return int(re.fullmatch(r'(\d+)\s*', file.read()).group(1))

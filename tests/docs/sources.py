@@ -22,7 +22,7 @@ def blank(text, pattern):
 
 
 class Source:
-    """A source file: its text, and as long as that `plain`, without comments, and `code`, without texts either, where braces are looked for."""
+    """A source file: its text, and as long as that `plain`, without comments, and `code`, without texts either, for its braces."""
 
     def __init__(self, path):
         self.path, self.text = path, path.read_text(encoding='utf-8')

@@ -6,10 +6,9 @@ import os
 import pathlib
 import re
 import resource
-import shlex
 import subprocess
 
-from fuzz_inputs import ROOT
+from served import compiled
 
 SECONDS = 30
 MEMORY = 512 << 20
@@ -65,14 +64,7 @@ class Runner:
         self.history = []
         self.statuses = collections.Counter()
         self.applied = collections.Counter()
-        self.shims = {it: self.compiled(it) for it in ('devices', 'refuse_memory')}
-
-    def compiled(self, shim):
-        """What stands before the C library in some runs."""
-        path = os.path.join(self.folder, f'{shim}.so')
-        compiler = shlex.split(os.environ.get('CC', 'cc'))
-        subprocess.run([*compiler, '-shared', '-fPIC', '-O1', '-o', path, os.path.join(ROOT, 'tests', 'lib', f'{shim}.c'), '-ldl'], check=True)
-        return path
+        self.shims = {it: compiled(folder, it) for it in ('devices', 'refuse_memory')}
 
     @contextlib.contextmanager
     def rule(self, name):

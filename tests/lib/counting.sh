@@ -120,37 +120,42 @@ except SystemExit as end:
     print(end.code, resource.getrusage(resource.RUSAGE_SELF).ru_maxrss, file=sys.stderr)' "$here/../tools/$1" "${@:2}" 2>&1 >"$room/output" | tail -n 1
 }
 
-# page FILE: the console samples of a page, where each command prints the lines after it. They run in a folder of their
-# own, which has the folder examples too, or what EXAMPLES names, with the commands of $room/bin.
-page() {
-    local line command='' wanted=''
-    mkdir "$room/page"
-    ln -s "$(realpath "${EXAMPLES:-$here/../examples}")" "$room/page/examples"
+# each_sample COMMAND WORD..: for each `$ COMMAND` among the lines of standard input, with further ones behind `& `, runs a command with
+# these words, the lines that follow, and the commands.
+each_sample() {
+    local line told='' commands=()
     while IFS= read -r line; do
         case $line in
         '$ '*)
-            page_sample "$1" "$command" "$wanted"
-            command=${line#'$ '} wanted=''
+            [ ${#commands[@]} -eq 0 ] || "$@" "$told" "${commands[@]}"
+            commands=("${line#'$ '}") told=''
             ;;
-        *) wanted+=$line$'\n' ;;
+        '& '*) commands+=("${line#'& '}") ;;
+        *) told+=$line$'\n' ;;
         esac
-    done < <(awk '/^```$/ { shown = 0 } shown; /^```console$/ { shown = 1 }' "$here/../$1")
-    page_sample "$1" "$command" "$wanted"
+    done
+    [ ${#commands[@]} -eq 0 ] || "$@" "$told" "${commands[@]}"
+}
+
+# page FILE: the console samples of a page, where each command prints the lines after it. They run in a folder of their
+# own, which has the folder examples too, or what EXAMPLES names, with the commands of $room/bin.
+page() {
+    mkdir "$room/page"
+    ln -s "$(realpath "${EXAMPLES:-$here/../examples}")" "$room/page/examples"
+    each_sample page_sample "$1" < <(awk '/^```$/ { shown = 0 } shown; /^```console$/ { shown = 1 }' "$here/../$1")
     rm -r "$room/page"
 }
 
-# page_sample FILE COMMAND WANTED: one of them; none, where there is no command. It is left out where it reads a pcap and
-# tshark isn't installed.
+# page_sample FILE WANTED COMMAND: one of them. It is left out where it reads a pcap and tshark isn't installed.
 page_sample() {
-    [ -n "$2" ] || return
-    if [[ $2 == *nbt-pcap2cap* || $2 == *nbt-look* ]] && ! command -v tshark >/dev/null; then
+    if [[ $3 == *nbt-pcap2cap* || $3 == *nbt-look* ]] && ! command -v tshark >/dev/null; then
         skipped=$((skipped + 1))
-        echo "skipped: $1: $2 (tshark isn't installed)"
+        echo "skipped: $1: $3 (tshark isn't installed)"
         return
     fi
-    (cd "$room/page" && PATH=$room/bin:$PATH ended bash -c "$2" </dev/null) >"$room/output" 2>&1
-    printf '%s' "$3" | diff - "$room/output"
-    count $? "$1: $2"
+    (cd "$room/page" && PATH=$room/bin:$PATH ended bash -c "$3" </dev/null) >"$room/output" 2>&1
+    printf '%s' "$2" | diff - "$room/output"
+    count $? "$1: $3"
 }
 
 # The last line of a script, and its status.

@@ -1,13 +1,32 @@
 """Runs of a program over tests/lib/refuse_memory.c, of which many take one start: the shim serves them, each in a process of its own."""
 import os
 import select
+import shlex
 import signal
 import struct
 import subprocess
+import tempfile
 from dataclasses import dataclass
 
 # How long a run may take, in seconds.
 LONGEST = 120
+
+
+def compiled(folder, shim):
+    """What stands before the C library in some runs, tests/lib/devices.c or refuse_memory.c, made in a folder where it isn't there yet."""
+    path, source = os.path.join(folder, f'{shim}.so'), os.path.join(os.path.dirname(os.path.abspath(__file__)), f'{shim}.c')
+    if not os.path.exists(path):
+        compiler = shlex.split(os.environ.get('CC', 'cc'))
+        subprocess.run([*compiler, '-O1', '-shared', '-fPIC', '-o', path, source, '-ldl'], check=True)
+    return path
+
+
+def requests(folder, command, **given):
+    """How many requests for memory a command makes of an input, which is given as subprocess has it."""
+    with tempfile.NamedTemporaryFile('r') as count:
+        subprocess.run(command, stdout=subprocess.DEVNULL, check=True, **given,
+                       env={**os.environ, 'LD_PRELOAD': compiled(folder, 'refuse_memory'), 'NBT_REQUESTS': count.name})
+        return int(count.read())
 
 
 @dataclass(frozen=True)

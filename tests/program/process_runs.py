@@ -72,17 +72,6 @@ def instructions(words, given):
     return int(re.search(rb'Collected : (\d+)', done.stderr).group(1))
 
 
-def requests(words, given, folder):
-    """How many requests for memory a run over an input makes, counted by tests/lib/refuse_memory.c, which is in the folder then."""
-    shim, count = os.path.join(folder, 'refuse_memory.so'), os.path.join(folder, 'requests')
-    if not os.path.exists(shim):
-        subprocess.run([os.environ.get('CC', 'cc'), '-O1', '-shared', '-fPIC', '-o', shim, os.path.join(TESTS, 'lib', 'refuse_memory.c'),
-                        '-ldl'], check=True)
-    run(words, given, env={**os.environ, 'LD_PRELOAD': shim, 'NBT_REQUESTS': count})
-    with open(count, encoding='ascii') as file:
-        return int(file.read())
-
-
 def wait(process):
     """The status and the errors of a process whose output isn't looked at any more."""
     try:
@@ -156,9 +145,9 @@ def rest_of(stream):
 
 
 DEVICES = {
-    'a broken pipe': broken_pipe, 'full': lambda: open('/dev/full', 'wb'), 'opened for reading': lambda: open(os.devnull, 'rb'),
-    'a directory': directory, 'opened for writing': lambda: open(os.devnull, 'wb'), 'zero bytes without end': lambda: open('/dev/zero', 'rb'),
-    'one that would have to be waited for': unready,
+    'a broken pipe': broken_pipe, 'a directory': directory, 'one that would have to be waited for': unready,
+    'full': lambda: open('/dev/full', 'wb'), 'zero bytes without end': lambda: open('/dev/zero', 'rb'),
+    'opened for reading': lambda: open(os.devnull, 'rb'), 'opened for writing': lambda: open(os.devnull, 'wb'),
 }
 
 

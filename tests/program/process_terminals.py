@@ -44,7 +44,8 @@ def wrong(words, place, field, is_repeated):
 MISTAKES = [
     (['nonsense'], f'WHAT is one of {PACKETS}, and not nonsense'), (['no\x1b[31m'], f'WHAT is one of {PACKETS}'),
     (['Query', '0001', 'FRED<20>'], f'WHAT is one of {PACKETS}, and not Query'),
-    (['query', '0001'], 'words after query: 2 wanted ID NAME, and not 1'), (['keepalive', '1'], 'words after keepalive: 0 wanted, and not 1'),
+    (['query', '0001'], 'words after query: 2 wanted ID NAME, and not 1'),
+    (['keepalive', '1'], 'words after keepalive: 0 wanted, and not 1'),
     *((row[0], wrong(*row)) for row in WRONG),
 ]
 # Words that give a file to a command, and how it says that files are read; nothing where it takes words, or they are no file.

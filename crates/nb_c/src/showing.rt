@@ -85,18 +85,9 @@ pub extern "C" fn nbt_json(
         (lent into.new used.new 0) result }
 {
     // For the clause: a payload has one list of fields. The call does nothing.
-<<<<<<< HEAD
     one_telling();
-    write_object(
-        packet_object(port, payload, JsonRoom::new(alloc)),
-        into,
-        used,
-    )
-=======
-    one_list_of_fields();
     let object = packet_object(port, payload, JsonRoom::new(alloc));
     write_object(object, into, used)
->>>>>>> 376ab345a6c852978daf9cf50048eb72c03acf29
 }
 
 /// Writes an object, unless memory ran out.

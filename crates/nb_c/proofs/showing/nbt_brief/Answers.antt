@@ -4,9 +4,4 @@ use Rattle.nb_c.proofs.ObjectLemmas.{judged, one_only}
 use Rattle.nb_c.proofs.showing.nbt_brief.Goals as goal
 
 pub returns : goal.returns
-<<<<<<< HEAD
-returns c =
-    does _ _ (one_said _ _ (c.one_telling.ensures.phrase _ _)) _ _ _ _ (judged_phrase _ _ _ c.phrase.ensures) c.write_bytes.ensures
-=======
-returns c = does _ _ (one_only (IsSaid c.args.payload.now c.args.port) (c.one_phrase.ensures _ _)) _ _ _ _ (judged (IsSaid _ _) c.phrase.result c.phrase.ensures) c.write_bytes.ensures
->>>>>>> 376ab345a6c852978daf9cf50048eb72c03acf29
+returns c = does _ _ (one_only (IsSaid c.args.payload.now c.args.port) (c.one_telling.ensures.phrase _ _)) _ _ _ _ (judged (IsSaid _ _) c.phrase.result c.phrase.ensures) c.write_bytes.ensures

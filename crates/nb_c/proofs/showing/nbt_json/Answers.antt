@@ -4,9 +4,4 @@ use Rattle.nb_c.proofs.ObjectLemmas.{judged, one_object, one_only}
 use Rattle.nb_c.proofs.showing.nbt_json.Goals as goal
 
 pub returns : goal.returns
-<<<<<<< HEAD
-returns c =
-    does _ _ (one_object _ _ (c.one_telling.ensures.fields _ _)) _ _ _ _ (judged_object _ _ _ c.packet_object.ensures.object) c.write_object.ensures
-=======
-returns c = does _ _ (one_only (IsObject c.args.payload.now c.args.port) (one_object _ _ (c.one_list_of_fields.ensures _ _))) _ _ _ _ (judged (IsObject _ _) c.packet_object-object.result c.packet_object-object.ensures.object) c.write_object.ensures
->>>>>>> 376ab345a6c852978daf9cf50048eb72c03acf29
+returns c = does _ _ (one_only (IsObject c.args.payload.now c.args.port) (one_object _ _ (c.one_telling.ensures.fields _ _))) _ _ _ _ (judged (IsObject _ _) c.packet_object-object.result c.packet_object-object.ensures.object) c.write_object.ensures

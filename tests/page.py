@@ -83,7 +83,15 @@ class Cases(PacketCases, ViewCases, OpeningCases, PlacingCases, SourceCases, Acc
         self.browser, self.folder, self.program = browser, folder, program
         self.page = f'{folder}/nbt.html'
 
-    def path(self, name, data):
+    def opened(self, *paths, place=''):
+        """Opens the page anew, and gives it files; without any its own sample."""
+        self.browser.open(self.page, place)
+        if paths:
+            self.browser.give(*paths)
+        else:
+            self.browser.sample()
+
+    def path(self, name, data=page_files.KEEP):
         """Writes a file, and answers its path."""
         path = f'{self.folder}/{name}'
         with open(path, 'wb') as file:
@@ -91,8 +99,8 @@ class Cases(PacketCases, ViewCases, OpeningCases, PlacingCases, SourceCases, Acc
         return path
 
 
-PARTS = ('modules', 'rows', 'names', 'faults', 'filters', 'deliveries', 'taps', 'exports', 'bad', 'hostile', 'keys', 'given', 'placing', 'stop', 'unread', 'changed', 'addressed', 'packed', 'access', 'singles',
-         'controls', 'looks', 'quiet')
+PARTS = ('modules', 'rows', 'names', 'faults', 'filters', 'deliveries', 'taps', 'exports', 'bad', 'hostile', 'keys', 'given', 'placing', 'stop',
+         'unread', 'changed', 'addressed', 'packed', 'access', 'singles', 'controls', 'looks', 'quiet')
 
 
 def main():

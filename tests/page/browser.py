@@ -105,9 +105,11 @@ class Browser(Seen):
             'return Array.from(document.querySelectorAll(".view:not([hidden]) table")).map((table) => [table.caption?.textContent ?? "",'
             'Array.from(table.rows, (row) => Array.from(row.cells, (cell) => cell.textContent))])'))
 
-    def view(self, name):
+    def view(self, name, until=None):
+        """Shows a view, and waits until it has what is asked for."""
         self.id(f'to-{name}').click()
         self.wait(lambda: self.id(f'view-{name}').is_displayed())
+        return until and self.wait(until)
 
     def choose(self, frame):
         """Chooses the row of a frame, or of a line, that is in sight, and waits for its packet."""

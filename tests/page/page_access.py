@@ -97,15 +97,13 @@ class AccessCases:
 
     def singles(self):
         """Keys of one character are turned off in the help, for the next time too, and turned on again."""
-        self.browser.open(self.page)
-        self.browser.sample()
+        self.opened()
         self.turn(False)
         for key in ('3', '/', '?'):
             self.browser.key(key)
         equal([self.browser.id('view-packets').is_displayed(), self.browser.driver.switch_to.active_element.get_attribute('id') == 'words',
                self.browser.id('help').is_displayed(), self.browser.texts('.keys')], [True, False, False, []], 'keys that are off')
-        self.browser.open(self.page)
-        self.browser.sample()
+        self.opened()
         self.browser.key('3')
         check(self.browser.id('view-packets').is_displayed(), 'keys that are off the next time')
         self.turn(True)

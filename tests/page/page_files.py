@@ -7,6 +7,8 @@ from wire import block, ip, pcap_header, section, udp
 
 PCAP, SECTION, INTERFACE = pcap_header(), section(), block(1, struct.pack('<HHL', 1, 0, 0))
 
+KEEP = b'139 0 85000000\n'
+
 
 def frame(data):
     return struct.pack('<LLLL', 1, 0, len(data), len(data)) + data

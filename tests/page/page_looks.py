@@ -27,8 +27,7 @@ class LookCases:
         one, two = page_files.taps(self.program)
         conflicts = self.path('conflicts.pcap', self.program.pcap(page_files.conflicts(self.program)))
         for paths in ([conflicts, self.path('two.txt', two.encode())], [f'{self.top}/examples/samba.pcap', self.path('one.txt', one.encode())]):
-            self.browser.open(self.page)
-            self.browser.give(*paths)
+            self.opened(*paths)
             self.browser.driver.execute_script('location.hash = "#packets"')
             self.browser.wait(lambda: self.browser.id('tap').get_attribute('value') == '0')
             self.browser.choose(3)

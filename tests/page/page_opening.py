@@ -35,8 +35,7 @@ class OpeningCases:
 
     def hostile(self):
         """What stands in a file is text, and never HTML."""
-        self.browser.open(self.page)
-        self.browser.give(self.path('<img src=x onerror=alert(1)>.txt', page_files.markup(self.program).encode()))
+        self.opened(self.path('<img src=x onerror=alert(1)>.txt', page_files.markup(self.program).encode()))
         self.browser.choose(1)
         check('3cimg' in ' '.join(self.browser.texts('#packet dd')), f"markup in a name: {self.browser.texts('#packet dd')}")
         for view in ('names', 'export', 'packets', 'reassembly'):
@@ -47,10 +46,7 @@ class OpeningCases:
 
     def given(self):
         """A capture that is pasted or dropped, and one that is in the page from the start."""
-        self.browser.open(self.page)
-        self.browser.id('pasted').send_keys('139 0 85000000\n')
-        self.browser.id('read').click()
-        self.browser.wait(lambda: self.browser.rows())
+        self.paste('139 0 85000000\n', self.browser.rows)
         equal(self.browser.rows()[0][5], 'keeps the session alive', 'pasted text')
         for event, transfer in (('drop', 'dataTransfer'), ('paste', 'clipboardData')):
             self.browser.open(self.page)
@@ -66,22 +62,22 @@ class OpeningCases:
         self.browser.wait(lambda: self.browser.rows())
         equal([self.browser.text('title'), len(self.browser.rows())], ['office.pcap', 15], 'nbt-look --html')
 
+    def paste(self, text, until):
+        self.browser.open(self.page)
+        self.browser.id('pasted').send_keys(text)
+        self.browser.id('read').click()
+        self.browser.wait(until)
+
     def pasted(self):
         """Of text that is no capture it is said what is wanted; a line without a frame has neither a date nor a filter of Wireshark."""
         form = '. A line has a port, a millisecond and bytes in hexadecimal, as 137 0 000301100001'
         for text, why in (('Dear all', 'pasted text: line 1 is none of a capture: it begins with “Dear”, and not with 137, 138, 139, tick or #'),
                           ('00 03 01 10', 'pasted text: line 1 is none of a capture: it has bytes alone, and a port and a millisecond are wanted before them'),
                           ('  ', 'There is no text to read')):
-            self.browser.open(self.page)
-            self.browser.id('pasted').send_keys(text)
-            self.browser.id('read').click()
-            self.browser.wait(self.browser.message)
+            self.paste(text, self.browser.message)
             equal(self.browser.message(), why + form, f'pasted {text}')
             equal([self.browser.id('pasted').get_attribute('value'), self.browser.id('start').is_displayed()], [text, True], f'what was pasted stays, {text}')
-        self.browser.open(self.page)
-        self.browser.id('pasted').send_keys('139 5 85000000\n# frame 7 2026-01-01T00:00:00.250000Z 10.0.0.5:1024 > 10.0.0.9:139\n139 250 85000000\n')
-        self.browser.id('read').click()
-        self.browser.wait(lambda: self.browser.rows())
+        self.paste('139 5 85000000\n# frame 7 2026-01-01T00:00:00.250000Z 10.0.0.5:1024 > 10.0.0.9:139\n139 250 85000000\n', self.browser.rows)
         equal(self.browser.texts('.head .frame'), ['line'], 'the column of lines')
         self.browser.choose(1)
         equal(self.browser.texts('#packet dt')[:2], ['moment', 'payload'], 'what is known of a line')
@@ -108,11 +104,9 @@ class OpeningCases:
 
     def bad_while_reading(self, path):
         """A bad file is opened while the second tap is read: that goes on."""
-        self.browser.open(self.page)
-        self.browser.give(path)
+        self.opened(path)
         whole = self.browser.text('shown')
-        self.browser.open(self.page)
-        self.browser.give(self.path('keep.txt', b'139 0 85000000\n'))
+        self.opened(self.path('keep.txt'))
         self.browser.id('file').send_keys(path)
         self.browser.answer('As a second tap')
         self.browser.wait(lambda: self.browser.text('title') == 'keep.txt and long.pcap' and self.browser.rows())

@@ -11,8 +11,7 @@ class PacketCases:
     def rows(self):
         """The rows say what nbt-look does, in the same words."""
         for name in ('office', 'samba'):
-            self.browser.open(self.page)
-            self.browser.give(f'{self.top}/examples/{name}.pcap')
+            self.opened(f'{self.top}/examples/{name}.pcap')
             wanted = self.program.listed(f'{self.top}/examples/{name}.pcap')
             shown = [[*row[:4], row[5]] for row in self.browser.rows()]
             equal(shown, wanted[:len(shown)], f'{name}.pcap, the rows in sight')
@@ -43,8 +42,7 @@ class PacketCases:
 
     def filters(self):
         """The box, what is chosen of the counts, and how many rows are left."""
-        self.browser.open(self.page)
-        self.browser.give(f'{self.top}/examples/samba.pcap')
+        self.opened(f'{self.top}/examples/samba.pcap')
         path = f'{self.top}/examples/samba.pcap'
         for words, options in (('query', ['--kind', 'query']), ('138', ['--port', '138']), ('registration response', None)):
             self.filter(words)
@@ -64,8 +62,7 @@ class PacketCases:
 
     def hints(self):
         """Where no row fits it is said what the box takes; a filter of Wireshark leads to words; conflicts are found by that word."""
-        self.browser.open(self.page)
-        self.browser.give(self.path('conflicts.pcap', self.program.pcap(page_files.conflicts(self.program))))
+        self.opened(self.path('conflicts.pcap', self.program.pcap(page_files.conflicts(self.program))))
         for words in ('conflict', 'Conflict'):
             self.filter(words)
             self.browser.wait(lambda: self.browser.text('shown').startswith('4 of'))
@@ -89,8 +86,7 @@ class PacketCases:
     def keys(self):
         """Keys, and the address."""
         from browser import Keys
-        self.browser.open(self.page)
-        self.browser.sample()
+        self.opened()
         self.browser.key(Keys.ARROW_DOWN)
         self.browser.wait(lambda: self.browser.texts('#packet h2') == ['Frame 1'])
         self.browser.id('grid').send_keys(Keys.ARROW_DOWN, Keys.ARROW_DOWN)
@@ -108,8 +104,7 @@ class PacketCases:
         check(self.browser.id('help').is_displayed(), '? opens the help')
         self.browser.key(Keys.ESCAPE)
         check(not self.browser.id('help').is_displayed(), 'Escape closes it')
-        self.browser.open(self.page, '#packets?frame=9')
-        self.browser.sample()
+        self.opened(place='#packets?frame=9')
         self.browser.wait(lambda: self.browser.texts('#packet h2') == ['Frame 9'])
         self.browser.key('3')
         self.browser.wait(lambda: self.browser.id('view-reassembly').is_displayed())
@@ -121,8 +116,7 @@ class PacketCases:
     def list_keys(self):
         """The list has the keys after each way to it."""
         from browser import Keys
-        self.browser.view('names')
-        self.browser.wait(self.browser.tables)
+        self.browser.view('names', self.browser.tables)
         self.browser.all('#view-names a[href*="frame="]')[0].click()
         self.browser.wait(lambda: self.browser.id('view-packets').is_displayed())
         equal(self.browser.driver.switch_to.active_element.get_attribute('id'), 'grid', 'a link to a frame leads to the list')

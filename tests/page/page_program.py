@@ -8,6 +8,7 @@ import subprocess
 import tempfile
 
 from limits import MANY
+from summary_cases import tables_in
 
 COUNTS = re.compile(r'(\d+ frames?, )?\d+ packets?, \d+ malformed, ')
 ROW = re.compile(r' *(\d+) +(\S+) +(\S+) +(\S+) +(.*)')
@@ -41,15 +42,7 @@ class Program:
 
     def summary(self, path):
         """The tables of nbt-look: by title rows of cells, the head first."""
-        tables = {}
-        for block in self.text(['nbt-look', '--summary', path]).split('\n\n'):
-            title, *lines = block.splitlines()
-            if not lines or not lines[0].startswith('  '):
-                continue
-            starts = [match.start() for match in re.finditer(r'(?<=  )\S', lines[0])]
-            ends = [*starts[1:], None]
-            tables[title] = [[line[start:end].strip() for start, end in zip(starts, ends)] for line in lines]
-        return tables
+        return {title: [table.columns, *table.rows] for title, table in tables_in(self.text(['nbt-look', '--summary', path])).items()}
 
     def told(self, line):
         """What a packet of a capture says, as an object."""

@@ -1,5 +1,4 @@
 """The parts of tests/page.py on where bytes come from: frames that the page doesn't read, and files that change after they were opened."""
-import os
 import gzip
 import os
 import struct
@@ -20,17 +19,14 @@ class SourceCases:
         query = bytes.fromhex(self.program.build('query', '0003', 'FRED<20>')[0].split()[2])
         inner = page_files.packet(query)
         radio = bytes([0, 0, 8, 0, 0, 0, 0, 0, 8]) + bytes(23) + bytes.fromhex('aaaa030000000800') + inner
-        self.browser.open(self.page)
-        self.browser.give(self.path('radio.pcap', page_files.PCAP[:20] + struct.pack('<L', 127) + 6 * page_files.frame(radio)))
+        self.opened(self.path('radio.pcap', page_files.PCAP[:20] + struct.pack('<L', 127) + 6 * page_files.frame(radio)))
         equal(self.browser.text('counts'), '0 packets · 0 names · 0 malformed · 0 left out · 6 not read here', 'the counts of a capture of radiotap')
         equal(self.browser.text('live'), 'radio.pcap: 0 packets, 0 malformed, 0 left out, 6 not read here', 'the footer of it')
         equal(self.browser.texts('#unread'), ["6 frames of what this page doesn't read: link type radiotap (127). nbt-look reads them."], 'the line above its rows')
-        self.browser.view('names')
-        self.browser.wait(self.browser.tables)
+        self.browser.view('names', self.browser.tables)
         equal(self.browser.tables()['not read here'], [['link type', 'why', 'frames', 'frame'], ['radiotap (127)', 'link type', '6', '1']], 'the table of it')
         tunnel = page_files.ethernet(page_files.packet(page_files.PLAIN_GRE + inner, protocol=47, is_udp=False))
-        self.browser.open(self.page)
-        self.browser.give(self.path('tunnel.pcap', page_files.PCAP + page_files.frame(page_files.ethernet(inner)) + 2 * page_files.frame(tunnel)))
+        self.opened(self.path('tunnel.pcap', page_files.PCAP + page_files.frame(page_files.ethernet(inner)) + 2 * page_files.frame(tunnel)))
         equal(self.browser.texts('#unread'), ["2 frames of what this page doesn't read: GRE. nbt-look reads them."], 'the line of a tunnel')
         equal(len(self.browser.rows()), 1, 'what is read beside it')
         equal(len(self.program.listed(f'{self.folder}/tunnel.pcap')), 3, 'nbt-look reads them')
@@ -44,10 +40,8 @@ class SourceCases:
         for name, change in (('grown.txt', lambda path: self.path('grown.txt', text + text)), ('gone.txt', os.remove)):
             path = self.path(name, text)
             os.utime(path, (1, 1))
-            self.browser.open(self.page)
-            self.browser.give(path)
-            self.browser.view('reassembly')
-            wanted = self.browser.wait(lambda: self.browser.texts('#handed p'))
+            self.opened(path)
+            wanted = self.browser.view('reassembly', lambda: self.browser.texts('#handed p'))
             check('0 datagrams' not in wanted[0], f'{name}, before: {wanted}')
             counts = self.browser.text('counts')
             change(path)
@@ -72,8 +66,7 @@ class SourceCases:
     def addressed(self):
         """A view that the address has before a file is open is shown once one is, first or second, without a complaint."""
         for view, shown in (('names', '#view-names .lead'), ('reassembly', '#keys .lead'), ('export', '#view-export .lead'), ('taps', '#view-taps p')):
-            self.browser.open(self.page, f'#{view}')
-            self.browser.give(f'{self.top}/examples/office.pcap')
+            self.opened(f'{self.top}/examples/office.pcap', place=f'#{view}')
             self.browser.wait(lambda: self.browser.texts(shown))
             self.browser.wait(lambda: self.browser.text('live').startswith('office.pcap: 15 packets'))
             equal(self.browser.message(), '', f'a file at #{view}')
@@ -98,11 +91,9 @@ class SourceCases:
             plain = f'{self.top}/examples/{name}'
             with open(plain, 'rb') as file:
                 path = self.path(f'{name}.gz', gzip.compress(file.read()))
-            self.browser.open(self.page)
-            self.browser.give(plain)
+            self.opened(plain)
             wanted = [self.browser.rows(), self.browser.text('counts')]
-            self.browser.open(self.page)
-            self.browser.give(path)
+            self.opened(path)
             equal([self.browser.rows(), self.browser.text('counts'), self.browser.message()], [*wanted, ''], f'{name}.gz, what is shown')
             self.browser.view('export')
             equal(self.browser.texts('#view-export code'), [each.format(f'{name}.gz') for each in commands], f'{name}.gz, the commands')
@@ -118,14 +109,11 @@ class SourceCases:
             whole = gzip.compress(file.read())
         fault = 'what gzip packed is cut or damaged, or something follows it: what stands before that is read'
         for name, data, is_read in (('cut.gz', whole[:len(whole) // 2], True), ('longer.gz', whole + b'more', True), ('none.gz', b'\x1f\x8b' + bytes(40), False)):
-            self.browser.open(self.page)
-            self.browser.give(self.path(name, data))
+            self.opened(self.path(name, data))
             equal(self.browser.message(), f'{name}: {fault}', name)
             check(bool(self.browser.rows()) == is_read, f'{name}, what stands before: {len(self.browser.rows())} rows')
-        self.browser.open(self.page)
-        self.browser.give(self.path('table.gz', gzip.compress(self.program.table(f'{self.top}/examples/office.pcap'))))
+        self.opened(self.path('table.gz', gzip.compress(self.program.table(f'{self.top}/examples/office.pcap'))))
         equal([self.browser.message(), self.browser.text('live')], ['', 'table.gz is a saved table'], 'a saved table')
-        self.browser.open(self.page)
-        self.browser.give(self.path('keep.txt', b'139 0 85000000\n'))
+        self.opened(self.path('keep.txt'))
         self.browser.give(self.path('none.gz', b'\x1f\x8b' + bytes(40)), answer='Instead of')
         equal([self.browser.message(), self.browser.text('title')], [f'none.gz: {fault}', 'keep.txt'], 'what was open stays')

@@ -15,10 +15,8 @@ class ViewCases:
         """The tables are those of nbt-look --summary."""
         conflicts = self.path('conflicts.pcap', self.program.pcap(page_files.conflicts(self.program)))
         for path in (f'{self.top}/examples/office.pcap', f'{self.top}/examples/samba.pcap', conflicts):
-            self.browser.open(self.page)
-            self.browser.give(path)
-            self.browser.view('names')
-            self.browser.wait(self.names_are_drawn)
+            self.opened(path)
+            self.browser.view('names', self.names_are_drawn)
             shown, wanted = self.browser.tables(), self.program.summary(path)
             equal(sorted(shown), sorted(wanted), f'the tables of {os.path.basename(path)}')
             for title, rows in wanted.items():
@@ -44,20 +42,16 @@ class ViewCases:
         equal([colors[f'10.0.0.{last}'] == plain for last in (5, 6, 7, 8)], [True, False, True, False], 'the colors of holders and losers')
         self.browser.all('.outcomes a')[1].click()
         self.browser.wait(lambda: self.browser.texts('#packet h2') == ['Frame 7'])
-        self.browser.open(self.page)
-        self.browser.give(self.path('undecided.pcap', self.program.pcap([*page_files.conflicts(self.program)[:4], *page_files.conflicts(self.program)[-2:]])))
-        self.browser.view('names')
-        self.browser.wait(self.browser.tables)
+        self.opened(self.path('undecided.pcap', self.program.pcap([*page_files.conflicts(self.program)[:4], *page_files.conflicts(self.program)[-2:]])))
+        self.browser.view('names', self.browser.tables)
         equal(self.browser.texts('.outcomes li'), ['FRED<20>: 10.0.0.5 and 10.0.0.6 claim it, and nobody was refused it. frame 2'], 'a conflict that nobody decided')
         equal(self.browser.tables()['conflicts'][1:], [['FRED<20>', '10.0.0.5 or 10.0.0.6', 'nobody', '-', '2']], 'who claims it')
 
     def deliveries(self):
         """What a station is handed is what `nbt replay` delivers."""
         for name, station in (('office.pcap', 'FRED<20>'), ('capture.txt', 'FRED<20>')):
-            self.browser.open(self.page)
-            self.browser.give(f'{self.top}/examples/{name}')
-            self.browser.view('reassembly')
-            self.browser.wait(lambda: self.browser.texts('#handed p'))
+            self.opened(f'{self.top}/examples/{name}')
+            self.browser.view('reassembly', lambda: self.browser.texts('#handed p'))
             self.browser.driver.execute_script('document.getElementById("station").value = arguments[0]; document.getElementById("handed").textContent = ""', station)
             self.browser.driver.find_element('css selector', '#station-form button').click()
             self.browser.wait(lambda: self.browser.texts('#handed p'))
@@ -72,10 +66,8 @@ class ViewCases:
 
     def first_frames(self):
         """A key leads to the first frame of its datagram."""
-        self.browser.open(self.page)
-        self.browser.give(self.path('pieces.txt', page_files.taps(self.program)[1].encode()))
-        self.browser.view('reassembly')
-        self.browser.wait(lambda: self.browser.texts('#keys a'))
+        self.opened(self.path('pieces.txt', page_files.taps(self.program)[1].encode()))
+        self.browser.view('reassembly', lambda: self.browser.texts('#keys a'))
         equal([each.get_attribute('href').split('#')[1] for each in self.browser.all('#keys a')], ['packets?frame=1', 'packets?frame=3'], 'the first frames')
         self.browser.wait(lambda: self.browser.text('to-reassembly') == 'Reassembly 1')
         self.browser.all('#keys a')[1].click()
@@ -86,11 +78,9 @@ class ViewCases:
         """Two taps: what comes of them, by side, what only the join makes whole, and where they differ."""
         one, two = page_files.taps(self.program)
         paths = [self.path('one.txt', one.encode()), self.path('two.txt', two.encode())]
-        self.browser.open(self.page)
-        self.browser.give(*paths)
+        self.opened(*paths)
         self.browser.wait(lambda: 'and' in self.browser.text('title') and self.browser.is_read())
-        self.browser.view('taps')
-        tables = self.browser.wait(lambda: 'tables' in self.browser.tables() and self.browser.tables())
+        tables = self.browser.view('taps', lambda: 'tables' in self.browser.tables() and self.browser.tables())
         equal(self.browser.text('view-taps').split('tables')[0],
               'Joined, 2 of 2 datagrams are whole, 1 of them at neither tap alone. Of 2 the taps know different things.', 'it begins with what comes of them')
         equal([row[1:3] for row in tables['tables'][1:]], [['2', '0'], ['2', '1'], ['2', '2']], 'how many keys, and how many are whole')
@@ -121,10 +111,8 @@ class ViewCases:
 
     def sides(self):
         """Keys of which one tap alone has anything, equal ones, and ones that contradict each other; a key leads to its tap."""
-        self.browser.open(self.page)
-        self.browser.give(*[self.path(f'{name}.txt', text.encode()) for name, text in zip(('left', 'right'), page_files.sides(self.program))])
-        self.browser.view('taps')
-        tables = self.browser.wait(lambda: 'tables' in self.browser.tables() and self.browser.tables())
+        self.opened(*[self.path(f'{name}.txt', text.encode()) for name, text in zip(('left', 'right'), page_files.sides(self.program))])
+        tables = self.browser.view('taps', lambda: 'tables' in self.browser.tables() and self.browser.tables())
         sides = {title: [row[0].split('/')[1] for row in rows[1:]] for title, rows in tables.items() if title != 'tables'}
         equal(sides, {'only tap 1 has anything of it': ['0001'], 'only tap 2 has anything of it': ['0002'], 'both have it, and not the same': ['0003']}, 'the keys of each side')
         lead = ('Joined, 3 of 4 datagrams are whole. Of 1 the fragments contradict each other. Of 3 the taps know different things.')
@@ -139,8 +127,7 @@ class ViewCases:
         for path in (f'{self.top}/examples/office.pcap', f'{self.top}/examples/samba.pcap', f'{self.top}/examples/capture.txt',
                      self.path('odd.pcap', page_files.odd())):
             name = os.path.basename(path).rsplit('.', 1)[0]
-            self.browser.open(self.page)
-            self.browser.give(path)
+            self.opened(path)
             self.browser.view('export')
             for form, end in (('json', 'jsonl'), ('capture', 'capture.txt'), ('table', 'table.txt')):
                 given = self.browser.saved(f'save-{form}', f'{name}.{end}')

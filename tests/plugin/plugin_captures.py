@@ -1,10 +1,12 @@
 """Captures of datagrams in pieces, as frames and as the lines that nbt reads, with a plain model of which frames belong together."""
 import os
-import struct
 import sys
 import types
 
-sys.path.insert(1, os.path.join(os.path.dirname(os.path.abspath(__file__)), '..', '..', 'tools'))
+TESTS = os.path.join(os.path.dirname(os.path.abspath(__file__)), '..')
+sys.path[1:1] = [TESTS, os.path.join(TESTS, '..', 'tools')]
+from model.names import Refused
+from model.packets import FIRST, MORE, read_fragment
 from nbt_pcap.capture import Capture, Output
 from plugin_pcap import datagram_frame, segment_frame
 from wire import FRED, JOE, KEEPALIVE, QUERY, datagram as packet, first_level
@@ -12,7 +14,6 @@ from wire import FRED, JOE, KEEPALIVE, QUERY, datagram as packet, first_level
 ANN = first_level('ANN', 0x03)[:-1] + b'\x01A\0'
 BOB = first_level('BOB', 0x20)
 NAMES = (FRED, JOE, ANN, BOB)
-MORE, FIRST = 1, 2
 KEPT_MILLISECONDS = 2_000
 
 
@@ -105,21 +106,12 @@ class Made:
             self.note(number, payload)
 
     def note(self, number, payload):
-        if len(payload) >= 14 and 0x10 <= payload[0] <= 0x12:
-            size, start = struct.unpack('>HH', payload[10:14])
-            names = sum(len(name) for name in self.names_of(payload))
-            self.pieces[number] = start, start + size - names, payload[1] & MORE
-
-    @staticmethod
-    def names_of(payload):
-        """The two names, as they stand in a packet that is one."""
-        at = 14
-        for _ in range(2):
-            start = at
-            while at < len(payload) and payload[at]:
-                at += payload[at] + 1
-            at += 1
-            yield payload[start:at]
+        try:
+            part = read_fragment(payload)
+        except Refused:
+            return
+        if part:
+            self.pieces[number] = part.offset, part.offset + len(part.data), part.flags & MORE
 
     def moment(self, frame):
         return max(0, self.frames[frame - 1][0] - self.frames[0][0]) // 1_000

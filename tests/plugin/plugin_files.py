@@ -108,12 +108,9 @@ def untimed():
 
 
 def main():
-    folder = sys.argv[1]
-    write_pcap(os.path.join(folder, 'pieces.pcap'), pieces())
-    write_pcap(os.path.join(folder, 'sessions.pcap'), sessions())
-    write_pcap(os.path.join(folder, 'marked.pcap'), marked())
-    write_pcap(os.path.join(folder, 'overlaps.pcap'), overlaps())
-    with open(os.path.join(folder, 'untimed.pcap'), 'wb') as file:
+    for each in (pieces, sessions, marked, overlaps):
+        write_pcap(os.path.join(sys.argv[1], f'{each.__name__}.pcap'), each())
+    with open(os.path.join(sys.argv[1], 'untimed.pcap'), 'wb') as file:
         file.write(untimed())
 
 

@@ -9,6 +9,7 @@ for all, with the timer or without it; the program replays the same with the tic
 to be those of the report, and the links and what is missing those of a plain model. sharkd shows the front of
 long data: of one capture in five tshark prints all of it. A case is a capture; the last line is 'N passed, M failed'.
 """
+import collections
 import json
 import os
 import random
@@ -20,6 +21,7 @@ sys.path.insert(1, f'{sys.path[0]}/../lib')
 from limits import MANY
 from plugin_captures import Made
 from plugin_pcap import fields_of, write_pcap
+from tally import tally
 
 COLUMNS = ('nbt.state', 'nbt.key', 'nbt.datagram', 'nbt.whole_in', 'nbt.spoilt_in', 'nbt.missing', 'nbt.fragment')
 # How sharkd shows no bytes, and of how many digits it shows the front.
@@ -103,36 +105,28 @@ def data_differ(tshark, path, asked, timer, states):
     return ''
 
 
-def main():
-    command, tshark, program, folder, count = *sys.argv[1:5], int(sys.argv[5])
-    seed = sys.argv[6] if len(sys.argv) > 6 else 'states'
-    sharkd = Sharkd(command)
-    passed, seen = 0, {}
-    for number in range(count):
-        timer = number % TIMER_OF != TIMER_OF - 1
-        made = Made(random.Random(f'{seed}-{number}'), timer)
-        path = os.path.join(folder, 'states.pcap')
+def cases(command, tshark, program, folder, count, seed='states'):
+    """Each capture, and what is wrong with what is said of it; what is reported is counted."""
+    sharkd, seen = Sharkd(command), collections.Counter()
+    for number in range(int(count)):
+        timer, asked = number % TIMER_OF != TIMER_OF - 1, SOME if number % 2 else []
+        made, path = Made(random.Random(f'{seed}-{number}'), timer), os.path.join(folder, 'states.pcap')
         write_pcap(path, made.frames)
-        asked = SOME if number % 2 else []
         sharkd.ask('setconf', name='nbt.names', value=' '.join(asked))
         sharkd.ask('setconf', name='nbt.timer', value=BOOLEANS[timer])
         report = report_of(program, made.lines, asked or ALL)
+        seen.update(words.split(' ')[0] for words in report.values())
         states = {frame: wanted_of(report[line]) for frame, line in made.datagrams.items()}
         difference = first_difference(made, sharkd.rows(path), states)
         if number % WHOLE_OF < 2:
             difference = difference or data_differ(tshark, path, asked, timer, states)
-        passed += not difference
-        for words in report.values():
-            seen[words.split(' ')[0]] = seen.get(words.split(' ')[0], 0) + 1
         if difference:
-            kept = os.path.join(folder, f'states-{seed}-{number}.pcap')
-            os.rename(path, kept)
-            print(f'failed: {seed}-{number}: {difference} ({kept})')
+            os.rename(path, kept := os.path.join(folder, f'states-{seed}-{number}.pcap'))
+            difference += f' ({kept})'
+        yield f'{seed}-{number}', difference
+    yield 'the end of sharkd', sharkd.end()
     print(', '.join(f'{number} {each}' for each, number in sorted(seen.items())))
-    passed += sharkd.end() == 0
-    print(f'{passed} passed, {count + 1 - passed} failed')
-    return passed <= count
 
 
 if __name__ == '__main__':
-    sys.exit(main())
+    sys.exit(tally(cases(*sys.argv[1:])))

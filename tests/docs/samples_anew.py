@@ -1,0 +1,50 @@
+#!/usr/bin/env python3
+"""Writes the console samples of pages anew: behind each command what it prints now, as tests/program.sh looks for it.
+
+Usage: tests/docs/samples_anew.py [PROGRAM [PAGE..]], without pages of README.md and docs/GUIDE.md. What has changed is then a difference to be read
+before it is committed: nothing else says that it is right. Samples of pcap files want tshark.
+"""
+import os
+import pathlib
+import re
+import subprocess
+import sys
+import tempfile
+
+TOP = pathlib.Path(__file__).resolve().parents[2]
+BUILT = TOP / 'crates/nbt/out/nbt'
+PAGES = 'README.md', 'docs/GUIDE.md'
+TOOLS = {'nbt-pcap2cap': 'pcap2cap', 'nbt-cap2pcap': 'cap2pcap', 'nbt-look': 'nbt-look'}
+SAMPLES = re.compile(r'(?<=^```console\n).*?(?=^```$)', re.MULTILINE | re.DOTALL)
+SAMPLE = re.compile(r'^(\$ (.*)\n)(?:(?!\$ ).*\n)*', re.MULTILINE)
+
+
+def installed(folder, program):
+    """A folder for the commands, which see the program, its tools and the examples in it."""
+    commands, room = folder / 'bin', folder / 'room'
+    commands.mkdir()
+    room.mkdir()
+    (commands / 'nbt').symlink_to(program)
+    for name, tool in TOOLS.items():
+        (commands / name).symlink_to(TOP / 'tools' / tool)
+    (room / 'examples').symlink_to(TOP / 'examples')
+    os.environ.update(PATH=f'{commands}:{os.environ["PATH"]}', WIRESHARK_CONFIG_DIR=str(folder / 'settings'))
+    return room
+
+
+def told(room, command):
+    """What a command prints, on standard output and standard error."""
+    done = subprocess.run(['bash', '-c', command], cwd=room, stdin=subprocess.DEVNULL, stdout=subprocess.PIPE, stderr=subprocess.STDOUT, check=False)
+    return done.stdout.decode()
+
+
+def main():
+    program, pages = pathlib.Path(*sys.argv[1:2] or [BUILT]).resolve(), sys.argv[2:] or PAGES
+    for page in (TOP / each for each in pages):
+        with tempfile.TemporaryDirectory() as folder:
+            room = installed(pathlib.Path(folder), program)
+            anew = lambda samples: SAMPLE.sub(lambda it: it[1] + told(room, it[2]), samples[0])
+            page.write_text(SAMPLES.sub(anew, page.read_text('utf-8')), 'utf-8')
+
+
+main()

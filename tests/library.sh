@@ -137,9 +137,7 @@ limits() {
         && [ "$(grep -cE '^(text: nbt_name_text|bytes: nbt_capture_line): ([0-9]+) of \2$' "$room/output")" -eq 2 ]
     count $? "the stack and the texts of calls: $(cat "$room/errors" <(grep nbt_ "$room/output") | head -n 4 | tr '\n' ' ')"
     sed -n 's/: [0-9]* of 65536$//p' "$room/output" | sort | same "$(calls | sed 's/^nbt_//' | grep -vx station_free)" 'the stack of each call is measured'
-    for each in station station_absorb; do
-        short_of_memory "$each"
-    done
+    short_of_memory station
     processors
 }
 

@@ -1,5 +1,6 @@
 /* A station that is given the pieces of a datagram, in any order, and hands it over once; what it knows meanwhile, as lines and as bytes for
- * a file or for another station; and a name of which none is made. */
+ * a file or for another station; two stations that each missed a piece, of which the one takes in what the other knows; and a name of which
+ * no station is made. */
 #include <nbt.h>
 #include <stdio.h>
 #include <stdlib.h>
@@ -73,26 +74,75 @@ static bool listen(struct nbt_station *station) {
     return true;
 }
 
+/* How many bytes the spelling has that stands there. */
+static size_t spelled(const uint8_t *name) {
+    size_t length = 0;
+    while (name[length] != 0)
+        length += name[length] + 1u;
+    return length + 1;
+}
+
+/* The datagrams that are handed over of a table: each is its key, its type, both spellings, and its data behind its length. */
+static void print(const uint8_t *each, const uint8_t *end) {
+    while (each < end) {
+        const uint8_t *source = each + 9, *destination = source + spelled(source), *data = destination + spelled(destination) + 2;
+        size_t length = (size_t)data[-2] << 8 | data[-1];
+        printf("%u.%u.%u.%u:%u/%u, type %02x: %.*s\n", each[0], each[1], each[2], each[3], each[4] << 8 | each[5],
+               each[6] << 8 | each[7], each[8], (int)length, (const char *)data);
+        each = data + length;
+    }
+}
+
+/* Gives each of two stations a piece of a datagram; the one takes in what the other knows, once with too little room, and once more, when
+ * nothing becomes whole. Whether it went well. */
+static bool join(struct nbt_station *one, struct nbt_station *other) {
+    static const size_t rooms[] = {50, 512, 512};
+    uint8_t packets[512], table[512], room[512];
+    size_t used, at, first, length, i;
+    if (nbt_datagram_write(0x11, 9, 0x0a000005, 138, bytes("JOE<00>"), 7, bytes("FRED<20>"), 8, bytes("hello, FRED"), 11, 6,
+                           packets, sizeof packets, &used, &at) != NBT_DONE)
+        return false;
+    first = (size_t)packets[0] << 8 | packets[1];
+    take(one, packets + 2, first);
+    take(other, packets + 4 + first, used - 4 - first);
+    if (nbt_station_save(other, table, sizeof table, &length) != NBT_DONE)
+        return false;
+    for (i = 0; i < 3; i++) {
+        uint32_t status = nbt_station_absorb(one, 5500, table, length, room, rooms[i], &used, &at);
+        printf("status %u, %zu bytes\n", (unsigned)status, used);
+        if (status == NBT_DONE)
+            print(room, room + used);
+    }
+    return true;
+}
+
 int main(void) {
-    struct nbt_station station;
+    struct nbt_station one, other;
     bool done;
-    if (create("FRED<20> JOE", &station))
-        nbt_station_free(station);
-    if (!create("FRED<20> OFFICE<1e>", &station))
-        return 1;
-    done = listen(&station);
-    nbt_station_free(station);
+    if (create("FRED<20> JOE", &one))
+        nbt_station_free(one);
+    /* Of a station that is none each call answers NBT_NO_STATION, and nbt_station_free does nothing. */
+    done = create("FRED<20> OFFICE<1e>", &one) & create("FRED<20>", &other) && join(&one, &other) && listen(&one);
+    nbt_station_free(one);
+    nbt_station_free(other);
     return done ? 0 : 1;
 }
 /* Prints:
  * 'FRED<20> JOE': status 10 at 12
+ * kept 0a000005:138/9
+ * kept 0a000005:138/9
+ * status 1, 90 bytes
+ * status 0, 90 bytes
+ * 10.0.0.5:138/9, type 11: hello, FRED
+ * status 0, 0 bytes
  * kept 0a000005:138/7
  * 10.0.0.5:138/0007 partial unique JOE<00> FRED<20> 5/11 1 6-11
- * 101 bytes, NBT2
+ * 10.0.0.5:138/0009 whole group JOE<00> FRED<20> 68656c6c6f2c2046524544
+ * 202 bytes, NBT2
  * delivered: hello, FRED
  * kept 0a000005:138/7
  * unheard, to be answered by 11 bytes, code 82
  * refused, status 50 at 40
  * at 6999: 0
- * at 7000: 2
+ * at 7000: 3
  */

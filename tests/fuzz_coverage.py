@@ -2,9 +2,10 @@
 """The library under libFuzzer, with coverage counters and AddressSanitizer in its own code.
 
 Usage: tests/fuzz_coverage.py [--seconds N] [--module FILE] [--keep].  The module is what `make targets` or tools/module keeps, out/nbt.bc
-without it. What has to hold stands in tests/library/harness.c; what was found is held beside tests/model then, too. It begins with the inputs of tests/library/corpus.txt, a word of digits each;
-with --keep those that are needed for what was reached are written there, 2 MB at most. An input for which something doesn't hold
-is printed as lines of a capture, and its digits, and the status is 1; 2 where a tool is missing. The last lines say what was reached.
+without it. What has to hold stands in tests/library/harness.c; of what was found the calls have to answer what tests/model does, too. It
+begins with the inputs of tests/library/corpus.txt, a word of digits each; with --keep those that are needed for what was reached are
+written there, 2 MB at most. An input for which something doesn't hold is printed as lines of a capture, and its digits, and the status
+is 1; 2 where a tool is missing. The last lines say what was reached.
 """
 import argparse
 import collections
@@ -109,7 +110,8 @@ def show_failures(room, said):
         if re.match('(crash|leak|timeout|oom)-', name):
             with open(os.path.join(room, name), 'rb') as file:
                 data = file.read()
-            print(lines_of([data]).replace(' ', ' 0 '), f'input: {data.hex()}', sep='')
+            lines = lines_of([data]).replace('table ', '# a saved table: ')
+            print(re.sub(r'^(\d+) ', r'\1 0 ', lines, flags=re.M), f'input: {data.hex()}', sep='')
 
 
 def is_judged(folder, alone):

@@ -1,4 +1,4 @@
-/* A reader of the library whose places are one off, which tests/library/payloads.c has to find. Linked with --wrap=nbt_datagram_read. */
+/* A reader of the library whose places are one off, which rows of payload_rows.py have to find. Linked with --wrap=nbt_datagram_read. */
 #include <nbt.h>
 
 uint32_t __real_nbt_datagram_read(const uint8_t *, size_t, struct nbt_datagram *, size_t *);

@@ -1,10 +1,13 @@
-use Rattle.std.proofs.Common.{◌≤◌, rules, sym, subst}
+use Rattle.std.proofs.Common.{◌≤◌, rules, sym, ◌∙◌, ap, ap₂, subst}
 use Rattle.std.specs.List.{AllByRecursion}
 use Rattle.nb_datagram.specs.declared.limits.TheConstants.{MAX_LENGTH}
+use Rattle.nb_table.specs.Limits.{TableValue, with_contents}
 use Rattle.nb_entries.specs.Entry.{IsShort}
+use Rattle.nb_table.specs.Merging.{newly_handed}
+use Rattle.nb_table.specs.Code.Each.{handed}
 use Rattle.nb_table.proofs.Changes.{short_more}
-use Rattle.nb_table.proofs.Limits.MergingLemmas.{merged_keeps, others_short, entries_short, joined_is}
-use Rattle.nb_table.proofs.table.merging.TableJoin.join.Goals as goal
+use Rattle.nb_table.proofs.Limits.MergingLemmas.{merged_keeps, others_short, entries_short, joined_is, handed_all}
+use Rattle.nb_table.proofs.table.Table.join_lent.Goals as goal
 
 pub merge_entries-requires-clause-own : goal.merge_entries-requires-clause-own
 merge_entries-requires-clause-own c k e h =
@@ -25,7 +28,19 @@ invariant_of-self-2 c =
 
 pub returns-clause-joined : goal.returns-clause-joined
 returns-clause-joined c =
-    rw (← c.self.view_is, ← c.other.view_is) (joined_is c.self.inside.entries c.other.inside.entries c.merge_entries.new.entries _ c.iter-others.ensures c.in_ok-merge_entries.ensures.joined)
+    let was : TableValue = record { contents = c.self.inside.entries; limits = record { keys = c.self.inside.keys; per_source = c.self.inside.per_source; longest = c.self.inside.longest } } in
+    rw (← c.self.view_is, ← c.other.view_is) (ap (with_contents was) (joined_is c.self.inside.entries c.other.inside.entries c.merge_entries.new.entries _ c.iter-others.ensures c.in_ok-merge_entries.ensures.joined))
 
 pub returns-clause-formed : goal.returns-clause-formed
 returns-clause-formed c = (invariant_of-self-2 c).formed
+
+pub returns-clause-handed : goal.returns-clause-handed
+returns-clause-handed c over =
+    let t = c.self.inside.entries in
+    let o = c.other.inside.entries in
+    let joined = joined_is t o c.merge_entries.new.entries _ c.iter-others.ensures c.in_ok-merge_entries.ensures.joined in
+    rw (← c.self.view_is) (
+    c.in_ok-merge_entries.ensures.handed
+    ∙ ap₂ (λ h es. handed h t es) over c.iter-others.ensures
+    ∙ handed_all t o
+    ∙ ap (newly_handed t) (sym joined))

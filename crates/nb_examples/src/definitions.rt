@@ -1,12 +1,12 @@
 //! What the definitions' own program says of fragments: it looks at the whole list for each
 //! question.
 
+use crate::plain::{PlainFault, byte_at, datagram, end_of, is_spoilt, is_whole, promise_of};
 use crate::steps::{lent, step_of};
 use nb_datagram::{Fragment, Key};
 use nb_examples_packets::fragments::{OwnedFragment, next_key, say_datagram};
 use nb_examples_words::line::Line;
 use nb_table::State;
-use nb_table::plain::{PlainFault, byte_at, datagram, end_of, is_spoilt, is_whole, promise_of};
 
 /// `plain KEY PLACE STEP ..`: what the definitions say of the key: its state, the byte at a place,
 /// its end, its promise, its datagram.

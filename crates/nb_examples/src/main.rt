@@ -12,6 +12,7 @@ mod hearing;
 mod inserting;
 mod joining;
 mod line_reading;
+mod plain;
 mod reading;
 mod replays;
 mod stations;

@@ -30,7 +30,7 @@ use Rattle.nb_entries.specs.Shared.CoverLemmas.{bytes_below_both, first_either}
 use Rattle.nb_entries.specs.Shared.PlacedLemmas.{greater_either, promise_of_decides, end_of_decides, below_by_reach}
 use Rattle.nb_entries.specs.Shared.EntryLemmas.{facts_fit_of}
 use Rattle.nb_table.specs.Shared.TableLemmas.{join_formed, join_one, insert_at, needs_new}
-use Rattle.nb_table.proofs.Contents.ContentsLemmas.{table_of_formed}
+use Rattle.nb_table.specs.Shared.ContentsLemmas.{table_of_formed}
 use Rattle.std.proofs.lemmas.Bool.{cases_lt, not-false}
 
 -- a spoilt key isn't whole

@@ -1,8 +1,8 @@
 -- The lemmas that are laws as they stand.
 use Rattle.nb_table.proofs.Changes.{one_change, one_state}
-use Rattle.nb_table.proofs.Conflict.{at_promise_conflicts, past_promise_fits}
-use Rattle.nb_table.proofs.Contents.ContentsLemmas.{retain-table_of, same_cores-same_table, table_of_formed, table_of-append}
-use Rattle.nb_table.proofs.Contents.SayingLemmas.{spoilt_exactly, table_is}
+use Rattle.nb_table.specs.Shared.ConflictLemmas.{at_promise_conflicts, past_promise_fits}
+use Rattle.nb_table.specs.Shared.ContentsLemmas.{retain-table_of, same_cores-same_table, table_of_formed, table_of-append}
+use Rattle.nb_table.specs.Shared.SayingLemmas.{spoilt_exactly, table_is}
 use Rattle.nb_table.proofs.Limits.GroupLemmas.{keys_fit_exactly}
 use Rattle.nb_table.proofs.SavedBytes.{saved_example, saved_example_first, short_fits}
 use Rattle.nb_table.proofs.SavedReading.FoundLemmas.{one_read}

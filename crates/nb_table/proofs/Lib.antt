@@ -1,7 +1,4 @@
-mod Conflict
-mod Contents
 mod Wholeness
-mod PlainProgram
 mod Changes
 mod Limits
 mod Joins

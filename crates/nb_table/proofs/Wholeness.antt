@@ -12,8 +12,8 @@ use Rattle.nb_datagram.specs.Pieces.{IsPart}
 use Rattle.nb_entries.specs.Cover.{BytesBelow, cover_of}
 use Rattle.nb_table.specs.Conflict.{BreaksPromise, Conflict, kinds, sources, destinations, overlap, ends, past_end, past_other_end, breaks, breaks_other, IsSpoilt, with_key}
 use Rattle.nb_table.specs.Sender.{HasPartsAlone, IsOf, HasAll, Gives}
-use Rattle.nb_table.proofs.Contents.SayingLemmas.{first_byte_from, first_end_from, absent_exactly, spoilt_exactly, held_says, first_byte_there, first_end_there}
-use Rattle.nb_table.proofs.Conflict.{covers, in_with_key, with_key_in}
+use Rattle.nb_table.specs.Shared.SayingLemmas.{first_byte_from, first_end_from, absent_exactly, spoilt_exactly, held_says, first_byte_there, first_end_there}
+use Rattle.nb_table.specs.Shared.ConflictLemmas.{covers, in_with_key, with_key_in}
 use Rattle.nb_entries.specs.declared.slot.Slot.TheVariants.{Spoilt, Held}
 use Rattle.nb_entries.specs.Entry.{EntryFacts, EntryValue}
 
@@ -22,9 +22,6 @@ whole_at_exactly t k = (
   λ w. let d = whole_found k w.0 w.2 in (d.0, ap (option_and_then (datagram_of k)) w.1 ∙ d.1),
   λ d. let w = at_found k (maps.get t k) d.0 d.1 in (w.0, w.1, whole_from k w.0 (d.0, w.2)),
 )
-
-pub none_whole : (t : Contents) (k : Key) → datagram_at t k ≡ None → IsWholeAt t k → ⊥
-none_whole t k h w = let d = (whole_at_exactly t k).0 w in let both : None ≡ Some d.0 = sym h ∙ d.1 in cc both
 
 -- ---- Fragments that are parts of one datagram don't conflict, and what they say together is true of it.
 

@@ -2,3 +2,6 @@
 -- stand beside the definitions because the laws of a trait, and other crates, can cite nothing of `proofs/`.
 pub mod TreeLemmas
 pub mod TableLemmas
+pub mod ContentsLemmas
+pub mod ConflictLemmas
+pub mod SayingLemmas

@@ -6,7 +6,6 @@ mod fault;
 mod join;
 mod keys;
 pub mod laws;
-pub mod plain;
 mod saved;
 mod sources;
 mod table;

@@ -1,6 +1,7 @@
 //! Tables merged.
 ghost use Rattle.std.specs.Prelude.{◌≡◌, IfOk, IfErr, OnOk, OnErr};
-ghost use Rattle.nb_table.specs.Join.{join};
+ghost use Rattle.nb_entries.specs.declared.change.Handing.TheVariants.{Over};
+ghost use Rattle.nb_table.specs.Join.{join, IsTable};
 ghost use Rattle.nb_table.specs.Limits.{with_contents};
 ghost use Rattle.nb_table.specs.Merging.{Fits, IsRefused, newly_handed};
 
@@ -17,6 +18,24 @@ use nb_entries::Handing;
 pub use taking_in::take_in_all;
 
 impl Table {
+    /// Merges the other table into this one, as [`Table::merge`]. The datagrams, if they are handed
+    /// over.
+    fn join_lent(&mut self, other: &Table, handing: Handing) -> Result<Datagrams, TableFault>
+        ensures joined { OnOk result (self.new
+            ≡ with_contents self.old (join self.old.contents other.now.contents)) }
+        ensures formed { IsTable self.new.contents }
+        ensures handed { handing ≡ Over → IfOk result (λ datagrams.
+            datagrams ≡ newly_handed self.old.contents self.new.contents) }
+        ensures fits { OnOk result (Fits self.old.limits self.old.contents other.now.contents) }
+        ensures fault { IfErr result (IsRefused self.old.limits self.old.contents
+            other.now.contents) }
+        ensures err { OnErr result (self.new ≡ self.old) }
+    {
+        self.fits(other)?;
+        let others = other.entries.iter();
+        Ok(merge_entries(self.alloc, &mut self.entries, others, handing)?)
+    }
+
     /// Merges the other table into this one: each key that either has, with the join of what both
     /// know. The limits stay.
     ///
@@ -36,9 +55,7 @@ impl Table {
             other.now.contents) }
         ensures err { OnErr result (self.new ≡ self.old) }
     {
-        self.fits(other)?;
-        let others = other.entries.iter();
-        Ok(merge_entries(self.alloc, &mut self.entries, others, Handing::Over)?)
+        self.join_lent(other, Handing::Over)
     }
 
     /// The datagrams that [`Table::merge`] of the same table would hand over. The table stays as it
@@ -102,9 +119,7 @@ impl Join for Table {
             other.now.contents) }
         ensures err { OnErr result (self.new ≡ self.old) }
     {
-        self.fits(other)?;
-        let others = other.entries.iter();
-        merge_entries(self.alloc, &mut self.entries, others, Handing::Kept)?;
+        self.join_lent(other, Handing::Kept)?;
         Ok(())
     }
 }

@@ -1,4 +1,4 @@
-use Rattle.nb_table.proofs.Contents.ContentsLemmas.{turned_cores}
+use Rattle.nb_table.specs.Shared.ContentsLemmas.{turned_cores}
 use Rattle.nb_table.proofs.laws.lists_swapped_have_the_same_cores.Goals as goal
 
 pub returns : goal.returns

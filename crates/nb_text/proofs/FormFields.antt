@@ -1,0 +1,312 @@
+-- The fields of a payload are members of an object, and their text is the payload's text. Fields of which each is a member by
+-- itself are both as they stand (`row`), so a form that is a line has a line here.
+use Rattle.std.proofs.Common.{◌≡◌, ℕ, suc, nat_lt, ◌==◌, ◌-◌, Bool, true, false, List, [], ◌∷◌, ◌++◌, length, take, drop, codes, Option, Some, None, if◌then◌else◌, refl, sym, subst, ap, ap₂, ◌∙◌, arith, append_assoc, append-nil}
+use Rattle.std.specs.List.{flat_map, list_all}
+use Rattle.std.proofs.lemmas.Bool.{and_parts, eqb-true}
+use Rattle.std.proofs.lemmas.Grind.{flat_map-append}
+use Rattle.nb_names.specs.Hexadecimal.{digits_text}
+use Rattle.nb_names.specs.Name.{NetbiosName}
+use Rattle.nb_service.specs.declared.address_entry.AddressEntry.{AddressEntry}
+use Rattle.nb_service.specs.declared.kinds.TheConstants.{NB, NBSTAT}
+use Rattle.nb_service.specs.declared.node_name.NodeName.{NodeName}
+use Rattle.nb_service.specs.declared.question.Question.{Question}
+use Rattle.nb_service.specs.Header.{opcode_of, rcode_of, PacketHeader}
+use Rattle.nb_service.specs.Packet.{ServicePacket, header_of}
+use Rattle.nb_service.specs.Record.{ResourceData, of_bytes, of_domain, ResourceRecord, record_of}
+use Rattle.nb_service.specs.Views.{StatusParts, no_status, entries_of_data, status_of_data}
+use Rattle.nb_datagram.specs.declared.front.FragmentFront.{FragmentFront}
+use Rattle.nb_datagram.specs.FaultTexts.{key_text}
+use Rattle.nb_datagram.specs.Packet.{Packet}
+use Rattle.nb_datagram.specs.declared.packet.Packet.TheVariants.{Direct, Error, Query}
+use Rattle.nb_session.specs.Header.{body_length}
+use Rattle.nb_session.specs.Packet.{Packet as SessionPacket}
+use Rattle.nb_session.specs.declared.packet.Packet.TheVariants.{Message, Request, Positive, Negative, Retarget, Keepalive}
+use Rattle.nb_session.specs.Parsing.{Parsed}
+use Rattle.nb_session.specs.declared.parsing.Parsed.TheVariants.{Whole, More, Refused}
+use Rattle.nb_session.specs.FaultTexts.{session_fault_place, session_fault_text}
+use Rattle.nb_telling.specs.Members.{AreMembers, AreParts, IsMember, nothing, member, list, both, no_part, part, parts}
+use Rattle.nb_telling.specs.Telling.{Field, FieldKey, Text, Number, Digits, Set, Range, Begins, Ends, Part, PartEnds, LineEnds}
+use Rattle.nb_telling.specs.Texts.{field_text, text_of}
+use Rattle.nb_text.specs.DatagramFields as datagrams
+use Rattle.nb_text.specs.DatagramText as datagram_texts
+use Rattle.nb_text.specs.Fields.{used_fields, refused_fields, list_fields}
+use Rattle.nb_text.specs.FrontFields.{indent, names_header_fields, type_field, standing_name, fragment_front_fields}
+use Rattle.nb_text.specs.Keys.{key_named, id_key, unit_key}
+use Rattle.nb_text.specs.Lines.{line_end, used_text, refused_text}
+use Rattle.nb_text.specs.ServiceFields as services
+use Rattle.nb_text.specs.ServiceText as service_texts
+use Rattle.nb_text.specs.SessionFields as sessions
+use Rattle.nb_text.specs.SessionText as session_texts
+use Rattle.nb_text.specs.Tells as tells
+use Rattle.nb_text.specs.Tells.{Tells}
+use Rattle.nb_text.specs.TellsFront as fronts
+use Rattle.nb_text.specs.TellsFront.{FrontOf, TellsFront}
+use Rattle.nb_text.specs.Words.{datagram_word, named_text, names_set, operation_word, packet_flags, rcode_word, session_word}
+
+-- Says depth fields text: members that have this text; SaysParts: parts of a list that have it
+pub record Says (depth : ℕ) (fields : List Field) (text : List ℕ) : Type 0 where
+  pub members : AreMembers depth fields
+  pub same : text_of fields ≡ text
+
+record SaysParts (depth : ℕ) (fields : List Field) (text : List ℕ) : Type 0 where
+  pub parts : AreParts depth fields
+  pub same : text_of fields ≡ text
+
+-- ---- rows of fields
+
+-- whether the field is a member by itself
+abbrev is_single : Field → Bool
+is_single (Range lead from to) = false
+is_single (Begins name) = false
+is_single Ends = false
+is_single (Part lead) = false
+is_single PartEnds = false
+is_single field = true
+
+single : (field : Field) → is_single field ≡ true → IsMember field
+single (Range lead from to) h = absurd (cc)
+single (Begins name) h = absurd (cc)
+single Ends h = absurd (cc)
+single (Part lead) h = absurd (cc)
+single PartEnds h = absurd (cc)
+single field h = tt
+
+singles : {depth : ℕ} (fields : List Field) → list_all is_single fields ≡ true → AreMembers depth fields
+singles [] h = nothing
+singles (field ∷ fields) h =
+    let each = and_parts (is_single field) (list_all is_single fields) h in
+    both (field ∷ []) fields (member field (single field each.0)) (singles fields each.1)
+
+-- the texts of fields up to the last's, after which nothing stands
+abbrev laid : List Field → List ℕ
+laid [] = []
+laid (field ∷ []) = field_text field
+laid (field ∷ next ∷ fields) = field_text field ++ laid (next ∷ fields)
+
+laid_same : (fields : List Field) → text_of fields ≡ laid fields
+laid_same [] = refl
+laid_same (field ∷ []) = append-nil (field_text field)
+laid_same (field ∷ next ∷ fields) = ap (λ (t : List ℕ). field_text field ++ t) (laid_same (next ∷ fields))
+
+row : {depth : ℕ} (fields : List Field) → list_all is_single fields ≡ true → Says depth fields (laid fields)
+row fields h = record { members = singles fields h; same = laid_same fields }
+
+both_say : {depth : ℕ} {xs ys : List Field} {s t : List ℕ} → Says depth xs s → Says depth ys t → Says depth (xs ++ ys) (s ++ t)
+both_say {depth} {xs} {ys} {s} {t} a b = record {
+  members = both xs ys a.members b.members;
+  same = flat_map-append field_text xs ys ∙ ap₂ (λ (s t : List ℕ). s ++ t) a.same b.same;
+}
+
+none_say : {depth : ℕ} → Says depth [] []
+none_say = record { members = nothing; same = refl }
+
+-- ---- parts, and lists of them
+
+part_says : {depth : ℕ} (lead : List ℕ) {members : List Field} {text : List ℕ} → Says depth members text
+    → SaysParts depth (Part lead ∷ (members ++ PartEnds ∷ [])) (lead ++ text)
+part_says lead {members} {text} h = record {
+  parts = part lead members h.members;
+  same = ap (λ (t : List ℕ). lead ++ t) (flat_map-append field_text members (PartEnds ∷ []) ∙ append-nil (text_of members) ∙ h.same);
+}
+
+-- the fields between a part's first and its last
+abbrev inner : List Field → List Field
+inner fields = take (length fields - 2) (drop 1 fields)
+
+-- a part that is a line
+line_says : {depth : ℕ} (lead : List ℕ) (fields : List Field) → list_all is_single (inner fields) ≡ true
+    → SaysParts depth (Part lead ∷ (inner fields ++ PartEnds ∷ [])) (lead ++ laid (inner fields))
+line_says lead fields h = part_says lead (row (inner fields) h)
+
+each_says : {A : Type 0} {depth : ℕ} (fields : A → List Field) (line : A → List ℕ) (xs : List A)
+    → ((x : A) → SaysParts depth (fields x) (line x)) → SaysParts depth (flat_map fields xs) (flat_map line xs)
+each_says fields line [] each = record { parts = no_part; same = refl }
+each_says fields line (x ∷ xs) each =
+    let rest = each_says fields line xs each in
+    record {
+      parts = parts (fields x) (flat_map fields xs) (each x).parts rest.parts;
+      same = flat_map-append field_text (fields x) (flat_map fields xs) ∙ ap₂ (λ (s t : List ℕ). s ++ t) (each x).same rest.same;
+    }
+
+list_says : {A : Type 0} {depth : ℕ} (name : List ℕ) (fields : A → List Field) (line : A → List ℕ) (xs : List A)
+    → ((x : A) → SaysParts depth (fields x) (line x)) → Says (suc depth) (list_fields name (flat_map fields xs)) (flat_map line xs)
+list_says name fields line xs each =
+    let all = each_says fields line xs each in
+    record {
+      members = list name (flat_map fields xs) all.parts;
+      same = flat_map-append field_text (flat_map fields xs) (Ends ∷ []) ∙ append-nil (text_of (flat_map fields xs)) ∙ all.same;
+    }
+
+-- ---- lines
+
+used_says : {depth : ℕ} (used : ℕ) → Says depth (used_fields used) (used_text used)
+used_says used = row (used_fields used) refl
+
+pub refused_says : {depth : ℕ} (fault : List ℕ) (place : Option ℕ) → Says depth (refused_fields fault place) (refused_text fault)
+refused_says fault None = row (refused_fields fault None) refl
+refused_says fault (Some place) = row (refused_fields fault (Some place)) refl
+
+-- ---- ports 139 and 138
+
+session_parts : {depth : ℕ} (packet : SessionPacket) → Says depth (sessions.parts_fields packet) (session_texts.parts_text packet)
+session_parts (Message bytes) = row (sessions.parts_fields (Message bytes)) refl
+session_parts (Request called calling) = row (sessions.parts_fields (Request called calling)) refl
+session_parts Positive = row (sessions.parts_fields Positive) refl
+session_parts (Negative code) = row (sessions.parts_fields (Negative code)) refl
+session_parts (Retarget address port) = row (sessions.parts_fields (Retarget address port)) refl
+session_parts Keepalive = row (sessions.parts_fields Keepalive) refl
+
+pub session_says : {depth : ℕ} (parsed : Parsed) → Says depth (sessions.session_fields parsed) (session_texts.session_text parsed)
+session_says (Whole packet used) = both_say (session_parts packet) (used_says used)
+session_says (More needed) = row (sessions.session_fields (More needed)) refl
+session_says (Refused fault) = refused_says (session_fault_text fault) (session_fault_place fault)
+
+datagram_parts : {depth : ℕ} (packet : Packet) → Says depth (datagrams.parts_fields packet) (datagram_texts.parts_text packet)
+datagram_parts (Direct f) = row (datagrams.parts_fields (Direct f)) refl
+datagram_parts (Error e) = row (datagrams.parts_fields (Error e)) refl
+datagram_parts (Query q) = row (datagrams.parts_fields (Query q)) refl
+
+pub datagram_says : {depth : ℕ} (packet : Packet) (used : ℕ) → Says depth (datagrams.datagram_fields packet used) (datagram_texts.datagram_text packet used)
+datagram_says packet used = both_say (datagram_parts packet) (used_says used)
+
+-- ---- port 137
+
+named_says : {depth : ℕ} (key : FieldKey) (word : Option (List ℕ)) (n : ℕ) → Says depth (services.named_field key word n ∷ []) (key.lead ++ named_text word n)
+named_says key None n = row (services.named_field key None n ∷ []) refl
+named_says key (Some word) n = row (services.named_field key (Some word) n ∷ []) refl
+
+state_says : {depth : ℕ} (word : ℕ) → Says depth (services.state_fields word) (service_texts.state_text word)
+state_says word =
+    both_say (named_says (key_named "op") (operation_word (opcode_of word)) (opcode_of word))
+    (both_say (row (Set (key_named "flags") (names_set packet_flags word) ∷ []) refl)
+    (named_says (key_named "rcode") (rcode_word (rcode_of word)) (rcode_of word)))
+
+header_says : {depth : ℕ} (header : PacketHeader) (used : ℕ) → Says depth (services.header_fields header used) (service_texts.header_line header used)
+header_says header used =
+    both_say (row (services.word_field id_key header.id ∷ services.word_field (key_named "word") header.word ∷ []) refl)
+    (both_say (state_says header.word) (both_say (row (services.count_fields header) refl) (used_says used)))
+
+question_says : {depth : ℕ} (question : Question) → SaysParts depth (services.question_fields question) (service_texts.question_line question)
+question_says question = line_says (codes "  question") (services.question_fields question) refl
+
+entry_says : {depth : ℕ} (entry : AddressEntry) → SaysParts depth (services.entry_fields entry) (service_texts.entry_line entry)
+entry_says entry = line_says (codes "    entry") (services.entry_fields entry) refl
+
+node_name_says : {depth : ℕ} (name : NodeName) → SaysParts depth (services.node_name_fields name) (service_texts.node_name_line name)
+node_name_says name = line_says (codes "    name") (services.node_name_fields name) refl
+
+unit_says : {depth : ℕ} (statistics : List ℕ) → Says depth (services.unit_fields statistics) (service_texts.unit_line statistics)
+unit_says {depth} statistics = either (nat_lt (length statistics) 6) where
+  either : (short : Bool) → Says depth (if short then [] else Digits unit_key (take 6 statistics) ∷ LineEnds ∷ [])
+      (if short then [] else codes "    unit=" ++ (digits_text (take 6 statistics) ++ line_end))
+  either true = none_say
+  either false = row (Digits unit_key (take 6 statistics) ∷ LineEnds ∷ []) refl
+
+status_says : (status : StatusParts) → Says 1 (services.status_fields status) (service_texts.status_lines status)
+status_says status =
+    both_say (list_says (codes "names") services.node_name_fields service_texts.node_name_line status.names node_name_says) (unit_says status.statistics)
+
+-- what RDATA says, by whether its record is of kind NB or NBSTAT
+view_at : (nb nbstat : Bool) (entries : List AddressEntry) (status : StatusParts) → (nb ≡ true → nbstat ≡ true → ⊥)
+    → Says 1 (if nb then list_fields (codes "entries") (flat_map services.entry_fields (if nb then entries else []))
+    else if nbstat then services.status_fields (if nbstat then status else no_status) else [])
+    (flat_map service_texts.entry_line (if nb then entries else []) ++ service_texts.status_lines (if nbstat then status else no_status))
+view_at true true entries status one = absurd (one refl refl)
+view_at true false entries status one =
+    let said = list_says (codes "entries") services.entry_fields service_texts.entry_line entries entry_says in
+    record { members = said.members; same = said.same ∙ sym (append-nil (flat_map service_texts.entry_line entries)) }
+view_at false true entries status one = status_says status
+view_at false false entries status one = none_say
+
+one_kind : (kind : ℕ) → (kind == NB) ≡ true → (kind == NBSTAT) ≡ true → ⊥
+one_kind kind nb nbstat = omega (arith, eqb-true kind NB nb, eqb-true kind NBSTAT nbstat)
+
+-- a record's own line, after its section's name
+abbrev own_fields : ResourceRecord → List Field
+own_fields entry =
+    services.named_fields entry.name entry.kind entry.class ++ Number (key_named "ttl") entry.ttl ∷ services.rdata_field entry.rdata ∷ LineEnds ∷ []
+
+own_says : (entry : ResourceRecord) → Says 1 (own_fields entry) (drop 2 (service_texts.record_line [] entry))
+own_says entry = either entry.rdata where
+  with_data : ResourceData → ResourceRecord
+  with_data rdata = record_of entry.name entry.kind entry.class entry.ttl rdata
+
+  either : (rdata : ResourceData) → Says 1 (own_fields (with_data rdata)) (drop 2 (service_texts.record_line [] (with_data rdata)))
+  either (of_bytes bytes) = row (own_fields (with_data (of_bytes bytes))) refl
+  either (of_domain labels) = row (own_fields (with_data (of_domain labels))) refl
+
+record_says : (section : List ℕ) (entry : ResourceRecord)
+    → SaysParts 1 (services.record_fields (codes "  " ++ section) entry) (service_texts.record_lines section entry)
+record_says section entry =
+    let said = part_says (codes "  " ++ section) (both_say (own_says entry)
+    (view_at (entry.kind == NB) (entry.kind == NBSTAT) (entries_of_data entry.rdata) (status_of_data entry.rdata) (one_kind entry.kind))) in
+    record { parts = said.parts; same = said.same ∙ sym (append_assoc (codes "  " ++ section) (drop 2 (service_texts.record_line [] entry)) _) }
+
+section_says : (name section : List ℕ) (entries : List ResourceRecord)
+    → Says 2 (list_fields name (flat_map (services.record_fields (codes "  " ++ section)) entries)) (flat_map (service_texts.record_lines section) entries)
+section_says name section entries =
+    list_says name (services.record_fields (codes "  " ++ section)) (service_texts.record_lines section) entries (record_says section)
+
+-- the text of a packet's lists
+abbrev lists_text : ServicePacket → List ℕ
+lists_text packet =
+    flat_map service_texts.question_line packet.questions
+    ++ (flat_map (service_texts.record_lines (codes "answer")) packet.answers
+    ++ (flat_map (service_texts.record_lines (codes "authority")) packet.authorities
+    ++ flat_map (service_texts.record_lines (codes "additional")) packet.additional))
+
+lists_say : (packet : ServicePacket) → Says 2 (services.lists_fields packet) (lists_text packet)
+lists_say packet =
+    both_say (list_says (codes "questions") services.question_fields service_texts.question_line packet.questions question_says)
+    (both_say (section_says (codes "answers") (codes "answer") packet.answers)
+    (both_say (section_says (codes "authorities") (codes "authority") packet.authorities)
+    (section_says (codes "additional") (codes "additional") packet.additional)))
+
+pub service_says : (packet : ServicePacket) (used : ℕ) → Says 2 (services.service_fields packet used) (service_texts.service_text packet used)
+service_says packet used = both_say (header_says (header_of packet) used) (lists_say packet)
+
+-- ---- the members
+
+pub fields_members : (payload : List ℕ) (port : ℕ) (fields : List Field) → Tells payload port fields → AreMembers 2 fields
+fields_members payload _ _ (tells.names packet used h) = (service_says packet used).members
+fields_members payload _ _ (tells.no_names fault h) = (refused_says _ _).members
+fields_members payload _ _ (tells.datagram packet used h) = (datagram_says packet used).members
+fields_members payload _ _ (tells.no_datagram fault h) = (refused_says _ _).members
+fields_members payload _ _ (tells.session port parsed a b h) = (session_says parsed).members
+
+-- ---- fronts
+
+front_header : {depth : ℕ} (header : PacketHeader) → AreMembers depth (names_header_fields header)
+front_header header =
+    both _ _ (singles (indent ∷ services.word_field id_key header.id ∷ services.word_field (key_named "word") header.word ∷ []) refl)
+    (both _ _ (state_says header.word).members (singles (services.count_fields header ++ LineEnds ∷ []) refl))
+
+type_member : {depth : ℕ} (word : Option (List ℕ)) (type : ℕ) → AreMembers depth (type_field word type ∷ [])
+type_member None type = singles (type_field None type ∷ []) refl
+type_member (Some word) type = singles (type_field (Some word) type ∷ []) refl
+
+name_members : {depth : ℕ} (key : FieldKey) (name : Option NetbiosName) → AreMembers depth (standing_name key name)
+name_members key None = nothing
+name_members key (Some name) = singles (standing_name key (Some name)) refl
+
+fragment_members : {depth : ℕ} (fragment : Option FragmentFront) → AreMembers depth (fragment_front_fields fragment)
+fragment_members None = nothing
+fragment_members (Some front) =
+    both _ _ (singles (Number (key_named "offset") front.offset ∷ []) refl)
+    (both _ _ (name_members (key_named "source") front.source) (name_members (key_named "destination") front.destination))
+
+front_members : (payload : List ℕ) (port : ℕ) (fields : List Field) → FrontOf payload port fields → AreMembers 2 fields
+front_members payload _ _ (fronts.names_front fault header items next fails h) = both _ _ (front_header header) (lists_say items).members
+front_members payload _ _ (fronts.datagram_front fault front fails h) =
+    both _ _ (singles (indent ∷ []) refl) (both _ _ (type_member (datagram_word front.message_type) front.message_type)
+    (both _ _ (singles (Digits (key_named "flags") (front.flags ∷ []) ∷ Text (key_named "key") (key_text front.key) ∷ []) refl)
+    (both _ _ (fragment_members front.fragment) (singles (LineEnds ∷ []) refl))))
+front_members payload _ _ (fronts.session_front port parsed header a b h none there) =
+    both _ _ (singles (indent ∷ []) refl) (both _ _ (type_member (session_word header.packet_type) header.packet_type)
+    (singles (Number (key_named "length") (body_length header) ∷ LineEnds ∷ []) refl))
+front_members payload _ _ stands = nothing
+
+pub told_members : (payload : List ℕ) (port : ℕ) (fields : List Field) → TellsFront payload port fields → AreMembers 2 fields
+told_members payload port fields h =
+    subst (AreMembers 2) (sym h.are)
+    (both h.told h.more (fields_members payload port h.told h.tells) (front_members payload port h.more h.stands))

@@ -1,8 +1,8 @@
 -- The fields of a payload are members of an object, and their text is the payload's text. Fields of which each is a member by
 -- itself are both as they stand (`row`), so a form that is a line has a line here.
 use Rattle.std.proofs.Common.{◌≡◌, ℕ, suc, nat_lt, ◌==◌, ◌-◌, Bool, true, false, List, [], ◌∷◌, ◌++◌, length, take, drop, codes, Option, Some, None, if◌then◌else◌, refl, sym, subst, ap, ap₂, ◌∙◌, arith, append_assoc, append-nil}
-use Rattle.std.specs.List.{flat_map, list_all}
-use Rattle.std.proofs.lemmas.Bool.{and_parts, eqb-true}
+use Rattle.std.specs.List.{AllByRecursion, flat_map}
+use Rattle.std.proofs.lemmas.Bool.{eqb-true}
 use Rattle.std.proofs.lemmas.Grind.{flat_map-append}
 use Rattle.nb_names.specs.Hexadecimal.{digits_text}
 use Rattle.nb_names.specs.Name.{NetbiosName}
@@ -25,7 +25,7 @@ use Rattle.nb_session.specs.Parsing.{Parsed}
 use Rattle.nb_session.specs.declared.parsing.Parsed.TheVariants.{Whole, More, Refused}
 use Rattle.nb_session.specs.FaultTexts.{session_fault_place, session_fault_text}
 use Rattle.nb_telling.specs.Members.{AreMembers, AreParts, IsMember, nothing, member, list, both, no_part, part, parts}
-use Rattle.nb_telling.specs.Telling.{Field, FieldKey, Text, Number, Digits, Set, Range, Begins, Ends, Part, PartEnds, LineEnds}
+use Rattle.nb_telling.specs.Telling.{Field, FieldKey, Text, Number, Digits, Set, Ends, Part, PartEnds, LineEnds}
 use Rattle.nb_telling.specs.Texts.{field_text, text_of}
 use Rattle.nb_text.specs.DatagramFields as datagrams
 use Rattle.nb_text.specs.DatagramText as datagram_texts
@@ -54,28 +54,10 @@ record SaysParts (depth : ℕ) (fields : List Field) (text : List ℕ) : Type 0 
 
 -- ---- rows of fields
 
--- whether the field is a member by itself
-abbrev is_single : Field → Bool
-is_single (Range lead from to) = false
-is_single (Begins name) = false
-is_single Ends = false
-is_single (Part lead) = false
-is_single PartEnds = false
-is_single field = true
-
-single : (field : Field) → is_single field ≡ true → IsMember field
-single (Range lead from to) h = absurd (cc)
-single (Begins name) h = absurd (cc)
-single Ends h = absurd (cc)
-single (Part lead) h = absurd (cc)
-single PartEnds h = absurd (cc)
-single field h = tt
-
-singles : {depth : ℕ} (fields : List Field) → list_all is_single fields ≡ true → AreMembers depth fields
+-- that each field of a row that is written out is a member by itself, `_` says
+singles : {depth : ℕ} (fields : List Field) → AllByRecursion IsMember fields → AreMembers depth fields
 singles [] h = nothing
-singles (field ∷ fields) h =
-    let each = and_parts (is_single field) (list_all is_single fields) h in
-    both (field ∷ []) fields (member field (single field each.0)) (singles fields each.1)
+singles (field ∷ fields) h = both (field ∷ []) fields (member field h.0) (singles fields h.1)
 
 -- the texts of fields up to the last's, after which nothing stands
 abbrev laid : List Field → List ℕ
@@ -88,7 +70,7 @@ laid_same [] = refl
 laid_same (field ∷ []) = append-nil (field_text field)
 laid_same (field ∷ next ∷ fields) = ap (λ (t : List ℕ). field_text field ++ t) (laid_same (next ∷ fields))
 
-row : {depth : ℕ} (fields : List Field) → list_all is_single fields ≡ true → Says depth fields (laid fields)
+row : {depth : ℕ} (fields : List Field) → AllByRecursion IsMember fields → Says depth fields (laid fields)
 row fields h = record { members = singles fields h; same = laid_same fields }
 
 both_say : {depth : ℕ} {xs ys : List Field} {s t : List ℕ} → Says depth xs s → Says depth ys t → Says depth (xs ++ ys) (s ++ t)
@@ -114,7 +96,7 @@ abbrev inner : List Field → List Field
 inner fields = take (length fields - 2) (drop 1 fields)
 
 -- a part that is a line
-line_says : {depth : ℕ} (lead : List ℕ) (fields : List Field) → list_all is_single (inner fields) ≡ true
+line_says : {depth : ℕ} (lead : List ℕ) (fields : List Field) → AllByRecursion IsMember (inner fields)
     → SaysParts depth (Part lead ∷ (inner fields ++ PartEnds ∷ [])) (lead ++ laid (inner fields))
 line_says lead fields h = part_says lead (row (inner fields) h)
 
@@ -140,31 +122,31 @@ list_says name fields line xs each =
 -- ---- lines
 
 used_says : {depth : ℕ} (used : ℕ) → Says depth (used_fields used) (used_text used)
-used_says used = row (used_fields used) refl
+used_says used = row (used_fields used) _
 
 pub refused_says : {depth : ℕ} (fault : List ℕ) (place : Option ℕ) → Says depth (refused_fields fault place) (refused_text fault)
-refused_says fault None = row (refused_fields fault None) refl
-refused_says fault (Some place) = row (refused_fields fault (Some place)) refl
+refused_says fault None = row (refused_fields fault None) _
+refused_says fault (Some place) = row (refused_fields fault (Some place)) _
 
 -- ---- ports 139 and 138
 
 session_parts : {depth : ℕ} (packet : SessionPacket) → Says depth (sessions.parts_fields packet) (session_texts.parts_text packet)
-session_parts (Message bytes) = row (sessions.parts_fields (Message bytes)) refl
-session_parts (Request called calling) = row (sessions.parts_fields (Request called calling)) refl
-session_parts Positive = row (sessions.parts_fields Positive) refl
-session_parts (Negative code) = row (sessions.parts_fields (Negative code)) refl
-session_parts (Retarget address port) = row (sessions.parts_fields (Retarget address port)) refl
-session_parts Keepalive = row (sessions.parts_fields Keepalive) refl
+session_parts (Message bytes) = row (sessions.parts_fields (Message bytes)) _
+session_parts (Request called calling) = row (sessions.parts_fields (Request called calling)) _
+session_parts Positive = row (sessions.parts_fields Positive) _
+session_parts (Negative code) = row (sessions.parts_fields (Negative code)) _
+session_parts (Retarget address port) = row (sessions.parts_fields (Retarget address port)) _
+session_parts Keepalive = row (sessions.parts_fields Keepalive) _
 
 pub session_says : {depth : ℕ} (parsed : Parsed) → Says depth (sessions.session_fields parsed) (session_texts.session_text parsed)
 session_says (Whole packet used) = both_say (session_parts packet) (used_says used)
-session_says (More needed) = row (sessions.session_fields (More needed)) refl
+session_says (More needed) = row (sessions.session_fields (More needed)) _
 session_says (Refused fault) = refused_says (session_fault_text fault) (session_fault_place fault)
 
 datagram_parts : {depth : ℕ} (packet : Packet) → Says depth (datagrams.parts_fields packet) (datagram_texts.parts_text packet)
-datagram_parts (Direct f) = row (datagrams.parts_fields (Direct f)) refl
-datagram_parts (Error e) = row (datagrams.parts_fields (Error e)) refl
-datagram_parts (Query q) = row (datagrams.parts_fields (Query q)) refl
+datagram_parts (Direct f) = row (datagrams.parts_fields (Direct f)) _
+datagram_parts (Error e) = row (datagrams.parts_fields (Error e)) _
+datagram_parts (Query q) = row (datagrams.parts_fields (Query q)) _
 
 pub datagram_says : {depth : ℕ} (packet : Packet) (used : ℕ) → Says depth (datagrams.datagram_fields packet used) (datagram_texts.datagram_text packet used)
 datagram_says packet used = both_say (datagram_parts packet) (used_says used)
@@ -172,35 +154,35 @@ datagram_says packet used = both_say (datagram_parts packet) (used_says used)
 -- ---- port 137
 
 named_says : {depth : ℕ} (key : FieldKey) (word : Option (List ℕ)) (n : ℕ) → Says depth (services.named_field key word n ∷ []) (key.lead ++ named_text word n)
-named_says key None n = row (services.named_field key None n ∷ []) refl
-named_says key (Some word) n = row (services.named_field key (Some word) n ∷ []) refl
+named_says key None n = row (services.named_field key None n ∷ []) _
+named_says key (Some word) n = row (services.named_field key (Some word) n ∷ []) _
 
 state_says : {depth : ℕ} (word : ℕ) → Says depth (services.state_fields word) (service_texts.state_text word)
 state_says word =
     both_say (named_says (key_named "op") (operation_word (opcode_of word)) (opcode_of word))
-    (both_say (row (Set (key_named "flags") (names_set packet_flags word) ∷ []) refl)
+    (both_say (row (Set (key_named "flags") (names_set packet_flags word) ∷ []) _)
     (named_says (key_named "rcode") (rcode_word (rcode_of word)) (rcode_of word)))
 
 header_says : {depth : ℕ} (header : PacketHeader) (used : ℕ) → Says depth (services.header_fields header used) (service_texts.header_line header used)
 header_says header used =
-    both_say (row (services.word_field id_key header.id ∷ services.word_field (key_named "word") header.word ∷ []) refl)
-    (both_say (state_says header.word) (both_say (row (services.count_fields header) refl) (used_says used)))
+    both_say (row (services.word_field id_key header.id ∷ services.word_field (key_named "word") header.word ∷ []) _)
+    (both_say (state_says header.word) (both_say (row (services.count_fields header) _) (used_says used)))
 
 question_says : {depth : ℕ} (question : Question) → SaysParts depth (services.question_fields question) (service_texts.question_line question)
-question_says question = line_says (codes "  question") (services.question_fields question) refl
+question_says question = line_says (codes "  question") (services.question_fields question) _
 
 entry_says : {depth : ℕ} (entry : AddressEntry) → SaysParts depth (services.entry_fields entry) (service_texts.entry_line entry)
-entry_says entry = line_says (codes "    entry") (services.entry_fields entry) refl
+entry_says entry = line_says (codes "    entry") (services.entry_fields entry) _
 
 node_name_says : {depth : ℕ} (name : NodeName) → SaysParts depth (services.node_name_fields name) (service_texts.node_name_line name)
-node_name_says name = line_says (codes "    name") (services.node_name_fields name) refl
+node_name_says name = line_says (codes "    name") (services.node_name_fields name) _
 
 unit_says : {depth : ℕ} (statistics : List ℕ) → Says depth (services.unit_fields statistics) (service_texts.unit_line statistics)
 unit_says {depth} statistics = either (nat_lt (length statistics) 6) where
   either : (short : Bool) → Says depth (if short then [] else Digits unit_key (take 6 statistics) ∷ LineEnds ∷ [])
       (if short then [] else codes "    unit=" ++ (digits_text (take 6 statistics) ++ line_end))
   either true = none_say
-  either false = row (Digits unit_key (take 6 statistics) ∷ LineEnds ∷ []) refl
+  either false = row (Digits unit_key (take 6 statistics) ∷ LineEnds ∷ []) _
 
 status_says : (status : StatusParts) → Says 1 (services.status_fields status) (service_texts.status_lines status)
 status_says status =
@@ -232,8 +214,8 @@ own_says entry = either entry.rdata where
   with_data rdata = record_of entry.name entry.kind entry.class entry.ttl rdata
 
   either : (rdata : ResourceData) → Says 1 (own_fields (with_data rdata)) (drop 2 (service_texts.record_line [] (with_data rdata)))
-  either (of_bytes bytes) = row (own_fields (with_data (of_bytes bytes))) refl
-  either (of_domain labels) = row (own_fields (with_data (of_domain labels))) refl
+  either (of_bytes bytes) = row (own_fields (with_data (of_bytes bytes))) _
+  either (of_domain labels) = row (own_fields (with_data (of_domain labels))) _
 
 record_says : (section : List ℕ) (entry : ResourceRecord)
     → SaysParts 1 (services.record_fields (codes "  " ++ section) entry) (service_texts.record_lines section entry)
@@ -248,7 +230,7 @@ section_says name section entries =
     list_says name (services.record_fields (codes "  " ++ section)) (service_texts.record_lines section) entries (record_says section)
 
 -- the text of a packet's lists
-abbrev lists_text : ServicePacket → List ℕ
+abbrev pub lists_text : ServicePacket → List ℕ
 lists_text packet =
     flat_map service_texts.question_line packet.questions
     ++ (flat_map (service_texts.record_lines (codes "answer")) packet.answers
@@ -278,32 +260,32 @@ fields_members payload _ _ (tells.session port parsed a b h) = (session_says par
 
 front_header : {depth : ℕ} (header : PacketHeader) → AreMembers depth (names_header_fields header)
 front_header header =
-    both _ _ (singles (indent ∷ services.word_field id_key header.id ∷ services.word_field (key_named "word") header.word ∷ []) refl)
-    (both _ _ (state_says header.word).members (singles (services.count_fields header ++ LineEnds ∷ []) refl))
+    both _ _ (singles (indent ∷ services.word_field id_key header.id ∷ services.word_field (key_named "word") header.word ∷ []) _)
+    (both _ _ (state_says header.word).members (singles (services.count_fields header ++ LineEnds ∷ []) _))
 
 type_member : {depth : ℕ} (word : Option (List ℕ)) (type : ℕ) → AreMembers depth (type_field word type ∷ [])
-type_member None type = singles (type_field None type ∷ []) refl
-type_member (Some word) type = singles (type_field (Some word) type ∷ []) refl
+type_member None type = singles (type_field None type ∷ []) _
+type_member (Some word) type = singles (type_field (Some word) type ∷ []) _
 
 name_members : {depth : ℕ} (key : FieldKey) (name : Option NetbiosName) → AreMembers depth (standing_name key name)
 name_members key None = nothing
-name_members key (Some name) = singles (standing_name key (Some name)) refl
+name_members key (Some name) = singles (standing_name key (Some name)) _
 
 fragment_members : {depth : ℕ} (fragment : Option FragmentFront) → AreMembers depth (fragment_front_fields fragment)
 fragment_members None = nothing
 fragment_members (Some front) =
-    both _ _ (singles (Number (key_named "offset") front.offset ∷ []) refl)
+    both _ _ (singles (Number (key_named "offset") front.offset ∷ []) _)
     (both _ _ (name_members (key_named "source") front.source) (name_members (key_named "destination") front.destination))
 
 front_members : (payload : List ℕ) (port : ℕ) (fields : List Field) → FrontOf payload port fields → AreMembers 2 fields
 front_members payload _ _ (fronts.names_front fault header items next fails h) = both _ _ (front_header header) (lists_say items).members
 front_members payload _ _ (fronts.datagram_front fault front fails h) =
-    both _ _ (singles (indent ∷ []) refl) (both _ _ (type_member (datagram_word front.message_type) front.message_type)
-    (both _ _ (singles (Digits (key_named "flags") (front.flags ∷ []) ∷ Text (key_named "key") (key_text front.key) ∷ []) refl)
-    (both _ _ (fragment_members front.fragment) (singles (LineEnds ∷ []) refl))))
+    both _ _ (singles (indent ∷ []) _) (both _ _ (type_member (datagram_word front.message_type) front.message_type)
+    (both _ _ (singles (Digits (key_named "flags") (front.flags ∷ []) ∷ Text (key_named "key") (key_text front.key) ∷ []) _)
+    (both _ _ (fragment_members front.fragment) (singles (LineEnds ∷ []) _))))
 front_members payload _ _ (fronts.session_front port parsed header a b h none there) =
-    both _ _ (singles (indent ∷ []) refl) (both _ _ (type_member (session_word header.packet_type) header.packet_type)
-    (singles (Number (key_named "length") (body_length header) ∷ LineEnds ∷ []) refl))
+    both _ _ (singles (indent ∷ []) _) (both _ _ (type_member (session_word header.packet_type) header.packet_type)
+    (singles (Number (key_named "length") (body_length header) ∷ LineEnds ∷ []) _))
 front_members payload _ _ stands = nothing
 
 pub told_members : (payload : List ℕ) (port : ℕ) (fields : List Field) → TellsFront payload port fields → AreMembers 2 fields

@@ -10,9 +10,10 @@ use Rattle.std.specs.Fmt.{decimal}
 use Rattle.std.proofs.lemmas.Bool.{and_parts}
 use Rattle.std.proofs.lemmas.Grind.{flat_map-append}
 use Rattle.std.proofs.lemmas.List.{length-append}
+use Rattle.nb_service.proofs.EncodingLemmas.{all_append}
 use Rattle.nb_text.specs.Fields.{IsWord, AreWords, last, more, IsPart, AreLines}
 use Rattle.nb_text.specs.Lines.{line_end, used_text, refused_text}
-use Rattle.nb_text.proofs.FieldLemmas.{IsSeen, all-append, all-split, bytes-take, seen-append, is_literal, literal, number_word}
+use Rattle.nb_text.proofs.FieldLemmas.{IsSeen, all-split, bytes-take, seen-append, is_literal, literal, number_word}
 
 pub bytes-split : (xs ys : List ℕ) → AreBytes (xs ++ ys) → AreBytes xs × AreBytes ys
 bytes-split xs ys a = all-split (λ (b : ℕ). b < 256) xs ys a
@@ -130,7 +131,7 @@ refused_line fault mid = line_of (codes "refused") (literal (codes "refused") re
 pub parts_both : {xs ys : List ℕ} → AreParts xs → AreParts ys → AreParts (xs ++ ys)
 parts_both {xs} {ys} a b = record {
   parts = a.parts ++ b.parts;
-  each = all-append IsPart a.parts b.parts a.each b.each;
+  each = all_append IsPart a.parts b.parts a.each b.each;
   whole = ap (λ (t : List ℕ). t ++ ys) a.whole ∙ ap (λ (t : List ℕ). flat_map (λ part. part ++ line_end) a.parts ++ t) b.whole
       ∙ sym (flat_map-append (λ part. part ++ line_end) a.parts b.parts);
 }
@@ -150,7 +151,7 @@ lines_then {text} {after} l p = record {
   first = l.first;
   parts = l.parts ++ p.parts;
   words = l.words;
-  each = all-append IsPart l.parts p.parts l.each p.each;
+  each = all_append IsPart l.parts p.parts l.each p.each;
   whole = ap (λ (t : List ℕ). t ++ after) l.whole ∙ append_assoc l.first (line_end ++ flat_map (λ part. part ++ line_end) l.parts) after
       ∙ ap (λ (t : List ℕ). l.first ++ (line_end ++ t))
       (ap (λ (t : List ℕ). flat_map (λ part. part ++ line_end) l.parts ++ t) p.whole ∙ sym (flat_map-append (λ part. part ++ line_end) l.parts p.parts));

@@ -1,9 +1,8 @@
--- The fields of a payload are members of an object, and their text is the payload's text. Fields of which each is a member by
--- itself are both as they stand (`row`), so a form that is a line has a line here.
-use Rattle.std.proofs.Common.{◌≡◌, ℕ, suc, nat_lt, ◌==◌, ◌-◌, Bool, true, false, List, [], ◌∷◌, ◌++◌, length, take, drop, codes, Option, Some, None, if◌then◌else◌, refl, sym, subst, ap, ap₂, ◌∙◌, arith, append_assoc, append-nil}
-use Rattle.std.specs.List.{AllByRecursion, flat_map}
+-- The fields of a payload are members of an object, and their text is the payload's text. A form that is a line has a line
+-- here, whatever its fields are.
+use Rattle.std.proofs.Common.{◌≡◌, ℕ, nat_lt, ◌==◌, Bool, true, false, List, [], ◌∷◌, ◌++◌, length, take, drop, codes, Option, Some, None, if◌then◌else◌, refl, sym, subst, ◌∙◌, arith, append-nil}
+use Rattle.std.specs.List.{flat_map}
 use Rattle.std.proofs.lemmas.Bool.{eqb-true}
-use Rattle.std.proofs.lemmas.Grind.{flat_map-append}
 use Rattle.nb_names.specs.Hexadecimal.{digits_text}
 use Rattle.nb_names.specs.Name.{NetbiosName}
 use Rattle.nb_service.specs.declared.address_entry.AddressEntry.{AddressEntry}
@@ -13,7 +12,7 @@ use Rattle.nb_service.specs.declared.question.Question.{Question}
 use Rattle.nb_service.specs.Header.{opcode_of, rcode_of, PacketHeader}
 use Rattle.nb_service.specs.Packet.{ServicePacket, header_of}
 use Rattle.nb_service.specs.Record.{ResourceData, of_bytes, of_domain, ResourceRecord, record_of}
-use Rattle.nb_service.specs.Views.{StatusParts, no_status, entries_of_data, status_of_data}
+use Rattle.nb_service.specs.Views.{StatusParts, no_status, entries_of_data, entries_in, status_of_data, status_in}
 use Rattle.nb_datagram.specs.declared.front.FragmentFront.{FragmentFront}
 use Rattle.nb_datagram.specs.FaultTexts.{key_text}
 use Rattle.nb_datagram.specs.Packet.{Packet}
@@ -24,9 +23,8 @@ use Rattle.nb_session.specs.declared.packet.Packet.TheVariants.{Message, Request
 use Rattle.nb_session.specs.Parsing.{Parsed}
 use Rattle.nb_session.specs.declared.parsing.Parsed.TheVariants.{Whole, More, Refused}
 use Rattle.nb_session.specs.FaultTexts.{session_fault_place, session_fault_text}
-use Rattle.nb_telling.specs.Members.{AreMembers, AreParts, IsMember, nothing, member, list, both, no_part, part, parts}
-use Rattle.nb_telling.specs.Telling.{Field, FieldKey, Text, Number, Digits, Set, Ends, Part, PartEnds, LineEnds}
-use Rattle.nb_telling.specs.Texts.{field_text, text_of}
+use Rattle.nb_telling.specs.Members.{AreMembers, nothing, both}
+use Rattle.nb_telling.specs.Telling.{Field, FieldKey, Text, Number, Digits, Set, LineEnds}
 use Rattle.nb_text.specs.DatagramFields as datagrams
 use Rattle.nb_text.specs.DatagramText as datagram_texts
 use Rattle.nb_text.specs.Fields.{used_fields, refused_fields, list_fields}
@@ -42,82 +40,7 @@ use Rattle.nb_text.specs.Tells.{Tells}
 use Rattle.nb_text.specs.TellsFront as fronts
 use Rattle.nb_text.specs.TellsFront.{FrontOf, TellsFront}
 use Rattle.nb_text.specs.Words.{datagram_word, named_text, names_set, operation_word, packet_flags, rcode_word, session_word}
-
--- Says depth fields text: members that have this text; SaysParts: parts of a list that have it
-pub record Says (depth : ℕ) (fields : List Field) (text : List ℕ) : Type 0 where
-  pub members : AreMembers depth fields
-  pub same : text_of fields ≡ text
-
-record SaysParts (depth : ℕ) (fields : List Field) (text : List ℕ) : Type 0 where
-  pub parts : AreParts depth fields
-  pub same : text_of fields ≡ text
-
--- ---- rows of fields
-
--- that each field of a row that is written out is a member by itself, `_` says
-singles : {depth : ℕ} (fields : List Field) → AllByRecursion IsMember fields → AreMembers depth fields
-singles [] h = nothing
-singles (field ∷ fields) h = both (field ∷ []) fields (member field h.0) (singles fields h.1)
-
--- the texts of fields up to the last's, after which nothing stands
-abbrev laid : List Field → List ℕ
-laid [] = []
-laid (field ∷ []) = field_text field
-laid (field ∷ next ∷ fields) = field_text field ++ laid (next ∷ fields)
-
-laid_same : (fields : List Field) → text_of fields ≡ laid fields
-laid_same [] = refl
-laid_same (field ∷ []) = append-nil (field_text field)
-laid_same (field ∷ next ∷ fields) = ap (λ (t : List ℕ). field_text field ++ t) (laid_same (next ∷ fields))
-
-row : {depth : ℕ} (fields : List Field) → AllByRecursion IsMember fields → Says depth fields (laid fields)
-row fields h = record { members = singles fields h; same = laid_same fields }
-
-both_say : {depth : ℕ} {xs ys : List Field} {s t : List ℕ} → Says depth xs s → Says depth ys t → Says depth (xs ++ ys) (s ++ t)
-both_say {depth} {xs} {ys} {s} {t} a b = record {
-  members = both xs ys a.members b.members;
-  same = flat_map-append field_text xs ys ∙ ap₂ (λ (s t : List ℕ). s ++ t) a.same b.same;
-}
-
-none_say : {depth : ℕ} → Says depth [] []
-none_say = record { members = nothing; same = refl }
-
--- ---- parts, and lists of them
-
-part_says : {depth : ℕ} (lead : List ℕ) {members : List Field} {text : List ℕ} → Says depth members text
-    → SaysParts depth (Part lead ∷ (members ++ PartEnds ∷ [])) (lead ++ text)
-part_says lead {members} {text} h = record {
-  parts = part lead members h.members;
-  same = ap (λ (t : List ℕ). lead ++ t) (flat_map-append field_text members (PartEnds ∷ []) ∙ append-nil (text_of members) ∙ h.same);
-}
-
--- the fields between a part's first and its last
-abbrev inner : List Field → List Field
-inner fields = take (length fields - 2) (drop 1 fields)
-
--- a part that is a line
-line_says : {depth : ℕ} (lead : List ℕ) (fields : List Field) → AllByRecursion IsMember (inner fields)
-    → SaysParts depth (Part lead ∷ (inner fields ++ PartEnds ∷ [])) (lead ++ laid (inner fields))
-line_says lead fields h = part_says lead (row (inner fields) h)
-
-each_says : {A : Type 0} {depth : ℕ} (fields : A → List Field) (line : A → List ℕ) (xs : List A)
-    → ((x : A) → SaysParts depth (fields x) (line x)) → SaysParts depth (flat_map fields xs) (flat_map line xs)
-each_says fields line [] each = record { parts = no_part; same = refl }
-each_says fields line (x ∷ xs) each =
-    let rest = each_says fields line xs each in
-    record {
-      parts = parts (fields x) (flat_map fields xs) (each x).parts rest.parts;
-      same = flat_map-append field_text (fields x) (flat_map fields xs) ∙ ap₂ (λ (s t : List ℕ). s ++ t) (each x).same rest.same;
-    }
-
-list_says : {A : Type 0} {depth : ℕ} (name : List ℕ) (fields : A → List Field) (line : A → List ℕ) (xs : List A)
-    → ((x : A) → SaysParts depth (fields x) (line x)) → Says (suc depth) (list_fields name (flat_map fields xs)) (flat_map line xs)
-list_says name fields line xs each =
-    let all = each_says fields line xs each in
-    record {
-      members = list name (flat_map fields xs) all.parts;
-      same = flat_map-append field_text (flat_map fields xs) (Ends ∷ []) ∙ append-nil (text_of (flat_map fields xs)) ∙ all.same;
-    }
+use Rattle.nb_text.proofs.SaysLemmas.{Says, SaysParts, singles, row, both_say, none_say, part_says, line_says, up_to_end, then_lines, list_says}
 
 -- ---- lines
 
@@ -203,26 +126,32 @@ view_at false false entries status one = none_say
 one_kind : (kind : ℕ) → (kind == NB) ≡ true → (kind == NBSTAT) ≡ true → ⊥
 one_kind kind nb nbstat = omega (arith, eqb-true kind NB nb, eqb-true kind NBSTAT nbstat)
 
--- a record's own line, after its section's name
-abbrev own_fields : ResourceRecord → List Field
-own_fields entry =
-    services.named_fields entry.name entry.kind entry.class ++ Number (key_named "ttl") entry.ttl ∷ services.rdata_field entry.rdata ∷ LineEnds ∷ []
-
-own_says : (entry : ResourceRecord) → Says 1 (own_fields entry) (drop 2 (service_texts.record_line [] entry))
-own_says entry = either entry.rdata where
-  with_data : ResourceData → ResourceRecord
-  with_data rdata = record_of entry.name entry.kind entry.class entry.ttl rdata
-
-  either : (rdata : ResourceData) → Says 1 (own_fields (with_data rdata)) (drop 2 (service_texts.record_line [] (with_data rdata)))
-  either (of_bytes bytes) = row (own_fields (with_data (of_bytes bytes))) _
-  either (of_domain labels) = row (own_fields (with_data (of_domain labels))) _
+view_says : (entry : ResourceRecord) → Says 1 (services.view_fields entry)
+    (flat_map service_texts.entry_line (entries_in entry) ++ service_texts.status_lines (status_in entry))
+view_says entry =
+    view_at (entry.kind == NB) (entry.kind == NBSTAT) (entries_of_data entry.rdata) (status_of_data entry.rdata) (one_kind entry.kind)
 
 record_says : (section : List ℕ) (entry : ResourceRecord)
     → SaysParts 1 (services.record_fields (codes "  " ++ section) entry) (service_texts.record_lines section entry)
-record_says section entry =
-    let said = part_says (codes "  " ++ section) (both_say (own_says entry)
-    (view_at (entry.kind == NB) (entry.kind == NBSTAT) (entries_of_data entry.rdata) (status_of_data entry.rdata) (one_kind entry.kind))) in
-    record { parts = said.parts; same = said.same ∙ sym (append_assoc (codes "  " ++ section) (drop 2 (service_texts.record_line [] entry)) _) }
+record_says section entry = either entry.rdata where
+  with_data : ResourceData → ResourceRecord
+  with_data rdata = record_of entry.name entry.kind entry.class entry.ttl rdata
+
+  -- the record's own line, after its section's name
+  own : ResourceData → List Field
+  own rdata = up_to_end (drop 1 (services.record_fields [] (with_data rdata)))
+
+  line : ResourceData → List ℕ
+  line rdata = drop 2 (service_texts.record_line [] (with_data rdata))
+
+  either : (rdata : ResourceData)
+      → SaysParts 1 (services.record_fields (codes "  " ++ section) (with_data rdata)) (service_texts.record_lines section (with_data rdata))
+  either (of_bytes bytes) =
+      then_lines section (line (of_bytes bytes)) _
+      (part_says (codes "  " ++ section) (both_say (row (own (of_bytes bytes)) _) (view_says (with_data (of_bytes bytes)))))
+  either (of_domain labels) =
+      then_lines section (line (of_domain labels)) _
+      (part_says (codes "  " ++ section) (both_say (row (own (of_domain labels)) _) (view_says (with_data (of_domain labels)))))
 
 section_says : (name section : List ℕ) (entries : List ResourceRecord)
     → Says 2 (list_fields name (flat_map (services.record_fields (codes "  " ++ section)) entries)) (flat_map (service_texts.record_lines section) entries)

@@ -1,5 +1,6 @@
 pub mod ShownLemmas
 pub mod WalkLemmas
+pub mod SaysLemmas
 pub mod FormFields
 pub mod TellsLemmas
 pub mod PlaceLemmas

@@ -8,10 +8,12 @@ use Rattle.std.proofs.lemmas.Bool.{and_parts}
 use Rattle.std.proofs.lemmas.Bool.Decides.{nat_tests}
 use Rattle.std.proofs.lemmas.List.{length-append}
 use Rattle.nb_names.specs.Addresses.{address_text}
-use Rattle.nb_names.specs.DomainName.{spelling, IsLabel, IsDomain, AreBytes, AreByteLabels}
+use Rattle.nb_names.specs.DomainName.{IsLabel, IsDomain, AreBytes, AreByteLabels}
 use Rattle.nb_names.specs.Hexadecimal.{data_text, digits_text, word_text}
-use Rattle.nb_names.specs.Name.{NetbiosName, IsScope, IsName, IsByteName}
+use Rattle.nb_names.specs.Name.{NetbiosName, IsName, IsByteName}
 use Rattle.nb_names.specs.NameText.{is_plain, digits_of, item_of, items_of, scope_text_of, kept_before, trimmed, domain_written, is_letter, are_letters, bytes_of_letters, either_written, labels_written, written}
+use Rattle.nb_names.proofs.NameLemmas.{IsScope-rest}
+use Rattle.nb_service.proofs.EncodingLemmas.{all_append}
 use Rattle.nb_datagram.specs.declared.key.Key.{Key}
 use Rattle.nb_datagram.specs.FaultTexts.{key_text}
 use Rattle.nb_text.specs.Fields.{IsVisible, IsWord}
@@ -24,10 +26,6 @@ IsSeen = AllByRecursion IsVisible
 
 -- ---- rows
 
-pub all-append : {A : Type 0} (P : A → Type 0) (xs ys : List A) → AllByRecursion P xs → AllByRecursion P ys → AllByRecursion P (xs ++ ys)
-all-append P [] ys a b = b
-all-append P (x ∷ xs) ys a b = (a.0, all-append P xs ys a.1 b)
-
 pub all-split : {A : Type 0} (P : A → Type 0) (xs ys : List A) → AllByRecursion P (xs ++ ys) → AllByRecursion P xs × AllByRecursion P ys
 all-split P [] ys a = (tt, a)
 all-split P (x ∷ xs) ys a = let rest = all-split P xs ys a.1 in ((a.0, rest.0), rest.1)
@@ -35,10 +33,10 @@ all-split P (x ∷ xs) ys a = let rest = all-split P xs ys a.1 in ((a.0, rest.0)
 pub all_flat : {A : Type 0} (P : A → Type 0) (Q : ℕ → Type 0) (f : A → List ℕ) (xs : List A) → AllByRecursion P xs
     → ((x : A) → P x → AllByRecursion Q (f x)) → AllByRecursion Q (flat_map f xs)
 all_flat {A} P Q f [] h each = tt
-all_flat {A} P Q f (x ∷ xs) h each = all-append Q (f x) (flat_map f xs) (each x h.0) (all_flat P Q f xs h.1 each)
+all_flat {A} P Q f (x ∷ xs) h each = all_append Q (f x) (flat_map f xs) (each x h.0) (all_flat P Q f xs h.1 each)
 
 pub seen-append : (xs ys : List ℕ) → IsSeen xs → IsSeen ys → IsSeen (xs ++ ys)
-seen-append xs ys a b = all-append IsVisible xs ys a b
+seen-append xs ys a b = all_append IsVisible xs ys a b
 
 pub bytes-take : (n : ℕ) (xs : List ℕ) → AreBytes xs → AreBytes (take n xs)
 bytes-take zero xs a = tt
@@ -239,11 +237,7 @@ letters_are_a_name first scope h domain =
     let long : length first ≡ 32 = grind (arith, nat_tests, test) in
     let half = halves first in
     let sixteen : length (bytes_of_letters first) ≡ 16 = omega (arith, long, half) in
-    let whole = domain.short in
-    let short : length (spelling scope) ≤ 222 = omega (arith, long, whole, length-append first (spelling scope)) in
-    let within : length (spelling scope) ≤ 255 = omega (arith, short) in
-    let fits : IsScope scope = record { domain = record { each = domain.each.1; short = within }; short = short } in
-    record { sixteen = sixteen; each = letters_small first parts.1; scope = fits }
+    record { sixteen = sixteen; each = letters_small first parts.1; scope = IsScope-rest (first ∷ scope) first scope refl long domain }
 
 pub letters_name : (first : List ℕ) (scope : List (List ℕ)) → are_letters first ≡ true → IsDomain (first ∷ scope) → AreByteLabels scope
     → IsByteName (record { bytes = bytes_of_letters first; scope = scope })

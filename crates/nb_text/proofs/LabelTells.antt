@@ -8,7 +8,8 @@ use Rattle.nb_names.specs.DomainName.{IsLabel, AreBytes, AreByteLabels}
 use Rattle.nb_names.specs.FirstLevel.{letter, letters}
 use Rattle.nb_names.specs.Name.{NetbiosName, IsByteName, labels_of_name}
 use Rattle.nb_names.specs.NameText.{is_plain, digits_of, item_of, items_of, scope_text_of, domain_written, is_letter, are_letters, bytes_of_letters, either_written, labels_written, trimmed, written}
-use Rattle.nb_text.proofs.FieldLemmas.{all-append, all-split, all_flat, some_items, labels_word, letters_name}
+use Rattle.nb_service.proofs.EncodingLemmas.{all_append}
+use Rattle.nb_text.proofs.FieldLemmas.{all-split, all_flat, some_items, labels_word, letters_name}
 use Rattle.nb_text.proofs.ServiceLines.{AreLabels}
 use Rattle.nb_text.proofs.TellLemmas.{amid, all_weaker, cut, EndsRow, Tells, seen_tells}
 use Rattle.nb_text.proofs.FieldTells.{byte_same, name_same}
@@ -172,7 +173,7 @@ written_as (first ∷ scope) h = either (are_letters first) refl where
 domain_other : (labels : List (List ℕ)) → AreByteLabels labels → AllByRecursion IsOther (domain_written labels)
 domain_other [] a = (λ e. omega (arith, e), tt)
 domain_other (label ∷ labels) a =
-    all-append IsOther (items_of label) (scope_text_of labels) (items_other label a.0)
+    all_append IsOther (items_of label) (scope_text_of labels) (items_other label a.0)
     (all_flat AreBytes IsOther (λ (row : List ℕ). 46 ∷ items_of row) labels a.1 (λ row bytes. (λ e. omega (arith, e), items_other row bytes)))
 
 -- and a name's has one

@@ -1,7 +1,7 @@
 pub mod ShownLemmas
 pub mod WalkLemmas
-pub mod FieldTexts
-pub mod FieldMembers
+pub mod SaysLemmas
+pub mod FormFields
 pub mod TellsLemmas
 pub mod PlaceLemmas
 pub mod FieldLemmas

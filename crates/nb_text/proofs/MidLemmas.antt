@@ -8,10 +8,12 @@ use Rattle.nb_names.specs.Name.{NetbiosName, IsName, IsByteName, labels_of_name}
 use Rattle.nb_names.proofs.SpellingLemmas.{AreByteLabels-spelled}
 use Rattle.std.specs.Fmt.{decimal}
 use Rattle.std.proofs.lemmas.Bool.{and_parts}
+use Rattle.std.proofs.lemmas.Grind.{flat_map-append}
 use Rattle.std.proofs.lemmas.List.{length-append}
-use Rattle.nb_text.specs.Fields.{IsWord, last, more, IsPart, two, four, AreLines}
+use Rattle.nb_service.proofs.EncodingLemmas.{all_append}
+use Rattle.nb_text.specs.Fields.{IsWord, AreWords, last, more, IsPart, AreLines}
 use Rattle.nb_text.specs.Lines.{line_end, used_text, refused_text}
-use Rattle.nb_text.proofs.FieldLemmas.{IsSeen, all-append, all-split, bytes-take, seen-append, is_literal, literal, number_word}
+use Rattle.nb_text.proofs.FieldLemmas.{IsSeen, all-split, bytes-take, seen-append, is_literal, literal, number_word}
 
 pub bytes-split : (xs ys : List ℕ) → AreBytes (xs ++ ys) → AreBytes xs × AreBytes ys
 bytes-split xs ys a = all-split (λ (b : ℕ). b < 256) xs ys a
@@ -126,19 +128,12 @@ refused_line fault mid = line_of (codes "refused") (literal (codes "refused") re
 
 -- ---- lines of parts
 
-flat-append : (xs ys : List (List ℕ)) → flat_map (λ part. part ++ line_end) (xs ++ ys)
-    ≡ flat_map (λ part. part ++ line_end) xs ++ flat_map (λ part. part ++ line_end) ys
-flat-append [] ys = refl
-flat-append (x ∷ xs) ys =
-    ap (λ (t : List ℕ). (x ++ line_end) ++ t) (flat-append xs ys)
-    ∙ sym (append_assoc (x ++ line_end) (flat_map (λ part. part ++ line_end) xs) (flat_map (λ part. part ++ line_end) ys))
-
 pub parts_both : {xs ys : List ℕ} → AreParts xs → AreParts ys → AreParts (xs ++ ys)
 parts_both {xs} {ys} a b = record {
   parts = a.parts ++ b.parts;
-  each = all-append IsPart a.parts b.parts a.each b.each;
+  each = all_append IsPart a.parts b.parts a.each b.each;
   whole = ap (λ (t : List ℕ). t ++ ys) a.whole ∙ ap (λ (t : List ℕ). flat_map (λ part. part ++ line_end) a.parts ++ t) b.whole
-      ∙ sym (flat-append a.parts b.parts);
+      ∙ sym (flat_map-append (λ part. part ++ line_end) a.parts b.parts);
 }
 
 pub parts_each : {A : Type 0} (P : A → Type 0) (f : A → List ℕ) (xs : List A) → AllByRecursion P xs → ((x : A) → P x → AreParts (f x))
@@ -156,27 +151,20 @@ lines_then {text} {after} l p = record {
   first = l.first;
   parts = l.parts ++ p.parts;
   words = l.words;
-  each = all-append IsPart l.parts p.parts l.each p.each;
+  each = all_append IsPart l.parts p.parts l.each p.each;
   whole = ap (λ (t : List ℕ). t ++ after) l.whole ∙ append_assoc l.first (line_end ++ flat_map (λ part. part ++ line_end) l.parts) after
       ∙ ap (λ (t : List ℕ). l.first ++ (line_end ++ t))
-      (ap (λ (t : List ℕ). flat_map (λ part. part ++ line_end) l.parts ++ t) p.whole ∙ sym (flat-append l.parts p.parts));
+      (ap (λ (t : List ℕ). flat_map (λ part. part ++ line_end) l.parts ++ t) p.whole ∙ sym (flat_map-append (λ part. part ++ line_end) l.parts p.parts));
 }
 
--- a line that two spaces begin, and one that four begin
-pub part_two : {text : List ℕ} → AreLines text → AreParts (32 ∷ 32 ∷ text)
-part_two l = record {
-  parts = (32 ∷ 32 ∷ l.first) ∷ l.parts;
-  each = (two l.first l.words, l.each);
-  whole = ap (λ (t : List ℕ). 32 ∷ 32 ∷ t) l.whole
-      ∙ ap (λ (t : List ℕ). 32 ∷ 32 ∷ t) (sym (append_assoc l.first line_end (flat_map (λ part. part ++ line_end) l.parts)));
-}
-
-pub part_four : {text : List ℕ} → AreLines text → AreParts (32 ∷ 32 ∷ 32 ∷ 32 ∷ text)
-part_four l = record {
-  parts = (32 ∷ 32 ∷ 32 ∷ 32 ∷ l.first) ∷ l.parts;
-  each = (four l.first l.words, l.each);
-  whole = ap (λ (t : List ℕ). 32 ∷ 32 ∷ 32 ∷ 32 ∷ t) l.whole
-      ∙ ap (λ (t : List ℕ). 32 ∷ 32 ∷ 32 ∷ 32 ∷ t) (sym (append_assoc l.first line_end (flat_map (λ part. part ++ line_end) l.parts)));
+-- a line that two spaces begin, or four
+pub part_line : {text : List ℕ} (lead : List ℕ) → ((line : List ℕ) → AreWords line → IsPart (lead ++ line)) → AreLines text → AreParts (lead ++ text)
+part_line lead is l = record {
+  parts = (lead ++ l.first) ∷ l.parts;
+  each = (is l.first l.words, l.each);
+  whole = ap (λ (t : List ℕ). lead ++ t) l.whole
+      ∙ sym (append_assoc lead l.first (line_end ++ flat_map (λ part. part ++ line_end) l.parts))
+      ∙ sym (append_assoc (lead ++ l.first) line_end (flat_map (λ part. part ++ line_end) l.parts));
 }
 
 -- ---- a choice of words

@@ -19,12 +19,12 @@ use Rattle.nb_service.specs.Packet.{ServicePacket, header_of, IsPacket, Question
 use Rattle.nb_service.specs.Record.{ResourceData, of_bytes, of_domain, ResourceRecord}
 use Rattle.nb_service.specs.Views.{StatusParts, pieces, entries_in, node_name_of, status_of_size, status_of_data, status_in, no_status}
 use Rattle.nb_service.proofs.SectionLemmas.{sections}
-use Rattle.nb_text.specs.Fields.{IsWord, AreLines}
+use Rattle.nb_text.specs.Fields.{IsWord, two, four, AreLines}
 use Rattle.nb_text.specs.Lines.{line_end}
 use Rattle.nb_text.specs.Words.{word_of, operations, results, operation_word, rcode_word, named_text, packet_flags, name_flags, set_text}
 use Rattle.nb_text.specs.ServiceText.{state_text, counts_text, header_line, type_text, question_line, rdata_text, record_line, entry_line, node_name_line, unit_line, status_lines, record_lines, service_text}
 use Rattle.nb_text.proofs.FieldLemmas.{IsSeen, bytes-take, number_word, word_seen, is_literal, literal, data_seen, data_word, written_word, labels_word, address_word, packet_set_word, name_set_word}
-use Rattle.nb_text.proofs.MidLemmas.{IsMid, mid_then, mid_both, mid_seen, mid_word, mid_field, number_field, used_ends, ends_here, AreParts, no_parts, parts_both, parts_each, parts_all, part_two, part_four, lines_then, IsNamed, chosen, bytes-drop, bytes-stand, labels_bytes}
+use Rattle.nb_text.proofs.MidLemmas.{IsMid, mid_then, mid_both, mid_seen, mid_word, mid_field, number_field, used_ends, ends_here, AreParts, no_parts, parts_both, parts_each, parts_all, part_line, lines_then, IsNamed, chosen, bytes-drop, bytes-stand, labels_bytes}
 
 -- ---- the header
 
@@ -82,7 +82,7 @@ pub record IsShownQuestion (question : Question) : Type 0 where
 
 question_parts : (question : Question) → IsShownQuestion question → AreParts (question_line question)
 question_parts question h =
-    part_two ((mid_then (mid_word (labels_written question.name) (label_word question.name h.name))
+    part_line (codes "  ") two ((mid_then (mid_word (labels_written question.name) (label_word question.name h.name))
     (mid_then (type_mid question.kind question.class) ends_here)).lines (codes "question") (literal (codes "question") refl))
 
 -- RDATA that stands in bytes
@@ -104,7 +104,7 @@ pub record IsShownRecord (entry : ResourceRecord) : Type 0 where
 
 record_parts : (section : List ℕ) (entry : ResourceRecord) → IsWord section → IsShownRecord entry → AreParts (record_line section entry)
 record_parts section entry is h =
-    part_two ((mid_then (mid_word (labels_written entry.name) (label_word entry.name h.name))
+    part_line (codes "  ") two ((mid_then (mid_word (labels_written entry.name) (label_word entry.name h.name))
     (mid_then (type_mid entry.kind entry.class)
     (mid_then (number_field (codes "ttl=") entry.ttl refl) (mid_then (rdata_mid entry.rdata h.rdata) ends_here)))).lines section is)
 
@@ -112,7 +112,7 @@ record_parts section entry is h =
 
 entry_parts : (entry : AddressEntry) → AreParts (entry_line entry)
 entry_parts entry =
-    part_four ((mid_then (digits_field (codes "flags=") entry.flags refl) (mid_then (number_field (codes "ont=") (ont_of entry.flags) refl)
+    part_line (codes "    ") four ((mid_then (digits_field (codes "flags=") entry.flags refl) (mid_then (number_field (codes "ont=") (ont_of entry.flags) refl)
     (mid_then (mid_field (codes "address=") (address_text entry.address) refl (address_word entry.address).1) ends_here))).lines
     (codes "entry") (literal (codes "entry") refl))
 
@@ -122,7 +122,7 @@ IsByteNode name = AreBytes name.bytes
 node_parts : (name : NodeName) → IsByteNode name → AreParts (node_name_line name)
 node_parts name h =
     let plain : NetbiosName = record { bytes = name.bytes; scope = [] } in
-    part_four ((mid_then (mid_word (written plain) (written_word plain h tt))
+    part_line (codes "    ") four ((mid_then (mid_word (written plain) (written_word plain h tt))
     (mid_then (digits_field (codes "flags=") name.flags refl) (mid_then (number_field (codes "ont=") (ont_of name.flags) refl)
     (mid_then (mid_field (codes "set=") (set_text name_flags name.flags) refl (name_set_word name.flags).1) ends_here)))).lines
     (codes "name") (literal (codes "name") refl))
@@ -132,7 +132,7 @@ unit_parts statistics a = either (nat_lt (length statistics) 6) where
   either : (test : Bool) → AreParts (if test then [] else codes "    unit=" ++ (digits_text (take 6 statistics) ++ line_end))
   either true = no_parts
   either false =
-      part_four ((mid_then (mid_seen (digits_text (take 6 statistics)) (data_seen (take 6 statistics) (bytes-take 6 statistics a))) ends_here).lines
+      part_line (codes "    ") four ((mid_then (mid_seen (digits_text (take 6 statistics)) (data_seen (take 6 statistics) (bytes-take 6 statistics a))) ends_here).lines
       (codes "unit=") (literal (codes "unit=") refl))
 
 -- a status that stands in bytes

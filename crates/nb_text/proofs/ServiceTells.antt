@@ -12,9 +12,10 @@ use Rattle.nb_text.specs.Lines.{line_end, used_text}
 use Rattle.nb_text.specs.ServiceText.{state_text, counts_text, header_line, type_text, question_line, rdata_text, record_line, entry_line, node_name_line, unit_line, status_lines, record_lines, service_text}
 use Rattle.nb_text.proofs.FieldLemmas.{number_word}
 use Rattle.nb_text.proofs.FieldTells.{number_tells, word_tells, data_tells}
+use Rattle.nb_text.proofs.FormFields.{lists_text}
 use Rattle.nb_text.proofs.LabelTells.{labels_tell}
 use Rattle.nb_text.proofs.ServiceLines.{IsByteData, IsCounted, IsShownQuestion, IsShownRecord, IsShownPacket, packet_stands}
-use Rattle.nb_text.proofs.TellLemmas.{EndsField, ends_both, ends_each, Tells, space, feed, tells_whole, seen_tells, both_tell, field_then, after_tells, same_tells, differ_tells, tells_then, each_tells}
+use Rattle.nb_text.proofs.TellLemmas.{EndsField, ends_both, ends_each, Tells, space, feed, tells_whole, seen_tells, both_tell, field_then, after_tells, same_tells, differ_tells, tells_then, TellsAfter, both_after, each_after}
 
 -- ---- the header
 
@@ -120,50 +121,27 @@ lines_tell section x y a b =
     (λ h. h.0)
 
 section_tells : (section : List ℕ) (xs ys : List ResourceRecord) → length xs ≡ length ys → AllByRecursion IsShownRecord xs
-    → AllByRecursion IsShownRecord ys → Tells (flat_map (record_lines section) xs) (flat_map (record_lines section) ys) (xs ≡ ys)
-section_tells section xs ys size a b = each_tells IsShownRecord (record_lines section) xs ys size a b (λ _. space) (lines_tell section)
-
-section_space : (section : List ℕ) (xs : List ResourceRecord) → EndsField (flat_map (record_lines section) xs)
-section_space section xs = ends_each (record_lines section) xs (λ _. space)
-
--- the lines after the answers, after the questions, and after the header
-abbrev after_answers : ServicePacket → List ℕ
-after_answers p = flat_map (record_lines (codes "authority")) p.authorities ++ flat_map (record_lines (codes "additional")) p.additional
-
-abbrev after_questions : ServicePacket → List ℕ
-after_questions p = flat_map (record_lines (codes "answer")) p.answers ++ after_answers p
-
-abbrev after_header : ServicePacket → List ℕ
-after_header p = flat_map question_line p.questions ++ after_questions p
-
-answers_space : (p : ServicePacket) → EndsField (after_answers p)
-answers_space p = ends_both _ _ (section_space (codes "authority") p.authorities) (section_space (codes "additional") p.additional)
-
-questions_space : (p : ServicePacket) → EndsField (after_questions p)
-questions_space p = ends_both _ _ (section_space (codes "answer") p.answers) (answers_space p)
-
-header_space : (p : ServicePacket) → EndsField (after_header p)
-header_space p = ends_both _ _ (ends_each question_line p.questions (λ _. space)) (questions_space p)
+    → AllByRecursion IsShownRecord ys → TellsAfter (flat_map (record_lines section) xs) (flat_map (record_lines section) ys) (xs ≡ ys)
+section_tells section xs ys size a b = each_after IsShownRecord (record_lines section) xs ys size a b (λ _. space) (lines_tell section)
 
 -- ---- the packet
 
-items_tell : (p q : ServicePacket) → Counts p q → IsShownPacket p → IsShownPacket q
-    → Tells (after_header p) (after_header q)
+lists_tell : (p q : ServicePacket) → Counts p q → IsShownPacket p → IsShownPacket q
+    → TellsAfter (lists_text p) (lists_text q)
     ((p.questions ≡ q.questions) × ((p.answers ≡ q.answers) × ((p.authorities ≡ q.authorities) × (p.additional ≡ q.additional))))
-items_tell p q same a b =
-    let additional = section_tells (codes "additional") p.additional q.additional same.additional a.additional b.additional in
-    let authorities =
-    both_tell (section_tells (codes "authority") p.authorities q.authorities same.authorities a.authorities b.authorities) (λ _. additional)
-    (section_space (codes "additional") p.additional) (section_space (codes "additional") q.additional) in
-    let answers =
-    both_tell (section_tells (codes "answer") p.answers q.answers same.answers a.answers b.answers) (λ _. authorities) (answers_space p) (answers_space q) in
-    both_tell (each_tells IsShownQuestion question_line p.questions q.questions same.questions a.questions b.questions (λ _. space) question_tells)
-    (λ _. answers) (questions_space p) (questions_space q)
+lists_tell p q same a b =
+    both_after (each_after IsShownQuestion question_line p.questions q.questions same.questions a.questions b.questions (λ _. space) question_tells)
+    (both_after (section_tells (codes "answer") p.answers q.answers same.answers a.answers b.answers)
+    (both_after (section_tells (codes "authority") p.authorities q.authorities same.authorities a.authorities b.authorities)
+    (section_tells (codes "additional") p.additional q.additional same.additional a.additional b.additional)))
+
+lists_space : (p : ServicePacket) → IsShownPacket p → EndsField (lists_text p)
+lists_space p a = (lists_tell p p (record { questions = refl; answers = refl; authorities = refl; additional = refl }) a a).here
 
 packet_tells : (p q : ServicePacket) (m n : ℕ) → IsShownPacket p → IsShownPacket q → Tells (service_text p m) (service_text q n) (p ≡ q)
 packet_tells p q m n a b =
     tells_then
-    (both_tell (header_tells p q m n a.counted b.counted) (λ h. items_tell p q h.counts a b) (header_space p) (header_space q))
+    (both_tell (header_tells p q m n a.counted b.counted) (λ h. (lists_tell p q h.counts a b).tells) (lists_space p a) (lists_space q b))
     (λ h. λ i. record {
       id = h.0.id i;
       word = h.0.word i;

@@ -130,13 +130,27 @@ turned {F} {xs} {ys} t = record {
   told = λ r s p q e. let h = t.told s r q p (sym e) in (h.0, sym h.1);
 }
 
+-- texts that tell, each of which may stand after a field
+pub record TellsAfter (xs ys : List ℕ) (F : Type 0) : Type 0 where
+  pub tells : Tells xs ys F
+  pub here : EndsField xs
+  pub there : EndsField ys
+
+pub both_after : {F G : Type 0} {xs ys us vs : List ℕ} → TellsAfter xs ys F → TellsAfter us vs G → TellsAfter (xs ++ us) (ys ++ vs) (F × G)
+both_after {F} {G} {xs} {ys} {us} {vs} a b = record {
+  tells = both_tell a.tells (λ _. b.tells) b.here b.there;
+  here = ends_both xs us a.here b.here;
+  there = ends_both ys vs a.there b.there;
+}
+
 -- items of which each has a text that tells it, as many here as there
-pub each_tells : {A : Type 0} (P : A → Type 0) (f : A → List ℕ) (xs ys : List A) → length xs ≡ length ys
+pub each_after : {A : Type 0} (P : A → Type 0) (f : A → List ℕ) (xs ys : List A) → length xs ≡ length ys
     → AllByRecursion P xs → AllByRecursion P ys → ((x : A) → EndsField (f x)) → ((x y : A) → P x → P y → Tells (f x) (f y) (x ≡ y))
-    → Tells (flat_map f xs) (flat_map f ys) (xs ≡ ys)
-each_tells {A} P f [] [] size a b ends each = record { told = λ r s p q e. (refl, e) }
-each_tells {A} P f [] (y ∷ ys) size a b ends each = absurd (omega arith)
-each_tells {A} P f (x ∷ xs) [] size a b ends each = absurd (omega arith)
-each_tells {A} P f (x ∷ xs) (y ∷ ys) size a b ends each =
-    let rest = each_tells P f xs ys (omega arith) a.1 b.1 ends each in
-    tells_then (both_tell (each x y a.0 b.0) (λ _. rest) (ends_each f xs ends) (ends_each f ys ends)) (λ h. ap₂ (λ (z : A) (zs : List A). z ∷ zs) h.0 h.1)
+    → TellsAfter (flat_map f xs) (flat_map f ys) (xs ≡ ys)
+each_after {A} P f [] [] size a b ends each = record { tells = record { told = λ r s p q e. (refl, e) }; here = tt; there = tt }
+each_after {A} P f [] (y ∷ ys) size a b ends each = absurd (omega arith)
+each_after {A} P f (x ∷ xs) [] size a b ends each = absurd (omega arith)
+each_after {A} P f (x ∷ xs) (y ∷ ys) size a b ends each =
+    let first : TellsAfter (f x) (f y) (x ≡ y) = record { tells = each x y a.0 b.0; here = ends x; there = ends y } in
+    let all = both_after first (each_after P f xs ys (omega arith) a.1 b.1 ends each) in
+    record { tells = tells_then all.tells (λ h. ap₂ (λ (z : A) (zs : List A). z ∷ zs) h.0 h.1); here = all.here; there = all.there }

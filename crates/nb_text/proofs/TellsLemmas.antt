@@ -23,8 +23,7 @@ use Rattle.nb_text.specs.SessionFields.{session_fields}
 use Rattle.nb_text.specs.Shown as shown
 use Rattle.nb_text.specs.Shown.{Shown, AddsShown}
 use Rattle.nb_text.specs.Tells.{Tells, IsTold, IsObject, names, no_names, datagram, no_datagram, session}
-use Rattle.nb_text.proofs.FieldMembers.{fields_members}
-use Rattle.nb_text.proofs.FieldTexts.{service_same, datagram_same, session_same, refused_same}
+use Rattle.nb_text.proofs.FormFields.{fields_members, service_says, datagram_says, session_says, refused_says}
 use Rattle.nb_service.specs.declared.fault.ServiceFault.{ServiceFault}
 use Rattle.nb_service.specs.Header.{PacketHeader}
 use Rattle.nb_service.specs.Items.{HasItems, items_of}
@@ -73,15 +72,15 @@ refusal_told {S} after old first second new (Some fault) place said at ended =
 -- the fields of a payload have its text
 fields_shown : (payload : List ℕ) (port : ℕ) (fields : List Field) → Tells payload port fields → Shown payload port (text_of fields)
 fields_shown payload _ _ (names packet used h) =
-    subst (Shown payload 137) (sym (service_same packet used)) (shown.names packet used h)
+    subst (Shown payload 137) (sym (service_says packet used).same) (shown.names packet used h)
 fields_shown payload _ _ (no_names fault h) =
-    subst (Shown payload 137) (sym (refused_same (service_fault_text fault) (service_fault_place fault))) (shown.no_names fault h)
+    subst (Shown payload 137) (sym (refused_says {depth = 0} (service_fault_text fault) (service_fault_place fault)).same) (shown.no_names fault h)
 fields_shown payload _ _ (datagram packet used h) =
-    subst (Shown payload 138) (sym (datagram_same packet used)) (shown.datagram packet used h)
+    subst (Shown payload 138) (sym (datagram_says {depth = 0} packet used).same) (shown.datagram packet used h)
 fields_shown payload _ _ (no_datagram fault h) =
-    subst (Shown payload 138) (sym (refused_same (datagram_fault_text fault) (datagram_fault_place fault))) (shown.no_datagram fault h)
+    subst (Shown payload 138) (sym (refused_says {depth = 0} (datagram_fault_text fault) (datagram_fault_place fault)).same) (shown.no_datagram fault h)
 fields_shown payload _ _ (session port parsed a b h) =
-    subst (Shown payload port) (sym (session_same parsed)) (shown.session port parsed a b h)
+    subst (Shown payload port) (sym (session_says {depth = 0} parsed).same) (shown.session port parsed a b h)
 
 -- a payload that was told to a text
 pub told_shown : (payload : List ℕ) (port : ℕ) (old new : List ℕ)

@@ -1,4 +1,4 @@
-use Rattle.nb_text.proofs.FieldMembers.{fields_members}
+use Rattle.nb_text.proofs.FormFields.{fields_members}
 use Rattle.nb_text.proofs.laws.fields_are_members.Goals as goal
 
 pub returns : goal.returns

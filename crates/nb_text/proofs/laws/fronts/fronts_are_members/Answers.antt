@@ -1,4 +1,4 @@
-use Rattle.nb_text.proofs.FieldMembers.{told_members}
+use Rattle.nb_text.proofs.FormFields.{told_members}
 use Rattle.nb_text.proofs.laws.fronts.fronts_are_members.Goals as goal
 
 pub returns : goal.returns

@@ -1,0 +1,223 @@
+-- The fields of a payload are members of an object, and their text is the payload's text. A form that is a line has a line
+-- here, whatever its fields are.
+use Rattle.std.proofs.Common.{◌≡◌, ℕ, nat_lt, ◌==◌, Bool, true, false, List, [], ◌∷◌, ◌++◌, length, take, drop, codes, Option, Some, None, if◌then◌else◌, refl, sym, subst, ◌∙◌, arith, append-nil}
+use Rattle.std.specs.List.{flat_map}
+use Rattle.std.proofs.lemmas.Bool.{eqb-true}
+use Rattle.nb_names.specs.Hexadecimal.{digits_text}
+use Rattle.nb_names.specs.Name.{NetbiosName}
+use Rattle.nb_service.specs.declared.address_entry.AddressEntry.{AddressEntry}
+use Rattle.nb_service.specs.declared.kinds.TheConstants.{NB, NBSTAT}
+use Rattle.nb_service.specs.declared.node_name.NodeName.{NodeName}
+use Rattle.nb_service.specs.declared.question.Question.{Question}
+use Rattle.nb_service.specs.Header.{opcode_of, rcode_of, PacketHeader}
+use Rattle.nb_service.specs.Packet.{ServicePacket, header_of}
+use Rattle.nb_service.specs.Record.{ResourceData, of_bytes, of_domain, ResourceRecord, record_of}
+use Rattle.nb_service.specs.Views.{StatusParts, no_status, entries_of_data, entries_in, status_of_data, status_in}
+use Rattle.nb_datagram.specs.declared.front.FragmentFront.{FragmentFront}
+use Rattle.nb_datagram.specs.FaultTexts.{key_text}
+use Rattle.nb_datagram.specs.Packet.{Packet}
+use Rattle.nb_datagram.specs.declared.packet.Packet.TheVariants.{Direct, Error, Query}
+use Rattle.nb_session.specs.Header.{body_length}
+use Rattle.nb_session.specs.Packet.{Packet as SessionPacket}
+use Rattle.nb_session.specs.declared.packet.Packet.TheVariants.{Message, Request, Positive, Negative, Retarget, Keepalive}
+use Rattle.nb_session.specs.Parsing.{Parsed}
+use Rattle.nb_session.specs.declared.parsing.Parsed.TheVariants.{Whole, More, Refused}
+use Rattle.nb_session.specs.FaultTexts.{session_fault_place, session_fault_text}
+use Rattle.nb_telling.specs.Members.{AreMembers, nothing, both}
+use Rattle.nb_telling.specs.Telling.{Field, FieldKey, Text, Number, Digits, Set, LineEnds}
+use Rattle.nb_text.specs.DatagramFields as datagrams
+use Rattle.nb_text.specs.DatagramText as datagram_texts
+use Rattle.nb_text.specs.Fields.{used_fields, refused_fields, list_fields}
+use Rattle.nb_text.specs.FrontFields.{indent, names_header_fields, type_field, standing_name, fragment_front_fields}
+use Rattle.nb_text.specs.Keys.{key_named, id_key, unit_key}
+use Rattle.nb_text.specs.Lines.{line_end, used_text, refused_text}
+use Rattle.nb_text.specs.ServiceFields as services
+use Rattle.nb_text.specs.ServiceText as service_texts
+use Rattle.nb_text.specs.SessionFields as sessions
+use Rattle.nb_text.specs.SessionText as session_texts
+use Rattle.nb_text.specs.Tells as tells
+use Rattle.nb_text.specs.Tells.{Tells}
+use Rattle.nb_text.specs.TellsFront as fronts
+use Rattle.nb_text.specs.TellsFront.{FrontOf, TellsFront}
+use Rattle.nb_text.specs.Words.{datagram_word, named_text, names_set, operation_word, packet_flags, rcode_word, session_word}
+use Rattle.nb_text.proofs.SaysLemmas.{Says, SaysParts, singles, row, both_say, none_say, part_says, line_says, up_to_end, then_lines, list_says}
+
+-- ---- lines
+
+used_says : {depth : ℕ} (used : ℕ) → Says depth (used_fields used) (used_text used)
+used_says used = row (used_fields used) _
+
+pub refused_says : {depth : ℕ} (fault : List ℕ) (place : Option ℕ) → Says depth (refused_fields fault place) (refused_text fault)
+refused_says fault None = row (refused_fields fault None) _
+refused_says fault (Some place) = row (refused_fields fault (Some place)) _
+
+-- ---- ports 139 and 138
+
+session_parts : {depth : ℕ} (packet : SessionPacket) → Says depth (sessions.parts_fields packet) (session_texts.parts_text packet)
+session_parts (Message bytes) = row (sessions.parts_fields (Message bytes)) _
+session_parts (Request called calling) = row (sessions.parts_fields (Request called calling)) _
+session_parts Positive = row (sessions.parts_fields Positive) _
+session_parts (Negative code) = row (sessions.parts_fields (Negative code)) _
+session_parts (Retarget address port) = row (sessions.parts_fields (Retarget address port)) _
+session_parts Keepalive = row (sessions.parts_fields Keepalive) _
+
+pub session_says : {depth : ℕ} (parsed : Parsed) → Says depth (sessions.session_fields parsed) (session_texts.session_text parsed)
+session_says (Whole packet used) = both_say (session_parts packet) (used_says used)
+session_says (More needed) = row (sessions.session_fields (More needed)) _
+session_says (Refused fault) = refused_says (session_fault_text fault) (session_fault_place fault)
+
+datagram_parts : {depth : ℕ} (packet : Packet) → Says depth (datagrams.parts_fields packet) (datagram_texts.parts_text packet)
+datagram_parts (Direct f) = row (datagrams.parts_fields (Direct f)) _
+datagram_parts (Error e) = row (datagrams.parts_fields (Error e)) _
+datagram_parts (Query q) = row (datagrams.parts_fields (Query q)) _
+
+pub datagram_says : {depth : ℕ} (packet : Packet) (used : ℕ) → Says depth (datagrams.datagram_fields packet used) (datagram_texts.datagram_text packet used)
+datagram_says packet used = both_say (datagram_parts packet) (used_says used)
+
+-- ---- port 137
+
+named_says : {depth : ℕ} (key : FieldKey) (word : Option (List ℕ)) (n : ℕ) → Says depth (services.named_field key word n ∷ []) (key.lead ++ named_text word n)
+named_says key None n = row (services.named_field key None n ∷ []) _
+named_says key (Some word) n = row (services.named_field key (Some word) n ∷ []) _
+
+state_says : {depth : ℕ} (word : ℕ) → Says depth (services.state_fields word) (service_texts.state_text word)
+state_says word =
+    both_say (named_says (key_named "op") (operation_word (opcode_of word)) (opcode_of word))
+    (both_say (row (Set (key_named "flags") (names_set packet_flags word) ∷ []) _)
+    (named_says (key_named "rcode") (rcode_word (rcode_of word)) (rcode_of word)))
+
+header_says : {depth : ℕ} (header : PacketHeader) (used : ℕ) → Says depth (services.header_fields header used) (service_texts.header_line header used)
+header_says header used =
+    both_say (row (services.word_field id_key header.id ∷ services.word_field (key_named "word") header.word ∷ []) _)
+    (both_say (state_says header.word) (both_say (row (services.count_fields header) _) (used_says used)))
+
+question_says : {depth : ℕ} (question : Question) → SaysParts depth (services.question_fields question) (service_texts.question_line question)
+question_says question = line_says (codes "  question") (services.question_fields question) _
+
+entry_says : {depth : ℕ} (entry : AddressEntry) → SaysParts depth (services.entry_fields entry) (service_texts.entry_line entry)
+entry_says entry = line_says (codes "    entry") (services.entry_fields entry) _
+
+node_name_says : {depth : ℕ} (name : NodeName) → SaysParts depth (services.node_name_fields name) (service_texts.node_name_line name)
+node_name_says name = line_says (codes "    name") (services.node_name_fields name) _
+
+unit_says : {depth : ℕ} (statistics : List ℕ) → Says depth (services.unit_fields statistics) (service_texts.unit_line statistics)
+unit_says {depth} statistics = either (nat_lt (length statistics) 6) where
+  either : (short : Bool) → Says depth (if short then [] else Digits unit_key (take 6 statistics) ∷ LineEnds ∷ [])
+      (if short then [] else codes "    unit=" ++ (digits_text (take 6 statistics) ++ line_end))
+  either true = none_say
+  either false = row (Digits unit_key (take 6 statistics) ∷ LineEnds ∷ []) _
+
+status_says : (status : StatusParts) → Says 1 (services.status_fields status) (service_texts.status_lines status)
+status_says status =
+    both_say (list_says (codes "names") services.node_name_fields service_texts.node_name_line status.names node_name_says) (unit_says status.statistics)
+
+-- what RDATA says, by whether its record is of kind NB or NBSTAT
+view_at : (nb nbstat : Bool) (entries : List AddressEntry) (status : StatusParts) → (nb ≡ true → nbstat ≡ true → ⊥)
+    → Says 1 (if nb then list_fields (codes "entries") (flat_map services.entry_fields (if nb then entries else []))
+    else if nbstat then services.status_fields (if nbstat then status else no_status) else [])
+    (flat_map service_texts.entry_line (if nb then entries else []) ++ service_texts.status_lines (if nbstat then status else no_status))
+view_at true true entries status one = absurd (one refl refl)
+view_at true false entries status one =
+    let said = list_says (codes "entries") services.entry_fields service_texts.entry_line entries entry_says in
+    record { members = said.members; same = said.same ∙ sym (append-nil (flat_map service_texts.entry_line entries)) }
+view_at false true entries status one = status_says status
+view_at false false entries status one = none_say
+
+one_kind : (kind : ℕ) → (kind == NB) ≡ true → (kind == NBSTAT) ≡ true → ⊥
+one_kind kind nb nbstat = omega (arith, eqb-true kind NB nb, eqb-true kind NBSTAT nbstat)
+
+view_says : (entry : ResourceRecord) → Says 1 (services.view_fields entry)
+    (flat_map service_texts.entry_line (entries_in entry) ++ service_texts.status_lines (status_in entry))
+view_says entry =
+    view_at (entry.kind == NB) (entry.kind == NBSTAT) (entries_of_data entry.rdata) (status_of_data entry.rdata) (one_kind entry.kind)
+
+record_says : (section : List ℕ) (entry : ResourceRecord)
+    → SaysParts 1 (services.record_fields (codes "  " ++ section) entry) (service_texts.record_lines section entry)
+record_says section entry = either entry.rdata where
+  with_data : ResourceData → ResourceRecord
+  with_data rdata = record_of entry.name entry.kind entry.class entry.ttl rdata
+
+  -- the record's own line, after its section's name
+  own : ResourceData → List Field
+  own rdata = up_to_end (drop 1 (services.record_fields [] (with_data rdata)))
+
+  line : ResourceData → List ℕ
+  line rdata = drop 2 (service_texts.record_line [] (with_data rdata))
+
+  either : (rdata : ResourceData)
+      → SaysParts 1 (services.record_fields (codes "  " ++ section) (with_data rdata)) (service_texts.record_lines section (with_data rdata))
+  either (of_bytes bytes) =
+      then_lines section (line (of_bytes bytes)) _
+      (part_says (codes "  " ++ section) (both_say (row (own (of_bytes bytes)) _) (view_says (with_data (of_bytes bytes)))))
+  either (of_domain labels) =
+      then_lines section (line (of_domain labels)) _
+      (part_says (codes "  " ++ section) (both_say (row (own (of_domain labels)) _) (view_says (with_data (of_domain labels)))))
+
+section_says : (name section : List ℕ) (entries : List ResourceRecord)
+    → Says 2 (list_fields name (flat_map (services.record_fields (codes "  " ++ section)) entries)) (flat_map (service_texts.record_lines section) entries)
+section_says name section entries =
+    list_says name (services.record_fields (codes "  " ++ section)) (service_texts.record_lines section) entries (record_says section)
+
+-- the text of a packet's lists
+abbrev pub lists_text : ServicePacket → List ℕ
+lists_text packet =
+    flat_map service_texts.question_line packet.questions
+    ++ (flat_map (service_texts.record_lines (codes "answer")) packet.answers
+    ++ (flat_map (service_texts.record_lines (codes "authority")) packet.authorities
+    ++ flat_map (service_texts.record_lines (codes "additional")) packet.additional))
+
+lists_say : (packet : ServicePacket) → Says 2 (services.lists_fields packet) (lists_text packet)
+lists_say packet =
+    both_say (list_says (codes "questions") services.question_fields service_texts.question_line packet.questions question_says)
+    (both_say (section_says (codes "answers") (codes "answer") packet.answers)
+    (both_say (section_says (codes "authorities") (codes "authority") packet.authorities)
+    (section_says (codes "additional") (codes "additional") packet.additional)))
+
+pub service_says : (packet : ServicePacket) (used : ℕ) → Says 2 (services.service_fields packet used) (service_texts.service_text packet used)
+service_says packet used = both_say (header_says (header_of packet) used) (lists_say packet)
+
+-- ---- the members
+
+pub fields_members : (payload : List ℕ) (port : ℕ) (fields : List Field) → Tells payload port fields → AreMembers 2 fields
+fields_members payload _ _ (tells.names packet used h) = (service_says packet used).members
+fields_members payload _ _ (tells.no_names fault h) = (refused_says _ _).members
+fields_members payload _ _ (tells.datagram packet used h) = (datagram_says packet used).members
+fields_members payload _ _ (tells.no_datagram fault h) = (refused_says _ _).members
+fields_members payload _ _ (tells.session port parsed a b h) = (session_says parsed).members
+
+-- ---- fronts
+
+front_header : {depth : ℕ} (header : PacketHeader) → AreMembers depth (names_header_fields header)
+front_header header =
+    both _ _ (singles (indent ∷ services.word_field id_key header.id ∷ services.word_field (key_named "word") header.word ∷ []) _)
+    (both _ _ (state_says header.word).members (singles (services.count_fields header ++ LineEnds ∷ []) _))
+
+type_member : {depth : ℕ} (word : Option (List ℕ)) (type : ℕ) → AreMembers depth (type_field word type ∷ [])
+type_member None type = singles (type_field None type ∷ []) _
+type_member (Some word) type = singles (type_field (Some word) type ∷ []) _
+
+name_members : {depth : ℕ} (key : FieldKey) (name : Option NetbiosName) → AreMembers depth (standing_name key name)
+name_members key None = nothing
+name_members key (Some name) = singles (standing_name key (Some name)) _
+
+fragment_members : {depth : ℕ} (fragment : Option FragmentFront) → AreMembers depth (fragment_front_fields fragment)
+fragment_members None = nothing
+fragment_members (Some front) =
+    both _ _ (singles (Number (key_named "offset") front.offset ∷ []) _)
+    (both _ _ (name_members (key_named "source") front.source) (name_members (key_named "destination") front.destination))
+
+front_members : (payload : List ℕ) (port : ℕ) (fields : List Field) → FrontOf payload port fields → AreMembers 2 fields
+front_members payload _ _ (fronts.names_front fault header items next fails h) = both _ _ (front_header header) (lists_say items).members
+front_members payload _ _ (fronts.datagram_front fault front fails h) =
+    both _ _ (singles (indent ∷ []) _) (both _ _ (type_member (datagram_word front.message_type) front.message_type)
+    (both _ _ (singles (Digits (key_named "flags") (front.flags ∷ []) ∷ Text (key_named "key") (key_text front.key) ∷ []) _)
+    (both _ _ (fragment_members front.fragment) (singles (LineEnds ∷ []) _))))
+front_members payload _ _ (fronts.session_front port parsed header a b h none there) =
+    both _ _ (singles (indent ∷ []) _) (both _ _ (type_member (session_word header.packet_type) header.packet_type)
+    (singles (Number (key_named "length") (body_length header) ∷ LineEnds ∷ []) _))
+front_members payload _ _ stands = nothing
+
+pub told_members : (payload : List ℕ) (port : ℕ) (fields : List Field) → TellsFront payload port fields → AreMembers 2 fields
+told_members payload port fields h =
+    subst (AreMembers 2) (sym h.are)
+    (both h.told h.more (fields_members payload port h.told h.tells) (front_members payload port h.more h.stands))

@@ -20,17 +20,16 @@ import tempfile
 
 sys.path[1:1] = [f'{sys.path[0]}/../{it}' for it in ('.', 'captures', 'lib')]
 from fuzz_inputs import ROOT, capture_lines, example_bytes
-from limits import NAMED
 from model.objects import SECTIONS
 from object_inputs import OPTIONS, Inputs, ServicePacket
 from payloads import longest_phrases
 from printed import Unknown, wanted
+from samples import parts_in
 from seeds import first_unlike
 
 TESTS = os.path.join(ROOT, 'tests')
 SECONDS, LONGEST_PRINTED = 600, 1_000
-COMMAND = re.compile(r'[$&%] (?=.*\bnbt\b).*\b(?:name|show|replay|save|merge|list|agree)\b')
-SPELLINGS = re.compile(r'^(\w+)=([0-9a-z$]+)$', re.MULTILINE)
+COMMAND = re.compile(r'(?=.*\bnbt\b).*\b(?:name|show|replay|save|merge|list|agree)\b')
 STATION = ['FRED<20>', 'JOE<00>', 'ANN<03>.A']
 LONGEST_PAYLOAD, LONGEST_EXAMPLE, IN_CAPTURE, FRONTS = 2_000, 400, 500, 10_000
 TABLES = 3
@@ -125,16 +124,12 @@ def kind_of(front):
     return '138 with both' if 'destination' in front else '138 with source' if 'source' in front else '138 without names'
 
 
-def spelled_cases(files):
-    """The commands of files of tests/cases that the model knows, with their spellings, and whether the model alone holds them."""
-    with open(os.path.join(TESTS, 'program.sh'), encoding='utf-8') as script:
-        spellings = dict(SPELLINGS.findall(script.read()))
-    spellings['empty'] = spellings['empty'].replace('$joe', spellings['joe']).replace('$fred', spellings['fred'])
-    spellings |= {name.lower(): str(limit) for name, limit in NAMED.items()}
+def known_commands(files):
+    """The commands of files of tests/cases that the model knows, and whether the model alone holds them."""
     for name in sorted(map(os.path.basename, files or os.listdir(os.path.join(TESTS, 'cases')))):
-        with open(os.path.join(TESTS, 'cases', name), encoding='utf-8') as cases:
-            for line in filter(COMMAND.match, cases):
-                yield re.sub(r'\{([A-Z_]+)\}', lambda it: spellings[it[1].lower()], line[2:].rstrip('\n')), line.startswith('% ')
+        for command, told in parts_in(os.path.join(TESTS, 'cases', name))['']:
+            if COMMAND.match(command):
+                yield command, told is None
 
 
 def recorded(cases, chosen):
@@ -148,7 +143,7 @@ def recorded(cases, chosen):
                 written.write(text)
             os.chmod(written.name, 0o755)
         env = {**os.environ, 'PATH': f'{tools}:{os.environ["PATH"]}', 'NBT_RECORDS': records, 'NBT_PROGRAM': cases.program}
-        for command, is_alone in spelled_cases(chosen):
+        for command, is_alone in known_commands(chosen):
             before = len(os.listdir(records))
             subprocess.run(['bash', '-c', command], cwd=files, env=env, stdin=subprocess.DEVNULL, stdout=subprocess.DEVNULL,
                            stderr=subprocess.DEVNULL, timeout=120, check=False)

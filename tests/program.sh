@@ -49,50 +49,8 @@ saved() {
     count $? 'nbt merge: the same in the other order, in the first form where there is one'
 }
 
-# ---- How the program reads and writes; streams that fail are those of tests/process.py.
-
-# `name` and `build` read nothing.
-unread_inputs() {
-    local words
-    printf 'left' >"$room/input"
-    for words in 'name FRED<20>' 'build keepalive'; do
-        { nbt $words >/dev/null && head -c 4 >"$room/left"; } <"$room/input"
-        holds "$room/left" left
-        count $? "nbt $words leaves its input unread"
-    done
-}
-
-# writing WORD..: the status of nbt, and $writes, how often it wrote.
-writing() {
-    local status
-    rm -f "$room/writes"
-    ended "$room/bin/hostile" NBT_WRITES="$room/writes" "$program" "$@" <"$room/input" >"$room/output"
-    status=$?
-    writes=$(cat "$room/writes" 2>/dev/null)
-    return $status
-}
-
-# A long report is written in large pieces.
-long_reports() {
-    local words
-    seq 100000 | sed 's/.*/tick 1/' >"$room/input"
-    for words in show 'replay A<20>'; do
-        writing $words && [ "$(wc -l <"$room/output")" -eq 100000 ]
-        count $? "nbt $words, 100,000 lines"
-        [ "$writes" -ge 10 ] && [ "$writes" -lt 1000 ]
-        count $? "nbt $words, 100,000 lines in $writes writes"
-    done
-    seq 100000 | sed 's/.*/138 0 1702000100000000008a1702000100000000008a/' >"$room/input"
-    for words in show 'replay A<20>'; do
-        writing $words && [ "$(wc -l <"$room/output")" -eq 100000 ] && [ "$writes" -ge 10 ] && [ "$writes" -le 2000 ]
-        count $? "nbt $words, 100,000 longer lines in $writes writes"
-    done
-}
-
-streams() {
-    unread_inputs
-    long_reports
-}
+# How often the program writes; streams that fail are those of tests/process.py.
+streams() { PATH=$room/bin:$PATH counted_by lib/samples.py "$room/files" "$here/cases/devices.txt" writes; }
 
 # ---- Each request for memory refused.
 

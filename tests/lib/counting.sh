@@ -84,14 +84,14 @@ compile() {
 # refusing NAME=VALUE.. COMMAND: runs a command over tests/lib/refuse_memory.c.
 refusing() { ended env LD_PRELOAD="$room/refuse_memory.so" "$@"; }
 
-# counted COMMAND..: the cases of a command whose last line is 'N passed, M failed', and those that it prints as skipped.
+# counted COMMAND..: the cases of a command whose last line is 'N passed, M failed', perhaps with ', K skipped'.
 counted() {
-    local counts='^([0-9]{1,9}) passed, ([0-9]{1,9}) failed$'
+    local counts='^([0-9]{1,9}) passed, ([0-9]{1,9}) failed(, ([0-9]{1,9}) skipped)?$'
     "$@" >"$room/counted"
     if [[ $(tail -n 1 "$room/counted") =~ $counts ]]; then
         passed=$((passed + BASH_REMATCH[1]))
         failed=$((failed + BASH_REMATCH[2]))
-        skipped=$((skipped + $(grep -c '^skipped: ' "$room/counted")))
+        skipped=$((skipped + ${BASH_REMATCH[4]:-0}))
         grep -E '^(failed|skipped): ' "$room/counted"
     else
         count 1 "$1 has no last line"

@@ -9,8 +9,7 @@ the shell's. {NAME} stands for VALUE, or for what limits.py has. Lines that begi
 sample. A part begins with `== PART`. Commands run in FOLDER; of several in a pipe the first that fails has the status.
 
 Of a page, FILE.md, each block that begins with ```console is a part of `$ COMMAND`s, with the lines that a terminal shows. Without tshark those of
-its samples that need it are left out, a line for each that begins with 'skipped: '.
-The last line is 'N passed, M failed'.
+its samples that need it are left out. The last line is 'N passed, M failed, K skipped'.
 """
 import fnmatch
 import os
@@ -20,7 +19,7 @@ import subprocess
 import sys
 
 from limits import NAMED
-from tally import tally
+from parts import check, finish, leave_out
 
 PATIENCE = 600
 CONSOLE = re.compile(r'^```console\n(.*?)^```$', re.MULTILINE | re.DOTALL)
@@ -102,18 +101,24 @@ def on_page(folder, path):
     for sample in re.split('^[$] ', ''.join(blocks), flags=re.MULTILINE)[1:]:
         command, _, told = sample.partition('\n')
         if OF_PCAPS.search(command) and not shutil.which('tshark'):
-            print(f"skipped: {name}: {command} (tshark isn't installed)")
+            leave_out(1, f'{name}: {command}', "tshark isn't installed")
             continue
         shown = bash(folder, command, subprocess.STDOUT).stdout.decode(errors='backslashreplace')
         yield f'{name}: {command}', shown != told and f'{shown!r}, not {told!r}'
 
 
+def cases(folder, path, part='', *words):
+    """Each case of a part, and what is told otherwise than it stands there."""
+    for command, told in parts_in(path, **dict(each.split('=', 1) for each in words))[part]:
+        if told is not None:
+            yield command, difference(folder, command, told)
+
+
 def main():
-    folder, path, part, *words = [*sys.argv[1:], ''] if len(sys.argv) == 3 else sys.argv[1:]
-    if path.endswith('.md'):
-        return tally(on_page(folder, path))
-    samples = parts_in(path, **dict(each.split('=', 1) for each in words))[part]
-    return tally((command, difference(folder, command, told)) for command, told in samples if told is not None)
+    of = on_page if sys.argv[2].endswith('.md') else cases
+    for what, wrong in of(*sys.argv[1:]):
+        check(not wrong, f'{what}: {wrong}')
+    return finish()
 
 
 if __name__ == '__main__':

@@ -6,7 +6,6 @@ set -uo pipefail
 . "$(dirname "$0")/lib/counting.sh"
 # The page reads captures beside the tools: some of its modules are made of theirs.
 "$here/../tools/lists.py" --made || exit
-. "$here/wireshark/pcap_cases.sh"
 . "$here/wireshark/live_cases.sh"
 program=$(realpath "${1:-$here/../crates/nbt/out/nbt}")
 
@@ -33,7 +32,6 @@ cases() { counted_by lib/samples.py "$files" "$here/wireshark/cases.txt" "$1"; }
 
 nbt() { ended "$program" "$@"; }
 pcap2cap() { ended "$here/../tools/pcap2cap" "$@"; }
-cap2pcap() { ended "$here/../tools/cap2pcap" "$@"; }
 
 # The packets of `nbt build`, by the cases of tests/wireshark/dissected.txt.
 built() { counted_by wireshark/dissected.py "$room/built.pcap"; }
@@ -64,31 +62,13 @@ network() {
     cases network
 }
 
+# Captures made by chance, beside the page's reading of them.
+random() { counted_by wireshark/random_captures.py 30; }
+
 # ---- Long captures, and terminals.
 
-# A pcap of so many queries, a millisecond apart.
-queries() {
-    seq "$1" | awk '{ printf "137 %d 000%x0110000100000000000020434b4141414141414141414141414141414141414141414141414141414141410000200001\n", $1, $1 % 16 }' |
-        cap2pcap
-}
-
 long() {
-    queries 100000 >"$files/long.pcap"
-    pcap2cap "$files/long.pcap" >"$room/output" 2>"$room/errors"
-    [ $? -eq 0 ] && diff - "$room/errors" <<'EOF'
-pcap2cap: more than 16777216 bytes are written now: nbt reads them with --input-limit 18446744073709551615
-100000 frames, 100000 of these ports, 0 left out
-EOF
-    count $? 'pcap2cap: more than one input'
-    cases readers
-
-    # An hour of datagrams, one each second, through a pipe at once: each is delivered, and a tick drops its key.
-    nbt build group 10.0.0.5:138/0001 'JOE<00>' 'FRED<20>' 6869 2 | awk '{ for (i = 0; i < 3600; i++)
-        printf "138 %d %s%04x%s\n", 1000 * i, substr($3, 1, 4), i, substr($3, 9) }' | cap2pcap >"$room/hour.pcap"
-    cat "$room/hour.pcap" | pcap2cap --quiet - | nbt replay 'FRED<20>' >"$room/output" 2>"$room/errors"
-    [ "${PIPESTATUS[*]}" = '0 0 0' ] && [ "$(awk '{ said[$2]++ } $2 == "dropped" { keys += $3 } END { print said["delivered"], keys }' \
-        "$room/output")" = '3600 3598' ]
-    count $? "an hour of datagrams through a pipe: $(tail -n 1 "$room/output")"
+    cases long
 
     # On a terminal the progress comes, at most twice a second, and goes; not with --quiet.
     local each="$here/../tools/pcap2cap" began=$SECONDS took=''
@@ -107,19 +87,17 @@ EOF
 # A file five times as long, with five times as many streams, takes no more memory: streams that ended are let go.
 growing() {
     local each small large
-    for each in 10000 50000; do "$here/captures/big_pcap.py" $each "$room/$each.pcap"; done
-    pcap2cap "$room/10000.pcap" 2>"$room/errors" >"$room/output"
-    [ $? -eq 0 ] && [ "$(cat "$room/errors")" = '10000 frames, 10000 of these ports, 0 left out' ] &&
-        nbt show <"$room/output" >"$room/shown" && [ -s "$room/shown" ] && ! grep -q ' refused ' "$room/shown"
-    count $? "pcap2cap: tests/captures/big_pcap.py: $(cat "$room/errors")"
-    small=$(peak pcap2cap --quiet "$room/10000.pcap") large=$(peak pcap2cap --quiet "$room/50000.pcap")
+    for each in 10000 50000; do "$here/captures/big_pcap.py" $each "$files/$each.pcap"; done
+    cases growing
+    small=$(peak pcap2cap --quiet "$files/10000.pcap") large=$(peak pcap2cap --quiet "$files/50000.pcap")
     [ "${small% *}" = 0 ] && [ "${large% *}" = 0 ] && [ "${large#* }" -lt $((${small#* } + 16000)) ]
     count $? "pcap2cap, peak of memory: $small and $large"
 }
 
-parts built snapped network odd
+parts built snapped network
+part odd cases odd
 if command -v node >/dev/null; then part random random; else lacks random nodejs; fi
-for each in empties others office; do part $each cases $each; done
-parts plugins early long growing waits dumped
+for each in empties others office plugins early; do part $each cases $each; done
+parts long growing waits dumped
 part page page docs/CAPTURES.md
 finish

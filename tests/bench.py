@@ -9,19 +9,18 @@ bar, or past what it is known to be, is a failure, and the last line counts them
 """
 import os
 import random
-import re
 import shutil
 import subprocess
 import sys
 import tempfile
-import time
 
 sys.dont_write_bytecode = True
 sys.path[1:1] = [f'{sys.path[0]}/{it}' for it in ('bench', 'lib')]
 import plain_program
-from bench_bars import GROWN, GROWTH, PER_SOURCE, PIECES, PLAIN, TEXT, WORST, Bars
+from bench_bars import GROWN, GROWTH, KNOWN, PER_SOURCE, PIECES, PLAIN, TEXT, WITHOUT, WORST
 from bench_captures import (FRED, MOST_IN_A_CAPTURE, descending, labels, office, one_address, pointed, refused,
-                            saved_after, shuffled, unfragmented)
+                            saved_after, shuffled, unfragmented, written)
+from bench_rows import Bars, Row, instructions, peak, printed, shown, wall_seconds
 from limits import MANY, MOST_KEYS
 
 HERE = os.path.dirname(os.path.abspath(__file__))
@@ -40,12 +39,10 @@ GROWING = (('pieces of a byte, shuffled', REPLAY, lambda size: shuffled(random.R
            ('keys', MERGE, one_address, GROWTH))
 
 
-def written(folder, title, lines):
+def captured(folder, title, lines):
     """The file of a capture, and its number of packets."""
     lines = list(lines)
-    path = os.path.join(folder, title)
-    with open(path, 'wb') as capture:
-        capture.writelines(lines)
+    path = written(folder, title, lines)
     assert os.path.getsize(path) <= MOST_IN_A_CAPTURE
     return path, sum(each.startswith(b'13') for each in lines)
 
@@ -59,7 +56,7 @@ def workloads(folder, part=1):
             ('pieces of a byte, descending', descending(rng, 65_467 // part)),
             ('pieces of 400 bytes, shuffled', shuffled(rng, 100 // part, 65_000, 400)))
     for title, lines in made:
-        yield title, *written(folder, title, lines)
+        yield title, *captured(folder, title, lines)
 
 
 def saved_parts(program, folder, path):
@@ -74,43 +71,11 @@ def saved_parts(program, folder, path):
     return saved
 
 
-def instructions(command, path):
-    """How many instructions the command takes over an input, or None without valgrind."""
-    if not shutil.which('valgrind'):
-        return None
-    count = ['valgrind', '--tool=cachegrind', '--cache-sim=no', '--cachegrind-out-file=/dev/null']
-    with open(path, 'rb') as capture:
-        done = subprocess.run(count + command, stdin=capture, stdout=subprocess.DEVNULL, stderr=subprocess.PIPE, check=True)
-    return int(re.search(rb'I +refs: +([\d,]+)', done.stderr).group(1).replace(b',', b''))
-
-
-def seconds(command, path):
-    """The wall seconds of one run."""
-    with open(path, 'rb') as capture:
-        start = time.perf_counter()
-        subprocess.run(command, stdin=capture, stdout=subprocess.DEVNULL, check=True)
-        return time.perf_counter() - start
-
-
-def peak(command, path):
-    """The most kB that were resident, by GNU time, whose own two MB are the least that it shows, or None without it."""
-    if not os.path.exists('/usr/bin/time'):
-        return None
-    with open(path, 'rb') as capture:
-        done = subprocess.run(['/usr/bin/time', '-f', '%M'] + command, stdin=capture, stdout=subprocess.DEVNULL,
-                              stderr=subprocess.PIPE, check=True)
-    return int(done.stderr.split()[-1])
-
-
-def shown(number):
-    return '-' if number is None else f'{number:,}'
-
-
 class Bench:
     """The program that is measured, the plain one if it can be compiled, and the bars."""
 
     def __init__(self, program, small, folder):
-        self.program, self.folder, self.bars = program, folder, Bars(small)
+        self.program, self.folder, self.bars, self.small = program, folder, Bars(), small
         self.part, self.times, least = (10, 1, 100) if small else (1, 4, 250)
         self.sizes = [least, least * 10, least * 100]
         self.plain = plain_program.compiled(folder)
@@ -119,25 +84,25 @@ class Bench:
         """Prints the row of a command, and gives its instructions. The last column has them beside so many others."""
         command = [self.program, *words]
         counted = instructions(command, path)
-        cost = None if counted is None else counted // packets
-        rate = packets / min(seconds(command, path) for _ in range(3))
+        cells = (shown(None if counted is None else counted // packets), shown(peak(command, path)))
+        rate = packets / min(wall_seconds(command, path) for _ in range(3))
         name = ' '.join([words[0], *(it for it in words if it in TEXT)])
-        ratio = self.bars.judged((name, title), counted / beside if counted and beside else None, bar)
-        print(f'| `{name}` | {title} | {shown(cost)} | {shown(peak(command, path))} | {ratio} |  {rate:,.0f} packets a second', flush=True)
+        self.judged(name, title, counted / beside if counted and beside else None, bar, cells, f'{rate:,.0f} packets a second')
         return counted
+
+    def judged(self, name, title, of, bar, cells, said=''):
+        """Prints a row beside its bar, if it has one."""
+        key = name, title
+        known = KNOWN[key][self.small] if key in KNOWN else 0
+        self.bars.row(Row(f'`{name}` | {title}', of=of, most=None if key in WITHOUT else bar, said=said, known=known, cells=cells))
 
     def beside_plain(self, words, title, path, packets):
         """The row of a command beside the plain program, which prints the same."""
         beside = None
         if self.plain:
-            beside, same = instructions([self.plain, *words], path), self.printed(self.plain, words, path) == self.printed(self.program, words, path)
+            beside, same = instructions([self.plain, *words], path), printed([self.plain, *words], path) == printed([self.program, *words], path)
             self.bars.counts(same, f'{words[0]}, {title}: the plain program prints the same')
         return self.row(words, title, path, packets, beside, PLAIN[words[0]])
-
-    @staticmethod
-    def printed(program, words, path):
-        with open(path, 'rb') as capture:
-            return subprocess.run([program, *words], stdin=capture, stdout=subprocess.PIPE, check=True).stdout
 
     def fragments(self):
         """The rows of captures of fragments, for each command."""
@@ -154,7 +119,7 @@ class Bench:
         """The rows of what an office's stations send to each port, as text, as phrases and as objects."""
         for port, count in ((137, 50_000), (138, 40_000), (139, 40_000)):
             title = f'an office, port {port}'
-            capture = written(self.folder, title, office(port, count // self.part))
+            capture = captured(self.folder, title, office(port, count // self.part))
             text = self.beside_plain(SHOW, title, *capture)
             for form, bar in TEXT.items():
                 self.row(SHOW + [form], title, *capture, text, bar)
@@ -162,13 +127,13 @@ class Bench:
     def longest(self):
         """The rows of packets of 64,800 bytes: one that is refused, an ordinary name, and the one of which most labels are read,
         which is judged beside the first."""
-        least = self.row(SHOW, '64,800 bytes, refused', *written(self.folder, 'refused', refused(64_800, self.times)))
-        self.row(SHOW, '10,800 pointers to a name', *written(self.folder, 'pointed', pointed(FRED, 10_800, self.times)))
-        self.row(SHOW, '10,800 to 111 labels', *written(self.folder, 'pointed', pointed(labels(111), 10_800, self.times)), least, WORST)
+        least = self.row(SHOW, '64,800 bytes, refused', *captured(self.folder, 'refused', refused(64_800, self.times)))
+        self.row(SHOW, '10,800 pointers to a name', *captured(self.folder, 'pointed', pointed(FRED, 10_800, self.times)))
+        self.row(SHOW, '10,800 to 111 labels', *captured(self.folder, 'pointed', pointed(labels(111), 10_800, self.times)), least, WORST)
 
     def flood(self):
         """The rows of one address's keys: not counted, all of them counted, and limited to fewer."""
-        path, packets = written(self.folder, 'one address', one_address(60_000 // self.part))
+        path, packets = captured(self.folder, 'one address', one_address(60_000 // self.part))
         free = self.row(['replay', *MANY, 'FRED<20>'], 'one address', path, packets)
         for most in (60_000, *LIMITS):
             words = ['replay', *MANY, '--per-source', str(most), 'FRED<20>']
@@ -185,19 +150,17 @@ class Bench:
 
     def growth_row(self, words, title, costs, bar):
         """Prints the row of what one costs among so many, among ten times and among a hundred times as many."""
-        ratio = self.bars.judged((f'growth of {words[0]}', title), costs[-1] / costs[0], bar)
-        print(f'| `{words[0]}` | {title} | {" | ".join(f"{each:,.0f}" for each in costs)} | {ratio} |', flush=True)
+        self.judged(words[0], title, costs[-1] / costs[0], bar, tuple(f'{each:,.0f}' for each in costs))
 
     def cost_of_a_byte(self, held):
         """The instructions for a saved table of a byte that is merged behind so many bytes of its key: these grow in place."""
-        alone, grown = (written(self.folder, f'{count} tables', saved_after(held, count))[0] for count in (0, TABLES))
+        alone, grown = (written(self.folder, f'{count} tables', saved_after(held, count)) for count in (0, TABLES))
         return (instructions([self.program, *MERGE], grown) - instructions([self.program, *MERGE], alone)) / TABLES
 
     def cost_of_one(self, words, lines, size):
         """The instructions for each packet, without those for none."""
-        (path, packets), none = written(self.folder, 'growing', lines(size)), os.path.join(self.folder, 'none')
-        with open(none, 'wb') as empty:
-            empty.write(b'4e42543200000000\n' * 8 if words == MERGE else b'')
+        path, packets = captured(self.folder, 'growing', lines(size))
+        none = written(self.folder, 'none', [b'4e42543200000000\n' * 8] if words == MERGE else [])
         if words == MERGE:
             path = saved_parts(self.program, self.folder, path)
         command = [self.program, *words]
@@ -208,17 +171,15 @@ def main():
     words = [each for each in sys.argv[1:] if each != '--small']
     with tempfile.TemporaryDirectory() as folder:
         bench = Bench(words[0] if words else PROGRAM, '--small' in sys.argv, folder)
-        print('| Command | Capture | Instructions | Peak kB | Times, of at most |\n|---|---|---|---|---|')
+        bench.bars.heading('Command', 'Capture', 'Instructions', 'Peak kB', 'Times, of at most')
         for rows in (bench.fragments, bench.stations, bench.longest, bench.flood):
             rows()
-        print('\n| Command | Of | %s | Times, of at most |\n|---|---|---|---|---|---|' % ' | '.join(f'{size:,}' for size in bench.sizes))
+        print()
+        bench.bars.heading('Command', 'Of', *(f'{size:,}' for size in bench.sizes), 'Times, of at most')
         bench.growth()
     if not bench.plain:
         print('skipped: the rows beside the plain program: ' + plain_program.WANTED)
-    for each in bench.bars.past:
-        print('failed: ' + each)
-    print(bench.bars.counted())
-    return 1 if bench.bars.past else 0
+    return bench.bars.end()
 
 
 if __name__ == '__main__':

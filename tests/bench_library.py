@@ -7,7 +7,7 @@ lies in the folder above it, if `make targets` made it.
 100,000 payloads of an office's stations, the same in each run; the rows of port 137 have 100,000 of it alone. Instructions, those of
 a payload, are counted by valgrind's callgrind where it is installed: those of a run less those of one that reads the same and calls
 once less. Seconds are of processor time, the least of five runs; of Python beside dpkt and samba one run, in turns. Status 1 where a
-bar is passed by more than a twentieth.
+bar is passed by more than a twentieth; the last line counts them.
 """
 import os
 import random
@@ -17,22 +17,14 @@ import tempfile
 
 sys.dont_write_bytecode = True
 sys.path[1:1] = [f'{sys.path[0]}/{it}' for it in ('bench', 'lib')]
-from bench import PROGRAM, instructions
 from bench_calls import LIB, TOP, absorbing, in_python, items, objects
-from bench_captures import Office, line, office
-from bench_rows import HEADING, Row, call_seconds, least, processor_seconds, ratio
+from bench_captures import Office, line, office, written
+from bench_rows import HEADING, Bars, Row, call_seconds, instructions, least, processor_seconds, ratio
 
 COUNTS = {137: 50_000, 138: 25_000, 139: 25_000}
 ALL = sum(COUNTS.values())
 # Of what `nbt show` takes, less its lines; node's seconds of those with them, since callgrind counts no instructions that an engine makes.
 MOST_OF_C, MOST_OF_PYTHON, MOST_OF_NODE = 1.0, 3.0, 5.0
-
-
-def written(folder, name, lines):
-    path = os.path.join(folder, name)
-    with open(path, 'wb') as file:
-        file.writelines(lines)
-    return path
 
 
 def captures(folder):
@@ -83,19 +75,16 @@ def rows(program, library, folder):
 
 
 def main():
-    program = sys.argv[1] if len(sys.argv) > 1 else PROGRAM
+    program = sys.argv[1] if len(sys.argv) > 1 else os.path.join(TOP, 'crates', 'nbt', 'out', 'nbt')
     library = os.path.abspath(sys.argv[2] if len(sys.argv) > 2 else os.path.join(TOP, 'out', 'lib'))
     os.environ.update(NBT_LIBRARY=os.path.join(library, 'libnbt.so.0'), PYTHONPATH=os.path.join(TOP, 'bindings', 'python'),
                       PYTHONDONTWRITEBYTECODE='1')
-    print(HEADING)
-    missed = []
+    bars = Bars()
+    bars.heading(*HEADING)
     with tempfile.TemporaryDirectory() as folder:
         for row in rows(program, library, folder):
-            print(row, flush=True)
-            if row.missed():
-                missed.append(f'missed: {row.title}: {row.of:.2f}, at most {row.most:.2f}')
-    print(*missed, sep='\n', end='\n' if missed else '')
-    return bool(missed)
+            bars.row(row)
+    return bars.end()
 
 
 if __name__ == '__main__':

@@ -16,7 +16,7 @@ import tempfile
 sys.dont_write_bytecode = True
 HERE = os.path.dirname(os.path.abspath(__file__))
 sys.path.insert(1, f'{HERE}/bench')
-from bench_rows import HEADING, Row
+from bench_rows import HEADING, Bars, Row
 
 # How many times tshark's own cost, and how many bytes a packet.
 LIST, OTHER_PORTS, BYTES = 1.2, 1.05, 200
@@ -97,12 +97,12 @@ def main():
         path, other = f'{folder}/big.pcap', f'{folder}/other.pcap'
         subprocess.run([f'{HERE}/captures/big_pcap.py', str(packets), path], check=True)
         at_other_ports(path, other)
-        print(f'{packets:,} packets, {pairs} pairs, load {os.getloadavg()[0]:.1f} of {os.cpu_count()} processors\n{HEADING}')
-        missed = False
+        print(f'{packets:,} packets, {pairs} pairs, load {os.getloadavg()[0]:.1f} of {os.cpu_count()} processors')
+        bars = Bars()
+        bars.heading(*HEADING)
         for row in rows(homes, path, other, packets, pairs):
-            print(row, flush=True)
-            missed |= row.missed()
-    return missed
+            bars.row(row)
+    return bars.end()
 
 
 if __name__ == '__main__':

@@ -6,56 +6,25 @@ set -uo pipefail
 . "$(dirname "$0")/lib/counting.sh"
 program=${1:-$here/../crates/nbt/out/nbt}
 
-fred=20454746434546454543414341434143414341434143414341434143414341434100
-joe=20454b45504546434143414341434143414341434143414341434143414341414100
-scoped=204547464345464545434143414341434143414341434143414341434143414341074e455442494f5303434f4d00
-empty=110200010a000005008a00440000$joe$fred
-limits=$(for name in KEYS MOST_KEYS MOST_LINE MOST_NAMES; do echo "s/{$name}/$(limit $name)/g; s/{OVER_$name}/$(($(limit $name) + 1))/g"; done)
-wildcard=20434b41414141414141414141414141414141414141414141414141414141414100
+# word NAME: what {NAME} stands for in samples.
+word() { PYTHONPATH=$here/lib python3 -c 'import sys, limits; print(limits.NAMED[sys.argv[1]])' "$1"; }
+fred=$(word FRED) scoped=$(word SCOPED) empty=$(word EMPTY)
 
 nbt() { ended "$program" "$@"; }
 
 # Whether the file holds exactly the text.
 holds() { printf '%s' "$2" | cmp -s - "$1"; }
 
-# ---- The cases of tests/cases: after `$ COMMAND`, and further ones behind `& ` that say the same, stand the lines of its standard
-# output, those of its standard error behind `! `, and a status that isn't 0 before the last of these, as in `1! nbt: read`, or by itself,
-# as in `? 1`. `...` stands for text that isn't empty, {FRED} and the like for spellings, {KEYS} and the like for limits of
-# include/nbt.h, {OVER_KEYS} and the like for one more.
-# `hostile NAME=VALUE .. COMMAND` runs a command over the devices of tests/lib/devices.c. What stands behind `% ` is held by the model
-# alone (tests/program/beside_model.py), as each name, show, replay, save, merge, list and agree of the other commands is too.
-
-spelled() {
-    sed "s/{FRED}/$fred/g; s/{JOE}/$joe/g; s/{SCOPED}/$scoped/g; s/{WILDCARD}/$wildcard/g; s/{EMPTY}/$empty/g
-        $limits" "$1"
-}
-
-# samples TOLD COMMAND..: what each command writes and ends with, told as in tests/cases.
-samples() {
-    local told=$1 command status
-    for command in "${@:2}"; do
-        (cd "$room/files" && PATH=$room/bin:$PATH ended bash -c "$command" </dev/null) >"$room/output" 2>"$room/errors"
-        status=$?
-        [[ $told != ...* ]] || [ ! -s "$room/output" ] || echo ... >"$room/output"
-        [[ $told != *'! ...'* ]] || [ ! -s "$room/errors" ] || echo ... >"$room/errors"
-        {
-            cat "$room/output"
-            sed "s/^/! /; \$s/^/${status#0}/" "$room/errors"
-            [ $status -eq 0 ] || [ -s "$room/errors" ] || echo "? $status"
-        } >"$room/told"
-        holds "$room/told" "$told"
-        count $? "$command"
-    done
-}
+# ---- The cases of tests/cases, by tests/lib/samples.py. `hostile NAME=VALUE .. COMMAND` runs a command over the devices of
+# tests/lib/devices.c. What stands behind `% ` is held by the model alone (tests/program/beside_model.py), as each name, show, replay,
+# save, merge, list and agree of the other commands is too.
 
 # cases [FILE..]: those of these files, or of all.
 cases() {
     local file
     mkdir "$room/files"
     [ $# -gt 0 ] || set -- "$here"/cases/*.txt
-    for file; do
-        each_sample samples < <(spelled "$here/cases/${file##*/}" | grep -v '^$\|^#\|^% ')
-    done
+    for file; do PATH=$room/bin:$PATH counted_by lib/samples.py "$room/files" "$here/cases/${file##*/}"; done
 }
 
 pages() {
@@ -80,50 +49,8 @@ saved() {
     count $? 'nbt merge: the same in the other order, in the first form where there is one'
 }
 
-# ---- How the program reads and writes; streams that fail are those of tests/process.py.
-
-# `name` and `build` read nothing.
-unread_inputs() {
-    local words
-    printf 'left' >"$room/input"
-    for words in 'name FRED<20>' 'build keepalive'; do
-        { nbt $words >/dev/null && head -c 4 >"$room/left"; } <"$room/input"
-        holds "$room/left" left
-        count $? "nbt $words leaves its input unread"
-    done
-}
-
-# writing WORD..: the status of nbt, and $writes, how often it wrote.
-writing() {
-    local status
-    rm -f "$room/writes"
-    ended "$room/bin/hostile" NBT_WRITES="$room/writes" "$program" "$@" <"$room/input" >"$room/output"
-    status=$?
-    writes=$(cat "$room/writes" 2>/dev/null)
-    return $status
-}
-
-# A long report is written in large pieces.
-long_reports() {
-    local words
-    seq 100000 | sed 's/.*/tick 1/' >"$room/input"
-    for words in show 'replay A<20>'; do
-        writing $words && [ "$(wc -l <"$room/output")" -eq 100000 ]
-        count $? "nbt $words, 100,000 lines"
-        [ "$writes" -ge 10 ] && [ "$writes" -lt 1000 ]
-        count $? "nbt $words, 100,000 lines in $writes writes"
-    done
-    seq 100000 | sed 's/.*/138 0 1702000100000000008a1702000100000000008a/' >"$room/input"
-    for words in show 'replay A<20>'; do
-        writing $words && [ "$(wc -l <"$room/output")" -eq 100000 ] && [ "$writes" -ge 10 ] && [ "$writes" -le 2000 ]
-        count $? "nbt $words, 100,000 longer lines in $writes writes"
-    done
-}
-
-streams() {
-    unread_inputs
-    long_reports
-}
+# How often the program writes; streams that fail are those of tests/process.py.
+streams() { PATH=$room/bin:$PATH counted_by lib/samples.py "$room/files" "$here/cases/devices.txt" writes; }
 
 # ---- Each request for memory refused.
 

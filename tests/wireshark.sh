@@ -6,7 +6,6 @@ set -uo pipefail
 . "$(dirname "$0")/lib/counting.sh"
 # The page reads captures beside the tools: some of its modules are made of theirs.
 "$here/../tools/lists.py" --made || exit
-. "$here/wireshark/pcap_cases.sh"
 . "$here/wireshark/live_cases.sh"
 program=$(realpath "${1:-$here/../crates/nbt/out/nbt}")
 
@@ -33,82 +32,9 @@ cases() { counted_by lib/samples.py "$files" "$here/wireshark/cases.txt" "$1"; }
 
 nbt() { ended "$program" "$@"; }
 pcap2cap() { ended "$here/../tools/pcap2cap" "$@"; }
-cap2pcap() { ended "$here/../tools/cap2pcap" "$@"; }
 
-# fields FILE FILTER FIELD..: these fields of the packets, with tabs between them.
-fields() {
-    local file=$1 filter=$2
-    shift 2
-    ended tshark -n -r "$file" -o tcp.reassemble_out_of_order:TRUE -Y "$filter" -T fields "${@/#/-e}" 2>"$room/errors"
-}
-
-# ---- The packets of `nbt build`, by the cases of tests/wireshark/dissected.txt.
-
-label=$(printf 'L%.0s' {1..63})
-
-# The words in braces spelled out.
-spelled() {
-    local text=${1//'{LONGEST}'/$label.$label.$label.${label:0:28}}
-    text=${text//'{LABEL}'/$label}
-    while [[ $text =~ \{HEX:([0-9]+)\} ]]; do
-        text=${text//"${BASH_REMATCH[0]}"/$(printf "%0$((2 * BASH_REMATCH[1]))d" 0)}
-    done
-    printf '%s\n' "$text"
-}
-
-# unchanged COMMAND: whether --broadcast changes nothing of packets of other ports than 137.
-unchanged() {
-    [[ $1 == *--broadcast* ]] || grep -q '^137 ' "$room/lines" ||
-        eval "${1/nbt build/nbt build --broadcast}" | cmp -s - "$room/lines"
-}
-
-# The first eight bytes of data that is longer than 32 bytes.
-shortened() { sed -E 's/\b([0-9a-f]{16})[0-9a-f]{49,}\b/\1../g'; }
-
-built() {
-    local line command index found n commands numbers told
-    commands=() numbers=() told=()
-    : >"$room/built"
-    while IFS= read -r line; do
-        case $line in
-        '$ '*)
-            command=$(spelled "${line#'$ '}")
-            eval "$command" >"$room/lines"
-            unchanged "$command"
-            count $? "${line:2:100}, and --broadcast"
-            cat "$room/lines" >>"$room/built"
-            commands+=("${line:2:100}") numbers+=("$(wc -l <"$room/lines")") told+=('')
-            ;;
-        '' | '#'*) ;;
-        *) told[-1]+=$(spelled "$line" | shortened)$'\n' ;;
-        esac
-    done <"$here/wireshark/dissected.txt"
-
-    # Empty fields are left out, and so are the words that tshark adds to a name's text.
-    cap2pcap <"$room/built" >"$room/built.pcap"
-    count $? 'cap2pcap: the packets that were built'
-    fields "$room/built.pcap" 'nbns || nbdgm || nbss' _ws.malformed _ws.col.Protocol nbss.continuation_data nbns.id nbns.flags \
-        nbns.name nbns.type nbns.class nbns.ttl nbns.nb_flags nbns.addr nbdgm.type nbdgm.flags nbdgm.dgram_id nbdgm.src.ip \
-        nbdgm.src.port nbdgm.dgram_len nbdgm.pkt_offset nbdgm.source_name nbdgm.destination_name nbdgm.error_code nbss.type \
-        nbss.flags nbss.length nbss.called_name nbss.calling_name nbss.error_code nbss.retarget_ip_address nbss.retarget_port \
-        data.data | sed -E 's/^(\t[^\t]*\t)([^\t])/\1continued\t\2/; s/ \([A-Z][^)]*\)//g; s/\t+/ /g; s/^ //; s/ $//' |
-        shortened >"$room/dissected"
-    exec 3<"$room/dissected"
-    for index in "${!commands[@]}"; do
-        found=''
-        for ((n = 0; n < numbers[index]; n++)); do
-            IFS= read -r line <&3
-            found+=$line$'\n'
-        done
-        [ -n "$found" ] && [ "$found" = "${told[index]}" ]
-        count $? "tshark on ${commands[index]}: $found"
-    done
-    [ "$(cat <&3 | wc -l)" -eq 0 ]
-    count $? 'tshark finds as many packets as were built'
-    exec 3<&-
-    pcap2cap --bare --quiet "$room/built.pcap" | cmp -s - "$room/built"
-    count $? 'pcap2cap: the packets that were built'
-}
+# The packets of `nbt build`, by the cases of tests/wireshark/dissected.txt.
+built() { counted_by wireshark/dissected.py "$room/built.pcap"; }
 
 # ---- What a snap length leaves of payloads: with --cut their fronts, without it those alone that are whole. The frames of
 # examples/office.pcap have 28 bytes before a payload of UDP.
@@ -129,75 +55,20 @@ snapped() {
     done
 }
 
-# ---- A network's packets, by tests/captures/network.py.
-
-payloads() { awk '$1 ~ /^13/ { print $1, $3 }' "$1"; }
-
-# What comments say of frames, but for their numbers.
-ends() { sed -nE 's/^# frame [0-9]+ ([0-9].* > )/\1/p'; }
-
-summary='58 frames, 51 of these ports, 19 left out: 7 cut by the snap length, 3 a session packet whose rest is missing, 3 sent again '
-summary+='with other bytes, 2 of a TCP stream whose start is missing, 1 with RST, 1 after a gap in TCP, 1 where no session packet begins, '
-summary+='1 a length that the packet lacks'
-
+# A network's packets, by tests/captures/network.py.
 network() {
     "$here/captures/network.py" "$files/network.pcap" >"$files/expected"
-    mkdir "$room/own" && echo 'ip.defragment: FALSE' >"$room/own/preferences" && echo udp >"$room/own/disabled_protos"
-    WIRESHARK_CONFIG_DIR=$room/own pcap2cap "$files/network.pcap" >"$room/capture" 2>"$room/errors"
-    [ $? -eq 0 ] && diff "$files/expected" "$room/capture" && [ "$(cat "$room/errors")" = "$summary" ]
-    count $? "pcap2cap: the packets of a network, whatever the user's settings of tshark"
-    pcap2cap --bare --quiet "$files/network.pcap" 2>"$room/errors" | cmp -s - <(grep -v '^# frame [0-9]* 2023' "$files/expected") &&
-        [ ! -s "$room/errors" ]
-    count $? 'pcap2cap --bare --quiet'
-    pcap2cap --no-ticks --quiet "$files/network.pcap" | cmp -s - <(grep -v '^tick' "$files/expected")
-    count $? 'pcap2cap --no-ticks'
-    pcap2cap - <"$files/network.pcap" 2>"$room/errors" | cmp -s - "$files/expected" && [ "$(cat "$room/errors")" = "$summary" ] &&
-        cat "$files/network.pcap" | pcap2cap - 2>"$room/errors" | cmp -s - "$files/expected"
-    count $? 'pcap2cap -, a file and a pipe'
-    pcap2cap --port 138=20138 --port 137=20137 --quiet "$files/network.pcap" | diff "$files/expected" - | grep '^> 137' >"$room/output"
-    [ "$(cut -d ' ' -f 1-4 "$room/output")" = "> 137 20980 $(awk '$1 == 137 { print $3; exit }' "$files/expected")" ]
-    count $? 'pcap2cap --port 137=20137'
-
-    # From the capture to a pcap, and back: every payload is the same, and so is every byte of TCP.
-    cap2pcap <"$room/capture" >"$files/again.pcap" && pcap2cap "$files/again.pcap" >"$room/again"
-    count $? 'cap2pcap: the packets of a network'
-    [ "$(payloads "$room/capture" | wc -l)" -gt 12 ] && cmp -s <(payloads "$room/capture") <(payloads "$room/again")
-    count $? 'the packets of a network, from pcap to capture to pcap to capture'
-    cmp -s <(ends <"$room/capture") <(ends <"$room/again")
-    count $? 'cap2pcap: times, addresses and ports are those of the comments'
-    fields "$files/network.pcap" 'udp.port in {137, 138} && !icmp && frame.cap_len == frame.len && frame.time_relative < 20' \
-        udp.payload >"$room/before"
-    [ -s "$room/before" ] && fields "$files/again.pcap" 'udp && frame.time_relative < 20' udp.payload | cmp -s "$room/before" -
-    count $? 'payloads of UDP, as tshark has them before and after'
-    fields "$files/again.pcap" tcp.payload tcp.payload | tr -d '\n' | cmp -s - <(sed -n 's/^139 [0-9]* //p' "$room/capture" | tr -d '\n')
-    count $? 'payloads of TCP, as tshark has them after'
+    mkdir "$files/own" && echo 'ip.defragment: FALSE' >"$files/own/preferences" && echo udp >"$files/own/disabled_protos"
+    cases network
 }
+
+# Captures made by chance, beside the page's reading of them.
+random() { counted_by wireshark/random_captures.py 30; }
 
 # ---- Long captures, and terminals.
 
-# A pcap of so many queries, a millisecond apart.
-queries() {
-    seq "$1" | awk '{ printf "137 %d 000%x0110000100000000000020434b4141414141414141414141414141414141414141414141414141414141410000200001\n", $1, $1 % 16 }' |
-        cap2pcap
-}
-
 long() {
-    queries 100000 >"$files/long.pcap"
-    pcap2cap "$files/long.pcap" >"$room/output" 2>"$room/errors"
-    [ $? -eq 0 ] && diff - "$room/errors" <<'EOF'
-pcap2cap: more than 16777216 bytes are written now: nbt reads them with --input-limit 18446744073709551615
-100000 frames, 100000 of these ports, 0 left out
-EOF
-    count $? 'pcap2cap: more than one input'
-    cases readers
-
-    # An hour of datagrams, one each second, through a pipe at once: each is delivered, and a tick drops its key.
-    nbt build group 10.0.0.5:138/0001 'JOE<00>' 'FRED<20>' 6869 2 | awk '{ for (i = 0; i < 3600; i++)
-        printf "138 %d %s%04x%s\n", 1000 * i, substr($3, 1, 4), i, substr($3, 9) }' | cap2pcap >"$room/hour.pcap"
-    cat "$room/hour.pcap" | pcap2cap --quiet - | nbt replay 'FRED<20>' >"$room/output" 2>"$room/errors"
-    [ "${PIPESTATUS[*]}" = '0 0 0' ] && [ "$(awk '{ said[$2]++ } $2 == "dropped" { keys += $3 } END { print said["delivered"], keys }' \
-        "$room/output")" = '3600 3598' ]
-    count $? "an hour of datagrams through a pipe: $(tail -n 1 "$room/output")"
+    cases long
 
     # On a terminal the progress comes, at most twice a second, and goes; not with --quiet.
     local each="$here/../tools/pcap2cap" began=$SECONDS took=''
@@ -216,19 +87,17 @@ EOF
 # A file five times as long, with five times as many streams, takes no more memory: streams that ended are let go.
 growing() {
     local each small large
-    for each in 10000 50000; do "$here/captures/big_pcap.py" $each "$room/$each.pcap"; done
-    pcap2cap "$room/10000.pcap" 2>"$room/errors" >"$room/output"
-    [ $? -eq 0 ] && [ "$(cat "$room/errors")" = '10000 frames, 10000 of these ports, 0 left out' ] &&
-        nbt show <"$room/output" >"$room/shown" && [ -s "$room/shown" ] && ! grep -q ' refused ' "$room/shown"
-    count $? "pcap2cap: tests/captures/big_pcap.py: $(cat "$room/errors")"
-    small=$(peak pcap2cap --quiet "$room/10000.pcap") large=$(peak pcap2cap --quiet "$room/50000.pcap")
+    for each in 10000 50000; do "$here/captures/big_pcap.py" $each "$files/$each.pcap"; done
+    cases growing
+    small=$(peak pcap2cap --quiet "$files/10000.pcap") large=$(peak pcap2cap --quiet "$files/50000.pcap")
     [ "${small% *}" = 0 ] && [ "${large% *}" = 0 ] && [ "${large#* }" -lt $((${small#* } + 16000)) ]
     count $? "pcap2cap, peak of memory: $small and $large"
 }
 
-parts built snapped network odd
+parts built snapped network
+part odd cases odd
 if command -v node >/dev/null; then part random random; else lacks random nodejs; fi
-for each in empties others office; do part $each cases $each; done
-parts plugins early long growing waits dumped
+for each in empties others office plugins early; do part $each cases $each; done
+parts long growing waits dumped
 part page page docs/CAPTURES.md
 finish

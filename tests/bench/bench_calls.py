@@ -5,8 +5,7 @@ import subprocess
 import sys
 
 import plain_program
-from bench import instructions
-from bench_rows import Row, call_seconds, compiled, least, printed, ratio
+from bench_rows import Row, call_seconds, compiled, instructions, least, printed, ratio
 from served import requests
 
 LIB = os.path.dirname(os.path.abspath(__file__))
@@ -50,7 +49,7 @@ def items(folder, library, path, count):
     if not plain:
         return [*rows, memory, Row("the plain program's reading of port 137", said=plain_program.WANTED)]
     bar = Row("the plain program's reading of port 137", a_payload([plain], path, count), least(call_seconds, [plain, '1'], path))
-    sums = {printed([program, '1', *words], path)[0] for program, *words in ([loop], [loop, 'judged'], [plain])}
+    sums = {printed([program, '1', *words], path).split()[0] for program, *words in ([loop], [loop, 'judged'], [plain])}
     assert len(sums) == 1, f'they read other values: {sums}'
     for row, most in zip(rows, (MOST_OF_ITEMS, MOST_OF_JUDGED)):
         row.of, row.most = ratio(row, bar), most
@@ -73,7 +72,7 @@ def in_python(path):
     modules = {'dpkt': 'dpkt.netbios', 'samba': 'samba.dcerpc.nbt'}
     python, there = python_of(list(modules.values()))
     readers = ['nbt', *(name for name, module in modules.items() if module in there)]
-    words = printed([python, os.path.join(LIB, 'service_loop.py'), *readers], path)
+    words = printed([python, os.path.join(LIB, 'service_loop.py'), *readers], path).decode().split()
     seconds = {name: int(spent) / 1e9 for name, spent in zip(words[::3], words[2::3])}
     titles = {'nbt': 'ServicePacket.read, values read, from Python', 'dpkt': "dpkt's NS, its attributes read",
               'samba': "samba's name_packet, values read"}

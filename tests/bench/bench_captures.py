@@ -1,5 +1,6 @@
 """Captures for tests/bench.py and tests/bench_library.py, always the same: what an office's stations send, and datagrams in
 pieces."""
+import os
 import random
 import struct
 
@@ -28,6 +29,14 @@ def pieces(address, identifier, data, most):
 
 def line(moment, payload, port=138):
     return b'%d %d %s\n' % (port, moment, payload.hex().encode())
+
+
+def written(folder, name, lines):
+    """The file of a capture."""
+    path = os.path.join(folder, name)
+    with open(path, 'wb') as file:
+        file.writelines(lines)
+    return path
 
 
 # ---- what an office's stations send

@@ -1,7 +1,10 @@
-"""Rows of tests/bench_library.py: what a way costs, and the bar that it has to meet."""
+"""Tables of what is measured, a row for each way, beside its bar: for the scripts tests/bench*.py. And what measures."""
 import os
+import re
 import resource
+import shutil
 import subprocess
+import time
 from dataclasses import dataclass
 from typing import Optional
 
@@ -12,7 +15,8 @@ SLACK = 1.05
 
 @dataclass
 class Row:
-    """What a way costs. `of` is how many times that of the way that it is held against, and `most` how many it may be."""
+    """What a way costs. `of` is how many times that of the way that it is held against, `most` how many it may be, and `known` how many it is known
+    to be where that is more."""
 
     title: str
     counted: Optional[int] = None    # instructions for a payload, where they can be counted
@@ -20,17 +24,56 @@ class Row:
     of: Optional[float] = None
     most: Optional[float] = None
     said: str = ''                   # what else was found, or why nothing was
+    known: float = 0.0
+    cells: tuple = ()                # what stands in the place of instructions and seconds
 
     def __str__(self):
-        words = ['' if self.counted is None else f'{self.counted:,}', '' if self.seconds is None else f'{self.seconds:.3f}',
-                 '' if self.of is None else f'{self.of:.2f}' + ('' if self.most is None else f' of {self.most:.2f}')]
-        return f'| {self.title} | {" | ".join(words)} |  {self.said}'.rstrip()
+        cells = self.cells or (shown(self.counted), '' if self.seconds is None else f'{self.seconds:.3f}')
+        return f'| {self.title} | {" | ".join(cells)} | {self.times()} |  {self.said}'.rstrip()
 
-    def missed(self):
-        return self.of is not None and self.most is not None and self.of > self.most * SLACK
+    def times(self):
+        if self.of is None or self.most is None:
+            return '' if self.of is None else f'{self.of:.2f}'
+        return f'{self.of:.2f} of {self.most:.2f}' + (f', known to be {self.known:.2f}' if self.known and self.of > self.most else '')
 
 
-HEADING = '| Way | Instructions | Seconds | Times, of at most |\n|---|---|---|---|'
+class Bars:
+    """Prints rows as they are measured. How many are within their bars, which are past them, and how many numbers couldn't be had."""
+
+    def __init__(self):
+        self.within, self.past, self.skipped = 0, [], 0
+
+    @staticmethod
+    def heading(*words):
+        print(f'| {" | ".join(words)} |\n|{"---|" * len(words)}', flush=True)
+
+    def row(self, row):
+        """Prints a row, and judges it."""
+        print(row, flush=True)
+        if row.most is not None and row.of is None:
+            self.skipped += 1
+        elif row.most is not None:
+            most = max(row.most, row.known)
+            self.counts(row.of <= most * SLACK, f'{row.title}: {row.of:.2f}, where at most {most:.2f} was expected')
+
+    def counts(self, good, what):
+        self.within += good
+        if not good:
+            self.past.append(what)
+
+    def end(self):
+        """Prints which are past their bars, and the counts; the status."""
+        for each in self.past:
+            print('failed: ' + each)
+        print(f'{self.within} passed, {len(self.past)} failed, {self.skipped} skipped')
+        return 1 if self.past else 0
+
+
+HEADING = ('Way', 'Instructions', 'Seconds', 'Times, of at most')
+
+
+def shown(number):
+    return '' if number is None else f'{number:,}'
 
 
 def ratio(row, bar):
@@ -40,22 +83,49 @@ def ratio(row, bar):
     return row.seconds / bar.seconds if row.seconds and bar.seconds else None
 
 
-def printed(command, path):
-    """The words that a command prints, given a file."""
+def run(command, path, **streams):
+    """A command, given a file."""
     with open(path, 'rb') as given:
-        return subprocess.run(command, stdin=given, stdout=subprocess.PIPE, check=True, text=True).stdout.split()
+        return subprocess.run(command, stdin=given, check=True, **{'stdout': subprocess.DEVNULL, **streams})
+
+
+def printed(command, path):
+    """The bytes that a command prints, given a file."""
+    return run(command, path, stdout=subprocess.PIPE).stdout
+
+
+def instructions(command, path):
+    """How many instructions the command takes over an input, or None without valgrind."""
+    if not shutil.which('valgrind'):
+        return None
+    count = ['valgrind', '--tool=cachegrind', '--cache-sim=no', '--cachegrind-out-file=/dev/null']
+    done = run(count + command, path, stderr=subprocess.PIPE)
+    return int(re.search(rb'I +refs: +([\d,]+)', done.stderr).group(1).replace(b',', b''))
+
+
+def peak(command, path):
+    """The most kB that were resident, by GNU time, whose own two MB are the least that it shows, or None without it."""
+    if not os.path.exists('/usr/bin/time'):
+        return None
+    return int(run(['/usr/bin/time', '-f', '%M'] + command, path, stderr=subprocess.PIPE).stderr.split()[-1])
+
+
+def wall_seconds(command, path):
+    """The wall seconds of one run."""
+    start = time.perf_counter()
+    run(command, path)
+    return time.perf_counter() - start
 
 
 def call_seconds(command, path):
     """The processor time that a command says its calls took."""
-    return int(printed(command, path)[-1]) / 1e9
+    return int(printed(command, path).split()[-1]) / 1e9
 
 
 def processor_seconds(command, path):
     """The processor time of a command."""
     before = resource.getrusage(resource.RUSAGE_CHILDREN)
-    with open(path, 'rb') as capture:
-        subprocess.run(command, stdin=capture, stdout=subprocess.DEVNULL, check=True)
+    run(command, path)
     after = resource.getrusage(resource.RUSAGE_CHILDREN)
     return after.ru_utime + after.ru_stime - before.ru_utime - before.ru_stime
 

@@ -84,14 +84,15 @@ compile() {
 # refusing NAME=VALUE.. COMMAND: runs a command over tests/lib/refuse_memory.c.
 refusing() { ended env LD_PRELOAD="$room/refuse_memory.so" "$@"; }
 
-# counted COMMAND..: the cases of a command whose last line is 'N passed, M failed'.
+# counted COMMAND..: the cases of a command whose last line is 'N passed, M failed', perhaps with ', K skipped'.
 counted() {
-    local counts='^([0-9]{1,9}) passed, ([0-9]{1,9}) failed$'
+    local counts='^([0-9]{1,9}) passed, ([0-9]{1,9}) failed(, ([0-9]{1,9}) skipped)?$'
     "$@" >"$room/counted"
     if [[ $(tail -n 1 "$room/counted") =~ $counts ]]; then
         passed=$((passed + BASH_REMATCH[1]))
         failed=$((failed + BASH_REMATCH[2]))
-        grep '^failed: ' "$room/counted"
+        skipped=$((skipped + ${BASH_REMATCH[4]:-0}))
+        grep -E '^(failed|skipped): ' "$room/counted"
     else
         count 1 "$1 has no last line"
     fi
@@ -120,42 +121,13 @@ except SystemExit as end:
     print(end.code, resource.getrusage(resource.RUSAGE_SELF).ru_maxrss, file=sys.stderr)' "$here/../tools/$1" "${@:2}" 2>&1 >"$room/output" | tail -n 1
 }
 
-# each_sample COMMAND WORD..: for each `$ COMMAND` among the lines of standard input, with further ones behind `& `, runs a command with
-# these words, the lines that follow, and the commands.
-each_sample() {
-    local line told='' commands=()
-    while IFS= read -r line; do
-        case $line in
-        '$ '*)
-            [ ${#commands[@]} -eq 0 ] || "$@" "$told" "${commands[@]}"
-            commands=("${line#'$ '}") told=''
-            ;;
-        '& '*) commands+=("${line#'& '}") ;;
-        *) told+=$line$'\n' ;;
-        esac
-    done
-    [ ${#commands[@]} -eq 0 ] || "$@" "$told" "${commands[@]}"
-}
-
 # page FILE: the console samples of a page, where each command prints the lines after it. They run in a folder of their
 # own, which has the folder examples too, or what EXAMPLES names, with the commands of $room/bin.
 page() {
     mkdir "$room/page"
     ln -s "$(realpath "${EXAMPLES:-$here/../examples}")" "$room/page/examples"
-    each_sample page_sample "$1" < <(awk '/^```$/ { shown = 0 } shown; /^```console$/ { shown = 1 }' "$here/../$1")
+    PATH=$room/bin:$PATH counted_by lib/samples.py "$room/page" "$here/../$1"
     rm -r "$room/page"
-}
-
-# page_sample FILE WANTED COMMAND: one of them. It is left out where it reads a pcap and tshark isn't installed.
-page_sample() {
-    if [[ $3 == *nbt-pcap2cap* || $3 == *nbt-look* ]] && ! command -v tshark >/dev/null; then
-        skipped=$((skipped + 1))
-        echo "skipped: $1: $3 (tshark isn't installed)"
-        return
-    fi
-    (cd "$room/page" && PATH=$room/bin:$PATH ended bash -c "$3" </dev/null) >"$room/output" 2>&1
-    printf '%s' "$2" | diff - "$room/output"
-    count $? "$1: $3"
 }
 
 # The last line of a script, and its status.

@@ -23,10 +23,15 @@ def least():
     return {part: int(count) for _, part, count in rows}
 
 
+def leave_out(count, what, why):
+    """Counts cases that are left out, and says which."""
+    counts['skipped'] += count
+    print(f'skipped: {what} ({why})', flush=True)
+
+
 def skip(part, why):
     """Leaves out the cases of a part."""
-    counts['skipped'] += least()[part]
-    print(f'skipped: {part}, {least()[part]} cases ({why})', flush=True)
+    leave_out(least()[part], f'{part}, {least()[part]} cases', why)
 
 
 def enough(count, wanted, name):

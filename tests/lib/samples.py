@@ -2,24 +2,32 @@
 """Cases in a file of samples.  Usage: tests/lib/samples.py FOLDER FILE [PART [NAME=VALUE..]]
 
 After `$ COMMAND`, and further ones behind `& ` that say the same, stand the lines of its standard output, those of its standard error behind `! `,
-and a status that isn't 0 before the last of these, as in `1! nbt: read`, or by itself, as in `? 1`. Of a command behind `% ` each line
-`* WORDS => TOLD` below it is a case: the words stand for {} in it; without => nothing is told. A line of what is told that begins with ~ is a
-pattern as the shell's. {NAME} stands for VALUE. Lines that begin with # say nothing, and neither do blank ones at the end of a sample.
-A part begins with `== PART`. Commands run in FOLDER; of several in a pipe the first that fails has the status.
-The last line is 'N passed, M failed'.
+and a status that isn't 0 before the last of these, as in `1! nbt: read`, or by itself, as in `? 1`; `...` stands for all lines of standard error.
+Of a command behind `% ` that has {} each line `* WORDS => TOLD` below it is a case: the words stand for {}; without => nothing is told. What else
+stands behind `% ` is no case here: a model holds it (tests/program/beside_model.py). A line of what is told that begins with ~ is a pattern as
+the shell's. {NAME} stands for VALUE, or for what limits.py has. Lines that begin with # say nothing, and neither do blank ones at the end of a
+sample. A part begins with `== PART`. Commands run in FOLDER; of several in a pipe the first that fails has the status.
+
+Of a page, FILE.md, each block that begins with ```console is a part of `$ COMMAND`s, with the lines that a terminal shows. Without tshark those of
+its samples that need it are left out. The last line is 'N passed, M failed, K skipped'.
 """
 import fnmatch
+import os
 import re
+import shutil
 import subprocess
 import sys
 
-from tally import tally
+from limits import NAMED
+from parts import check, finish, leave_out
 
 PATIENCE = 600
+CONSOLE = re.compile(r'^```console\n(.*?)^```$', re.MULTILINE | re.DOTALL)
+OF_PCAPS = re.compile('nbt-pcap2cap|nbt-look')
 
 
 def parts_of(lines):
-    """Of each part, and of '' above the first, the samples: a command, and the lines that are told."""
+    """Of each part, and of '' above the first, the samples: a command, and the lines that are told; None where a model alone holds it."""
     part, told, pattern, parts = '', [], '', {'': []}
     for line in lines:
         begin, rest = line[:2], line[2:]
@@ -31,6 +39,7 @@ def parts_of(lines):
             parts[part].append((rest, told))
         elif begin == '% ':
             pattern = rest
+            parts[part] += [] if '{}' in pattern else [(pattern, None)]
         elif begin == '* ':
             words, _, answer = rest.partition(' => ')
             parts[part].append((pattern.replace('{}', words), [answer] if answer else []))
@@ -39,12 +48,24 @@ def parts_of(lines):
     return parts
 
 
-def run(folder, command):
-    """What a command tells: the lines that it writes, and how it ends."""
-    done = subprocess.run(['bash', '-o', 'pipefail', '-c', command], cwd=folder, stdin=subprocess.DEVNULL, capture_output=True, timeout=PATIENCE, check=False)
+def parts_in(path, **words):
+    """The parts of a file, with these words spelled out."""
+    spelled = NAMED | words
+    with open(path, encoding='utf-8') as file:
+        return parts_of(re.sub(r'\{([A-Z_]+)\}', lambda it: str(spelled.get(it[1], it[0])), file.read()).split('\n'))
+
+
+def bash(folder, command, errors=subprocess.PIPE):
+    return subprocess.run(['bash', '-o', 'pipefail', '-c', command], cwd=folder, stdin=subprocess.DEVNULL, stdout=subprocess.PIPE, stderr=errors,
+                          timeout=PATIENCE, check=False)
+
+
+def run(folder, command, is_brief):
+    """What a command tells: the lines that it writes, those of its errors as `...` in brief, and how it ends."""
+    done = bash(folder, command)
     output, errors = (each.decode(errors='backslashreplace').split('\n') for each in (done.stdout, done.stderr))
     ends = [f'{each}\\' for each in (output.pop(), errors.pop()) if each]       # a last line without an end
-    errors = [f'! {each}' for each in errors]
+    errors = [f'! {each}' for each in (errors[:1] and ['...'] if is_brief else errors)]
     if done.returncode:
         errors[-1:] = [f'{done.returncode}{errors[-1]}'] if errors else [f'? {done.returncode}']
     return output + errors + ends
@@ -63,7 +84,7 @@ def difference(folder, command, told):
     while told and not told[-1]:
         told.pop()
     try:
-        lines = run(folder, command)
+        lines = run(folder, command, any(it.endswith('! ...') for it in told))
     except subprocess.TimeoutExpired:
         return f"it doesn't end within {PATIENCE} s"
     if len(lines) == len(told) and all(map(is_like, lines, told)):
@@ -72,12 +93,32 @@ def difference(folder, command, told):
     return f'{lines[at:at + 3]}, not {told[at:at + 3]}'
 
 
+def on_page(folder, path):
+    """The cases of a page: what a terminal shows of each command, and what it shows otherwise."""
+    name = os.path.basename(path)
+    with open(path, encoding='utf-8') as page:
+        blocks = CONSOLE.findall(page.read())
+    for sample in re.split('^[$] ', ''.join(blocks), flags=re.MULTILINE)[1:]:
+        command, _, told = sample.partition('\n')
+        if OF_PCAPS.search(command) and not shutil.which('tshark'):
+            leave_out(1, f'{name}: {command}', "tshark isn't installed")
+            continue
+        shown = bash(folder, command, subprocess.STDOUT).stdout.decode(errors='backslashreplace')
+        yield f'{name}: {command}', shown != told and f'{shown!r}, not {told!r}'
+
+
+def cases(folder, path, part='', *words):
+    """Each case of a part, and what is told otherwise than it stands there."""
+    for command, told in parts_in(path, **dict(each.split('=', 1) for each in words))[part]:
+        if told is not None:
+            yield command, difference(folder, command, told)
+
+
 def main():
-    folder, path, part, *words = [*sys.argv[1:], ''] if len(sys.argv) == 3 else sys.argv[1:]
-    spelled = dict(each.split('=', 1) for each in words)
-    with open(path, encoding='utf-8') as file:
-        text = re.sub(r'\{([A-Z_]+)\}', lambda it: spelled.get(it[1], it[0]), file.read())
-    return tally((command, difference(folder, command, told)) for command, told in parts_of(text.split('\n'))[part])
+    of = on_page if sys.argv[2].endswith('.md') else cases
+    for what, wrong in of(*sys.argv[1:]):
+        check(not wrong, f'{what}: {wrong}')
+    return finish()
 
 
 if __name__ == '__main__':

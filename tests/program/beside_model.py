@@ -1,8 +1,8 @@
 #!/usr/bin/env python3
 """What the program prints of captures and saved tables, with `--json` and without, beside a model that reads payloads and tables.
 
-Usage: tests/program/beside_model.py [--seed N] [--payloads N] [--files FILE.. --] [PROGRAM]; its last line is 'N passed, M failed', the one before
-says what was compared. A case is a command with an input: those of tests/cases, also for the commands that read alike, the payloads of the
+Usage: tests/program/beside_model.py [--seed N] [--payloads N] [--files FILE.. --] [PROGRAM]; its last line is 'N passed, M failed, K skipped', the one
+before says what was compared. A case is a command with an input: those of tests/cases, also for the commands that read alike, the payloads of the
 examples of crates/nb_examples, the captures of examples/, the examples cut at each length, and captures and saved tables made by chance, until so
 many payloads (10,000) were shown. It prints what the model has, byte for byte, and ends as that says, with `--json` too, where the command takes
 it. A case is also each kind of front and each phrase of docs/FORMATS.md: there were some; and the two longest phrases are as long as that page has
@@ -20,17 +20,17 @@ import tempfile
 
 sys.path[1:1] = [f'{sys.path[0]}/../{it}' for it in ('.', 'captures', 'lib')]
 from fuzz_inputs import ROOT, capture_lines, example_bytes
-from limits import NAMED
 from model.objects import SECTIONS
 from object_inputs import OPTIONS, Inputs, ServicePacket
+from parts import check, finish
 from payloads import longest_phrases
 from printed import Unknown, wanted
+from samples import parts_in
 from seeds import first_unlike
 
 TESTS = os.path.join(ROOT, 'tests')
 SECONDS, LONGEST_PRINTED = 600, 1_000
-COMMAND = re.compile(r'[$&%] (?=.*\bnbt\b).*\b(?:name|show|replay|save|merge|list|agree)\b')
-SPELLINGS = re.compile(r'^(\w+)=([0-9a-z$]+)$', re.MULTILINE)
+COMMAND = re.compile(r'(?=.*\bnbt\b).*\b(?:name|show|replay|save|merge|list|agree)\b')
 STATION = ['FRED<20>', 'JOE<00>', 'ANN<03>.A']
 LONGEST_PAYLOAD, LONGEST_EXAMPLE, IN_CAPTURE, FRONTS = 2_000, 400, 500, 10_000
 TABLES = 3
@@ -63,19 +63,11 @@ LONGEST_OF_19, LONGEST = 205, 1_633
 
 
 class Cases:
-    """Holds runs against the model, counts them, and remembers fronts and phrases."""
+    """Holds runs against the model, and remembers fronts and phrases."""
 
     def __init__(self, program, rng):
         self.program, self.rng = os.path.abspath(program), rng
-        self.passed = self.failed = 0
         self.compared, self.said = collections.Counter(), []
-
-    def count(self, why):
-        """One case more, which went well if nothing is wrong."""
-        self.passed += not why
-        self.failed += bool(why)
-        if why:
-            print(f'failed: {why[:LONGEST_PRINTED]}', flush=True)
 
     def check(self, words, given):
         """A command with an input, and with `--json` where it takes that. Where the model knows no such command, clap answers."""
@@ -88,7 +80,7 @@ class Cases:
                 why = unlike(made, model, bool(form))
             except Unknown:
                 why = '' if made.returncode == 2 or made.returncode == 0 and b'--help' in made.stdout else f'clap ends with {made.returncode}'
-            self.count(why and f'nbt {shlex.join([command, *form, *rest])}: {why}, input {given[:300]!r}')
+            well(why and f'nbt {shlex.join([command, *form, *rest])}: {why}, input {given[:300]!r}')
         if 'model' in found and command == 'show':
             self.remember(rest, found['model'].objects)
 
@@ -101,8 +93,12 @@ class Cases:
     def end(self):
         """Prints what was compared, and the last line; the status."""
         print('compared: ' + ', '.join(f'{self.compared[it]} {it}' for it in sorted(self.compared)))
-        print(f'{self.passed} passed, {self.failed} failed')
-        return 1 if self.failed else 0
+        return finish()
+
+
+def well(why):
+    """One case more, which went well if nothing is wrong."""
+    check(not why, why[:LONGEST_PRINTED])
 
 
 def unlike(made, model, is_json):
@@ -125,16 +121,12 @@ def kind_of(front):
     return '138 with both' if 'destination' in front else '138 with source' if 'source' in front else '138 without names'
 
 
-def spelled_cases(files):
-    """The commands of files of tests/cases that the model knows, with their spellings, and whether the model alone holds them."""
-    with open(os.path.join(TESTS, 'program.sh'), encoding='utf-8') as script:
-        spellings = dict(SPELLINGS.findall(script.read()))
-    spellings['empty'] = spellings['empty'].replace('$joe', spellings['joe']).replace('$fred', spellings['fred'])
-    spellings |= {name.lower(): str(limit) for name, limit in NAMED.items()}
+def known_commands(files):
+    """The commands of files of tests/cases that the model knows, and whether the model alone holds them."""
     for name in sorted(map(os.path.basename, files or os.listdir(os.path.join(TESTS, 'cases')))):
-        with open(os.path.join(TESTS, 'cases', name), encoding='utf-8') as cases:
-            for line in filter(COMMAND.match, cases):
-                yield re.sub(r'\{([A-Z_]+)\}', lambda it: spellings[it[1].lower()], line[2:].rstrip('\n')), line.startswith('% ')
+        for command, told in parts_in(os.path.join(TESTS, 'cases', name))['']:
+            if COMMAND.match(command):
+                yield command, told is None
 
 
 def recorded(cases, chosen):
@@ -148,12 +140,12 @@ def recorded(cases, chosen):
                 written.write(text)
             os.chmod(written.name, 0o755)
         env = {**os.environ, 'PATH': f'{tools}:{os.environ["PATH"]}', 'NBT_RECORDS': records, 'NBT_PROGRAM': cases.program}
-        for command, is_alone in spelled_cases(chosen):
+        for command, is_alone in known_commands(chosen):
             before = len(os.listdir(records))
             subprocess.run(['bash', '-c', command], cwd=files, env=env, stdin=subprocess.DEVNULL, stdout=subprocess.DEVNULL,
                            stderr=subprocess.DEVNULL, timeout=120, check=False)
             if is_alone:
-                cases.count('' if len(os.listdir(records)) > before else f'the model holds nothing of: {command}')
+                well('' if len(os.listdir(records)) > before else f'the model holds nothing of: {command}')
         for record in sorted(os.listdir(records)):
             with open(os.path.join(records, record, 'words'), encoding='utf-8', errors='surrogateescape') as words, \
                     open(os.path.join(records, record, 'input'), 'rb') as given:
@@ -228,12 +220,12 @@ def phrases(cases):
         part = page.read().partition('### Phrases\n')[2].partition('\n### ')[0]
     for payload, length in zip(longest_phrases(), (LONGEST_OF_19, LONGEST)):
         cases.check(['show', '--brief'], capture_of([(137, payload)]))
-        cases.count('' if len(cases.said[-1]) == length else f'{len(cases.said[-1])} bytes, not {length}: {cases.said[-1]}')
+        well('' if len(cases.said[-1]) == length else f'{len(cases.said[-1])} bytes, not {length}: {cases.said[-1]}')
     longest = max(map(len, cases.said))
-    cases.count(f'a phrase of {longest} bytes' if longest > LONGEST else '')
+    well(f'a phrase of {longest} bytes' if longest > LONGEST else '')
     for phrase in PHRASES.findall(part):
         pattern = re.compile(BY.sub(lambda it: '.*' if it[0].isalpha() else re.escape(it[0]), phrase))
-        cases.count('' if any(map(pattern.fullmatch, cases.said)) else f'nothing is said as {phrase}')
+        well('' if any(map(pattern.fullmatch, cases.said)) else f'nothing is said as {phrase}')
 
 
 def main():
@@ -258,7 +250,7 @@ def main():
     made_by_chance(cases, Inputs(cases.rng, [it for it in payloads if len(it) <= LONGEST_PAYLOAD], list(capture_lines())), given.payloads)
     phrases(cases)
     for kind in KINDS:
-        cases.count('' if cases.compared[kind] else f'{kind}: there was none')
+        well('' if cases.compared[kind] else f'{kind}: there was none')
     return cases.end()
 
 

@@ -1,14 +1,13 @@
 """Packets, captures and commands for tests/process.py, and inputs that want a known room."""
-from limits import MANY, MOST_KEYS
+from limits import MANY, MOST_KEYS, NAMED
+from wire import datagram
 
-JOE = '20454b45504546434143414341434143414341434143414341434143414341414100'
-FRED = '20454746434546454543414341434143414341434143414341434143414341434100'
+FRED = NAMED['FRED']
 
 
 def packet(identifier, flags=2, offset=0, data=''):
     """A group datagram's packet from JOE<00> to FRED<20>, as digits."""
-    length = (len(JOE) + len(FRED) + len(data)) // 2
-    return f'11{flags:02x}{identifier:04x}0a000005008a{length:04x}{offset:04x}{JOE}{FRED}{data}'
+    return datagram(identifier, bytes.fromhex(data), flags=flags, offset=offset).hex()
 
 
 # Each command: its words, an input, its status, its output and its errors.

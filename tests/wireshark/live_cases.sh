@@ -1,11 +1,4 @@
-# Read by tests/wireshark.sh: tools/pcap2cap and cap2pcap where a signal ends them, and packets of the loopback interface.
-
-# interrupted SECONDS TOOL: what a tool that waits for its input, or still begins, says to Ctrl-C.
-interrupted() {
-    "$here/lib/interrupted.py" "$1" /dev/null "$room/output" "$here/../tools/$2" ${3:-} 2>"$room/errors"
-    [ $? -eq 130 ] && [ "$(cat "$room/errors")" = "$2: interrupted" ]
-    count $? "$2 ${3:-}, Ctrl-C after $1 s: $(cat "$room/errors")"
-}
+# Read by tests/wireshark.sh: packets of the loopback interface.
 
 # live_once TIMES: a packet, a pause, another one, and Ctrl-C; what tshark has to begin and to end is so many times as long.
 live_once() {
@@ -66,14 +59,7 @@ sends() { python3 -c 'import socket, sys
 socket.socket(socket.AF_INET, socket.SOCK_DGRAM).sendto(sys.argv[1].encode(), ("127.0.0.1", int(sys.argv[2])))' "$@"; }
 
 waits() {
-    local seconds
-    for seconds in 0.05 0.1 2; do
-        interrupted $seconds pcap2cap -
-        interrupted $seconds cap2pcap
-    done
-    "$here/lib/interrupted.py" '# frame 16' "$here/../examples/office.pcap" "$room/output" "$here/../tools/pcap2cap" - 2>"$room/errors"
-    [ $? -eq 130 ] && [ "$(cat "$room/errors")" = 'pcap2cap: interrupted after frame 16' ]
-    count $? "pcap2cap -, Ctrl-C says how far it came: $(cat "$room/errors")"
+    cases waits
     if ended tshark -i lo -a duration:0 >"$room/output" 2>&1; then
         live
         heard
@@ -81,24 +67,6 @@ waits() {
         skipped=$((skipped + 4))
         echo 'skipped: pcap2cap -i lo, 4 cases (tshark may not listen to lo here)'
     fi
-}
-
-# ended_early SIGNAL TRAP: a network's capture that a signal ends while tshark, here a stand-in, only begins.
-ended_early() {
-    mkdir -p "$room/early"
-    printf '%s\n' '#!/bin/bash' "trap '$2' TERM" 'sleep 1' "kill -$1 \$PPID" 'while :; do sleep 0.1; done' >"$room/early/tshark"
-    chmod +x "$room/early/tshark"
-    PATH=$room/early:$PATH timeout -k 1 15 "$here/../tools/pcap2cap" -i lo >"$room/output" 2>"$room/errors"
-    [ $? -eq 0 ] && [ "$(cat "$room/errors")" = '0 frames, 0 of these ports, 0 left out' ]
-    count $? "pcap2cap -i lo, $1 while tshark begins, which does '$2' then: $(cat "$room/errors")"
-}
-
-early() {
-    local each
-    for each in INT TERM; do
-        ended_early $each -
-        ended_early $each 'trap - TERM'
-    done
 }
 
 # heard_once TIMES: frames with tags, PPPoE and extension headers, by the capture filter of -i.

@@ -1,5 +1,5 @@
 -- Each event says one thing.
-use Rattle.std.proofs.Common.{◌≡◌, ◌==◌, ◌<◌, ℕ, List, [], ◌∷◌, refl, sym, ap, ◌∙◌, arith, ◌≢◌, ◌⊎◌, Bool, true, false, inl, inr}
+use Rattle.std.proofs.Common.{◌≡◌, ◌==◌, ◌<◌, ℕ, List, [], ◌∷◌, refl, sym, ap, subst, ◌∙◌, arith, ◌≢◌, ◌⊎◌, Bool, true, false, inl, inr}
 use Rattle.nb_datagram.specs.declared.fault.DatagramFault.{DatagramFault}
 use Rattle.nb_datagram.specs.declared.packet.ErrorPacket.{ErrorPacket}
 use Rattle.nb_datagram.specs.declared.packet.Packet.TheVariants.{Direct, Error, Query}
@@ -58,16 +58,20 @@ one_invalid longest f x (FullSource k) i j = absurd j
 one_invalid longest f x (Full k) i j = absurd j
 one_invalid longest f x NoMemory i j = absurd j
 
--- SaysOf settings payload moment s: what a payload says, by what it begins with
+-- SaysPacket settings moment packet s: what a payload says that begins with this packet
+abbrev pub SaysPacket : Settings → ℕ → AnyPacket → Saying → Type 0
+SaysPacket settings moment (Direct f) s =
+    (Passes (limits_of settings) f × (s ≡ came moment f))
+    ⊎ ((x : TableFault) × IsInvalid settings.longest f x × (s ≡ refused (fault.Table x)))
+SaysPacket settings moment (Error e) s = s ≡ another
+SaysPacket settings moment (Query q) s = s ≡ another
+
+-- SaysOf settings moment payload s: what a payload says, by what it begins with
 pub data SaysOf (settings : Settings) (moment : ℕ) (payload : List ℕ) (s : Saying) : Type 0 where
-  of_fragment : (used : ℕ) (f : FragmentParts) → IsPacket payload (Direct f) used → Passes (limits_of settings) f
-      → s ≡ came moment f → SaysOf settings moment payload s
-  of_invalid : (used : ℕ) (f : FragmentParts) (x : TableFault) → IsPacket payload (Direct f) used
-      → IsInvalid settings.longest f x → s ≡ refused (fault.Table x) → SaysOf settings moment payload s
+  of_packet : (used : ℕ) (packet : AnyPacket) → IsPacket payload packet used → SaysPacket settings moment packet s
+      → SaysOf settings moment payload s
   of_fault : (x : DatagramFault) → PacketFails payload x → s ≡ refused (fault.Packet x (refusal settings payload x))
       → SaysOf settings moment payload s
-  of_error : (used : ℕ) (e : ErrorPacket) → IsPacket payload (Error e) used → s ≡ another → SaysOf settings moment payload s
-  of_query : (used : ℕ) (q : QueryPacket) → IsPacket payload (Query q) used → s ≡ another → SaysOf settings moment payload s
 
 -- what an event's saying is, by the event
 abbrev SaysBy : Settings → Event → Saying → Type 0
@@ -75,63 +79,35 @@ SaysBy settings (Packet moment payload) s = SaysOf settings moment payload s
 SaysBy settings (Tick now) s = s ≡ clock now
 
 pub says_by : (settings : Settings) (event : Event) (s : Saying) → Says settings event s → SaysBy settings event s
-says_by settings _ _ (fragment moment used payload f p v) = of_fragment used f p v refl
-says_by settings _ _ (misplaced moment used payload f p m) = of_invalid used f MisplacedFirst p m refl
-says_by settings _ _ (too_long moment used payload f p placed past) = of_invalid used f TooLong p (placed, past) refl
+says_by settings _ _ (fragment moment used payload f p v) = of_packet used (Direct f) p (inl (v, refl))
+says_by settings _ _ (misplaced moment used payload f p m) = of_packet used (Direct f) p (inr (MisplacedFirst, m, refl))
+says_by settings _ _ (too_long moment used payload f p placed past) = of_packet used (Direct f) p (inr (TooLong, (placed, past), refl))
 says_by settings _ _ (no_packet moment payload x p) = of_fault x p refl
-says_by settings _ _ (error moment used payload e p) = of_error used e p refl
-says_by settings _ _ (query moment used payload q p) = of_query used q p refl
+says_by settings _ _ (error moment used payload e p) = of_packet used (Error e) p refl
+says_by settings _ _ (query moment used payload q p) = of_packet used (Query q) p refl
 says_by settings _ _ (tick now) = refl
 
--- a payload says one thing
+-- a packet says one thing
+one_of_packet : (settings : Settings) (moment : ℕ) (packet : AnyPacket) (s t : Saying)
+    → SaysPacket settings moment packet s → SaysPacket settings moment packet t → s ≡ t
+one_of_packet settings moment (Direct f) s t (inl h) (inl k) = h.1 ∙ sym k.1
+one_of_packet settings moment (Direct f) s t (inl h) (inr k) = absurd (invalid_not (limits_of settings) f k.0 k.1 h.0)
+one_of_packet settings moment (Direct f) s t (inr h) (inl k) = absurd (invalid_not (limits_of settings) f h.0 h.1 k.0)
+one_of_packet settings moment (Direct f) s t (inr h) (inr k) =
+    h.2 ∙ (ap (λ (x : TableFault). refused (fault.Table x)) (one_invalid settings.longest f h.0 k.0 h.1 k.1) ∙ sym k.2)
+one_of_packet settings moment (Error e) s t h k = h ∙ sym k
+one_of_packet settings moment (Query q) s t h k = h ∙ sym k
+
+-- and so does a payload
 one_of : PacketsKnown → (settings : Settings) (moment : ℕ) (payload : List ℕ) (s t : Saying)
     → SaysOf settings moment payload s → SaysOf settings moment payload t → s ≡ t
-one_of known settings moment payload s t (of_fragment u f p v a) (of_fragment w g q x b) =
-    let same = (known.one payload (Direct f) (Direct g) u w p q).0 in
-    let parts : f ≡ g = cc in
-    a ∙ (ap (came moment) parts ∙ sym b)
-one_of known settings moment payload s t (of_fragment u f p v a) (of_invalid w g j q x b) =
-    let same = (known.one payload (Direct f) (Direct g) u w p q).0 in
-    let parts : f ≡ g = cc in
-    absurd (invalid_not (limits_of settings) g j x (rw parts at v))
-one_of known settings moment payload s t (of_fragment u f p v a) (of_fault y q b) = absurd (known.alone payload y (Direct f) u q p)
-one_of known settings moment payload s t (of_fragment u f p v a) (of_error w e q b) =
-    let same = (known.one payload (Direct f) (Error e) u w p q).0 in absurd (cc)
-one_of known settings moment payload s t (of_fragment u f p v a) (of_query w e q b) =
-    let same = (known.one payload (Direct f) (Query e) u w p q).0 in absurd (cc)
-one_of known settings moment payload s t (of_invalid u f i p v a) (of_fragment w g q x b) =
-    let same = (known.one payload (Direct f) (Direct g) u w p q).0 in
-    let parts : g ≡ f = cc in
-    absurd (invalid_not (limits_of settings) f i v (rw parts at x))
-one_of known settings moment payload s t (of_invalid u f i p v a) (of_invalid w g j q x b) =
-    let same = (known.one payload (Direct f) (Direct g) u w p q).0 in
-    let parts : f ≡ g = cc in
-    a ∙ (ap (λ (r : TableFault). refused (fault.Table r)) (one_invalid settings.longest g i j (rw parts at v) x) ∙ sym b)
-one_of known settings moment payload s t (of_invalid u f i p v a) (of_fault y q b) = absurd (known.alone payload y (Direct f) u q p)
-one_of known settings moment payload s t (of_invalid u f i p v a) (of_error w e q b) =
-    let same = (known.one payload (Direct f) (Error e) u w p q).0 in absurd (cc)
-one_of known settings moment payload s t (of_invalid u f i p v a) (of_query w e q b) =
-    let same = (known.one payload (Direct f) (Query e) u w p q).0 in absurd (cc)
-one_of known settings moment payload s t (of_fault y p a) (of_fragment w g q x b) = absurd (known.alone payload y (Direct g) w p q)
-one_of known settings moment payload s t (of_fault y p a) (of_invalid w g j q x b) = absurd (known.alone payload y (Direct g) w p q)
+one_of known settings moment payload s t (of_packet u a p h) (of_packet w b q k) =
+    one_of_packet settings moment a s t h
+    (subst (λ (packet : AnyPacket). SaysPacket settings moment packet t) (sym (known.one payload a b u w p q).0) k)
+one_of known settings moment payload s t (of_packet u a p h) (of_fault y q b) = absurd (known.alone payload y a u q p)
+one_of known settings moment payload s t (of_fault y p a) (of_packet w b q k) = absurd (known.alone payload y b w p q)
 one_of known settings moment payload s t (of_fault y p a) (of_fault other q b) =
     a ∙ (ap (λ (r : DatagramFault). refused (fault.Packet r (refusal settings payload r))) (known.one_fault payload y other p q) ∙ sym b)
-one_of known settings moment payload s t (of_fault y p a) (of_error w e q b) = absurd (known.alone payload y (Error e) w p q)
-one_of known settings moment payload s t (of_fault y p a) (of_query w e q b) = absurd (known.alone payload y (Query e) w p q)
-one_of known settings moment payload s t (of_error u e p a) (of_fragment w g q x b) =
-    let same = (known.one payload (Error e) (Direct g) u w p q).0 in absurd (cc)
-one_of known settings moment payload s t (of_error u e p a) (of_invalid w g j q x b) =
-    let same = (known.one payload (Error e) (Direct g) u w p q).0 in absurd (cc)
-one_of known settings moment payload s t (of_error u e p a) (of_fault y q b) = absurd (known.alone payload y (Error e) u q p)
-one_of known settings moment payload s t (of_error u e p a) (of_error w g q b) = a ∙ sym b
-one_of known settings moment payload s t (of_error u e p a) (of_query w g q b) = a ∙ sym b
-one_of known settings moment payload s t (of_query u e p a) (of_fragment w g q x b) =
-    let same = (known.one payload (Query e) (Direct g) u w p q).0 in absurd (cc)
-one_of known settings moment payload s t (of_query u e p a) (of_invalid w g j q x b) =
-    let same = (known.one payload (Query e) (Direct g) u w p q).0 in absurd (cc)
-one_of known settings moment payload s t (of_query u e p a) (of_fault y q b) = absurd (known.alone payload y (Query e) u q p)
-one_of known settings moment payload s t (of_query u e p a) (of_error w g q b) = a ∙ sym b
-one_of known settings moment payload s t (of_query u e p a) (of_query w g q b) = a ∙ sym b
 
 one_by : PacketsKnown → (settings : Settings) (event : Event) (s t : Saying) → SaysBy settings event s → SaysBy settings event t → s ≡ t
 one_by known settings (Packet moment payload) s t h k = one_of known settings moment payload s t h k
@@ -143,29 +119,26 @@ pub one_saying : PacketsKnown → (settings : Settings) (event : Event) (s t : S
 one_saying known settings event s t h k =
     one_by known settings event s t (says_by settings event s h) (says_by settings event t k)
 
--- lists of events, each of which says one thing
-abbrev SayEach : Settings → List Event → List Saying → Type 0
-SayEach settings [] S = S ≡ []
-SayEach settings (event ∷ events) S =
-    (s : Saying) × (rest : List Saying) × Says settings event s × SayEach settings events rest × (S ≡ s ∷ rest)
+-- what a list says, by its first event
+abbrev pub SayBy : Settings → List Event → List Saying → Type 0
+SayBy settings [] S = S ≡ []
+SayBy settings (event ∷ events) S =
+    (s : Saying) × (rest : List Saying) × Says settings event s × Say settings events rest × (S ≡ s ∷ rest)
 
-say_each : (settings : Settings) (events : List Event) (S : List Saying) → Say settings events S → SayEach settings events S
-say_each settings _ _ none = refl
-say_each settings _ _ (more event s events rest h k) = (s, rest, h, say_each settings events rest k, refl)
+pub say_by : (settings : Settings) (events : List Event) (S : List Saying) → Say settings events S → SayBy settings events S
+say_by settings _ _ none = refl
+say_by settings _ _ (more event s events rest h k) = (s, rest, h, k, refl)
 
-pub one_row : PacketsKnown → (settings : Settings) (events : List Event) (S T : List Saying)
-    → SayEach settings events S → SayEach settings events T → S ≡ T
-one_row known settings [] S T h k = h ∙ sym k
-one_row known settings (event ∷ events) S T h k =
-    let first = one_saying known settings event h.0 k.0 h.2 k.2 in
-    let rest = one_row known settings events h.1 k.1 h.3 k.3 in
-    h.4 ∙ (ap (λ (s : Saying). s ∷ h.1) first ∙ (ap (λ (r : List Saying). k.0 ∷ r) rest ∙ sym k.4))
-
--- and so do many
+-- so events in a row say one thing each
 pub one_sayings : PacketsKnown → (settings : Settings) (events : List Event) (S T : List Saying)
     → Say settings events S → Say settings events T → S ≡ T
-one_sayings known settings events S T h k =
-    one_row known settings events S T (say_each settings events S h) (say_each settings events T k)
+one_sayings known settings [] S T h k = say_by settings [] S h ∙ sym (say_by settings [] T k)
+one_sayings known settings (event ∷ events) S T h k =
+    let a = say_by settings (event ∷ events) S h in
+    let b = say_by settings (event ∷ events) T k in
+    let first = one_saying known settings event a.0 b.0 a.2 b.2 in
+    let rest = one_sayings known settings events a.1 b.1 a.3 b.3 in
+    a.4 ∙ (ap (λ (s : Saying). s ∷ a.1) first ∙ (ap (λ (r : List Saying). b.0 ∷ r) rest ∙ sym b.4))
 
 -- ---- each event says something
 

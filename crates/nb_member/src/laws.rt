@@ -54,6 +54,7 @@ pub fn a_line_has_one_value()
 {}
 
 /// Any bytes are a line that says nothing, one that has a value, or a malformed one.
+#[tactic(auto, using(crate::proofs::CaptureLemmas::LineValues::one_of_three))]
 pub fn a_line_is_one_of_three()
     ensures { (line : List ℕ) →
         SaysNothing line ⊎ (((value : Line) × HasValue line value) ⊎ IsMalformed line) }
@@ -169,6 +170,7 @@ pub fn texts_of_reports()
 {}
 
 /// The text of the fields of a key is its line in a listing.
+#[tactic(auto, using(crate::proofs::FieldLemmas::key_same))]
 pub fn texts_of_listings()
     ensures { (table : Contents) (key : Key) →
         text_of (key_fields table key) ≡ key_line table key }
@@ -191,6 +193,7 @@ pub fn what_came_is_handed_out_or_held()
 {}
 
 /// A new member stands for no event.
+#[tactic(auto, using(crate::proofs::AgreementLemmas::SameTable::new_stands))]
 pub fn a_new_member_stands_for_no_event()
     ensures { (settings : Settings) (names : List NetbiosName) →
         Stands (new_member settings names) [] }

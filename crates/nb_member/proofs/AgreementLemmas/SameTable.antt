@@ -15,6 +15,7 @@ use Rattle.nb_member.specs.declared.run_report.RunReport.{RunReport}
 use Rattle.nb_member.specs.declared.run_report.RunStop.{RunStop}
 use Rattle.nb_member.specs.declared.run_report.RunStop.TheVariants.{Full, FullSource, NoMemory}
 use Rattle.nb_member.specs.declared.settings.Settings.{Settings}
+use Rattle.nb_member.proofs.EventLemmas.{say_by}
 use Rattle.nb_member.proofs.LiveLemmas.{cores-append}
 use Rattle.nb_member.specs.Agreement.{GiveTheSame, AreGivenTheSame, StoppedForMemory, TookAll, Agree}
 use Rattle.nb_member.specs.Deliveries.{deliveries}
@@ -30,16 +31,6 @@ pub record SayingsKnown : Type 0 where
       → Say settings events T → S ≡ T
 
 -- ---- what parts of a list of events say
-
--- what a list says, by its first event
-abbrev SayBy : Settings → List Event → List Saying → Type 0
-SayBy settings [] S = S ≡ []
-SayBy settings (event ∷ events) S =
-    (s : Saying) × (rest : List Saying) × Says settings event s × Say settings events rest × (S ≡ s ∷ rest)
-
-say_by : (settings : Settings) (events : List Event) (S : List Saying) → Say settings events S → SayBy settings events S
-say_by settings _ _ none = refl
-say_by settings _ _ (more event s events rest h k) = (s, rest, h, k, refl)
 
 -- what two lists of events say together, separated
 say_parts : (settings : Settings) (E F : List Event) (S : List Saying) → Say settings (E ++ F) S

@@ -1,5 +1,5 @@
 -- What reading to a line keeps from read to read.
-use Rattle.std.proofs.Common.{◌≡◌, ◌⊎◌, ◌<◌, ◌≤◌, ◌+◌, ◌++◌, ◌∷◌, ℕ, List, [], take, drop, length, Option, Some, None, Ok, Err, refl, sym, ◌∙◌, ap, subst, inl, inr, append_assoc, arith}
+use Rattle.std.proofs.Common.{◌≡◌, ◌⊎◌, ◌<◌, ◌≤◌, ◌+◌, ◌++◌, ◌∷◌, ℕ, List, [], take, drop, length, Option, Some, None, Result, Ok, Err, refl, sym, ◌∙◌, ap, subst, inl, inr, append_assoc, arith}
 use Rattle.std.specs.Prelude.{Contains}
 use Rattle.std.specs.Io.KnownBytes.{Consumes, IsAtEnd}
 use Rattle.std.proofs.lemmas.List.Elements.{Contains-append_left}
@@ -8,11 +8,12 @@ use Rattle.nb_names.specs.Counted.{Counts}
 use Rattle.nb_member.specs.declared.line_reading.First.TheVariants as first
 use Rattle.nb_member.specs.declared.line_read_fault.LineReadFault.{LineReadFault}
 use Rattle.nb_member.specs.declared.line_read_fault.LineReadFault.TheVariants.{Read, TooLong, NoMemory}
+use Rattle.nb_member.specs.declared.line_room.Standing.{Standing}
 use Rattle.nb_member.specs.declared.line_room.Standing.TheVariants as standing
 use Rattle.nb_names.specs.Devices.{GrowTo}
 use Rattle.nb_member.specs.Code.LineSteps.{IsFeedAt}
 use Rattle.nb_member.specs.declared.limits.TheConstants.{MAX_LINE, MAX_READ}
-use Rattle.nb_member.specs.LineReading.{LastRead, ReadsLine, RoomValue, IsOpen, IsTooLong}
+use Rattle.nb_member.specs.LineReading.{Answers, LastRead, ReadsLine, Repeats, RoomValue, IsOpen, IsTooLong}
 use Rattle.nb_member.specs.Code.LineSteps.{HandsFirst, ReadsMore, let_go_of, handed_out, with_standing, with_bytes}
 use Rattle.nb_names.specs.DeviceFacts.{Consumes-nil, Consumes-more, Consumes-kept, grows_on, cut_from}
 
@@ -90,71 +91,74 @@ hands_line bytes old new at same f short is =
 
 -- ---- how a call ends
 
-pub turn_ended : (old new : RoomValue) (known : Option (List ℕ)) (counts : Counts) → new ≡ let_go_of old → standing.Ended ≡ new.standing
-    → new.rest ≡ [] → new.taken ≤ new.most → ReadsLine old known known counts counts (Ok None) new
-turn_ended old new known counts is ended none most =
-    let rest : new.rest ≡ old.rest = ap (λ (r : RoomValue). r.rest) is in
-    let was : old.standing ≡ standing.Ended = sym (ap (λ (r : RoomValue). r.standing) is) ∙ sym ended in record {
+-- what was held still is
+still_held : (old new : RoomValue) → new ≡ let_go_of old → new.rest ≡ old.rest ++ []
+still_held old new is = ap (λ (r : RoomValue). r.rest) is ∙ sym (append-nil old.rest)
+
+-- a room that can't be read further answers the same again
+turn_again : (old new : RoomValue) (known : Option (List ℕ)) (counts : Counts) (stands : Standing) (result : Result (Option (List ℕ)) LineReadFault)
+    → new ≡ let_go_of old → stands ≡ new.standing → new.taken ≤ new.most → Repeats stands result → Answers (old.rest ++ []) new result
+    → (result ≡ Err Read → stands ≡ standing.Unread) → ReadsLine old known known counts counts result new
+turn_again old new known counts stands result is same most again answers unread =
+    let was : old.standing ≡ stands = sym (ap (λ (r : RoomValue). r.standing) is) ∙ sym same in record {
       got = [];
       over = [];
       few = omega arith;
       consumes = Consumes-nil known;
       taken = ap (λ (r : RoomValue). r.taken) is ∙ omega arith;
       kept = inl refl;
-      nothing_lost = all_held new (old.rest ++ []) (ap (λ (r : RoomValue). r.lent) is) (rest ∙ sym (append-nil old.rest));
+      nothing_lost = all_held new (old.rest ++ []) (ap (λ (r : RoomValue). r.lent) is) (still_held old new is);
       asked = inl refl;
-      answers = (append-nil old.rest ∙ sym rest ∙ none, none, ap (λ (r : RoomValue). r.lent) is, sym ended);
-      unread = λ e. absurd (cc);
-      at_end = λ e. inl (was, refl);
+      answers = answers;
+      unread = λ e. inl (was ∙ unread e);
+      at_end = λ e. inl (was ∙ same ∙ e, refl);
       limit = ap (λ (r : RoomValue). r.most) is;
       within = omega (arith, most, ap (λ (r : RoomValue). r.most) is);
-      again = rw was refl;
+      again = subst (λ (s : Standing). Repeats s result) (sym was) again;
       grow = no_growth counts;
     }
+
+pub turn_ended : (old new : RoomValue) (known : Option (List ℕ)) (counts : Counts) → new ≡ let_go_of old → standing.Ended ≡ new.standing
+    → new.rest ≡ [] → new.taken ≤ new.most → ReadsLine old known known counts counts (Ok None) new
+turn_ended old new known counts is ended none most =
+    turn_again old new known counts standing.Ended (Ok None) is ended most refl
+    (sym (still_held old new is) ∙ none, none, ap (λ (r : RoomValue). r.lent) is, sym ended) (λ e. absurd (cc))
 
 pub turn_unread : (old new : RoomValue) (known : Option (List ℕ)) (counts : Counts) → new ≡ let_go_of old → standing.Unread ≡ new.standing
     → IsOpen new.rest → new.taken ≤ new.most → ReadsLine old known known counts counts (Err Read) new
 turn_unread old new known counts is unread opened most =
-    let rest : new.rest ≡ old.rest ++ [] = ap (λ (r : RoomValue). r.rest) is ∙ sym (append-nil old.rest) in
-    let was : old.standing ≡ standing.Unread = sym (ap (λ (r : RoomValue). r.standing) is) ∙ sym unread in record {
-      got = [];
-      over = [];
-      few = omega arith;
-      consumes = Consumes-nil known;
-      taken = ap (λ (r : RoomValue). r.taken) is ∙ omega arith;
-      kept = inl refl;
-      nothing_lost = all_held new (old.rest ++ []) (ap (λ (r : RoomValue). r.lent) is) rest;
-      asked = inl refl;
-      answers = (subst IsOpen rest opened, ap (λ (r : RoomValue). r.lent) is, sym unread);
-      unread = λ e. inl was;
-      at_end = λ e. absurd (cc);
-      limit = ap (λ (r : RoomValue). r.most) is;
-      within = omega (arith, most, ap (λ (r : RoomValue). r.most) is);
-      again = rw was refl;
-      grow = no_growth counts;
-    }
+    turn_again old new known counts standing.Unread (Err Read) is unread most refl
+    (subst IsOpen (still_held old new is) opened, ap (λ (r : RoomValue). r.lent) is, sym unread) (λ e. refl)
 
 pub turn_long : (old new : RoomValue) (known : Option (List ℕ)) (counts : Counts) → new ≡ let_go_of old → standing.TooLong ≡ new.standing
     → IsTooLong new.rest → new.taken ≤ new.most → ReadsLine old known known counts counts (Err TooLong) new
 turn_long old new known counts is long far most =
-    let rest : new.rest ≡ old.rest ++ [] = ap (λ (r : RoomValue). r.rest) is ∙ sym (append-nil old.rest) in
-    let was : old.standing ≡ standing.TooLong = sym (ap (λ (r : RoomValue). r.standing) is) ∙ sym long in record {
-      got = [];
-      over = [];
-      few = omega arith;
-      consumes = Consumes-nil known;
-      taken = ap (λ (r : RoomValue). r.taken) is ∙ omega arith;
-      kept = inl refl;
-      nothing_lost = all_held new (old.rest ++ []) (ap (λ (r : RoomValue). r.lent) is) rest;
-      asked = inl refl;
-      answers = (subst IsTooLong rest far, ap (λ (r : RoomValue). r.lent) is, sym long);
-      unread = λ e. absurd (cc);
-      at_end = λ e. absurd (cc);
-      limit = ap (λ (r : RoomValue). r.most) is;
-      within = omega (arith, most, ap (λ (r : RoomValue). r.most) is);
-      again = rw was refl;
-      grow = no_growth counts;
-    }
+    turn_again old new known counts standing.TooLong (Err TooLong) is long most refl
+    (subst IsTooLong (still_held old new is) far, ap (λ (r : RoomValue). r.lent) is, sym long) (λ e. absurd (cc))
+
+-- how a call ends that read till here, and no byte over the limit
+turn_over : (old room new : RoomValue) (before now after : Option (List ℕ)) (counts midway later : Counts) (seen : ℕ)
+    (result : Result (Option (List ℕ)) LineReadFault) (s : IsSeeking old before now counts midway room seen)
+    → Consumes before after (s.got ++ []) → GrowTo counts later → new.taken ≡ room.taken → new.most ≡ room.most
+    → old.rest ++ s.got ≡ new.lent ++ new.rest → Answers (old.rest ++ s.got) new result → (result ≡ Err Read → ⊥)
+    → (new.standing ≡ standing.Ended → IsAtEnd after) → ReadsLine old before after counts later result new
+turn_over old room new before now after counts midway later seen result s consumes grow taken limit all answers read at_end = record {
+  got = s.got;
+  over = [];
+  few = omega arith;
+  consumes = consumes;
+  taken = taken ∙ s.taken;
+  kept = inl refl;
+  nothing_lost = all;
+  asked = s.asked;
+  answers = answers;
+  unread = λ e. absurd (read e);
+  at_end = λ e. inr (at_end e);
+  limit = limit ∙ s.limit;
+  within = subst (λ (k : ℕ). k ≤ old.most) (sym taken) s.most;
+  again = rw s.began tt;
+  grow = grow;
+}
 
 -- a line was found
 pub turn_line : (old room new : RoomValue) (before now : Option (List ℕ)) (counts later : Counts) (seen n : ℕ)
@@ -165,45 +169,23 @@ turn_line old room new before now counts later seen n s p =
     let line : take n new.lent ≡ p.0 = ap (take n) lent ∙ take_at p.0 (10 ∷ []) n (sym p.1) in
     let reads : new.standing ≡ standing.Reading = ap (λ (r : RoomValue). r.standing) p.5 ∙ s.standing in
     let short : length p.0 ≤ MAX_LINE = subst (λ (k : ℕ). k ≤ MAX_LINE) p.1 p.2 in
-    rw line (record {
-      got = s.got;
-      over = [];
-      few = omega arith;
-      consumes = subst (λ (bs : List ℕ). Consumes before now bs) (sym (append-nil s.got)) s.consumes;
-      taken = ap (λ (r : RoomValue). r.taken) p.5 ∙ s.taken;
-      kept = inl refl;
-      nothing_lost = sym s.rest ∙ p.4 ∙ sym (append_assoc p.0 (10 ∷ []) new.rest) ∙ ap (λ (bs : List ℕ). bs ++ new.rest) (sym lent);
-      asked = s.asked;
-      answers = (short, p.3, inl (lent, sym s.rest ∙ p.4, reads));
-      unread = λ e. absurd (cc);
-      at_end = λ e. absurd (cc (reads, e));
-      limit = ap (λ (r : RoomValue). r.most) p.5 ∙ s.limit;
-      within = subst (λ (k : ℕ). k ≤ old.most) (sym (ap (λ (r : RoomValue). r.taken) p.5)) s.most;
-      again = rw s.began tt;
-      grow = s.grow;
-    })
+    rw line (turn_over old room new before now now counts later later seen (Ok (Some p.0)) s
+    (subst (λ (bs : List ℕ). Consumes before now bs) (sym (append-nil s.got)) s.consumes) s.grow
+    (ap (λ (r : RoomValue). r.taken) p.5) (ap (λ (r : RoomValue). r.most) p.5)
+    (sym s.rest ∙ p.4 ∙ sym (append_assoc p.0 (10 ∷ []) new.rest) ∙ ap (λ (bs : List ℕ). bs ++ new.rest) (sym lent))
+    (short, p.3, inl (lent, sym s.rest ∙ p.4, reads)) (λ e. absurd (cc)) (λ e. absurd (cc (reads, e))))
 
 pub turn_too_long : (old room new : RoomValue) (before now : Option (List ℕ)) (counts later : Counts) (seen : ℕ)
     → IsSeeking old before now counts later room seen → HandsFirst room first.TooLong new
     → ReadsLine old before now counts later (Err TooLong) new
 turn_too_long old room new before now counts later seen s p =
-    let stands : new.standing ≡ standing.TooLong = ap (λ (r : RoomValue). r.standing) p.1 in record {
-      got = s.got;
-      over = [];
-      few = omega arith;
-      consumes = subst (λ (bs : List ℕ). Consumes before now bs) (sym (append-nil s.got)) s.consumes;
-      taken = ap (λ (r : RoomValue). r.taken) p.1 ∙ s.taken;
-      kept = inl refl;
-      nothing_lost = all_held new (old.rest ++ s.got) (ap (λ (r : RoomValue). r.lent) p.1 ∙ s.lent) (ap (λ (r : RoomValue). r.rest) p.1 ∙ s.rest);
-      asked = s.asked;
-      answers = (subst IsTooLong s.rest p.0, ap (λ (r : RoomValue). r.lent) p.1 ∙ s.lent, stands);
-      unread = λ e. absurd (cc);
-      at_end = λ e. absurd (cc (stands, e));
-      limit = ap (λ (r : RoomValue). r.most) p.1 ∙ s.limit;
-      within = subst (λ (k : ℕ). k ≤ old.most) (sym (ap (λ (r : RoomValue). r.taken) p.1)) s.most;
-      again = rw s.began tt;
-      grow = s.grow;
-    }
+    let stands : new.standing ≡ standing.TooLong = ap (λ (r : RoomValue). r.standing) p.1 in
+    let lent : new.lent ≡ [] = ap (λ (r : RoomValue). r.lent) p.1 ∙ s.lent in
+    turn_over old room new before now now counts later later seen (Err TooLong) s
+    (subst (λ (bs : List ℕ). Consumes before now bs) (sym (append-nil s.got)) s.consumes) s.grow
+    (ap (λ (r : RoomValue). r.taken) p.1) (ap (λ (r : RoomValue). r.most) p.1)
+    (all_held new (old.rest ++ s.got) lent (ap (λ (r : RoomValue). r.rest) p.1 ∙ s.rest))
+    (subst IsTooLong s.rest p.0, lent, stands) (λ e. absurd (cc)) (λ e. absurd (cc (stands, e)))
 
 -- more came
 pub seeking_on : (old room opened new : RoomValue) (before now after : Option (List ℕ)) (counts mid later : Counts) (seen n k : ℕ)
@@ -280,23 +262,13 @@ pub turn_unheld : (old room opened mid : RoomValue) (before now after : Option (
 turn_unheld old room opened mid before now after counts midway later seen n s p fault same_fault given =
     let r = subst (λ (f : LineReadFault). ReadsMore opened now after midway later (Err f) mid) same_fault given in
     let same : mid ≡ room = r.1 ∙ p.2 in
-    let stands : mid.standing ≡ standing.Reading = ap (λ (v : RoomValue). v.standing) same ∙ s.standing in record {
-      got = s.got;
-      over = [];
-      few = omega arith;
-      consumes = subst (λ (bs : List ℕ). Consumes before after bs) (sym (append-nil s.got)) (Consumes-kept before now after s.got s.consumes r.0);
-      taken = ap (λ (v : RoomValue). v.taken) same ∙ s.taken;
-      kept = inl refl;
-      nothing_lost = all_held mid (old.rest ++ s.got) (ap (λ (v : RoomValue). v.lent) same ∙ s.lent) (ap (λ (v : RoomValue). v.rest) same ∙ s.rest);
-      asked = s.asked;
-      answers = (ap (λ (v : RoomValue). v.rest) same ∙ s.rest, ap (λ (v : RoomValue). v.lent) same ∙ s.lent, stands, subst IsOpen s.rest p.0);
-      unread = λ e. absurd (cc);
-      at_end = λ e. absurd (cc (stands, e));
-      limit = ap (λ (v : RoomValue). v.most) same ∙ s.limit;
-      within = subst (λ (k : ℕ). k ≤ old.most) (sym (ap (λ (v : RoomValue). v.taken) same)) s.most;
-      again = rw s.began tt;
-      grow = subst (λ (c : Counts). GrowTo counts c) (sym r.2) s.grow;
-    }
+    let stands : mid.standing ≡ standing.Reading = ap (λ (v : RoomValue). v.standing) same ∙ s.standing in
+    let lent : mid.lent ≡ [] = ap (λ (v : RoomValue). v.lent) same ∙ s.lent in
+    let rest : mid.rest ≡ old.rest ++ s.got = ap (λ (v : RoomValue). v.rest) same ∙ s.rest in
+    turn_over old room mid before now after counts midway later seen (Err NoMemory) s
+    (subst (λ (bs : List ℕ). Consumes before after bs) (sym (append-nil s.got)) (Consumes-kept before now after s.got s.consumes r.0))
+    (subst (λ (c : Counts). GrowTo counts c) (sym r.2) s.grow) (ap (λ (v : RoomValue). v.taken) same) (ap (λ (v : RoomValue). v.most) same)
+    (all_held mid (old.rest ++ s.got) lent rest) (rest, lent, stands, subst IsOpen s.rest p.0) (λ e. absurd (cc)) (λ e. absurd (cc (stands, e)))
 
 pub empty_is : (xs : List ℕ) → length xs ≡ 0 → xs ≡ []
 empty_is [] h = refl
@@ -343,23 +315,9 @@ pub turn_none : (old room opened mid out new : RoomValue) (before now after : Op
     → ReadsLine old before after counts later (Ok None) new
 turn_none old room opened mid out new before now after counts midway later seen n k s p r none handed is no_bytes =
     let e = closing old room opened mid out new before now after counts midway later seen n k s p r none handed is in
-    let empty : room.rest ≡ [] = empty_is room.rest (sym p.1 ∙ no_bytes) in record {
-      got = s.got;
-      over = [];
-      few = omega arith;
-      consumes = e.consumes;
-      taken = e.taken_so ∙ s.taken;
-      kept = inl refl;
-      nothing_lost = sym s.rest ∙ all_handed new room.rest e.lent e.none;
-      asked = s.asked;
-      answers = (sym s.rest ∙ empty, e.none, e.lent ∙ empty, e.stands);
-      unread = λ h. absurd (cc);
-      at_end = λ h. inr e.at_end;
-      limit = e.limit_so ∙ s.limit;
-      within = subst (λ (k : ℕ). k ≤ old.most) (sym e.taken_so) s.most;
-      again = rw s.began tt;
-      grow = e.grow;
-    }
+    let empty : room.rest ≡ [] = empty_is room.rest (sym p.1 ∙ no_bytes) in
+    turn_over old room new before now after counts midway later seen (Ok None) s e.consumes e.grow e.taken_so e.limit_so
+    (sym s.rest ∙ all_handed new room.rest e.lent e.none) (sym s.rest ∙ empty, e.none, e.lent ∙ empty, e.stands) (λ h. absurd (cc)) (λ h. e.at_end)
 
 -- the last line is without a line feed
 pub turn_last : (old room opened mid out new : RoomValue) (before now after : Option (List ℕ)) (counts midway later : Counts) (seen n k : ℕ)
@@ -370,20 +328,6 @@ turn_last old room opened mid out new before now after counts midway later seen 
     let e = closing old room opened mid out new before now after counts midway later seen n k s p r none handed is in
     let line : take n new.lent ≡ room.rest = ap (take n) e.lent ∙ take_all n room.rest (omega (arith, p.1)) in
     let size : 0 < length room.rest = omega (arith, some, p.1) in
-    rw line (record {
-      got = s.got;
-      over = [];
-      few = omega arith;
-      consumes = e.consumes;
-      taken = e.taken_so ∙ s.taken;
-      kept = inl refl;
-      nothing_lost = sym s.rest ∙ all_handed new room.rest e.lent e.none;
-      asked = s.asked;
-      answers = (p.0.0, p.0.1, inr (e.lent, sym s.rest, size, e.none, e.stands));
-      unread = λ h. absurd (cc);
-      at_end = λ h. inr e.at_end;
-      limit = e.limit_so ∙ s.limit;
-      within = subst (λ (k : ℕ). k ≤ old.most) (sym e.taken_so) s.most;
-      again = rw s.began tt;
-      grow = e.grow;
-    })
+    rw line (turn_over old room new before now after counts midway later seen (Ok (Some room.rest)) s e.consumes e.grow e.taken_so e.limit_so
+    (sym s.rest ∙ all_handed new room.rest e.lent e.none) (p.0.0, p.0.1, inr (e.lent, sym s.rest, size, e.none, e.stands))
+    (λ h. absurd (cc)) (λ h. e.at_end))

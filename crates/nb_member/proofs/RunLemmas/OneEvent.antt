@@ -1,5 +1,5 @@
 -- One event of a run, and what a run comes to.
-use Rattle.std.proofs.Common.{◌≡◌, ◌<◌, ◌≤◌, ◌+◌, ◌++◌, ℕ, suc, Bool, true, false, cond, List, [], ◌∷◌, length, take, drop, get_or, refl, sym, ap, ◌∙◌, arith, subst, append-nil, drop-cons, add-one, take_all, Option, Some, None, Result, Ok, Err}
+use Rattle.std.proofs.Common.{◌≡◌, ◌<◌, ◌≤◌, ◌+◌, ◌++◌, ℕ, suc, Bool, true, false, cond, List, [], ◌∷◌, length, take, drop, get_or, refl, sym, ap, ◌∙◌, arith, subst, append-nil, drop-cons, add-one, take_all, inl, inr, Option, Some, None, Result, Ok, Err}
 use Rattle.std.specs.Prelude.{filter, unwrap_or, MatchOption}
 use Rattle.std.proofs.Math.ListN.{drop_of_length-le}
 use Rattle.std.proofs.Math.Seq.{take-suc}
@@ -7,6 +7,7 @@ use Rattle.nb_names.specs.Name.{NetbiosName}
 use Rattle.nb_datagram.specs.declared.key.Key.{Key}
 use Rattle.nb_datagram.specs.declared.packet.ErrorPacket.{ErrorPacket}
 use Rattle.nb_datagram.specs.declared.fault.DatagramFault.{DatagramFault}
+use Rattle.nb_datagram.specs.declared.packet.Packet.TheVariants.{Direct, Error, Query}
 use Rattle.nb_datagram.specs.Fragment.{FragmentParts, DatagramParts}
 use Rattle.nb_table.specs.declared.fault.TableFault.{TableFault}
 use Rattle.nb_table.specs.declared.fault.TableFault.TheVariants as table_fault
@@ -21,7 +22,7 @@ use Rattle.nb_member.specs.declared.run_report.RunStop.TheVariants.{Full, FullSo
 use Rattle.nb_member.specs.declared.settings.Settings.{Settings}
 use Rattle.nb_member.proofs.TakingLemmas.FullKeys.{stops_at, meets_none}
 use Rattle.nb_member.proofs.RunLemmas.RunSoFar.{RanOver, ran_none, ran_more, runs_from}
-use Rattle.nb_member.proofs.EventLemmas.{SaysOf, of_fragment, of_invalid, of_fault, of_error, of_query, IsInvalid, says_by}
+use Rattle.nb_member.proofs.EventLemmas.{SaysOf, of_packet, of_fault, IsInvalid, says_by}
 use Rattle.nb_member.specs.Code.Members.{KeepsStation, BeginsFull}
 use Rattle.nb_member.specs.Taking.{Answers, Does, Takes}
 use Rattle.nb_member.specs.Deliveries.{delivery_in, error_in, made_by, errors_by}
@@ -29,7 +30,7 @@ use Rattle.nb_member.specs.Hearing.{hears}
 use Rattle.nb_member.specs.Events.{Saying, came, refused, another, clock, Says, tick}
 use Rattle.nb_member.specs.Live.{Timed, is_full, is_source_full, HasRoom, live_after, live_from}
 use Rattle.nb_member.specs.Member.{MemberValue, StandsOver, with_timed, after_clock}
-use Rattle.nb_member.specs.Running.{IsLeft, IsPayload, refused_count, StopsAt, StopsBefore, Runs}
+use Rattle.nb_member.specs.Running.{MeetsLimit, IsLeft, IsPayload, refused_count, StopsAt, StopsBefore, Runs}
 use Rattle.nb_member.specs.Code.RunEvents.{noted, HandedOut, HasTaken, RunsEvent}
 
 -- ---- what is known of a step
@@ -55,16 +56,25 @@ pub record StepsKnown : Type 0 where
 
 -- ---- which answers count as refused
 
+-- what an event says that is refused, or isn't, counts as that, and had room
+abbrev IsCounted : Settings → List Timed → Saying → Bool → Type 0
+IsCounted settings L s was = (cond was 1 0 ≡ refused_count (s ∷ [])) × HasRoom settings L s
+
+-- what is answered with an outcome
 not_counted : (settings : Settings) (names : List NetbiosName) (L : List Timed) (s : Saying) (outcome : Outcome)
-    → Answers settings names L s (Ok outcome) → 0 ≡ refused_count (s ∷ [])
-not_counted settings names L (came moment f) outcome a = refl
+    → Answers settings names L s (Ok outcome) → IsCounted settings L s false
+not_counted settings names L (came moment f) outcome a = (refl, a.room)
 not_counted settings names L (refused x) outcome a = absurd (cc)
-not_counted settings names L another outcome a = refl
+not_counted settings names L another outcome a = (refl, tt)
 not_counted settings names L (clock now) outcome a = absurd a
 
--- a fault of the table that isn't Full or FullSource
+-- the fault where a key is full, that of its address if b
+abbrev limit_fault : Bool → Key → TableFault
+limit_fault b k = cond b (table_fault.FullSource k) (table_fault.Full k)
+
+-- a fault of the table that is no such fault
 abbrev IsNotFull : MemberFault → Type 0
-IsNotFull x = (b : Bool) (k : Key) → x ≡ fault.Table (cond b (table_fault.FullSource k) (table_fault.Full k)) → ⊥
+IsNotFull x = (b : Bool) (k : Key) → x ≡ fault.Table (limit_fault b k) → ⊥
 
 packet_other : (x : DatagramFault) (error : Option ErrorPacket) → IsNotFull (fault.Packet x error)
 packet_other x error b k h = absurd (cc)
@@ -77,82 +87,54 @@ long_other : IsNotFull (fault.Table table_fault.TooLong)
 long_other true k h = absurd (cc)
 long_other false k h = absurd (cc)
 
+-- and what is refused otherwise than as full
 counted : (settings : Settings) (names : List NetbiosName) (L : List Timed) (s : Saying) (x : MemberFault) → IsNotFull x
-    → Answers settings names L s (Err x) → 1 ≡ refused_count (s ∷ [])
+    → Answers settings names L s (Err x) → IsCounted settings L s true
 counted settings names L (came moment f) x other a = absurd (other (is_source_full settings L f.key) f.key a.1)
-counted settings names L (refused y) x other a = refl
+counted settings names L (refused y) x other a = (refl, tt)
 counted settings names L another x other a = absurd (cc)
 counted settings names L (clock now) x other a = absurd a
 
 -- ---- full keys
 
--- what is answered with an outcome had room
-room_where_ok : (settings : Settings) (names : List NetbiosName) (L : List Timed) (s : Saying) (outcome : Outcome)
-    → Answers settings names L s (Ok outcome) → HasRoom settings L s
-room_where_ok settings names L (came moment f) outcome a = a.room
-room_where_ok settings names L (refused x) outcome a = tt
-room_where_ok settings names L another outcome a = tt
-room_where_ok settings names L (clock now) outcome a = tt
-
--- and so had what is refused otherwise than as full
-room_where_refused : (settings : Settings) (names : List NetbiosName) (L : List Timed) (s : Saying) (x : MemberFault) → IsNotFull x
-    → Answers settings names L s (Err x) → HasRoom settings L s
-room_where_refused settings names L (came moment f) x other a = absurd (other (is_source_full settings L f.key) f.key a.1)
-room_where_refused settings names L (refused y) x other a = tt
-room_where_refused settings names L another x other a = tt
-room_where_refused settings names L (clock now) x other a = tt
-
 -- no payload is refused as full: it says a fragment
 never_full_of : (settings : Settings) (moment : ℕ) (payload : List ℕ) (x : TableFault) → ((f : FragmentParts) → IsInvalid settings.longest f x → ⊥)
     → SaysOf settings moment payload (refused (fault.Table x)) → ⊥
-never_full_of settings moment payload x valid (of_fragment used f p v e) = absurd (cc)
-never_full_of settings moment payload x valid (of_invalid used f y p i e) =
-    let same : y ≡ x = cc in
-    valid f (subst (λ (z : TableFault). IsInvalid settings.longest f z) same i)
+never_full_of settings moment payload x valid (of_packet used (Direct f) p (inl h)) = let e = h.1 in absurd (cc)
+never_full_of settings moment payload x valid (of_packet used (Direct f) p (inr h)) =
+    let e = h.2 in
+    let same : h.0 ≡ x = cc in
+    valid f (subst (λ (z : TableFault). IsInvalid settings.longest f z) same h.1)
+never_full_of settings moment payload x valid (of_packet used (Error q) p e) = absurd (cc)
+never_full_of settings moment payload x valid (of_packet used (Query q) p e) = absurd (cc)
 never_full_of settings moment payload x valid (of_fault y p e) = absurd (cc)
-never_full_of settings moment payload x valid (of_error used q p e) = absurd (cc)
-never_full_of settings moment payload x valid (of_query used q p e) = absurd (cc)
+
+not_invalid : (b : Bool) (k : Key) (longest : ℕ) (f : FragmentParts) → IsInvalid longest f (limit_fault b k) → ⊥
+not_invalid true k longest f i = i
+not_invalid false k longest f i = i
 
 -- which of the limits is met
-full_by : (b : Bool) (q k : Key) → ◌≡◌ {A = MemberFault} (fault.Table (table_fault.Full k)) (fault.Table (cond b (table_fault.FullSource q) (table_fault.Full q))) → (q ≡ k) × (b ≡ false)
-full_by true q k h = absurd (cc h)
-full_by false q k h = (cc, refl)
-
-source_by : (b : Bool) (q k : Key) → ◌≡◌ {A = MemberFault} (fault.Table (table_fault.FullSource k)) (fault.Table (cond b (table_fault.FullSource q) (table_fault.Full q))) → (q ≡ k) × (b ≡ true)
-source_by true q k h = (cc, refl)
-source_by false q k h = absurd (cc h)
+limit_by : (a b : Bool) (q k : Key) → ◌≡◌ {A = MemberFault} (fault.Table (limit_fault b k)) (fault.Table (limit_fault a q)) → (q ≡ k) × (a ≡ b)
+limit_by true true q k h = (cc, refl)
+limit_by true false q k h = absurd (cc h)
+limit_by false true q k h = absurd (cc h)
+limit_by false false q k h = (cc, refl)
 
 full_key : (settings : Settings) (names : List NetbiosName) (L : List Timed) (moment : ℕ) (payload : List ℕ) (s : Saying)
-    (k : Key) → Says settings (Packet moment payload) s
-    → Answers settings names L s (Err (fault.Table (table_fault.Full k)))
-    → StopsAt settings L (Packet moment payload) (Full k)
-full_key settings names L moment payload (came at f) k says a =
-    let by = full_by (is_source_full settings L f.key) f.key k a.1 in (
+    (b : Bool) (k : Key) → Says settings (Packet moment payload) s → Answers settings names L s (Err (fault.Table (limit_fault b k)))
+    → MeetsLimit settings L (Packet moment payload) k × (is_source_full settings L k ≡ b)
+full_key settings names L moment payload (came at f) b k says a =
+    let by = limit_by (is_source_full settings L f.key) b f.key k a.1 in (
       record { moment = at; f = f; says = says; key = by.0; full = subst (λ (j : Key). is_full settings L j ≡ true) by.0 a.0 },
-      subst (λ (j : Key). is_source_full settings L j ≡ false) by.0 by.1,
+      subst (λ (j : Key). is_source_full settings L j ≡ b) by.0 by.1,
     )
-full_key settings names L moment payload (refused x) k says a =
-    let same : x ≡ fault.Table (table_fault.Full k) = cc in
-    absurd (never_full_of settings moment payload (table_fault.Full k) (λ f i. i) (says_by settings (Packet moment payload) (refused (fault.Table (table_fault.Full k)))
+full_key settings names L moment payload (refused x) b k says a =
+    let same : x ≡ fault.Table (limit_fault b k) = cc in
+    absurd (never_full_of settings moment payload (limit_fault b k) (not_invalid b k settings.longest)
+    (says_by settings (Packet moment payload) (refused (fault.Table (limit_fault b k)))
     (subst (λ (y : MemberFault). Says settings (Packet moment payload) (refused y)) same says)))
-full_key settings names L moment payload another k says a = absurd (cc)
-full_key settings names L moment payload (clock now) k says a = absurd a
-
-source_key : (settings : Settings) (names : List NetbiosName) (L : List Timed) (moment : ℕ) (payload : List ℕ) (s : Saying)
-    (k : Key) → Says settings (Packet moment payload) s
-    → Answers settings names L s (Err (fault.Table (table_fault.FullSource k)))
-    → StopsAt settings L (Packet moment payload) (FullSource k)
-source_key settings names L moment payload (came at f) k says a =
-    let by = source_by (is_source_full settings L f.key) f.key k a.1 in (
-      record { moment = at; f = f; says = says; key = by.0; full = subst (λ (j : Key). is_full settings L j ≡ true) by.0 a.0 },
-      subst (λ (j : Key). is_source_full settings L j ≡ true) by.0 by.1,
-    )
-source_key settings names L moment payload (refused x) k says a =
-    let same : x ≡ fault.Table (table_fault.FullSource k) = cc in
-    absurd (never_full_of settings moment payload (table_fault.FullSource k) (λ f i. i) (says_by settings (Packet moment payload) (refused (fault.Table (table_fault.FullSource k)))
-    (subst (λ (y : MemberFault). Says settings (Packet moment payload) (refused y)) same says)))
-source_key settings names L moment payload another k says a = absurd (cc)
-source_key settings names L moment payload (clock now) k says a = absurd a
+full_key settings names L moment payload another b k says a = absurd (cc)
+full_key settings names L moment payload (clock now) b k says a = absurd a
 
 -- ---- one event
 
@@ -167,22 +149,37 @@ unchanged before after d e =
 step_taken : StepsKnown → (m new : MemberValue) (L : List Timed) (moment : ℕ) (payload : List ℕ)
     (answer : Result Outcome MemberFault) (before after : HandedOut) (was : Bool) → StandsOver m L
     → Takes m moment payload new answer → (answer ≡ Err (fault.Table table_fault.NoMemory) → ⊥)
-    → ((s : Saying) → Answers m.settings m.names L s answer → cond was 1 0 ≡ refused_count (s ∷ []))
-    → ((s : Saying) → Answers m.settings m.names L s answer → HasRoom m.settings L s)
+    → ((s : Saying) → Answers m.settings m.names L s answer → IsCounted m.settings L s was)
     → after.deliveries ≡ before.deliveries ++ delivery_in answer → after.errors ≡ before.errors ++ error_in answer
     → HasTaken m.settings m.names L (Packet moment payload) new before after was
-step_taken known m new L moment payload answer before after was stands takes memory count room d e =
+step_taken known m new L moment payload answer before after was stands takes memory counts d e =
     let s = known.says m new L moment payload answer stands takes in
     let does = known.does m new L moment payload answer s.0 stands s.1 takes memory in
+    let is_counted = counts s.0 does.answers in
     record {
       said = s.0;
       says = s.1;
-      has_room = room s.0 does.answers;
+      has_room = is_counted.1;
       stands = does.stands;
       deliveries = d ∙ ap (λ (xs : List DatagramParts). before.deliveries ++ xs) (sym (known.delivery m.settings m.names L s.0 answer does.answers));
       errors = e ∙ ap (λ (xs : List ErrorPacket). before.errors ++ xs) (sym (known.error m.settings m.names L s.0 answer does.answers));
-      count = count s.0 does.answers;
+      count = is_counted.0;
     }
+
+-- what is refused as full
+step_full : StepsKnown → (m new : MemberValue) (L : List Timed) (moment : ℕ) (payload : List ℕ) (b : Bool) (k : Key)
+    (before after : HandedOut) → StandsOver m L → Takes m moment payload new (Err (fault.Table (limit_fault b k)))
+    → (◌≡◌ {A = Result Outcome MemberFault} (Err (fault.Table (limit_fault b k))) (Err (fault.Table table_fault.NoMemory)) → ⊥)
+    → after.deliveries ≡ before.deliveries ++ [] → after.errors ≡ before.errors ++ []
+    → (MeetsLimit m.settings L (Packet moment payload) k × (is_source_full m.settings L k ≡ b)) × (new ≡ m) × (after ≡ before)
+step_full known m new L moment payload b k before after stands takes memory d e =
+    let x = fault.Table (limit_fault b k) in
+    let s = known.says m new L moment payload (Err x) stands takes in
+    let does = known.does m new L moment payload (Err x) s.0 stands s.1 takes memory in (
+      full_key m.settings m.names L moment payload s.0 b k s.1 does.answers,
+      known.keeps m new moment payload x takes,
+      unchanged before after d e,
+    )
 
 packet_step : StepsKnown → (m new : MemberValue) (L : List Timed) (moment : ℕ) (payload : List ℕ)
     (answer : Result Outcome MemberFault) (before after : HandedOut) → StandsOver m L → Takes m moment payload new answer
@@ -190,36 +187,20 @@ packet_step : StepsKnown → (m new : MemberValue) (L : List Timed) (moment : �
     → RunsEvent m L (Packet moment payload) new before after (noted answer)
 packet_step known m new L moment payload (Ok outcome) before after stands takes d e =
     step_taken known m new L moment payload (Ok outcome) before after false stands takes (λ h. absurd (cc))
-    (λ s a. not_counted m.settings m.names L s outcome a)
-    (λ s a. room_where_ok m.settings m.names L s outcome a) d e
+    (λ s a. not_counted m.settings m.names L s outcome a) d e
 packet_step known m new L moment payload (Err (fault.Packet x error)) before after stands takes d e =
     step_taken known m new L moment payload (Err (fault.Packet x error)) before after true stands takes (λ h. absurd (cc))
-    (λ s a. counted m.settings m.names L s (fault.Packet x error) (packet_other x error) a)
-    (λ s a. room_where_refused m.settings m.names L s (fault.Packet x error) (packet_other x error) a) d e
+    (λ s a. counted m.settings m.names L s (fault.Packet x error) (packet_other x error) a) d e
 packet_step known m new L moment payload (Err (fault.Table table_fault.MisplacedFirst)) before after stands takes d e =
     step_taken known m new L moment payload (Err (fault.Table table_fault.MisplacedFirst)) before after true stands takes (λ h. absurd (cc))
-    (λ s a. counted m.settings m.names L s (fault.Table table_fault.MisplacedFirst) misplaced_other a)
-    (λ s a. room_where_refused m.settings m.names L s (fault.Table table_fault.MisplacedFirst) misplaced_other a) d e
+    (λ s a. counted m.settings m.names L s (fault.Table table_fault.MisplacedFirst) misplaced_other a) d e
 packet_step known m new L moment payload (Err (fault.Table table_fault.TooLong)) before after stands takes d e =
     step_taken known m new L moment payload (Err (fault.Table table_fault.TooLong)) before after true stands takes (λ h. absurd (cc))
-    (λ s a. counted m.settings m.names L s (fault.Table table_fault.TooLong) long_other a)
-    (λ s a. room_where_refused m.settings m.names L s (fault.Table table_fault.TooLong) long_other a) d e
+    (λ s a. counted m.settings m.names L s (fault.Table table_fault.TooLong) long_other a) d e
 packet_step known m new L moment payload (Err (fault.Table (table_fault.Full k))) before after stands takes d e =
-    let answer : Result Outcome MemberFault = Err (fault.Table (table_fault.Full k)) in
-    let s = known.says m new L moment payload answer stands takes in
-    let does = known.does m new L moment payload answer s.0 stands s.1 takes (λ h. absurd (cc)) in (
-      full_key m.settings m.names L moment payload s.0 k s.1 does.answers,
-      known.keeps m new moment payload (fault.Table (table_fault.Full k)) takes,
-      unchanged before after d e,
-    )
+    step_full known m new L moment payload false k before after stands takes (λ h. absurd (cc)) d e
 packet_step known m new L moment payload (Err (fault.Table (table_fault.FullSource k))) before after stands takes d e =
-    let answer : Result Outcome MemberFault = Err (fault.Table (table_fault.FullSource k)) in
-    let s = known.says m new L moment payload answer stands takes in
-    let does = known.does m new L moment payload answer s.0 stands s.1 takes (λ h. absurd (cc)) in (
-      source_key m.settings m.names L moment payload s.0 k s.1 does.answers,
-      known.keeps m new moment payload (fault.Table (table_fault.FullSource k)) takes,
-      unchanged before after d e,
-    )
+    step_full known m new L moment payload true k before after stands takes (λ h. absurd (cc)) d e
 packet_step known m new L moment payload (Err (fault.Table table_fault.NoMemory)) before after stands takes d e = (
   (tt, meets_none m.settings L moment payload (λ s says. known.memory m new L moment payload s stands says takes)),
   known.keeps m new moment payload (fault.Table table_fault.NoMemory) takes,
@@ -271,15 +252,7 @@ one_more m L E old new before after n more event was kept ran step counts =
     let M = live_from m.settings L ran.sayings in
     let P : Settings → Type 0 = λ s. HasTaken s old.names M event new before after was in
     let Q : List NetbiosName → Type 0 = λ ns. HasTaken m.settings ns M event new before after was in
-    let t : HasTaken m.settings m.names M event new before after was = subst Q kept.1 (subst P kept.0 (step M ran.over)) in
-    let R : List DatagramParts → Type 0 =
-    λ ds. RanOver m L (E ++ event ∷ []) new ds (before.errors ++ errors_by m.settings m.names M t.said) (n + cond was 1 0) in
-    let S : List ErrorPacket → Type 0 = λ es. RanOver m L (E ++ event ∷ []) new after.deliveries es (n + cond was 1 0) in
-    let T : ℕ → Type 0 = λ k. RanOver m L (E ++ event ∷ []) new after.deliveries after.errors k in
-    subst T (sym counts) (subst S (sym t.errors) (subst R (sym t.deliveries)
-    (ran_more m L E old new before.deliveries before.errors n ran event t.said t.says t.has_room t.stands
-    (filter (hears m.names) (made_by m.settings M t.said)) refl (errors_by m.settings m.names M t.said) refl
-    (cond was 1 0) t.count)))
+    ran_more m L E old new before after n more event was ran (subst Q kept.1 (subst P kept.0 (step M ran.over))) counts
 
 -- the next event
 next_event : (events : List Event) (i : ℕ) (event : Event) → i < length events → event ≡ get_or events i event
@@ -299,10 +272,7 @@ pub none_so_far : (m : MemberValue) (events : List Event) (out : HandedOut) → 
 none_so_far m events out d e = record {
   kept = (refl, refl);
   few = omega arith;
-  ran = λ L s.
-      let P : List DatagramParts → Type 0 = λ ds. RanOver m L [] m ds out.errors 0 in
-      let Q : List ErrorPacket → Type 0 = λ es. RanOver m L [] m [] es 0 in
-      subst P (sym d) (subst Q (sym e) (ran_none m L s));
+  ran = λ L s. ran_none m L out.deliveries out.errors d e s;
 }
 
 at_most_one : (b : Bool) → cond b 1 0 ≤ 1

@@ -1,6 +1,6 @@
 -- Runs of events, one event after another.
 use Rattle.std.proofs.Common.{◌≡◌, ℕ, ◌+◌, ◌≤◌, List, [], ◌∷◌, ◌++◌, length, take, drop, refl, sym, ap, subst, ◌∙◌, arith}
-use Rattle.std.specs.Prelude.{filter}
+use Rattle.std.specs.Prelude.{filter, Bool, cond}
 use Rattle.std.proofs.lemmas.List.{append_assoc, append-nil}
 use Rattle.std.proofs.lemmas.List.Elements.{filter-append}
 use Rattle.std.proofs.lemmas.List.Sums.{fold-append}
@@ -13,8 +13,9 @@ use Rattle.nb_member.specs.declared.settings.Settings.{Settings}
 use Rattle.nb_member.specs.Deliveries.{made_by, errors_by, made, deliveries, errors}
 use Rattle.nb_member.specs.Hearing.{hears}
 use Rattle.nb_member.specs.Events.{Saying, came, refused, another, clock, Says, Say, none, more}
-use Rattle.nb_member.specs.Live.{Timed, HasRoom, NoneFull, live_after, live_from, live}
+use Rattle.nb_member.specs.Live.{Timed, NoneFull, live_after, live_from, live}
 use Rattle.nb_member.specs.Member.{MemberValue, StandsOver, Stands}
+use Rattle.nb_member.specs.Code.RunEvents.{HandedOut, HasTaken}
 use Rattle.nb_member.specs.Running.{IsLeft, refused_count, StopsBefore, Runs}
 
 -- ---- what two lists of events say, one after the other
@@ -83,47 +84,38 @@ pub record RanOver (m : MemberValue) (L : List Timed) (E : List Event) (new : Me
   pub has_room : NoneFull m.settings L sayings
 
 -- no event
-pub ran_none : (m : MemberValue) (L : List Timed) → StandsOver m L → RanOver m L [] m [] [] 0
-ran_none m L h = record {
-  sayings = [];
-  said = none;
-  over = h;
-  deliveries_are = refl;
-  errors_are = refl;
-  refused_are = refl;
-  has_room = tt;
-}
+pub ran_none : (m : MemberValue) (L : List Timed) (ds : List DatagramParts) (es : List ErrorPacket) → ds ≡ [] → es ≡ []
+    → StandsOver m L → RanOver m L [] m ds es 0
+ran_none m L ds es d e h =
+    record { sayings = []; said = none; over = h; deliveries_are = d; errors_are = e; refused_are = refl; has_room = tt }
 
--- one more event, which says s
-pub ran_more : (m : MemberValue) (L : List Timed) (E : List Event) (old new : MemberValue) (ds : List DatagramParts) (es : List ErrorPacket) (n : ℕ)
-    → (r : RanOver m L E old ds es n) (event : Event) (s : Saying) → Says m.settings event s
-    → HasRoom m.settings (live_from m.settings L r.sayings) s
-    → StandsOver new (live_after m.settings (live_from m.settings L r.sayings) s)
-    → (more_ds : List DatagramParts) → more_ds ≡ filter (hears m.names) (made_by m.settings (live_from m.settings L r.sayings) s)
-    → (more_es : List ErrorPacket) → more_es ≡ errors_by m.settings m.names (live_from m.settings L r.sayings) s
-    → (more_n : ℕ) → more_n ≡ refused_count (s ∷ [])
-    → RanOver m L (E ++ event ∷ []) new (ds ++ more_ds) (es ++ more_es) (n + more_n)
-ran_more m L E old new ds es n r event s says room over more_ds ds_is more_es es_is more_n n_is =
-    let before = live_from m.settings L r.sayings in
-    let made_is = ap (filter (hears m.names)) (append-nil (made_by m.settings before s)) in
-    let errors_is = append-nil (errors_by m.settings m.names before s) in
+-- one more event
+pub ran_more : (m : MemberValue) (L : List Timed) (E : List Event) (old new : MemberValue) (before after : HandedOut) (n total : ℕ)
+    (event : Event) (was : Bool) (r : RanOver m L E old before.deliveries before.errors n)
+    → HasTaken m.settings m.names (live_from m.settings L r.sayings) event new before after was → total ≡ n + cond was 1 0
+    → RanOver m L (E ++ event ∷ []) new after.deliveries after.errors total
+ran_more m L E old new before after n total event was r t counts =
+    let M = live_from m.settings L r.sayings in
+    let made_is = ap (filter (hears m.names)) (append-nil (made_by m.settings M t.said)) in
+    let errors_is = append-nil (errors_by m.settings m.names M t.said) in
     record {
-      sayings = r.sayings ++ s ∷ [];
-      said = say-append m.settings E (event ∷ []) r.sayings (s ∷ []) r.said (say_one m.settings event s says);
-      over = subst (λ (M : List Timed). StandsOver new M) (sym (live_from-append m.settings L r.sayings (s ∷ []))) over;
+      sayings = r.sayings ++ t.said ∷ [];
+      said = say-append m.settings E (event ∷ []) r.sayings (t.said ∷ []) r.said (say_one m.settings event t.said t.says);
+      over = subst (λ (N : List Timed). StandsOver new N) (sym (live_from-append m.settings L r.sayings (t.said ∷ []))) t.stands;
       deliveries_are =
-          ap (λ (xs : List DatagramParts). xs ++ more_ds) r.deliveries_are
-          ∙ (ap (λ (xs : List DatagramParts). deliveries m.settings m.names L r.sayings ++ xs) (ds_is ∙ sym made_is)
-          ∙ sym (deliveries-append m.settings m.names L r.sayings (s ∷ [])));
+          t.deliveries ∙ (ap (λ (xs : List DatagramParts). xs ++ filter (hears m.names) (made_by m.settings M t.said)) r.deliveries_are
+          ∙ (ap (λ (xs : List DatagramParts). deliveries m.settings m.names L r.sayings ++ xs) (sym made_is)
+          ∙ sym (deliveries-append m.settings m.names L r.sayings (t.said ∷ []))));
       errors_are =
-          ap (λ (xs : List ErrorPacket). xs ++ more_es) r.errors_are
-          ∙ (ap (λ (xs : List ErrorPacket). errors m.settings m.names L r.sayings ++ xs) (es_is ∙ sym errors_is)
-          ∙ sym (errors-append m.settings m.names L r.sayings (s ∷ [])));
+          t.errors ∙ (ap (λ (xs : List ErrorPacket). xs ++ errors_by m.settings m.names M t.said) r.errors_are
+          ∙ (ap (λ (xs : List ErrorPacket). errors m.settings m.names L r.sayings ++ xs) (sym errors_is)
+          ∙ sym (errors-append m.settings m.names L r.sayings (t.said ∷ []))));
       refused_are =
           let first = r.refused_are in
-          let all = refused_count-append r.sayings (s ∷ []) in
-          omega (arith, first, n_is, all);
-      has_room = none_full-append m.settings L r.sayings (s ∷ []) r.has_room (room, tt);
+          let one = t.count in
+          let all = refused_count-append r.sayings (t.said ∷ []) in
+          omega (arith, first, counts, one, all);
+      has_room = none_full-append m.settings L r.sayings (t.said ∷ []) r.has_room (t.has_room, tt);
     }
 
 -- ---- a run, and lists of events

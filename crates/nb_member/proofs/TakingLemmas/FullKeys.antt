@@ -3,7 +3,7 @@ use Rattle.std.proofs.Common.{◌≡◌, ◌≢◌, ℕ, inl, inr, true, List, r
 use Rattle.std.specs.Prelude.{unwrap_or, MatchOption, IfSome}
 use Rattle.std.proofs.lemmas.Bool.{cases_Bool, false≢true}
 use Rattle.nb_datagram.specs.declared.key.Key.{Key}
-use Rattle.nb_datagram.specs.declared.packet.Packet.TheVariants.{Direct}
+use Rattle.nb_datagram.specs.declared.packet.Packet.TheVariants.{Direct, Error, Query}
 use Rattle.nb_datagram.specs.Fragment.{FragmentParts}
 use Rattle.nb_datagram.specs.Packet.{Packet as AnyPacket, IsPacket}
 use Rattle.nb_table.specs.declared.fault.TableFault.{TableFault}
@@ -13,7 +13,7 @@ use Rattle.nb_table.specs.Limits.{Limits}
 use Rattle.nb_member.specs.declared.event.Event.TheVariants.{Packet}
 use Rattle.nb_member.specs.declared.settings.Settings.{Settings}
 use Rattle.nb_member.specs.Events as saying
-use Rattle.nb_member.proofs.EventLemmas.{SaysOf, of_fragment, of_invalid, of_fault, of_error, of_query, says_by}
+use Rattle.nb_member.proofs.EventLemmas.{SaysOf, of_packet, of_fault, says_by}
 use Rattle.nb_member.proofs.MemberLemmas.LiveAfter.{full_is, source_full_is, is_full_is, is_source_full_is, source_room_is, is_source_room}
 use Rattle.nb_member.proofs.TakingLemmas.Payloads.{valid_is}
 use Rattle.nb_member.specs.Events.{Saying, came, limits_of, Says}
@@ -62,7 +62,8 @@ as_full m L k s full = elim (cases_Bool (is_source_full m.settings L k)) [
 
 begins_of : (m : MemberValue) (L : List Timed) (moment at : ℕ) (payload : List ℕ) (f : FragmentParts) (k : Key) → StandsOver m L
     → SaysOf m.settings moment payload (came at f) → f.key ≡ k → is_full m.settings L k ≡ true → (stop : RunStop) × BeginsFull m payload stop
-begins_of m L moment at payload f k s (of_fragment used g p v e) key full =
+begins_of m L moment at payload f k s (of_packet used (Direct g) p (inl h)) key full =
+    let e = h.1 in
     let same : g ≡ f = cc in
     let key_is : g.key ≡ k = ap (λ (x : FragmentParts). x.key) same ∙ key in
     let met = as_full m L g.key s (ap (λ (j : Key). is_full m.settings L j) key_is ∙ full) in (
@@ -71,13 +72,13 @@ begins_of m L moment at payload f k s (of_fragment used g p v e) key full =
         f = g;
         used = used;
         found = p;
-        meets = record { passes = passes_is m.timed.table.limits m.settings g s.limits_are v; full = met.1 };
+        meets = record { passes = passes_is m.timed.table.limits m.settings g s.limits_are h.0; full = met.1 };
       },
     )
-begins_of m L moment at payload f k s (of_invalid used g x p i e) key full = absurd (cc)
+begins_of m L moment at payload f k s (of_packet used (Direct g) p (inr h)) key full = let e = h.2 in absurd (cc)
+begins_of m L moment at payload f k s (of_packet used (Error x) p e) key full = absurd (cc)
+begins_of m L moment at payload f k s (of_packet used (Query q) p e) key full = absurd (cc)
 begins_of m L moment at payload f k s (of_fault x p e) key full = absurd (cc)
-begins_of m L moment at payload f k s (of_error used q p e) key full = absurd (cc)
-begins_of m L moment at payload f k s (of_query used q p e) key full = absurd (cc)
 
 begins_full : (m : MemberValue) (L : List Timed) (moment : ℕ) (payload : List ℕ) (k : Key) → StandsOver m L
     → MeetsLimit m.settings L (Packet moment payload) k → (stop : RunStop) × BeginsFull m payload stop

@@ -74,30 +74,13 @@ pub record Came (most : ℕ) (first next : Option (List ℕ)) (counts after : Co
   pub within : taken ≤ most
   pub grow : GrowTo counts after
 
--- the answer by the line's bytes
-pub of_line : (old new : RoomValue) (before left : Option (List ℕ)) (counts later : Counts)
-    (result : Result (Option (Bor (List ℕ))) LineReadFault) (found : Option (Bor (List ℕ))) (l : Bor (List ℕ))
-    → result ≡ Ok found → found ≡ Some l → ReadsLine old before left counts later (lent_line result) new
-    → ReadsLine old before left counts later (Ok (Some l.now)) new
-of_line old new before left counts later result found l is found_is r =
-    subst (λ (x : Result (Option (Bor (List ℕ))) LineReadFault). ReadsLine old before left counts later (lent_line x) new)
-    (is ∙ ap (λ (x : Option (Bor (List ℕ))). Ok x) found_is) r
-
-pub of_end : (old new : RoomValue) (before left : Option (List ℕ)) (counts later : Counts)
-    (result : Result (Option (Bor (List ℕ))) LineReadFault) (found : Option (Bor (List ℕ)))
-    → result ≡ Ok found → found ≡ None → ReadsLine old before left counts later (lent_line result) new
-    → ReadsLine old before left counts later (Ok None) new
-of_end old new before left counts later result found is found_is r =
-    subst (λ (x : Result (Option (Bor (List ℕ))) LineReadFault). ReadsLine old before left counts later (lent_line x) new)
-    (is ∙ ap (λ (x : Option (Bor (List ℕ))). Ok x) found_is) r
-
-pub of_fault : (old new : RoomValue) (before left : Option (List ℕ)) (counts later : Counts)
-    (result : Result (Option (Bor (List ℕ))) LineReadFault) (found fault : LineReadFault)
-    → result ≡ Err found → found ≡ fault → ReadsLine old before left counts later (lent_line result) new
-    → ReadsLine old before left counts later (Err fault) new
-of_fault old new before left counts later result found fault is found_is r =
-    subst (λ (x : Result (Option (Bor (List ℕ))) LineReadFault). ReadsLine old before left counts later (lent_line x) new)
-    (is ∙ ap (λ (x : LineReadFault). Err x) found_is) r
+-- the answer by what was found
+pub of_result : {X : Type 0} (old new : RoomValue) (before left : Option (List ℕ)) (counts later : Counts)
+    (make : X → Result (Option (Bor (List ℕ))) LineReadFault) (result : Result (Option (Bor (List ℕ))) LineReadFault) (found x : X)
+    → result ≡ make found → found ≡ x → ReadsLine old before left counts later (lent_line result) new
+    → ReadsLine old before left counts later (lent_line (make x)) new
+of_result old new before left counts later make result found x is found_is r =
+    subst (λ (y : Result (Option (Bor (List ℕ))) LineReadFault). ReadsLine old before left counts later (lent_line y) new) (is ∙ ap make found_is) r
 
 -- a room that answers no end can read on
 pub was_reading : (most : ℕ) (first now : Option (List ℕ)) (counts later : Counts) (room : RoomValue) (lines : List (List ℕ)) (last : List ℕ)

@@ -5,12 +5,11 @@ use Rattle.nb_member.specs.Live.{cores}
 use Rattle.nb_member.specs.Agreement.{valid}
 use Rattle.nb_member.specs.Deliveries.{deliveries}
 
-pub returns-clause-here : goal.returns-clause-here
-returns-clause-here c = λ settings S T h names.
-    senders c.parts_are_not_spoilt.ensures.list c.all_parts_give_the_datagram.ensures names (cores (valid S))
-    (deliveries settings names [] S) (c.both_hand_over_the_same.ensures.once settings S T h names)
-
-pub returns-clause-there : goal.returns-clause-there
-returns-clause-there c = λ settings S T h names.
-    senders c.parts_are_not_spoilt.ensures.list c.all_parts_give_the_datagram.ensures names (cores (valid S))
-    (deliveries settings names [] T) (c.both_hand_over_the_same.ensures.once_there settings S T h names)
+pub returns : goal.returns
+returns c =
+    let cut = senders c.parts_are_not_spoilt.ensures.list c.all_parts_give_the_datagram.ensures in
+    let once = c.both_hand_over_the_same.ensures in
+    record {
+      here = λ settings S T h names. cut names (cores (valid S)) (deliveries settings names [] S) (once.once settings S T h names);
+      there = λ settings S T h names. cut names (cores (valid S)) (deliveries settings names [] T) (once.once_there settings S T h names);
+    }

@@ -1,26 +1,10 @@
 use Rattle.nb_member.proofs.DeliveryLemmas.WholeKeys.{DatagramsKnown, all_of_key, all_from_none, all_heard_from_none}
 use Rattle.nb_member.proofs.laws.deliveries.a_whole_key_is_handed_over_once.Goals as goal
 
-pub returns-clause-made : goal.returns-clause-made
-returns-clause-made c =
+pub returns : goal.returns
+returns c =
     let known : DatagramsKnown = record {
       of_two = c.table_of_two_lists_is_the_join.ensures;
       exact = c.datagram_has_the_bytes_of_its_entry.ensures;
     } in
-    all_from_none known
-
-pub returns-clause-handed : goal.returns-clause-handed
-returns-clause-handed c =
-    let known : DatagramsKnown = record {
-      of_two = c.table_of_two_lists_is_the_join.ensures;
-      exact = c.datagram_has_the_bytes_of_its_entry.ensures;
-    } in
-    all_heard_from_none known
-
-pub returns-clause-later : goal.returns-clause-later
-returns-clause-later c =
-    let known : DatagramsKnown = record {
-      of_two = c.table_of_two_lists_is_the_join.ensures;
-      exact = c.datagram_has_the_bytes_of_its_entry.ensures;
-    } in
-    all_of_key known
+    record { made = all_from_none known; handed = all_heard_from_none known; later = all_of_key known }

@@ -7,8 +7,8 @@ use Rattle.nb_member.specs.Live.{cores}
 use Rattle.nb_member.specs.Agreement.{valid}
 use Rattle.nb_member.specs.Deliveries.{deliveries}
 
-pub returns-clause-once : goal.returns-clause-once
-returns-clause-once c =
+pub returns : goal.returns
+returns c =
     let tables : TablesKnown = record {
       of_two = c.table_of_two_lists_is_the_join.ensures;
       entries = c.table_has_the_entry_of_its_list.ensures;
@@ -18,22 +18,12 @@ returns-clause-once c =
       of_two = c.table_of_two_lists_is_the_join.ensures;
       exact = c.datagram_has_the_bytes_of_its_entry.ensures;
     } in
-    first_once tables known c.table_is_spoilt_where_fragments_disagree.ensures
-
-pub returns-clause-once_there : goal.returns-clause-once_there
-returns-clause-once_there c =
-    let tables : TablesKnown = record {
-      of_two = c.table_of_two_lists_is_the_join.ensures;
-      entries = c.table_has_the_entry_of_its_list.ensures;
-      of_same = c.same_cores_make_the_same_table.ensures;
-    } in
-    let known : DatagramsKnown = record {
-      of_two = c.table_of_two_lists_is_the_join.ensures;
-      exact = c.datagram_has_the_bytes_of_its_entry.ensures;
-    } in
-    second_once tables known c.table_is_spoilt_where_fragments_disagree.ensures
-
-pub returns-clause-same : goal.returns-clause-same
-returns-clause-same c = λ settings S T h names others.
-    the_same names others (cores (valid S)) (deliveries settings names [] S) (deliveries settings others [] T)
-    (returns-clause-once c settings S T h names) (returns-clause-once_there c settings S T h others)
+    let once = first_once tables known c.table_is_spoilt_where_fragments_disagree.ensures in
+    let once_there = second_once tables known c.table_is_spoilt_where_fragments_disagree.ensures in
+    record {
+      once = once;
+      once_there = once_there;
+      same = λ settings S T h names others.
+          the_same names others (cores (valid S)) (deliveries settings names [] S) (deliveries settings others [] T)
+          (once settings S T h names) (once_there settings S T h others);
+    }

@@ -1,5 +1,5 @@
 -- What members hand over that are given the same fragments.
-use Rattle.std.proofs.Common.{◌≡◌, ◌↔◌, Bool, cond, List, [], ◌∷◌, Some, None, sym, ap, ◌∙◌, inl, inr, subst}
+use Rattle.std.proofs.Common.{◌≡◌, ◌↔◌, Bool, cond, List, [], ◌∷◌, Option, Some, None, sym, ap, ◌∙◌, inl, inr, subst}
 use Rattle.std.proofs.lemmas.Bool.{cases_Bool}
 use Rattle.std.specs.Option.{option_to_list}
 use Rattle.std.specs.FinMap as maps
@@ -75,14 +75,10 @@ unheard_is names d h =
       | inr deaf ↦ ap (λ (b : Bool). cond b (d ∷ []) []) deaf
     ]
 
--- what is handed over of a key whose datagram is known
-pub once_whole : (names : List NetbiosName) (L : List Core) (ds : List DatagramParts) → HandsOverOnce names L ds → (k : Key)
-    → (IsSpoilt L k → ⊥) → (d : DatagramParts) → datagram_at (table_of L) k ≡ Some d → of_key k ds ≡ heard names (d ∷ [])
-once_whole names L ds once k sound d e = once k sound ∙ ap (λ o. heard names (option_to_list o)) e
-
-pub once_part : (names : List NetbiosName) (L : List Core) (ds : List DatagramParts) → HandsOverOnce names L ds → (k : Key)
-    → (IsSpoilt L k → ⊥) → datagram_at (table_of L) k ≡ None → of_key k ds ≡ []
-once_part names L ds once k sound e = once k sound ∙ ap (λ o. heard names (option_to_list o)) e
+-- what is handed over of a key, by its datagram
+pub once_is : (names : List NetbiosName) (L : List Core) (ds : List DatagramParts) → HandsOverOnce names L ds → (k : Key)
+    → (IsSpoilt L k → ⊥) → (o : Option DatagramParts) → datagram_at (table_of L) k ≡ o → of_key k ds ≡ heard names (option_to_list o)
+once_is names L ds once k sound o e = once k sound ∙ ap (λ o. heard names (option_to_list o)) e
 
 -- a key that isn't whole has no datagram
 pub not_whole : ((t : Contents) (k : Key) → IsWholeAt t k ↔ ((d : DatagramParts) × (datagram_at t k ≡ Some d)))
@@ -95,21 +91,17 @@ pub senders : ((L : List Core) (d : DatagramParts) → HasPartsAlone L d → IsS
     → ((L : List Core) (d : DatagramParts) → HasPartsAlone L d → HasAll L d → Gives (table_of L) d)
     → (names : List NetbiosName) (L : List Core) (ds : List DatagramParts) → HandsOverOnce names L ds → HandsOverTheSenders names L ds
 senders sound gives names L ds once d parts all hears =
-    once_whole names L ds once d.key (sound L d parts) d (gives L d parts all) ∙ heard_is names d hears
+    once_is names L ds once d.key (sound L d parts) (Some d) (gives L d parts all) ∙ heard_is names d hears
 
 -- ---- what two members hand over that are given the same fragments
 
--- each hands over the datagram of a key once
-pub each_once : {settings : Settings} {names_a names_b : List NetbiosName} {events_a events_b : List Event} {pair : Pair} {S T : List Saying}
-    → BothDid settings names_a names_b events_a events_b pair S T
-    → HandsOverOnce names_a (cores (valid S)) (deliveries settings names_a [] S)
-    → HandsOverOnce names_b (cores (valid S)) (deliveries settings names_b [] T)
-    → HandsOverOnce names_a (cores (valid S)) pair.report_a.deliveries
-    × HandsOverOnce names_b (cores (valid S)) pair.report_b.deliveries
-each_once {names_a = names_a} {names_b = names_b} {S = S} did here there = (
-  subst (HandsOverOnce names_a (cores (valid S))) (sym did.a.deliveries_are) here,
-  subst (HandsOverOnce names_b (cores (valid S))) (sym did.b.deliveries_are) there,
-)
+-- what holds of what each makes holds of what each hands over
+pub of_each : {settings : Settings} {names_a names_b : List NetbiosName} {events_a events_b : List Event} {pair : Pair} {S T : List Saying}
+    → (P : List NetbiosName → List DatagramParts → Type 0) → BothDid settings names_a names_b events_a events_b pair S T
+    → P names_a (deliveries settings names_a [] S) → P names_b (deliveries settings names_b [] T)
+    → P names_a pair.report_a.deliveries × P names_b pair.report_b.deliveries
+of_each {names_a = names_a} {names_b = names_b} P did here there =
+    (subst (P names_a) (sym did.a.deliveries_are) here, subst (P names_b) (sym did.b.deliveries_are) there)
 
 -- what both hear is the same
 pub both_same : {settings : Settings} {names_a names_b : List NetbiosName} {events_a events_b : List Event} {pair : Pair} {S T : List Saying}
@@ -120,15 +112,3 @@ both_same {settings = settings} {names_a = names_a} {names_b = names_b} {pair = 
     subst (λ (ds : List DatagramParts). HandOverTheSame names_a names_b (cores (valid S)) ds pair.report_b.deliveries)
     (sym did.a.deliveries_are)
     (subst (HandOverTheSame names_a names_b (cores (valid S)) (deliveries settings names_a [] S)) (sym did.b.deliveries_are) same)
-
--- and it is the sender's
-pub both_senders : {settings : Settings} {names_a names_b : List NetbiosName} {events_a events_b : List Event} {pair : Pair} {S T : List Saying}
-    → BothDid settings names_a names_b events_a events_b pair S T
-    → HandsOverTheSenders names_a (cores (valid S)) (deliveries settings names_a [] S)
-    → HandsOverTheSenders names_b (cores (valid S)) (deliveries settings names_b [] T)
-    → HandsOverTheSenders names_a (cores (valid S)) pair.report_a.deliveries
-    × HandsOverTheSenders names_b (cores (valid S)) pair.report_b.deliveries
-both_senders {names_a = names_a} {names_b = names_b} {S = S} did here there = (
-  subst (HandsOverTheSenders names_a (cores (valid S))) (sym did.a.deliveries_are) here,
-  subst (HandsOverTheSenders names_b (cores (valid S))) (sym did.b.deliveries_are) there,
-)

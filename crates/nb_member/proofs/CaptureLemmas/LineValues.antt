@@ -1,11 +1,11 @@
 -- Lines: one value at most, and one of three kinds.
-use Rattle.std.proofs.Common.{◌≡◌, ◌≢◌, ℕ, zero, ◌%◌, ◌^◌, Bool, true, false, List, [], ◌∷◌, ◌++◌, length, refl, sym, ap, ◌∙◌, arith, Some, None, ◌⊎◌, inl, inr, ◌≤◌, Result, Ok, Err}
+use Rattle.std.proofs.Common.{◌≡◌, ◌≢◌, ℕ, zero, ◌%◌, ◌^◌, true, false, List, [], ◌∷◌, ◌++◌, length, refl, sym, ap, ◌∙◌, arith, Some, None, ◌⊎◌, inl, inr, ◌≤◌, Result, Ok, Err}
 use Rattle.std.specs.Prelude.{Contains, codes, slice_get, MatchOption}
 use Rattle.std.specs.List.{list_all}
 use Rattle.std.specs.Char.{is_ascii_digit, is_ascii_hexdigit}
 use Rattle.std.specs.Str.{bytes_eq, IsAscii}
 use Rattle.std.specs.Str.Parse.{digits_value, AllDigits, ParsesUnsigned}
-use Rattle.std.proofs.lemmas.Bool.{false≢true, cases_lt, cases_eq}
+use Rattle.std.proofs.lemmas.Bool.{false≢true, cases_Bool, cases_lt, cases_eq}
 use Rattle.std.proofs.lemmas.List.Elements.{Contains-append_right}
 use Rattle.std.proofs.lemmas.Slice.Eq.{bytes_eq-Decides}
 use Rattle.nb_member.specs.declared.line.Line.{Line}
@@ -114,14 +114,10 @@ decide_contains (y ∷ xs) x =
       ]
     ]
 
-decide_bool : (b : Bool) → (b ≡ true) ⊎ (b ≡ false)
-decide_bool true = inl refl
-decide_bool false = inr refl
-
 decide_same : (xs ys : List ℕ) → (xs ≡ ys) ⊎ (xs ≢ ys)
 decide_same xs ys =
     let is = bytes_eq-Decides xs ys in
-    elim (decide_bool (bytes_eq xs ys)) [
+    elim (cases_Bool (bytes_eq xs ys)) [
       | inl passed ↦ inl (is.0 passed)
       | inr refused ↦ inr (λ e. false≢true (sym refused ∙ is.1 e))
     ]
@@ -168,7 +164,7 @@ decide_blank (c ∷ text) =
 
 decide_moment : (text : List ℕ) → Either ((moment : ℕ) × MomentText moment text)
 decide_moment text =
-    elim (decide_bool (list_all is_ascii_digit text)) [
+    elim (cases_Bool (list_all is_ascii_digit text)) [
       | inr refused ↦ inr (λ m. false≢true (sym refused ∙ test-from_AllDigits text m.1.digits.1))
       | inl all ↦ elim (cases_lt 0 (length text)) [
         | inr none ↦ inr (λ m. let some = m.1.digits.0 in omega (arith, some))
@@ -204,7 +200,7 @@ decide_payload text =
             | inl e ↦ differ e.1
             | inr d ↦ no_odd_hex text odd (p.0, d.1)
           ])
-          | inl even ↦ elim (decide_bool (list_all is_ascii_hexdigit text)) [
+          | inl even ↦ elim (cases_Bool (list_all is_ascii_hexdigit text)) [
             | inl all ↦
                 let hex = HexText-from_test text all even in
                 inl (hex.0, digits hex.0 text some hex.1)

@@ -2,7 +2,6 @@
 use Rattle.std.proofs.Common.{◌≡◌, ◌+◌, ◌++◌, ℕ, List, [], ◌∷◌, length, Option, refl, sym, subst, ◌∙◌, append_assoc, arith}
 use Rattle.std.specs.Io.KnownBytes.{Appends}
 use Rattle.std.proofs.lemmas.List.{append-nil, length-append}
-use Rattle.std.proofs.lemmas.List.Sums.{fold-append}
 use Rattle.nb_names.specs.Name.{NetbiosName}
 use Rattle.nb_member.specs.declared.comments.Comments.{Comments}
 use Rattle.nb_member.specs.declared.event.Event.{Event}
@@ -14,12 +13,12 @@ use Rattle.nb_names.specs.DeviceFacts.{Appends-nil, Appends-more, grows_on}
 use Rattle.nb_member.specs.Code.ReplayLines.{ReplayState, ReplaysLine, ReportsLine, WritesLine}
 use Rattle.nb_member.specs.Code.Members.{KeepsStation}
 use Rattle.nb_member.specs.Events.{Saying, clock, Say}
-use Rattle.nb_member.specs.Live.{Timed, live_after, live_from, live}
+use Rattle.nb_member.specs.Live.{Timed, live_from, live}
 use Rattle.nb_member.specs.Member.{MemberValue, StandsOver, Stands}
 use Rattle.nb_member.specs.Report.{ReportOfLine, nothing, passed, taken, tick, ReportOf}
 use Rattle.nb_member.specs.Replaying.{Replayed}
 use Rattle.nb_member.specs.LineTaking.{TakesEach, none, more}
-use Rattle.nb_member.proofs.RunLemmas.RunSoFar.{say-append}
+use Rattle.nb_member.proofs.RunLemmas.RunSoFar.{live_from-append, say-append}
 
 -- ---- sayings
 
@@ -55,10 +54,6 @@ pub record SoFar (comments : Comments) (m : MemberValue) (L : List Timed) (done 
       → ReportOf comments m.settings m.names (length done + 1) (live_from m.settings L sayings) more others report
       → ReportOf comments m.settings m.names 1 L (done ++ more) (events ++ others) (text ++ report)
 
-live_both : (settings : Settings) (L : List Timed) (S T : List Saying)
-    → live_from settings L (S ++ T) ≡ live_from settings (live_from settings L S) T
-live_both settings L S T = fold-append (live_after settings) L S T
-
 -- the member's line, said of the one that it was
 acts_as : (comments : Comments) (m new : MemberValue) (n : ℕ) (L : List Timed) (l : List ℕ) (events : List Event) (text : List ℕ) (after : List Timed)
     → KeepsStation m new → ReportOfLine comments new.settings new.names n L l events text after
@@ -78,7 +73,7 @@ with_line comments m L done l before new newer t kept number at text a =
     (subst (λ (n : ℕ). ReportOfLine comments new.settings new.names n now l a.events text a.live) at a.acts) in
     let said = line_says comments m.settings m.names (length done + 1) now l a.events text a.live acts in
     let lives : live_from m.settings L (t.sayings ++ said.sayings) ≡ a.live =
-    live_both m.settings L t.sayings said.sayings ∙ sym said.live in
+    live_from-append m.settings L t.sayings said.sayings ∙ sym said.live in
     let size : length (done ++ l ∷ []) ≡ length done + 1 = length-append done (l ∷ []) in
     record {
       events = t.events ++ a.events;
@@ -114,7 +109,7 @@ replayed comments m H s done text new t same = record {
     said = subst (λ (x : Settings). Say x (H ++ t.events) (s.sayings ++ t.sayings)) (sym same)
         (say-append m.settings H t.events s.sayings t.sayings s.said t.said);
     over = subst (λ (x : Settings). StandsOver new (live x (s.sayings ++ t.sayings))) (sym same)
-        (subst (λ (ls : List Timed). StandsOver new ls) (sym (live_both m.settings [] s.sayings t.sayings)) t.stands);
+        (subst (λ (ls : List Timed). StandsOver new ls) (sym (live_from-append m.settings [] s.sayings t.sayings)) t.stands);
   };
 }
 

@@ -17,28 +17,18 @@ returns-in-None-clause-acted c =
 pub returns-in-None-clause-fault : goal.returns-in-None-clause-fault
 returns-in-None-clause-fault c = always_on_err c.comment_line.result (λ reads L s. inl refl)
 
-pub returns-in-Some-clause-acted : goal.returns-in-Some-clause-acted
-returns-in-Some-clause-acted c =
+pub returns-in-Some : goal.returns-in-Some
+returns-in-Some c =
     let known : MembersKnown = record {
       says = c.a_member_does_what_is_said.ensures.says;
       does = c.a_member_does_what_is_said.ensures.does;
       clock = c.a_member_drops_what_the_clock_ends.ensures;
     } in
-    on_ok_weaker c.outcome_line.result
-    (λ w reads L s. reported known c.args.comments L c.args.number c.args.line.now w s
-    (subst (λ (said : Option Line). Reads c.args.line.now (Ok said)) c.in-Some.is reads))
-    c.outcome_line.ensures.written
-
-pub returns-in-Some-clause-fault : goal.returns-in-Some-clause-fault
-returns-in-Some-clause-fault c =
-    let known : MembersKnown = record {
-      says = c.a_member_does_what_is_said.ensures.says;
-      does = c.a_member_does_what_is_said.ensures.does;
-      clock = c.a_member_drops_what_the_clock_ends.ensures;
-    } in
-    always_on_err c.outcome_line.result
-    (λ reads L s. may_report known c.args.comments L c.args.number c.args.line.now c.outcome_line.ensures.acted s
-    (subst (λ (said : Option Line). Reads c.args.line.now (Ok said)) c.in-Some.is reads))
-
-pub returns-in-Some-clause-kept : goal.returns-in-Some-clause-kept
-returns-in-Some-clause-kept c = acted_keeps c.outcome_line.ensures.acted
+    let reads_it = subst (λ (said : Option Line). Reads c.args.line.now (Ok said)) c.in-Some.is in
+    record {
+      acted = on_ok_weaker c.outcome_line.result
+          (λ w reads L s. reported known c.args.comments L c.args.number c.args.line.now w s (reads_it reads)) c.outcome_line.ensures.written;
+      fault = always_on_err c.outcome_line.result
+          (λ reads L s. may_report known c.args.comments L c.args.number c.args.line.now c.outcome_line.ensures.acted s (reads_it reads));
+      kept = acted_keeps c.outcome_line.ensures.acted;
+    }

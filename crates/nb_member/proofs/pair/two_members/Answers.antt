@@ -1,9 +1,10 @@
 use Rattle.std.proofs.Common.{subst}
 use Rattle.nb_member.specs.declared.pair.Pair.{Pair}
 use Rattle.nb_member.proofs.AgreementLemmas.SameTable.{BothDid, both_did, agree}
-use Rattle.nb_member.proofs.AgreementLemmas.SameDeliveries.{each_once, both_same, both_senders}
+use Rattle.nb_member.proofs.AgreementLemmas.SameDeliveries.{of_each, both_same}
 use Rattle.nb_member.proofs.pair.two_members.Goals as goal
-use Rattle.nb_member.specs.Agreement.{AreGivenTheSame, StoppedForMemory}
+use Rattle.nb_member.specs.Agreement.{AreGivenTheSame, HandsOverOnce, HandsOverTheSenders, StoppedForMemory, valid}
+use Rattle.nb_member.specs.Live.{cores}
 use Rattle.nb_member.specs.Member.{MemberValue}
 use Rattle.nb_member.specs.Running.{Runs}
 
@@ -42,7 +43,7 @@ returns-clause-agree c = λ h memory_a memory_b.
 pub returns-clause-once : goal.returns-clause-once
 returns-clause-once c = λ h memory_a memory_b.
     let law = c.both_hand_over_the_same.ensures in
-    each_once (did c h memory_a memory_b) (law.once c.args.settings h.sayings h.sayings_there h.same c.args.names_a)
+    of_each (λ names ds. HandsOverOnce names (cores (valid h.sayings)) ds) (did c h memory_a memory_b) (law.once c.args.settings h.sayings h.sayings_there h.same c.args.names_a)
     (law.once_there c.args.settings h.sayings h.sayings_there h.same c.args.names_b)
 
 pub returns-clause-same : goal.returns-clause-same
@@ -53,5 +54,5 @@ returns-clause-same c = λ h memory_a memory_b.
 pub returns-clause-senders : goal.returns-clause-senders
 returns-clause-senders c = λ h memory_a memory_b.
     let law = c.a_senders_datagram_is_handed_over.ensures in
-    both_senders (did c h memory_a memory_b) (law.here c.args.settings h.sayings h.sayings_there h.same c.args.names_a)
+    of_each (λ names ds. HandsOverTheSenders names (cores (valid h.sayings)) ds) (did c h memory_a memory_b) (law.here c.args.settings h.sayings h.sayings_there h.same c.args.names_a)
     (law.there c.args.settings h.sayings h.sayings_there h.same c.args.names_b)

@@ -34,7 +34,7 @@ SECONDS, LONGEST_PRINTED = 600, 1_000
 COMMAND = re.compile(rf'(?=.*\bnbt\b).*\b(?:{"|".join(COMMANDS)})\b')
 STATION = ['FRED<20>', 'JOE<00>', 'ANN<03>.A']
 LONGEST_PAYLOAD, LONGEST_EXAMPLE, IN_CAPTURE, FRONTS = 2_000, 400, 500, 10_000
-TABLES = 3
+TABLES, BUILT = 3, 20
 RECORDER = f'''#!/bin/sh
 case $1 in
 {" | ".join(COMMANDS)})
@@ -214,6 +214,8 @@ def made_by_chance(cases, inputs, count):
             cases.check(inputs.words('list', given), given)
         cases.check(inputs.words('merge', given), given)
         cases.check(inputs.words('agree', given), given)
+        for _ in range(BUILT):
+            cases.check(inputs.maker.building(), b'')
         told = [likely(cases.rng, 137, ServicePacket(cases.rng, inputs.traffic.name).made()) for _ in range(50)]
         cases.check(['show', '--brief'], capture_of([*told, *(likely(cases.rng, *inputs.payload()) for _ in range(50))]))
 

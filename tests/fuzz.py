@@ -5,12 +5,9 @@ Usage: tests/fuzz.py [--seconds N] [--seed N] [--inputs N] [PROGRAM]. They are m
 crates/nb_examples, the captures of examples/, packets that the program builds, and datagrams of made senders. The runs over
 each input are held against rules:
 
-- ends: within limits of time and memory, with a status of 0 to 3; standard error is empty at 0, one line `nbt: TEXT` at
-  1 and 3, clap's text at 2; where they are refused `name`, `build`, `save`, `merge` and `list` print nothing;
-- told: `name`, `show`, `replay`, `save`, `merge`, `list` and `agree`, with options and limits, print what the model does (tests/model,
-  written from the pages alone; tests/program/printed.py), of any capture and any lines, whatever the order and number of fragments and
-  tables;
-- built: what `build` makes is no refused packet, and is shown as the model does;
+- told: within limits of time and memory it prints what the model does and ends as that says (tests/model, written from the pages alone;
+  tests/program/printed.py): of any capture and any lines, whatever the order and number of fragments and tables, of any names, and of what is
+  built; a command line that clap answers prints a help, or ends with status 2 and its text on standard error;
 - the same answer twice: the same words and input give the same output, errors and status;
 - short reads: so they do over devices that move few bytes or are interrupted (tests/lib/devices.c);
 - memory refused: with a request for memory refused (tests/lib/refuse_memory.c) it ends with `nbt: memory` and status 3, after
@@ -35,9 +32,9 @@ from fuzz_runs import Runner, Wrong, answers, expect
 from fuzz_traffic import Traffic, session_packet
 from model.names import text_of
 from object_inputs import Inputs
-from printed import Unknown, wanted
+from printed import Unknown, is_of_clap, wanted
 
-RULES = ('ends', 'told', 'built', 'the same answer twice', 'short reads', 'memory refused')
+RULES = ('told', 'the same answer twice', 'short reads', 'memory refused')
 LONGEST_PRINTED = 1_000
 
 
@@ -46,7 +43,7 @@ class Rules:
 
     def __init__(self, runner, rng):
         self.runner, self.rng = runner, rng
-        self.inputs = Inputs(rng, *seeds(runner))
+        self.inputs = Inputs(rng, *seeds())
         self.kinds = [self.capture] * 4 + [self.tables] * 3 + [self.building, self.naming, self.stream] * 2 + [self.words]
 
     def one(self, number):
@@ -55,14 +52,14 @@ class Rules:
         (self.kinds[number] if number < len(self.kinds) else self.rng.choice(self.kinds))()
         self.runner.repeat(self.rng)
 
-    def told(self, words, given):
+    def told(self, words, given=b''):
         """A run beside the model, in text or in JSON."""
         with self.runner.rule('told'):
             made = self.runner.run(words, given)
             try:
-                model = wanted(words, given)
+                model = wanted(made.words, given)
             except Unknown:
-                return expect(made.status == 2 or made.status == 0 and b'--help' in made.output, f'it ends with {made.status}')
+                return expect(is_of_clap(made.status, made.output, made.errors), f'it ends with {made.status}')
             answers(made, model.output('--json' in words), model.status, model.errors.decode())
 
     def commands(self, given, *commands):
@@ -89,12 +86,7 @@ class Rules:
 
     def building(self):
         """The words of `build`."""
-        made = self.runner.run(self.inputs.maker.building())
-        if made.status == 0 and made.output[:3].isdigit():
-            with self.runner.rule('built'):
-                self.told(['show'], made.output)
-                shown = self.runner.history[-1].output
-                expect(b' refused ' not in shown and b' more ' not in shown, 'a built packet is refused')
+        self.told(self.inputs.maker.building())
 
     def naming(self):
         """The words of `name`."""
@@ -102,25 +94,18 @@ class Rules:
         text = self.rng.choice((text, text, self.inputs.maker.text(self.rng.choice(NAMES)))).encode('utf-8', 'replace').decode()
         digits = self.rng.choice((spelled('FRED').hex(), self.inputs.maker.saved().decode('latin-1').replace('\0', '0')))
         for words in (['name', '--', text], ['name', '--bytes', '--', digits]):
-            self.told(words, b'')
+            self.told(words)
 
     def words(self):
         """Any words."""
         maker, rng = self.inputs.maker, self.rng
         first = rng.choice(('name', 'show', 'build', 'replay', 'save', 'merge', 'list', 'agree', maker.word()))
-        self.runner.run([first] + [maker.word() for _ in range(rng.randrange(5))], rng.choice((maker.capture(), maker.saved(), b'')))
+        self.told([first] + [maker.word() for _ in range(rng.randrange(5))], rng.choice((maker.capture(), maker.saved(), b'')))
 
 
-def seeds(runner):
+def seeds():
     """The payloads and the lines that inputs are made from."""
-    payloads, lines = [it for it in example_bytes() if 0 < len(it) <= 2_000], list(capture_lines())
-    for words in (['query', '0003', 'FRED<20>'], ['registration', '0002', 'FRED<20>', '300000', '0000', '10.0.0.5'],
-                  ['status', '0001', 'JOE<00>'], ['request', 'JOE<00>', 'FRED<20>'], ['error', '10.0.0.9:138/0001', '82'],
-                  ['find', '10.0.0.5:138/0001', 'FRED<20>'], ['retarget', '10.0.0.7', '139']):
-        payloads.append(bytes.fromhex(runner.run(['build', *words]).output.split()[2].decode()))
-    for count in (1, 2, 5):
-        payloads.append(bytes.fromhex(runner.run(['save'], b'\n'.join(lines[:count * 3])).output.decode()))
-    return payloads, lines
+    return [it for it in example_bytes() if 0 < len(it) <= 2_000], list(capture_lines())
 
 
 def keep(runner, number, seed, wrong):

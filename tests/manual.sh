@@ -1,12 +1,11 @@
 #!/usr/bin/env bash
-# The manual pages: what mandoc says of them, where mandoc is installed, and whether they have each command, option and
-# refusal of the built program's and the tools' help; what bash and zsh offer; what `make install` puts where, and what `make
+# The manual pages: what mandoc says of them, where mandoc is installed, and whether they have each option of the tools' help; the built program's
+# help beside its page and the sources; what bash and zsh offer; what `make install` puts where, and what `make
 # uninstall` leaves; the Debian package; the pages beside the sources, with each public item; what is listed alike in several languages.
 # Usage: tests/manual.sh [PROGRAM]; its last line is 'N passed, M failed, K skipped'.
 set -uo pipefail
 . "$(dirname "$0")/lib/counting.sh"
 program=${1:-$here/../crates/nbt/out/nbt}
-page=$here/../man/nbt.1
 tools=(nbt-look nbt-pcap2cap nbt-cap2pcap nbt-parallel nbt-dask nbt-station)
 
 # Pages of other programs needn't be installed.
@@ -17,40 +16,6 @@ lint() {
         [ $? -lt 5 ] && ! grep -v 'referenced manual not found' "$room/lint"
         count $? "mandoc -T lint man/${each##*/}"
     done
-}
-
-# help_of [COMMAND]: the help of the program, or of a command.
-help_of() { ended "$program" "$@" --help; }
-
-words() {
-    local commands command option
-    commands=$(help_of | sed -n '/^Commands:/,/^$/s/^  \([a-z]*\) .*/\1/p' | grep -vx help)
-    [ -n "$commands" ]
-    count $? 'the help has commands'
-    for command in $commands; do
-        grep -qE "^\.It Cm $command\b" "$page"
-        count $? "man/nbt.1 has the command $command"
-        for option in $(help_of "$command" | grep -oE '^ +(-[a-z], )?--[a-z-]+' | grep -oE '[a-z-]+$' | sort -u); do
-            grep -qE "^\.It Fl ([a-zA-Z] , )?-${option#--}\b" "$page"
-            count $? "man/nbt.1 has the option $option of $command"
-        done
-    done
-}
-
-# What the help of a command says of a refusal, man/nbt.1 says too.
-refusals() {
-    local command line
-    for command in $(help_of | sed -n '/^Commands:/,/^$/s/^  \([a-z]*\) .*/\1/p' | grep -vx help); do
-        help_of "$command" | sed '1,/^What it may say/d'
-    done | sort -u >"$room/refusals"
-    sed 's/\\e/\\/g' "$page" | awk -F '"' '
-        /^\./ && text { print "  " text; text = "" }
-        /^\.It Li "/ { text = $2 ":"; next }
-        text { text = text " " $0 }' >"$room/advice"
-    while IFS= read -r line; do
-        grep -qxF -e "$line." "$room/advice"
-        count $? "man/nbt.1 has the line: $line"
-    done <"$room/refusals"
 }
 
 # installing TARGET [PREFIX]: make install, uninstall, install-lib or uninstall-lib, without rt, of the built program and of what
@@ -238,7 +203,7 @@ package_lint() {
 }
 
 if command -v mandoc >/dev/null; then part mandoc lint; else lacks mandoc mandoc; fi
-parts words refusals
+part helps counted_by program/helps.py "$program"
 part pages counted_by docs/pages.py
 part lists counted "$here/../tools/lists.py" --check
 part bash completion bash nbt.bash

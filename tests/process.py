@@ -19,20 +19,23 @@ import time
 sys.path[1:1] = [f'{sys.path[0]}/{it}' for it in ('lib', 'program')]
 from limits import MANY
 from parts import check, counts, enough, finish, least, part, skip
-from process_inputs import CAPTURE, COMMANDS, FRED, READING, REPORT, captures, chained, forms, repeated, roomy
-from process_runs import (broken_pipe, bytes_of, closed, instructions, limited, lines_of, program, rest_of, run, run_over,
-                          small_pipe, start, starts, wait)
+from process_inputs import CAPTURE, COMMANDS, FRED, READING, captures, chained, forms, repeated, roomy
+from process_runs import bytes_of, closed, instructions, limited, lines_of, program, run, run_over, small_pipe, start, starts, wait
 from process_terminals import advised, at_terminals, dropped, given_files, looked, mistaken, plain, short_of_memory
 from served import requests as counted_requests
+
+
+def named(words):
+    """A command in the name of a case."""
+    return f'nbt {" ".join(words)[:60]}'
 
 
 def ordinary():
     """Each command by itself; with standard error closed, full, or a pipe that nobody reads, it ends as ever."""
     for words, given, status, output, errors in (*COMMANDS, ([], b'', 2, b'', run([])[2])):
-        name = 'nbt ' + ' '.join(words)
-        check(run(words, given) == (status, output, errors), name)
+        check(run(words, given) == (status, output, errors), named(words))
         for device in ('closed', 'a broken pipe', 'full'):
-            check(run_over(words, given, 'stderr', device) == (status, output, b''), f'{name}, standard error {device}')
+            check(run_over(words, given, 'stderr', device) == (status, output, b''), f'{named(words)}, standard error {device}')
 
 
 def failing_outputs():
@@ -41,37 +44,33 @@ def failing_outputs():
     ignored = lambda: signal.signal(signal.SIGPIPE, signal.SIG_IGN)
     for words, given, status, output, errors in (*COMMANDS, (['--help'], b'', *run(['--help']))):
         wanted = (3, b'nbt: write\n') if output else (status, errors)
-        name = 'nbt ' + ' '.join(words)
-        for device in ('a broken pipe', 'full', 'opened for reading', 'closed'):
-            check(run_over(words, given, 'stdout', device)[::2] == wanted, f'{name}, standard output {device}')
-        ended = run_over(words, given, 'stdout', 'a broken pipe', before=ignored)[::2]
-        check(ended == wanted, f'{name}, standard output a broken pipe, SIGPIPE ignored')
+        for device, before in (('a broken pipe', None), ('full', None), ('opened for reading', None), ('closed', None), ('a broken pipe', ignored)):
+            ended = run_over(words, given, 'stdout', device, before=before)[::2]
+            check(ended == wanted, f'{named(words)}, standard output {device}{", SIGPIPE ignored" if before else ""}')
         ended = run_over(words, given, 'stdout', 'a broken pipe', before=closed(2), stderr=None)[0]
-        check(ended == wanted[0], f'{name}, standard output a broken pipe, standard error closed')
+        check(ended == wanted[0], f'{named(words)}, standard output a broken pipe, standard error closed')
         ended = run(words, before=closed(0, 1, 2), stdin=None, stdout=None, stderr=None)[0]
-        check(ended in (1, 3), f'{name}, all streams closed')
+        check(ended in (1, 3), f'{named(words)}, all streams closed')
 
 
 def closed_reports():
     """A reader that goes away after each line of a report, while the input goes on."""
-    for words, report in [(['replay', 'FRED<20>'], REPORT), (['show'], shown_lines())]:
-        lines = CAPTURE.splitlines(keepends=True)
+    lines = CAPTURE.splitlines(keepends=True)
+    for words in (['replay', 'FRED<20>'], ['show']):
+        report = run(words, CAPTURE)[1].splitlines(keepends=True)
         for taken in range(len(lines) + 1):
             process = start(words)
             process.stdin.write(b''.join(lines[:taken]))
             output = lines_of(process.stdout, taken)
             process.stdout.close()
-            try:
+            with contextlib.suppress(BrokenPipeError):
                 process.stdin.write(b''.join(lines[taken:]))
-            except BrokenPipeError:
-                pass
             process.stdin.close()
             wanted = (3, b'nbt: write\n') if taken < len(lines) else (0, b'')
             check(output == b''.join(report[:taken]) and wait(process) == wanted,
                   f'nbt {words[0]}, its report closed after line {taken}')
-    for words, given in [(['show'], b'tick 1\n' * 100_000), (['replay', 'FRED<20>'], b'tick 1\n' * 100_000)]:
-        for taken in (1, 100, 1_000):
-            check(is_cut(words, given, os.pipe(), taken), f'nbt {words[0]} of 100,000 lines, {taken} of them read')
+    for words, taken in itertools.product((['show'], ['replay', 'FRED<20>']), (1, 100, 1_000)):
+        check(is_cut(words, b'tick 1\n' * 100_000, os.pipe(), taken), f'nbt {words[0]} of 100,000 lines, {taken} of them read')
 
 
 def cut_reports():
@@ -91,29 +90,23 @@ def cut_reports():
 def is_cut(words, given, pipe, lines, count=0):
     """Whether the output is right as far as it is read, some lines and some bytes, and then can't be written."""
     whole = run(words, given)[1]
-    wanted = b''.join(whole.splitlines(keepends=True)[:lines])
-    wanted = whole[:len(wanted) + count]
+    size = sum(map(len, whole.splitlines(keepends=True)[:lines])) + count
     reading, writing = pipe
     with tempfile.TemporaryFile() as source:
         source.write(given)
         source.seek(0)
         process = start(words, stdin=source, stdout=writing)
     os.close(writing)
-    output = bytes_of(reading, len(wanted))
+    output = bytes_of(reading, size)
     os.close(reading)
-    return output == wanted and wait(process) == (3, b'nbt: write\n')
-
-
-def shown_lines():
-    """What `nbt show` has for each line of the capture."""
-    return run(['show'], CAPTURE)[1].splitlines(keepends=True)
+    return output == whole[:size] and wait(process) == (3, b'nbt: write\n')
 
 
 def inputs():
     """An input that is no file to be read, or that stops."""
     unread = (3, b'', b'nbt: read\n')
     for words in READING:
-        name = f'nbt {words[0]}'
+        name = named(words)
         for device in ('a directory', 'closed', 'opened for writing', 'one that would have to be waited for'):
             check(run_over(words, b'', 'stdin', device) == unread, f'{name}, its input {device}')
         ended = run_over(words, b'', 'stdin', 'a directory', before=closed(2), stderr=None)
@@ -138,7 +131,7 @@ def stopping_input(words):
         waits = process.poll() is None and not select.select([process.stdout], [], [], 0.1)[0]
         process.stdin.write(rest)
         process.stdin.close()
-        output = first + rest_of(process.stdout)
+        output = first + process.stdout.read()
         wanted_end = (0, b'') if wanted else (1, b'nbt: line 2\n')
         check(waits and output == report[0] + wanted and wait(process) == wanted_end,
               f'nbt {words[0]}, an input that stops inside a line and goes on with {rest}')
@@ -159,9 +152,9 @@ def open_inputs():
             (['save', '--per-source', '1'], captures(2), 1, b'', b'nbt: full source\n')]:
         process = start(words)
         process.stdin.write(given)
-        output = rest_of(process.stdout)
+        output = process.stdout.read()
         status, errors = wait(process)
-        check([status, output, errors] == wanted, f'nbt {" ".join(words)}, an input that stays open')
+        check([status, output, errors] == wanted, f'{named(words)}, an input that stays open')
 
 
 def halting_inputs():
@@ -174,10 +167,10 @@ def halting_inputs():
             waits = process.poll() is None
             process.stdin.write(given[place:])
             process.stdin.close()
-            output = rest_of(process.stdout)
+            output = process.stdout.read()
             status, errors = wait(process)
             check(waits and [status, output, errors] == wanted,
-                  f'nbt {" ".join(words)}, an input that stops after {place} bytes')
+                  f'{named(words)}, an input that stops after {place} bytes')
 
 
 def terminals():
@@ -229,7 +222,7 @@ def cut_files(path):
         output = run(words, given)[1]
         for room in range(len(output)):
             ended = ended_in(path, words, given, before=small_files(room))
-            check(ended == ((3, b'nbt: write\n'), output[:room]), f'nbt {" ".join(words)}, {room} bytes of room')
+            check(ended == ((3, b'nbt: write\n'), output[:room]), f'{named(words)}, {room} bytes of room')
 
 
 def full_disk(name, path, before):
@@ -254,10 +247,10 @@ def filled_disk(folder):
     path = os.path.join(folder, 'output')
     for words, given, status, output, errors in COMMANDS:
         wanted = (3, b'nbt: write\n') if output else (status, errors)
-        check(ended_in(path, words, given) == (wanted, b''), f'nbt {" ".join(words)}, output to a full disk')
+        check(ended_in(path, words, given) == (wanted, b''), f'{named(words)}, output to a full disk')
         with open(path, 'wb') as stream:
             ended = run(words, given, stderr=stream)[:2]
-        check(ended == (status, output), f'nbt {" ".join(words)}, errors to a full disk')
+        check(ended == (status, output), f'{named(words)}, errors to a full disk')
 
 
 def short_memory():
@@ -284,7 +277,7 @@ def short_memory():
             ended = run(words, given, before=limited(limit))
             outcomes.add(ended[0])
             check(is_told(ended, whole) if starts(words, limit) else not ended[1],
-                  f'nbt {" ".join(words)[:60]} in {limit >> 10} kB: {ended[0]} {ended[2][:60]}')
+                  f'{named(words)} in {limit >> 10} kB: {ended[0]} {ended[2][:60]}')
         check(whole[0] in outcomes, f'nbt {words[0]}: 64 megabytes are enough')
 
 
@@ -300,7 +293,7 @@ def requests():
     with tempfile.TemporaryDirectory() as folder:
         for words in (['show'], ['show', '--json'], ['replay', 'FRED<20>'], ['replay', '--json', 'FRED<20>'], ['save']):
             few, many = (counted_requests(folder, [program, *words], input=repeated(times)) for times in (100, 1_000))
-            check(0 < many == few, f'nbt {" ".join(words)}, requests for memory: {many} for 5,000 lines, {few} for 500')
+            check(0 < many == few, f'{named(words)}, requests for memory: {many} for 5,000 lines, {few} for 500')
 
 
 def pointers():
@@ -331,7 +324,7 @@ def short_stack():
     work = [(words, given, tuple(wanted)) for words, given, *wanted in COMMANDS]
     for words, given, wanted in work + [(words, given, run(words, given)) for words, given in deep]:
         endings = {run(words, given, before=limited(STACK, resource.RLIMIT_STACK), env={}) for _ in range(10)}
-        check(endings == {wanted}, f'nbt {" ".join(words)[:60]} with {STACK >> 10} kB of stack: {[it[0] for it in endings]}')
+        check(endings == {wanted}, f'{named(words)} with {STACK >> 10} kB of stack: {[it[0] for it in endings]}')
 
 
 def is_told(ended, whole):

@@ -6,18 +6,14 @@ set -uo pipefail
 . "$(dirname "$0")/lib/counting.sh"
 program=${1:-$here/../crates/nbt/out/nbt}
 
-# word NAME: what {NAME} stands for in samples.
-word() { PYTHONPATH=$here/lib python3 -c 'import sys, limits; print(limits.NAMED[sys.argv[1]])' "$1"; }
-fred=$(word FRED) scoped=$(word SCOPED) empty=$(word EMPTY)
+# Names in packets and a datagram's packet, as samples have them.
+read -r fred scoped empty < <(PYTHONPATH=$here/lib python3 -c 'import limits; print(*(limits.NAMED[it] for it in ("FRED", "SCOPED", "EMPTY")))')
 
 nbt() { ended "$program" "$@"; }
 
-# Whether the file holds exactly the text.
-holds() { printf '%s' "$2" | cmp -s - "$1"; }
-
 # ---- The cases of tests/cases, by tests/lib/samples.py. `hostile NAME=VALUE .. COMMAND` runs a command over the devices of
-# tests/lib/devices.c. What stands behind `% ` is held by the model alone (tests/program/beside_model.py), as each name, show, replay,
-# save, merge, list and agree of the other commands is too.
+# tests/lib/devices.c. What stands behind `% ` is held by the model alone (tests/program/beside_model.py), as what each command of the other
+# samples prints is too.
 
 # cases [FILE..]: those of these files, or of all.
 cases() {
@@ -39,13 +35,14 @@ saved() {
     grep '^4e4254' "$here/program/saved.txt" >"$room/tables"
     while read -r table first; do
         for first in $first $table; do
-            nbt merge <<<"$first" >"$room/output" && holds "$room/output" "$table"$'\n'
+            nbt merge <<<"$first" | cmp -s - <(echo "$table")
             count $? "nbt merge: ${first:0:80}"
         done
     done <"$room/tables"
-    sed 's/ .*//' "$room/tables" | nbt merge >"$room/output" && sed -n 's/^all //p' "$here/program/saved.txt" | cmp -s - "$room/output"
+    sed -n 's/^all //p' "$here/program/saved.txt" >"$room/all"
+    sed 's/ .*//' "$room/tables" | nbt merge | cmp -s - "$room/all"
     count $? 'nbt merge: all tables of tests/program/saved.txt'
-    tac "$room/tables" | sed 's/.* //' | nbt merge | cmp -s - "$room/output"
+    tac "$room/tables" | sed 's/.* //' | nbt merge | cmp -s - "$room/all"
     count $? 'nbt merge: the same in the other order, in the first form where there is one'
 }
 
@@ -92,7 +89,6 @@ memory() {
 
 with_tools "$program"
 printf '#!/bin/sh\nexec env LD_PRELOAD=%s/devices.so "$@"\n' "$room" >"$room/bin/hostile" && chmod +x "$room/bin/hostile"
-ln -s "$here/program/barred" "$room/bin"
 part shims compile devices refuse_memory
 if [ $# -gt 1 ]; then
     cases "${@:2}"

@@ -11,11 +11,13 @@ import subprocess
 import sys
 import tempfile
 
+sys.path.insert(1, f'{sys.path[0]}/../lib')
+from samples import CONSOLE, bash
+
 TOP = pathlib.Path(__file__).resolve().parents[2]
 BUILT = TOP / 'crates/nbt/out/nbt'
 PAGES = 'README.md', 'docs/GUIDE.md'
 TOOLS = {'nbt-pcap2cap': 'pcap2cap', 'nbt-cap2pcap': 'cap2pcap', 'nbt-look': 'nbt-look'}
-SAMPLES = re.compile(r'(?<=^```console\n).*?(?=^```$)', re.MULTILINE | re.DOTALL)
 SAMPLE = re.compile(r'^(\$ (.*)\n)(?:(?!\$ ).*\n)*', re.MULTILINE)
 
 
@@ -32,19 +34,13 @@ def installed(folder, program):
     return room
 
 
-def told(room, command):
-    """What a command prints, on standard output and standard error."""
-    done = subprocess.run(['bash', '-c', command], cwd=room, stdin=subprocess.DEVNULL, stdout=subprocess.PIPE, stderr=subprocess.STDOUT, check=False)
-    return done.stdout.decode()
-
-
 def main():
     program, pages = pathlib.Path(*sys.argv[1:2] or [BUILT]).resolve(), sys.argv[2:] or PAGES
     for page in (TOP / each for each in pages):
         with tempfile.TemporaryDirectory() as folder:
             room = installed(pathlib.Path(folder), program)
-            anew = lambda samples: SAMPLE.sub(lambda it: it[1] + told(room, it[2]), samples[0])
-            page.write_text(SAMPLES.sub(anew, page.read_text('utf-8')), 'utf-8')
+            told = lambda sample: sample[1] + bash(room, sample[2], subprocess.STDOUT).stdout.decode()
+            page.write_text(CONSOLE.sub(lambda it: f'```console\n{SAMPLE.sub(told, it[1])}```', page.read_text('utf-8')), 'utf-8')
 
 
 main()

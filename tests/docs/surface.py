@@ -1,5 +1,4 @@
-#!/usr/bin/env python3
-"""The public surface of each crate, by its sources, for docs/CALLS.md, in which a change of it is seen. Usage: tests/docs/surface.py prints it.
+"""The public surface of each crate, by its sources, for docs/CALLS.md, in which a change of it is seen.
 
 A line is a crate and its module, an item, and its signature without clauses: types with their public fields and variants, what is
 derived for them, their methods, constants, and the traits that are implemented; traits with their calls; functions; what is handed on
@@ -8,9 +7,8 @@ main.rt takes from its modules. The examples' crates have no callers.
 """
 import re
 
-from sources import BLOCK, CRATES, ROOT, Source, closed, end_of_head, owner_of
+from sources import BLOCK, CRATES, Source, closed, end_of_head, owner_of
 
-LISTED = re.findall(r'^(\w+)\b[^:#\n]*:', (ROOT / 'crates.txt').read_text(encoding='utf-8'), re.MULTILINE)
 ITEM = re.compile(
     r'^pub (?:(?:const |unsafe |extern\s+)*fn|struct|enum|trait|type|const|static) (?P<name>\w+)', re.MULTILINE)
 DERIVED = re.compile(r'#\[derive\(([^)]*)\)\]')
@@ -178,9 +176,3 @@ class Crate:
     def surface(self):
         """Its lines as modules, items and words, in the order of modules and names."""
         return sorted(set(self.lines))
-
-
-if __name__ == '__main__':
-    for crate in LISTED:
-        for module, item, words in () if crate.startswith('nb_examples') else Crate(crate).surface():
-            print(f'{"::".join((crate, *module))} {item}: {words}')

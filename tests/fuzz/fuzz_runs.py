@@ -3,8 +3,6 @@ tests/fuzz.py."""
 import collections
 import contextlib
 import os
-import pathlib
-import re
 import resource
 import subprocess
 
@@ -12,16 +10,7 @@ from served import compiled
 
 SECONDS = 30
 MEMORY = 512 << 20
-
-# What a refusal may say by docs/FORMATS.md: the texts of these faults, and those of commands.
-PAGE = pathlib.Path(ROOT, 'docs/FORMATS.md').read_text('utf-8')
-FAULTS = re.findall(r'^\| `(?:Name|Text|Cut|Load)Fault` \| (.*) \|$', PAGE, re.MULTILINE)
-OF_COMMANDS = re.findall(r'^\| (`.*?`) \|', PAGE.partition('| Text | When |')[2].partition('\n\n')[0], re.MULTILINE)
-SAID = '|'.join(re.sub(r' (?:AT|N)$', r' \\d+', text) for text in re.findall('`(.*?)`', ' '.join(FAULTS + OF_COMMANDS)))
-TEXTS = re.compile(rf'nbt: (?:{SAID})\n')
-MEMORY_OR_DEVICE = re.compile(r'nbt: (?:read|write|memory)\n')
 FRONTS_ARE_LEFT_BY = ('show', 'replay')
-SILENT = ('name', 'build', 'save', 'merge', 'list')
 Run = collections.namedtuple('Run', 'words given environment status output errors')
 
 
@@ -79,18 +68,9 @@ class Runner:
             raise
 
     def run(self, words, given=b'', shim=None, **asked):
-        """A run, which has ended as every run has to; a shim is asked by variables."""
-        with self.rule('ends'):
-            environment = {name: str(value) for name, value in asked.items()}
-            if shim:
-                environment['LD_PRELOAD'] = self.shims[shim]
-            made = self.ended([it.replace('\0', '') for it in words], given, environment)
-            check_ending(made)
-            return made
-
-    def ended(self, words, given, environment):
-        """A run, after it has ended."""
+        """A run, after it has ended; a shim is asked by variables."""
         self.runs += 1
+        environment = {name: str(value) for name, value in asked.items()} | ({'LD_PRELOAD': self.shims[shim]} if shim else {})
         path = os.path.join(self.folder, 'given')
         with open(path, 'wb') as kept:
             kept.write(given)
@@ -146,16 +126,3 @@ class Runner:
         left = short.output
         expect(not left or made.words[0] in FRONTS_ARE_LEFT_BY, 'an output at a refusal')
         expect(made.output.startswith(left) and left[-1:] in (b'', b'\n'), 'no front of whole lines')
-
-
-def check_ending(made):
-    """A status of 0 to 3, what stands on standard error then, and no output where there may be none."""
-    expect(made.status in (0, 1, 2, 3), f'the status {made.status}')
-    if made.status == 0:
-        expect(not made.errors, 'standard error at status 0')
-    elif made.status == 2:
-        expect(made.errors and not made.output, 'no text on standard error at status 2, or an output')
-    elif not made.output.startswith(b'different\n') or made.errors:
-        texts = TEXTS if made.status == 1 else MEMORY_OR_DEVICE
-        expect(texts.fullmatch(made.errors), f'the text {made.errors!r}')
-        expect(not made.output or made.words[0] not in SILENT, 'an output at a refusal')

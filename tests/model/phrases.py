@@ -6,11 +6,19 @@ from .packets import MORE
 R, RD, RA, G = 0x8000, 0x0100, 0x0080, 0x8000
 A, NS, NBSTAT = '0001', '0002', '0021'
 FIRST_ONES = 4
-CLAIMS = {5: 'claims', 8: 'refreshes', 9: 'refreshes', 15: 'claims as one of several addresses'}
 REASONS = {
     1: 'wrong form (FMT_ERR)', 2: 'server failure (SRV_ERR)', 3: 'no such name (NAM_ERR)', 4: 'not supported (IMP_ERR)',
     5: 'refused by policy (RFS_ERR)', 6: 'owned by another node (ACT_ERR)', 7: 'in conflict (CFT_ERR)',
 }
+# By OPCODE what requests say (RFC 1002 sections 4.2.2 to 4.2.4, 4.2.9, 4.2.12, 4.2.17), and responses (4.2.5 to 4.2.8, 4.2.10, 4.2.11, 4.2.13 to
+# 4.2.16, 4.2.18), where RCODE is 0 and where it isn't.
+REQUESTS = {
+    0: 'asks for {name}', 5: 'claims {holder}{time}', 6: 'releases {holder}', 8: 'refreshes {holder}{time}', 9: 'refreshes {holder}{time}',
+    15: 'claims as one of several addresses {holder}{time}',
+}
+GRANTS = {0: 'answers: {name} {answer}', **dict.fromkeys((5, 8, 9, 15), 'grants {holder}{time}'), 6: 'grants the release of {name}'}
+DENIALS = {0: 'answers: {name} is not found', **dict.fromkeys((5, 8, 9, 15), 'refuses {name}'), 6: 'refuses the release of {name}'}
+RESPONSES = {7: 'asks to wait for {name}{time}'}
 ERRORS = {0x82: 'no such destination name', 0x83: 'source name of a wrong form', 0x84: 'destination name of a wrong form'}
 REFUSALS = {
     0x80: 'not listening on called name', 0x81: 'not listening for calling name', 0x82: 'called name not present',
@@ -53,51 +61,55 @@ def coded(words, code):
     return f'{words.get(int(code, 16), "unknown code")} ({code})'
 
 
-class Service:
-    """A packet of port 137: what of it is said."""
+def service(fields):
+    """A packet of port 137."""
+    word, words = int(fields['word'], 16), words_of(fields)
+    operation, outcome = word >> 11 & 15, word & 15
+    phrase = (response if word & R else request)(operation, outcome, word, words['type'])
+    return phrase.format(**words, operation=operation, reason=REASONS.get(outcome, 'unknown error'))
 
-    def __init__(self, fields):
-        self.records = fields['answers'] + fields['authorities'] + fields['additional']
-        items = fields['questions'] + self.records
-        self.name, self.type = (items[0]['name'], items[0]['type']) if items else ('no name', None)
-        self.word = int(fields['word'], 16)
-        self.operation, self.outcome = self.word >> 11 & 15, self.word & 15
 
-    def of_records(self, key):
-        """What the records have under a key."""
-        return [record[key] for record in self.records if key in record]
+def request(operation, _, word, kind):
+    """What a request says."""
+    if operation == 0 and kind == NBSTAT:
+        return 'asks for the node status of {name}'
+    if operation == 5 and not word & RD:
+        return 'overwrites {holder}{time}'
+    return REQUESTS.get(operation, 'makes another request about {name}, operation {operation}')
 
-    def listed(self):
-        """The names of nodes, where these are asked for, else the addresses."""
-        if self.type == NBSTAT:
-            return [name['name'] for name in sum(self.of_records('names'), [])]
-        return sum(map(addresses_of, self.records), [])
 
-    def addresses(self):
-        """The first ones of what is listed, and how many more there are."""
-        more = len(self.listed()) - FIRST_ONES
-        return (', '.join(self.listed()[:FIRST_ONES]) or 'no address') + (f' and {more} more' if more > 0 else '')
+def response(operation, outcome, word, _):
+    """What a response says."""
+    if operation == 5 and outcome == 7:
+        return 'conflict about {name}'
+    if operation == 5 and outcome == 0 and word & (RD | RA) == RD:
+        return 'asks to challenge {name} at {addresses}'
+    if operation in GRANTS:
+        return DENIALS[operation] + ': {reason}' if outcome else GRANTS[operation]
+    return RESPONSES.get(operation, 'makes another response about {name}, operation {operation}')
 
-    def is_group(self):
-        """Whether G is set in the first flags."""
-        flags = [it['flags'] for record in self.records for it in record.get('entries', []) + record.get('names', [])]
-        return bool(flags) and bool(int(flags[0], 16) & G)
 
-    def holder(self):
-        """Whom a name is for."""
-        return f'{self.name}{" as a group" if self.is_group() else ""} for {self.addresses()}'
-
-    def time(self):
-        """How long the first record holds."""
-        return f', for {self.records[0]["ttl"]} s' if self.records else ''
-
-    def reason(self):
-        """What RCODE says."""
-        return REASONS.get(self.outcome, 'unknown error')
-
-    def either(self, good, bad):
-        """A positive response, or a negative one."""
-        return bad + ': ' + self.reason() if self.outcome else good
+def words_of(fields):
+    """What stands for the words in braces."""
+    records = fields['answers'] + fields['authorities'] + fields['additional']
+    first = (fields['questions'] + records or [{'name': 'no name', 'type': None}])[0]
+    of_records = lambda key: [record[key] for record in records if key in record]
+    nodes = [it['name'] for it in sum(of_records('names'), [])]
+    listed = nodes if first['type'] == NBSTAT else sum(map(addresses_of, records), [])
+    flags = [it['flags'] for record in records for it in record.get('entries', []) + record.get('names', [])]
+    is_group = bool(flags) and int(flags[0], 16) & G
+    more = len(listed) - FIRST_ONES
+    addresses = (', '.join(listed[:FIRST_ONES]) or 'no address') + (f' and {more} more' if more > 0 else '')
+    answer = f'is{" a group" if is_group else ""} at {addresses}'
+    if first['type'] == NS:
+        answer = f'is known to {(of_records("domain") or ["no name"])[0]} at {addresses}'
+    if first['type'] == NBSTAT:
+        answer = (f'has {len(nodes)} names: {addresses}' if nodes else 'has no names') + ''.join(f', unit {it}' for it in of_records('unit')[:1])
+    return {
+        'name': first['name'], 'type': first['type'], 'addresses': addresses, 'answer': answer,
+        'holder': f'{first["name"]}{" as a group" if is_group else ""} for {addresses}',
+        'time': f', for {records[0]["ttl"]} s' if records else '',
+    }
 
 
 def addresses_of(record):
@@ -105,61 +117,6 @@ def addresses_of(record):
     if record['type'] == A and len(record.get('data', '')) == 8:
         return ['.'.join(str(byte) for byte in bytes.fromhex(record['data']))]
     return [entry['address'] for entry in record.get('entries', [])]
-
-
-def service(fields):
-    """A packet of port 137."""
-    packet = Service(fields)
-    return (response if packet.word & R else request)(packet)
-
-
-def request(packet):
-    """A request (RFC 1002 sections 4.2.2 to 4.2.4, 4.2.9, 4.2.12, 4.2.17)."""
-    if packet.operation == 0:
-        return f'asks for {"the node status of " if packet.type == NBSTAT else ""}{packet.name}'
-    if packet.operation == 6:
-        return f'releases {packet.holder()}'
-    if packet.operation not in CLAIMS:
-        return f'makes another request about {packet.name}, operation {packet.operation}'
-    verb = CLAIMS[packet.operation]
-    if packet.operation == 5 and not packet.word & RD:
-        verb = 'overwrites'
-    return f'{verb} {packet.holder()}{packet.time()}'
-
-
-def response(packet):
-    """A response (RFC 1002 sections 4.2.5 to 4.2.8, 4.2.10, 4.2.11, 4.2.13 to 4.2.16, 4.2.18)."""
-    name, operation = packet.name, packet.operation
-    if operation == 0:
-        return packet.either(answer(packet), f'answers: {name} is not found')
-    if operation == 5 and packet.outcome == 7:
-        return f'conflict about {name}'
-    if operation == 5 and packet.outcome == 0 and packet.word & (RD | RA) == RD:
-        return f'asks to challenge {name} at {packet.addresses()}'
-    if operation in CLAIMS:
-        return packet.either(f'grants {packet.holder()}{packet.time()}', f'refuses {name}')
-    if operation == 6:
-        return packet.either(f'grants the release of {name}', f'refuses the release of {name}')
-    if operation == 7:
-        return f'asks to wait for {name}{packet.time()}'
-    return f'makes another response about {name}, operation {operation}'
-
-
-def answer(packet):
-    """A positive response to a query."""
-    if packet.type == NBSTAT:
-        return f'answers: {packet.name} {status(packet)}'
-    if packet.type == NS:
-        server = (packet.of_records('domain') or ['no name'])[0]
-        return f'answers: {packet.name} is known to {server} at {packet.addresses()}'
-    return f'answers: {packet.name} is{" a group" if packet.is_group() else ""} at {packet.addresses()}'
-
-
-def status(packet):
-    """The names of a node, and its unit."""
-    names, units = packet.listed(), packet.of_records('unit')
-    counted = f'has {len(names)} names: {packet.addresses()}' if names else 'has no names'
-    return counted + (f', unit {units[0]}' if units else '')
 
 
 def datagram(fields):

@@ -70,11 +70,6 @@ def report_text(said):
     return ' '.join(lead + [f'error {it}' if name == 'error' else str(it) or 'empty' for name, it in said.items() if name != 'at'])
 
 
-def report(lines, names, table):
-    """What `nbt replay` prints of the lines of a capture."""
-    return ''.join(f'{line.number} {report_text(reported(table, names, line))}\n' for line in lines)
-
-
 def save(lines, table):
     """Takes the lines of a capture as `nbt save` does; refused where the table has no room for a key."""
     for line in lines:

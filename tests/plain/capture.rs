@@ -1,13 +1,20 @@
 //! The lines of a capture.
 
 use crate::bad;
-use memchr::memchr;
-use std::io::{self, BufRead, BufReader, Read};
+use memchr::{memchr, memchr_iter};
+use std::io::{self, Read};
+use std::str;
 
 /// The most bytes of a line, its line feed not counted.
 const LONGEST_LINE: usize = 262_200;
-pub const MOST_INPUT: u64 = 16_777_216;
-pub const BUFFER: usize = 65_536;
+const MOST_INPUT: u64 = 16_777_216;
+
+/// Standard input, up to what a command takes of it.
+pub fn read_input() -> io::Result<Vec<u8>> {
+    let mut input = Vec::new();
+    io::stdin().lock().take(MOST_INPUT).read_to_end(&mut input)?;
+    Ok(input)
+}
 
 /// Puts the bytes that the digits stand for in the place of what was there. Says whether they are
 /// digits, two for each byte.
@@ -23,18 +30,7 @@ pub enum Line {
 }
 
 fn read_moment(word: &[u8]) -> Option<u64> {
-    if !(1..=20).contains(&word.len()) {
-        return None;
-    }
-    let mut moment = 0u64;
-    for character in word {
-        let value = character.wrapping_sub(b'0');
-        if value > 9 {
-            return None;
-        }
-        moment = moment.checked_mul(10)?.checked_add(value as u64)?;
-    }
-    Some(moment)
+    str::from_utf8(word).ok()?.parse().ok()
 }
 
 /// What a line says that is neither empty nor a comment, if it is well formed. Its payload replaces
@@ -61,37 +57,16 @@ fn parse(line: &[u8], payload: &mut Vec<u8>) -> Option<Line> {
     Some(Line::Payload(port, moment))
 }
 
-/// Adds what comes up to the line feed, and at most so many bytes. std's own way is slower.
-fn read_line(input: &mut impl BufRead, most: usize, line: &mut Vec<u8>) -> io::Result<()> {
-    loop {
-        let read = input.fill_buf()?;
-        let read = &read[..read.len().min(most - line.len())];
-        let feed = memchr(b'\n', read);
-        let count = feed.map_or(read.len(), |feed| feed + 1);
-        line.extend_from_slice(&read[..count]);
-        input.consume(count);
-        if feed.is_some() || count == 0 {
-            return Ok(());
+/// Gives each line's number, what it says, and its payload, until one isn't good.
+pub fn each_line(mut act: impl FnMut(u64, Line, &[u8]) -> Option<()>) -> io::Result<()> {
+    let (input, mut payload, mut start) = (read_input()?, Vec::new(), 0);
+    for (number, end) in (1..).zip(memchr_iter(b'\n', &input)) {
+        let line = &input[start..end];
+        start = end + 1;
+        if line.first().is_some_and(|first| *first != b'#') {
+            let said = parse(line, &mut payload).filter(|_| line.len() <= LONGEST_LINE);
+            said.and_then(|said| act(number, said, &payload)).ok_or_else(bad)?;
         }
     }
-}
-
-/// Gives each line's number, what it says, and its payload.
-pub fn each_line(mut act: impl FnMut(u64, Line, &[u8]) -> io::Result<()>) -> io::Result<()> {
-    let mut input = BufReader::with_capacity(BUFFER, io::stdin().lock().take(MOST_INPUT));
-    let (mut line, mut payload) = (Vec::new(), Vec::new());
-    for number in 1.. {
-        line.clear();
-        read_line(&mut input, LONGEST_LINE + 1, &mut line)?;
-        match line.pop() {
-            None => break,
-            Some(b'\n') => {}
-            Some(_) => return Err(bad()),
-        }
-        if !line.is_empty() && line[0] != b'#' {
-            let read = parse(&line, &mut payload).ok_or_else(bad)?;
-            act(number, read, &payload)?;
-        }
-    }
-    Ok(())
+    (start == input.len()).then_some(()).ok_or_else(bad)
 }

@@ -28,7 +28,7 @@ pub fn bad() -> io::Error {
 fn main() -> io::Result<()> {
     let words: Vec<String> = env::args().skip(1).collect();
     let last = words.last().map_or("", String::as_str);
-    let mut report = Report::new();
+    let mut report = Report::default();
     match words.first().map(String::as_str) {
         Some("replay") => replay::replay(last, &mut report)?,
         Some("show") => show::show(&mut report)?,

@@ -1,12 +1,12 @@
 //! The join of saved tables: their entries sorted by key, of which those of one key are joined.
 
 use crate::bad;
-use crate::capture::{read_digits, MOST_INPUT};
+use crate::capture::{read_digits, read_input};
 use crate::names::read_name;
 use crate::packets::{four_bytes, two_bytes, Key};
 use crate::report::Report;
 use crate::save::{save_front, save_held, save_run, save_spoilt, HELD, MAGIC, SPOILT};
-use std::io::{self, Read};
+use std::io;
 
 /// An entry as it is saved, its key left out, and what it says, if its key isn't spoilt.
 struct Entry<'a> {
@@ -194,9 +194,7 @@ fn join(entries: &[Entry], joined: &mut Joined, report: &mut Report) -> Option<(
 
 /// Prints the join of the tables that are read.
 pub fn merge(report: &mut Report) -> io::Result<()> {
-    let mut input = Vec::new();
-    io::stdin().lock().take(MOST_INPUT).read_to_end(&mut input)?;
-    let tables = tables(&input).ok_or_else(bad)?;
+    let tables = tables(&read_input()?).ok_or_else(bad)?;
     let mut entries = Vec::new();
     for table in &tables {
         read_table(table, &mut entries).ok_or_else(bad)?;
@@ -213,7 +211,6 @@ pub fn merge(report: &mut Report) -> io::Result<()> {
             _ if join(entries, &mut joined, report).is_some() => {}
             _ => save_spoilt(entries[0].key, report),
         }
-        report.print_if_long()?;
     }
     report.words("\n");
     Ok(())

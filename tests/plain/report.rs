@@ -1,6 +1,5 @@
 //! What is printed: what all commands write, in one buffer.
 
-use crate::capture::BUFFER;
 use crate::names::{is_netbios, is_plain, labels, letter_bytes, FIRST_LABEL, FRONT};
 use crate::packets::Key;
 use std::fs::File;
@@ -8,29 +7,13 @@ use std::io::{self, Write};
 use std::os::fd::AsFd;
 
 /// What is to be printed.
+#[derive(Default)]
 pub struct Report(Vec<u8>);
 
 impl Report {
-    pub fn new() -> Report {
-        Report(Vec::with_capacity(2 * BUFFER))
-    }
-
-    /// Prints all that waits, as it is: std's own writer would look for its last line feed.
-    pub fn print(&mut self) -> io::Result<()> {
-        if self.0.is_empty() {
-            return Ok(());
-        }
-        let output = io::stdout().as_fd().try_clone_to_owned();
-        let done = output.and_then(|output| File::from(output).write_all(&self.0));
-        self.0.clear();
-        done
-    }
-
-    pub fn print_if_long(&mut self) -> io::Result<()> {
-        if self.0.len() < BUFFER {
-            return Ok(());
-        }
-        self.print()
+    /// Prints it, as it is: std's own writer would look for its last line feed.
+    pub fn print(&self) -> io::Result<()> {
+        File::from(io::stdout().as_fd().try_clone_to_owned()?).write_all(&self.0)
     }
 
     pub fn words(&mut self, words: &str) -> &mut Report {

@@ -1,6 +1,5 @@
 //! Tables as bytes, in hexadecimal.
 
-use crate::bad;
 use crate::capture::{each_line, Line};
 use crate::packets::{decode, Key, Packet};
 use crate::report::Report;
@@ -24,10 +23,10 @@ pub fn save(report: &mut Report) -> io::Result<()> {
     each_line(|_, line, payload| {
         match line {
             Line::Tick(now) => drop(table.tick(now)),
-            Line::Payload(138, moment) => take(&mut table, moment, payload).ok_or_else(bad)?,
+            Line::Payload(138, moment) => take(&mut table, moment, payload)?,
             Line::Payload(..) => {}
         }
-        Ok(())
+        Some(())
     })?;
     let sorted = table.sorted();
     save_front(sorted.len(), report);
@@ -36,7 +35,6 @@ pub fn save(report: &mut Report) -> io::Result<()> {
             None => save_spoilt(key, report),
             Some(datagram) => save_datagram(key, datagram, report),
         }
-        report.print_if_long()?;
     }
     report.words("\n");
     Ok(())

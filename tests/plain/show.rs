@@ -1,6 +1,5 @@
 //! What `show` prints of each line of a capture.
 
-use crate::bad;
 use crate::capture::{each_line, Line};
 use crate::packets::{decode, key_of, two_bytes, Packet};
 use crate::report::Report;
@@ -14,17 +13,14 @@ pub fn show(report: &mut Report) -> io::Result<()> {
     let mut entries = Vec::new();
     each_line(|number, line, payload| {
         report.number(number);
-        let shown = match line {
-            Line::Tick(now) => {
-                report.words(" tick ").number(now);
-                Some(())
-            }
-            Line::Payload(137, _) => show_service(payload, &mut entries, report.words(" 137 ")),
-            Line::Payload(138, _) => show_datagram(payload, report.words(" 138 ")),
-            Line::Payload(..) => show_session(payload, report.words(" 139 ")),
-        };
-        shown.ok_or_else(bad)?;
-        report.words("\n").print_if_long()
+        match line {
+            Line::Tick(now) => drop(report.words(" tick ").number(now)),
+            Line::Payload(137, _) => show_service(payload, &mut entries, report.words(" 137 "))?,
+            Line::Payload(138, _) => show_datagram(payload, report.words(" 138 "))?,
+            Line::Payload(..) => show_session(payload, report.words(" 139 "))?,
+        }
+        report.words("\n");
+        Some(())
     })
 }
 

@@ -77,7 +77,7 @@ pub fn sum(rounds: &str) -> io::Result<()> {
     let mut payloads = Vec::new();
     each_line(|_, line, payload| {
         payloads.extend(matches!(line, Line::Payload(137, _)).then(|| payload.to_vec()));
-        Ok(())
+        Some(())
     })?;
     let (mut entries, mut sum) = (Vec::new(), 0);
     let began = processor_time();

@@ -11,6 +11,7 @@ it, and none is longer. With --files there are the commands of these files of te
 import argparse
 import collections
 import os
+import pathlib
 import random
 import re
 import shlex
@@ -24,19 +25,19 @@ from model.objects import SECTIONS
 from object_inputs import OPTIONS, Inputs, ServicePacket
 from parts import check, finish
 from payloads import longest_phrases
-from printed import Unknown, wanted
+from printed import COMMANDS, Unknown, is_of_clap, wanted
 from samples import parts_in
 from seeds import first_unlike
 
 TESTS = os.path.join(ROOT, 'tests')
 SECONDS, LONGEST_PRINTED = 600, 1_000
-COMMAND = re.compile(r'(?=.*\bnbt\b).*\b(?:name|show|replay|save|merge|list|agree)\b')
+COMMAND = re.compile(rf'(?=.*\bnbt\b).*\b(?:{"|".join(COMMANDS)})\b')
 STATION = ['FRED<20>', 'JOE<00>', 'ANN<03>.A']
 LONGEST_PAYLOAD, LONGEST_EXAMPLE, IN_CAPTURE, FRONTS = 2_000, 400, 500, 10_000
-TABLES = 3
-RECORDER = '''#!/bin/sh
+TABLES, BUILT = 3, 20
+RECORDER = f'''#!/bin/sh
 case $1 in
-name | show | replay | save | merge | list | agree)
+{" | ".join(COMMANDS)})
     record=$(mktemp -d "$NBT_RECORDS/XXXXXX")
     cat >"$record/input"
     for word; do printf '%s\\n' "$word"; done >"$record/words"
@@ -79,7 +80,8 @@ class Cases:
                 model = found['model'] = found.get('model') or wanted([command, *rest], given)
                 why = unlike(made, model, bool(form))
             except Unknown:
-                why = '' if made.returncode == 2 or made.returncode == 0 and b'--help' in made.stdout else f'clap ends with {made.returncode}'
+                is_well = is_of_clap(made.returncode, made.stdout, made.stderr)
+                why = '' if is_well else f'clap ends with {made.returncode}, {made.stdout[:100]}, {made.stderr[:100]}'
             well(why and f'nbt {shlex.join([command, *form, *rest])}: {why}, input {given[:300]!r}')
         if 'model' in found and command == 'show':
             self.remember(rest, found['model'].objects)
@@ -143,13 +145,15 @@ def recorded(cases, chosen):
         for command, is_alone in known_commands(chosen):
             before = len(os.listdir(records))
             subprocess.run(['bash', '-c', command], cwd=files, env=env, stdin=subprocess.DEVNULL, stdout=subprocess.DEVNULL,
-                           stderr=subprocess.DEVNULL, timeout=120, check=False)
+                           stderr=subprocess.DEVNULL, timeout=SECONDS, check=False)
             if is_alone:
                 well('' if len(os.listdir(records)) > before else f'the model holds nothing of: {command}')
+        seen = set()
         for record in sorted(os.listdir(records)):
-            with open(os.path.join(records, record, 'words'), encoding='utf-8', errors='surrogateescape') as words, \
-                    open(os.path.join(records, record, 'input'), 'rb') as given:
-                yield words.read().split('\n')[:-1], given.read()
+            words, given = (pathlib.Path(records, record, it).read_bytes() for it in ('words', 'input'))
+            if (words, given) not in seen:
+                seen.add((words, given))
+                yield words.decode(errors='surrogateescape').split('\n')[:-1], given
 
 
 def alike(words):
@@ -210,6 +214,8 @@ def made_by_chance(cases, inputs, count):
             cases.check(inputs.words('list', given), given)
         cases.check(inputs.words('merge', given), given)
         cases.check(inputs.words('agree', given), given)
+        for _ in range(BUILT):
+            cases.check(inputs.maker.building(), b'')
         told = [likely(cases.rng, 137, ServicePacket(cases.rng, inputs.traffic.name).made()) for _ in range(50)]
         cases.check(['show', '--brief'], capture_of([*told, *(likely(cases.rng, *inputs.payload()) for _ in range(50))]))
 

@@ -4,6 +4,7 @@ import json
 import re
 from dataclasses import dataclass
 
+from model.building import built
 from model.captures import LONGEST_LINE, comment_text, numbered, read_capture
 from model.limits import INPUT, KEYS, MOST_KEYS, MOST_NAMES
 from model.names import Refused, name_of_text, read_name, spelling_of, text_of
@@ -14,6 +15,7 @@ from model.tables import PER_SOURCE, Table
 from model.text import front_lines, lines_of
 from object_inputs import OPTIONS
 
+COMMANDS = tuple(it for it in OPTIONS if it != 'help')
 NAMING = ('--bytes',)
 MOST = {'--keys': MOST_KEYS, '--per-source': MOST_KEYS, '--input-limit': (1 << 64) - 1}
 USUAL = {'--keys': KEYS, '--per-source': PER_SOURCE, '--input-limit': INPUT}
@@ -45,6 +47,8 @@ def wanted(words, given):
     try:
         if command == 'name':
             return Wanted([(text_in if options else spelling)(others[0])], [])
+        if command == 'build':
+            return Wanted(built(others, '--broadcast' in options), [])
         if command in ('merge', 'list', 'agree'):
             return of_tables(command, options, given)
         station = stationed(others)
@@ -55,8 +59,15 @@ def wanted(words, given):
         return Wanted([], [], 1, f'nbt: {refused}\n'.encode())
 
 
+def is_of_clap(status, output, errors):
+    """Whether a run ends as a bad command line does, or prints a help or the version."""
+    return status == 2 and bool(errors) and not output or status == 0 and bool(output) and not errors
+
+
 def parsed(words):
     """The options of a command line with their values, and the words that aren't options."""
+    if words[0] not in COMMANDS:
+        raise Unknown(words[0])
     options, names, rest, known = {}, [], list(words[1:]), NAMING if words[0] == 'name' else OPTIONS[words[0]]
     while rest:
         word = rest.pop(0)
@@ -70,7 +81,7 @@ def parsed(words):
         if option not in known or option in options:
             raise Unknown(word)
         options[option] = value_of(option, joined_by, value, rest)
-    if len(names) != 1 if words[0] == 'name' else bool(names) != (words[0] == 'replay'):
+    if len(names) != 1 if words[0] == 'name' else bool(names) != (words[0] in ('build', 'replay')):
         raise Unknown('names')
     return options, names
 

@@ -1,10 +1,12 @@
-"""Runs of the built program over streams of any kind, for tests/process.py."""
+"""Runs of the built program over streams of any kind, for tests/process.py. One that doesn't end within a minute is killed, which is a status that
+no run may have."""
 import contextlib
 import fcntl
+import itertools
 import os
 import re
 import resource
-import select
+import signal
 import subprocess
 import sys
 import termios
@@ -13,56 +15,54 @@ TESTS = os.path.dirname(os.path.dirname(os.path.abspath(__file__)))
 PROGRAM = os.path.join(TESTS, '..', 'crates', 'nbt', 'out', 'nbt')
 SECONDS = 60
 STREAMS = ('stdin', 'stdout', 'stderr')
+# Devices that are opened by their paths.
+PATHS = {
+    'a directory': ('/', os.O_RDONLY), 'full': ('/dev/full', os.O_WRONLY), 'zero bytes without end': ('/dev/zero', os.O_RDONLY),
+    'opened for reading': (os.devnull, os.O_RDONLY), 'opened for writing': (os.devnull, os.O_WRONLY),
+}
 
 program = os.path.realpath(sys.argv[1] if len(sys.argv) > 1 else PROGRAM)
 
 
 def start(words, stdin=subprocess.PIPE, stdout=subprocess.PIPE, stderr=subprocess.PIPE, before=None, env=None):
     """The program, with these words, started."""
-    return subprocess.Popen([program, *words], stdin=stdin, stdout=stdout, stderr=stderr, preexec_fn=before, env=env,
-                            bufsize=0)
+    process = subprocess.Popen([program, *words], stdin=stdin, stdout=stdout, stderr=stderr, preexec_fn=before, env=env, bufsize=0)
+    signal.signal(signal.SIGALRM, lambda *_: process.kill())
+    signal.alarm(SECONDS)
+    return process
 
 
-def run(words, given=b'', before=None, **streams):
-    """The status, the output and the errors of a whole run over an input. None is the status of one that didn't end."""
-    process = start(words, before=before, **streams)
-    try:
-        output, errors = process.communicate(given if process.stdin else None, timeout=SECONDS)
-    except subprocess.TimeoutExpired:
-        process.kill()
-        process.communicate()
-        return None, b'', b''
+def run(words, given=b'', **how):
+    """The status, the output and the errors of a whole run over an input."""
+    process = start(words, **how)
+    output, errors = process.communicate(given if process.stdin else None)
     return process.returncode, output or b'', errors or b''
 
 
 @contextlib.contextmanager
-def directory():
-    """A folder as an input."""
-    opened = os.open('/', os.O_RDONLY)
-    try:
-        yield opened
-    finally:
-        os.close(opened)
-
-
-@contextlib.contextmanager
-def unready():
-    """The end to read of a pipe that has nothing yet, which says so."""
-    reading, writing = os.pipe()
-    os.set_blocking(reading, False)
-    try:
-        yield reading
-    finally:
+def opened(device):
+    """A descriptor of such a device: of a pipe the end to write, where the other one is closed, or the one to read, which has nothing yet."""
+    if device in PATHS:
+        ends = [os.open(*PATHS[device])]
+    elif device == 'a broken pipe':
+        reading, *ends = os.pipe()
         os.close(reading)
-        os.close(writing)
+    else:
+        ends = os.pipe()
+        os.set_blocking(ends[0], False)
+    try:
+        yield ends[0]
+    finally:
+        for each in ends:
+            os.close(each)
 
 
 def run_over(words, given, stream, device, before=None, **streams):
     """A whole run in which one of the three streams is such a device."""
     if device == 'closed':
         return run(words, given, before=closed(STREAMS.index(stream)), **streams, **{stream: None})
-    with DEVICES[device]() as opened:
-        return run(words, given, before=before, **streams, **{stream: opened})
+    with opened(device) as end:
+        return run(words, given, before=before, **streams, **{stream: end})
 
 
 def instructions(words, given):
@@ -74,15 +74,9 @@ def instructions(words, given):
 
 def wait(process):
     """The status and the errors of a process whose output isn't looked at any more."""
-    try:
-        status = process.wait(SECONDS)
-    except subprocess.TimeoutExpired:
-        process.kill()
-        status = None
-    errors = process.stderr.read() if process.stderr else b''
-    for stream in (process.stdin, process.stdout, process.stderr):
-        if stream and not stream.closed:
-            stream.close()
+    status, errors = process.wait(), process.stderr.read() if process.stderr else b''
+    for stream in filter(None, (process.stdin, process.stdout, process.stderr)):
+        stream.close()
     return status, errors
 
 
@@ -98,16 +92,7 @@ def limited(limit, what=resource.RLIMIT_AS):
 
 def starts(words, limit):
     """Whether the system's loader can load the program, with these words, within a limit."""
-    asked = dict(os.environ, LD_TRACE_LOADED_OBJECTS='1')
-    loader = subprocess.run([program, *words], env=asked, preexec_fn=limited(limit), capture_output=True, timeout=SECONDS)
-    return loader.returncode == 0
-
-
-def broken_pipe():
-    """A pipe to write to, whose other end is closed."""
-    reading, writing = os.pipe()
-    os.close(reading)
-    return open(writing, 'wb', buffering=0)
+    return run(words, before=limited(limit), env={**os.environ, 'LD_TRACE_LOADED_OBJECTS': '1'})[0] == 0
 
 
 def small_pipe():
@@ -118,37 +103,16 @@ def small_pipe():
 
 
 def bytes_of(descriptor, count):
-    """The next bytes of a stream, as many as are there within some seconds."""
+    """The next bytes of a stream, so many where it has them."""
     taken = b''
-    while len(taken) < count and select.select([descriptor], [], [], SECONDS)[0]:
-        some = os.read(descriptor, min(count - len(taken), 1 << 16))
-        if not some:
-            break
+    while some := os.read(descriptor, count - len(taken)):
         taken += some
     return taken
 
 
 def lines_of(stream, count):
-    """The next lines of a stream, as many as are there within some seconds."""
-    taken = b''
-    while taken.count(b'\n') < count:
-        byte = bytes_of(stream.fileno(), 1)
-        if not byte:
-            break
-        taken += byte
-    return taken
-
-
-def rest_of(stream):
-    """What a stream still gives up to its end, or within some seconds."""
-    return bytes_of(stream.fileno(), 1 << 30)
-
-
-DEVICES = {
-    'a broken pipe': broken_pipe, 'a directory': directory, 'one that would have to be waited for': unready,
-    'full': lambda: open('/dev/full', 'wb'), 'zero bytes without end': lambda: open('/dev/zero', 'rb'),
-    'opened for reading': lambda: open(os.devnull, 'rb'), 'opened for writing': lambda: open(os.devnull, 'wb'),
-}
+    """The next lines of a stream."""
+    return b''.join(itertools.islice(stream, count))
 
 
 def quiet_terminal():
@@ -161,27 +125,20 @@ def quiet_terminal():
     return terminal, slave
 
 
-def at_terminal(words, typed, wanted):
+def at_terminal(words, typed):
     """The status of the program at a terminal, and what it prints there."""
     terminal, slave = quiet_terminal()
     process = start(words, stdin=slave, stdout=slave, stderr=slave)
     os.write(terminal, typed)
     status, _ = wait(process)
     os.close(slave)
-    output = b''
-    while len(output) < len(wanted) and select.select([terminal], [], [], 1)[0]:
-        try:
-            output += os.read(terminal, 4096)
-        except OSError:
-            break
-    os.close(terminal)
-    return status, output
+    return status, rest_of_terminal(terminal)
 
 
-def with_errors_shown(words, given=b'', before=None, **streams):
+def with_errors_shown(words, given=b'', **how):
     """The status and the output of a whole run, and what it prints on standard error, which is a terminal."""
     terminal, slave = quiet_terminal()
-    status, output, _ = run(words, given, before, stderr=slave, **streams)
+    status, output, _ = run(words, given, stderr=slave, **how)
     os.close(slave)
     return status, output, rest_of_terminal(terminal)
 

@@ -5,8 +5,7 @@ import time
 
 from limits import MANY, MOST_NAMES
 from process_inputs import COMMANDS, FRED, READING, captures, packet
-from process_runs import (at_terminal, limited, lines_of, quiet_terminal, rest_of, rest_of_terminal, run, start, starts, wait,
-                          with_errors_shown)
+from process_runs import at_terminal, limited, lines_of, quiet_terminal, rest_of_terminal, run, start, starts, wait, with_errors_shown
 
 LOOK = b'a pcap or pcapng file: `nbt-look FILE` shows it, `nbt-pcap2cap FILE` makes a capture of it\n'
 PACKETS = ('query, status, registration, refresh, release, response, request, message, positive, negative, retarget, '
@@ -87,20 +86,20 @@ def at_terminals():
     the input has ended or that it can't be read."""
     for words, given, status, output, errors in COMMANDS:
         wanted = output + shown(errors)
-        yield at_terminal(words, given + b'\x04', wanted) == (status, wanted), f'nbt {" ".join(words)} at a terminal'
+        yield at_terminal(words, given + b'\x04') == (status, wanted), f'nbt {" ".join(words)} at a terminal'
     for words in (['show'], ['replay', 'FRED<20>']):
         report = {'show': b'1 tick 1\n2 tick 22\n', 'replay': b'1 dropped 0\n2 dropped 0\n'}[words[0]]
         refused = report[:report.index(b'\n') + 1] + shown(b'nbt: line 2\n')
         for typed, wanted, status in [(b'tick 1\ntick 22\n\x04', report, 0), (b'tick 1\ntick 22\x04\x04', report, 0),
                                       (b'tick 1\nx\n', refused, 1)]:
-            yield at_terminal(words, typed, wanted) == (status, wanted), f'nbt {words[0]} at a terminal: {typed}'
+            yield at_terminal(words, typed) == (status, wanted), f'nbt {words[0]} at a terminal: {typed}'
         terminal, slave = quiet_terminal()
         process = start(words, stdin=slave)
         os.close(slave)
         os.write(terminal, b'tick 1\n')
         first = lines_of(process.stdout, 1)
         os.close(terminal)
-        rest = rest_of(process.stdout)
+        rest = process.stdout.read()
         yield (first + rest == report[:report.index(b'\n') + 1] and wait(process) in ((0, b''), (3, b'nbt: read\n')),
                f'nbt {words[0]}, its terminal gone')
 
@@ -206,5 +205,5 @@ def short_of_memory():
     refused_so = [(3, b'', b'nbt: memory\n' + said) for said in (b'', meaning(b'nbt: memory\n'))]
     least = next(it for it in range(64, 65_536, 64) if starts(words, it << 10))
     for limit in range(least, least + 2_048, 64):
-        ended = with_errors_shown(words, many, limited(limit << 10))
+        ended = with_errors_shown(words, many, before=limited(limit << 10))
         yield ended == whole or ended in refused_so, f'nbt save in {limit} kB, errors at a terminal'

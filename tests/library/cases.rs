@@ -14,10 +14,10 @@ use nbt::{
 
 // What payloads say.
 #[allow(dead_code)]
-#[path = "../../examples/show_values.rs"]
-mod show_values;
+#[path = "values.rs"]
+mod values;
 
-const ROWS: &str = include_str!("../../../../tests/library/cases.txt");
+const ROWS: &str = include_str!("cases.txt");
 
 /// Whether the crate asks this within calls of its own, or otherwise.
 fn is_within(call: &str) -> bool {
@@ -103,15 +103,14 @@ fn line(found: Option<Line>) -> String {
 /// A response of bytes, which is also that of the values that are read of it.
 fn response(response: Response<'_>) -> Result<Vec<u8>> {
     let packet = response.write()?;
-    let again =
-        show_values::written(response.identifier, response.word, &service::read(&packet)?.answers().next().unwrap());
+    let again = values::written(response.identifier, response.word, &service::read(&packet)?.answers().next().unwrap());
     assert_eq!(again.as_ref(), Ok(&packet));
     again
 }
 
 /// What payloads say, in one line.
 fn lines(port: u16, payload: &[u8]) -> String {
-    show_values::lines(port, payload).replace("\n  ", ", ")
+    values::lines(port, payload).replace("\n  ", ", ")
 }
 
 /// The lines after the first, or why there are none.

@@ -1,12 +1,12 @@
-// The rows of tests/library/cases.txt, which says how they are written: what each call of nbt.mjs answers, a test for each row.
+// The rows of cases.txt, which says how they are written: what each call of nbt.mjs answers, a test for each row.
 import assert from 'node:assert/strict';
 import { readFileSync } from 'node:fs';
 import { test } from 'node:test';
-import { bytesOf, wordsOf } from '../../../tests/library/rows.mjs';
-import { handed, keyOf, linesOf, outcomeOf } from '../../../tests/library/values.mjs';
+import { bytesOf, wordsOf } from './rows.mjs';
+import { handed, keyOf, linesOf, outcomeOf } from './values.mjs';
 
 const REQUESTS = ['query', 'nodeStatus', 'registration', 'refresh', 'release'];
-const ROWS = readFileSync(new URL('../../../tests/library/cases.txt', import.meta.url), 'latin1');
+const ROWS = readFileSync(new URL('cases.txt', import.meta.url), 'latin1');
 // What packages ask within calls of their own, or otherwise; and what this one has no word for.
 const WITHIN = ROWS.match(/^# Within: (.*)/m)[1].split(' ');
 const UNSAID = /! (no station|other type|unknown request)$|^service_domain .*18446744073709551615/;

@@ -4,7 +4,7 @@ import test from 'node:test';
 import { gzipSync } from 'node:zlib';
 
 import { LineFault, linesOf, payloadsIn } from '../src/containers/lines.js';
-import { hostOf, portOf, shown } from '../src/containers/ends.js';
+import { partsOf, shown } from '../src/containers/ends.js';
 import { slicesOf } from '../src/containers/slices.js';
 import { Blocks, Column, Texts } from '../src/model/columns.js';
 import { commentOf, made, textOf, written } from '../src/model/capture.js';
@@ -30,8 +30,7 @@ const fileOf = (text) => slicesOf(bytes(text));
 test('ends with and without ports, of both kinds of addresses', () => {
     for (const [end, host, port] of [['10.0.0.5:137', '10.0.0.5', '137'], ['[fe80::5]:138', 'fe80::5', '138'], ['[fe80::5]', 'fe80::5', ''],
         ['10.0.0.5', '10.0.0.5', ''], ['', '', '']]) {
-        assert.equal(hostOf(end), host);
-        assert.equal(portOf(end), port);
+        assert.deepEqual(partsOf(end), { host, port });
     }
     assert.equal(shown('10.0.0.5:137', ['137']), '10.0.0.5');
     assert.equal(shown('[fe80::5]:1024', ['137']), '[fe80::5]:1024');

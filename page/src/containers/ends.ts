@@ -1,27 +1,18 @@
 /** An address and a port, as one text: `10.0.0.5:137`, `[fe80::5]:137`. */
 
-export function hostOf(end: string) {
-    if (end.startsWith('[')) return end.slice(1, end.indexOf(']'));
-    const colon = end.indexOf(':');
-    return colon < 0 ? end : end.slice(0, colon);
-}
-
-/** The port, or an empty text where there is none. */
-export function portOf(end: string) {
-    const colon = end.indexOf(':', end.indexOf(']') + 1);
-    return colon < 0 ? '' : end.slice(colon + 1);
-}
-
+/** An address, of IPv6 in brackets, and perhaps a port. */
+const END = /^(?:\[(.*?)\]|([^:]*))(?::(.*))?$/;
 /** Of how many ends the parts are known at most. */
 const MOST_KNOWN = 65_536;
 export type Parts = { host: string, port: string };
 const known = new Map<string, Parts>();
 
-/** An end in its parts: of those that come often they are known. */
-export function partsOf(end: string) {
+/** An end in its parts, of which the port is an empty text where there is none: those of ends that come often are known. */
+export function partsOf(end: string): Parts {
     const found = known.get(end);
     if (found) return found;
-    const parts = { host: hostOf(end), port: portOf(end) };
+    const [, six, four = end, port = ''] = END.exec(end) ?? [];
+    const parts = { host: six ?? four, port };
     if (known.size >= MOST_KNOWN) known.clear();
     known.set(end, parts);
     return parts;

@@ -1,5 +1,5 @@
 /** What is made of the packets of a file, one after another: what nbt-look sums up too, and what the page alone tells. */
-import { Seen as Summed, without_place as withoutPlace } from '../made/seen.js';
+import { Seen as Summed } from '../made/seen.js';
 import { Room } from '../made/rooms.js';
 import { MOST_KEYS, PIECES, PORT } from '../made/vocabulary.js';
 import type { Told } from './fronts.js';
@@ -55,5 +55,3 @@ export class Seen {
         return { ...this.ofParts((part) => part.others()), unread: this.unread.room.others };
     }
 }
-
-export { withoutPlace };

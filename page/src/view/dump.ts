@@ -3,6 +3,8 @@ import { DIGITS, printable } from '../containers/digits.js';
 import { element } from './dom.js';
 
 const ROW = 16;
+/** Where in a row's line its digits begin, and its text. */
+const [IN_DIGITS, IN_TEXT] = [6, 6 + 3 * ROW + 3];
 /** How many bytes are shown until all are wanted. */
 const MOST = 4_096;
 
@@ -27,38 +29,28 @@ function rowsOf(bytes: Uint8Array, from: number, to: number, mark: number | null
     const end = Math.min(to, bytes.length) + Number(mark === bytes.length && to >= bytes.length);
     for (let at = from; at < Math.max(end, 1); at += ROW) {
         const row = bytes.subarray(at, Math.min(at + ROW, to));
-        const place = mark !== null && mark >= at && mark < at + ROW ? mark - at : -1;
-        if (place < 0) {
-            text += `${front(at)}${digits(row, 0).padEnd(3 * ROW + 1)}  ${printable(row)}\n`;
-            continue;
-        }
-        parts.push(text, ...marked(at, row, place));
+        text += `${at.toString(16).padStart(5, '0')} ${digits(row).padEnd(3 * ROW + 1)}  ${printable(row)}\n`;
+        if (mark === null || mark < at || mark >= at + ROW) continue;
+        const line = text.lastIndexOf('\n', text.length - 2) + 1;
+        parts.push(text.slice(0, line), ...marked(text.slice(line), mark, mark - at, row.length));
         text = '';
     }
     return [...parts, text];
 }
 
-/** The row with the marked byte; where that is the place after the last byte, a space is marked. */
-function marked(at: number, row: Uint8Array, place: number) {
-    const byte = place < row.length ? digits(row.subarray(place, place + 1), 0).trim() : '  ';
-    const words = place < row.length ? `the byte of the fault, ${at + place}` : `the place of the fault, ${at + place}, after the last byte`;
-    const before = digits(row.subarray(0, place), 0);
-    const gap = place === ROW / 2 ? '  ' : ' ';
-    const after = place < row.length ? digits(row.subarray(place + 1), place + 1) : '';
-    const rest = ' '.repeat(Math.max(0, 3 * ROW + 1 - before.length - gap.length - 2 - after.length));
+/** The line of a row of so many bytes with the marked one; where that is the place after the last byte, a space is marked. */
+function marked(line: string, mark: number, place: number, size: number) {
+    const isByte = place < size;
+    const at = IN_DIGITS + 3 * place + 1 + Number(place >= ROW / 2);
+    const words = isByte ? `the byte of the fault, ${mark}` : `the place of the fault, ${mark}, after the last byte`;
+    const text = IN_TEXT + place;
     return [
-        `${front(at)}${before}${gap}`, element('mark', { title: words }, byte), `${after}${rest}  ${printable(row.subarray(0, place))}`,
-        ...(place < row.length ? [element('mark', { 'aria-hidden': 'true' }, printable(row.subarray(place, place + 1)))] : []),
-        `${printable(row.subarray(place + 1))}\n`,
+        line.slice(0, at), element('mark', { title: words }, line.slice(at, at + 2)), line.slice(at + 2, text),
+        ...(isByte ? [element('mark', { 'aria-hidden': 'true' }, line[text])] : []), line.slice(text + Number(isByte)),
     ];
 }
 
-function front(at: number) {
-    return `${at.toString(16).padStart(5, '0')} `;
-}
-
-/** Two digits a byte, each after a space, and one space more in the middle of a row.
- * @param place where they begin in the row */
-function digits(bytes: Uint8Array, place: number) {
-    return Array.from(bytes, (each, at) => `${place + at === ROW / 2 ? '  ' : ' '}${DIGITS[each]}`).join('');
+/** Two digits a byte, each after a space, and one space more in the middle of a row. */
+function digits(row: Uint8Array) {
+    return Array.from(row, (each, at) => `${at === ROW / 2 ? '  ' : ' '}${DIGITS[each]}`).join('');
 }

@@ -1,6 +1,6 @@
 /** All of one packet: where it comes from, what it says, its fault, its fields and bytes. */
 import { digitsOf } from '../containers/digits.js';
-import { hostOf } from '../containers/ends.js';
+import { partsOf } from '../containers/ends.js';
 import { is_in_name as isInName, place_of as placeOf } from '../made/places.js';
 import type { Kept } from '../model/packets.js';
 import { since } from '../model/times.js';
@@ -88,7 +88,7 @@ function wireshark(packet: Shown) {
     if (packet.port === 137 && bytes.length >= 2) {
         filters.push(`nbns.id == 0x${digitsOf(bytes.subarray(0, 2))}`);
     } else if (packet.port === 138 && typeof told?.key === 'string') {
-        filters.push(`nbdgm.src.ip == ${hostOf(told.key.split('/')[0])} && nbdgm.dgram_id == 0x${told.key.split('/')[1]}`);
+        filters.push(`nbdgm.src.ip == ${partsOf(told.key.split('/')[0]).host} && nbdgm.dgram_id == 0x${told.key.split('/')[1]}`);
     }
     return element('p', { class: 'quiet' }, 'Wireshark: ', ...filters.flatMap((each, at) => [at ? ', of the same ' : '', element('code', {}, each)]));
 }

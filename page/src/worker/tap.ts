@@ -4,9 +4,10 @@ import { partsOf, shown } from '../containers/ends.js';
 import type { Cut, Opened, Payload, Seen as Given } from '../containers/payloads.js';
 import type { LeftOut, Mark } from '../containers/report.js';
 import { made, written } from '../model/capture.js';
-import { Seen, withoutPlace, type Ends, type Item } from '../model/seen.js';
+import { Seen, type Ends, type Item } from '../model/seen.js';
 import { datagramFront, serviceFront, type Told } from '../model/fronts.js';
 import { kinds_of as kindsOf } from '../made/kinds.js';
+import { without_place as withoutPlace } from '../made/seen.js';
 import { Batch } from './batch.js';
 import { slicesOf } from './file.js';
 import { LEFT_OUT, Packets } from '../model/packets.js';
@@ -107,11 +108,7 @@ export class Tap {
 }
 
 function itemOf({ frame, time, source, destination }: Mark, port: number, mac: string | null): Item {
-    const [from, to] = [partsOf(source), partsOf(destination)];
-    return {
-        source: from.host, source_port: from.port, target: to.host, target_port: to.port, frame: { number: frame, at: time, source_mac: mac },
-        service: port, stream: null,
-    };
+    return { ...endsOf(source, destination), frame: { number: frame, at: time, source_mac: mac }, service: port, stream: null };
 }
 
 function endsOf(source: string, target: string): Ends {

@@ -9,9 +9,6 @@ import { UnreadFrames } from './unread.js';
 export type Ends = { source: string, source_port: string, target: string, target_port: string };
 export type Item = Ends & { frame: { number: number, at: bigint | null, source_mac: string | null }, service: number, stream: null };
 
-/** A row has its times as they are. */
-const asItIs = (time: bigint) => time;
-
 export class Seen {
     packets = 0;
     refusedPackets = 0;
@@ -44,10 +41,10 @@ export class Seen {
         return { names, conflicts, stations, queries, sessions, malformed: make(this.summed.faults) };
     }
 
-    /** The tables. */
+    /** The tables, whose rows have times as they are. */
     tables() {
         const left = Array.from(this.leftOut, ([reason, frames]) => ({ reason, frames })).sort((one, other) => other.frames - one.frames);
-        return { ...this.ofParts((part) => part.rows(asItIs)), 'left-out': left, unread: this.unread.rows() };
+        return { ...this.ofParts((part) => part.rows((time: bigint) => time)), 'left-out': left, unread: this.unread.rows() };
     }
 
     /** Of each table how many packets were more than are kept. */

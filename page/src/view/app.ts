@@ -76,7 +76,9 @@ export class App {
      * @param number of the tap */
     async open(file: Blob, name: string, number: number, closes: number | null) {
         const counts = { frames: 0, packets: 0, refused: 0, leftOut: 0, names: 0, conflicts: 0, unread: { frames: 0, whys: [] } };
-        const tap: Tap = { name, size: file.size, kind: 'frames', isPacked: false, rows: new Rows(), first: null, counts, isRead: false, fault: null, incomplete: 0, closes };
+        const tap: Tap = {
+            name, size: file.size, kind: 'frames', isPacked: false, rows: new Rows(), first: null, counts, isRead: false, fault: null, incomplete: 0, closes,
+        };
         const earlier = { tap: this.taps[number], place: this.place };
         this.taps[number] = tap;
         this.opened += 1;

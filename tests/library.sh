@@ -307,11 +307,11 @@ in_rust_too() {
     fi
 }
 
-# The crate for Rust: its tests and examples over the shared object, also in a program that links libnbt.a, and beside `nbt show`.
+# The crate for Rust: its tests over the shared object, also in a program that links libnbt.a, and beside `nbt show`.
 # Programs that don't ask for the feature serde need no registry.
 rust() {
     local each
-    mkdir -p "$room/bindings/rust" && cp -R "$top"/bindings/rust/{Cargo.toml,build.rs,rustfmt.toml,src,examples,tests} "$room/bindings/rust"
+    mkdir -p "$room/bindings/rust" && cp -R "$top"/bindings/rust/{Cargo.toml,build.rs,rustfmt.toml,src,tests} "$room/bindings/rust"
     ln -s "$here" "$room/tests"
     in_rust test "${debian[@]}" --features serde
     passed=$((passed + $(awk '/^test result: ok/ { sum += $4 } END { print sum + 0 }' "$room/log")))
@@ -323,10 +323,10 @@ rust() {
     released
     in_rust build --offline --release --manifest-path "$room/released/Cargo.toml"
     lines "$payloads" 4
-    LD_LIBRARY_PATH=$room/root/lib ended "$room/target/release/show_values" shown <"$room/lines4" >"$room/output" 2>"$room/errors"
+    LD_LIBRARY_PATH=$room/root/lib ended "$room/target/release/values" shown <"$room/lines4" >"$room/output" 2>"$room/errors"
     cmp -s "$room/lines4.wanted" "$room/output"
     count $? "nbt::show_into prints what nbt show prints: $(tail -n 1 "$room/errors")"
-    LD_LIBRARY_PATH=$room/root/lib reads "$room/values" show_values.rs ended "$room/target/release/show_values"
+    LD_LIBRARY_PATH=$room/root/lib reads "$room/values" tests/library/values.rs ended "$room/target/release/values"
     block rust "$page" >"$room/first.rs"
     user_program first "$room/first.rs" </dev/null | same "$(block text "$page" 6)" 'the program in Rust of docs/CALLING.md'
     CARGO_TARGET_DIR=$room/commands commands 3 "$room/first" </dev/null \
@@ -338,15 +338,11 @@ rust() {
     [ ! -f "$room/samba.txt" ] || node_statuses
 }
 
-# released: a package of the crate's examples as programs: by itself the crate has them compiled with what its tests need too.
+# released: a package of tests/library/values.rs as a program: the crate itself would have it compiled with what its tests need too.
 released() {
-    local each
     mkdir "$room/released"
-    printf '[package]\nname = "released"\nversion = "0.1.0"\nedition = "2021"\n\n[dependencies]\nnbt.path = "%s"\n' "$room/bindings/rust" \
-        >"$room/released/Cargo.toml"
-    for each in "$room"/bindings/rust/examples/*.rs; do
-        printf '\n[[bin]]\nname = "%s"\npath = "%s"\n' "$(basename "$each" .rs)" "$each"
-    done >>"$room/released/Cargo.toml"
+    printf '[package]\nname = "released"\nversion = "0.1.0"\nedition = "2021"\n\n[dependencies]\nnbt.path = "%s"\n\n[[bin]]\nname = "values"\npath = "%s"\n' \
+        "$room/bindings/rust" "$here/library/values.rs" >"$room/released/Cargo.toml"
 }
 
 # The program of examples/ in Rust that answers: two requests of its own names and one of any, and neither another name nor a query.

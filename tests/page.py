@@ -18,6 +18,7 @@ TOP = os.path.realpath(f'{TESTS}/..')
 sys.path[1:1] = [f'{TESTS}/{it}' for it in ('captures', 'lib', 'look', 'page')]
 import page_files
 import page_program
+from bundled import bundled
 from page_access import AccessCases
 from page_looks import LookCases
 from page_opening import OpeningCases
@@ -48,7 +49,9 @@ def is_lacking():
 def modules():
     """The modules that read files, by node's own runner; their types; the cases of tests/summary/, and random
     networks beside nbt-look."""
-    said = subprocess.run(['node', '--test', '--test-reporter=tap', f'{TOP}/page/tests/'], capture_output=True, text=True).stdout
+    with tempfile.TemporaryDirectory() as folder:
+        bundled(folder, *glob.glob('*.test.mjs', root_dir=f'{TOP}/page/tests'))
+        said = subprocess.run(['node', '--test', '--test-reporter=tap', folder], capture_output=True, text=True).stdout
     for passed, name in re.findall(r'^(ok|not ok) \d+ - (.*)$', said, re.MULTILINE):
         check(passed == 'ok', f'page/tests: {name}')
     types = subprocess.run(['tsc', '-p', f'{TOP}/page'], capture_output=True, text=True)
@@ -60,7 +63,7 @@ def modules():
 
 def empty_catches():
     """The modules that pass over a fault, whatever it is."""
-    return [path for path in glob.glob(f'{TOP}/page/src/**/*.js', recursive=True)
+    return [path for path in glob.glob(f'{TOP}/page/src/**/*.ts', recursive=True)
             if EMPTY_CATCH.search(re.sub(r'//.*', '', open(path, encoding='utf-8').read()))]
 
 

@@ -96,7 +96,7 @@ growing() {
 
 parts built snapped network
 part odd cases odd
-if command -v node >/dev/null; then part random random; else lacks random nodejs; fi
+if command -v node >/dev/null && command -v esbuild >/dev/null; then part random random; else lacks random 'nodejs and esbuild'; fi
 for each in empties others office plugins early; do part $each cases $each; done
 parts long growing waits dumped
 part page page docs/CAPTURES.md

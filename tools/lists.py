@@ -6,8 +6,8 @@ The refusals of man/nbt.1 are made too, of crates/nbt/src/refusals.rt.
 
 Usage: tools/lists.py --made writes what isn't kept in the repository: what makes the library or the page begins with it. --write writes that, and
 anew the file that is kept, and what stands within others, as limits in manual pages. --check says which of the
-latter differ from that, which numbers of nbt.h aren't those of the crates' sources, and where the words that `nbt build` takes aren't those of
-crates/nbt/src/forms.rt; its last line is 'N passed, M failed', a case for each file, each number and each packet of a place.
+latter differ from that, and which numbers of nbt.h aren't those of the crates' sources; its last line is 'N passed, M failed', a case for
+each file and each number.
 """
 import re
 import sys
@@ -64,10 +64,6 @@ def check():
         cases += 1
         if number != wanted:
             faults.append(f'{name}: nbt.h has {number}, the crates have {wanted}')
-    for place, found, words in crates.compared():
-        cases += 1
-        if found != words:
-            faults.append(f'{place}: {found}, and {crates.FORMS} has {words}')
     return faults, cases
 
 

@@ -1,5 +1,5 @@
-// Prints the capture of a pcap or pcapng file as the page makes it, and on standard error what is left out, by reason. Usage:
-// node page/tests/capture.mjs FILE
+// Prints the capture of a pcap or pcapng file as the page makes it, and on standard error what is left out, by reason: tests/lib/bundled.py
+// makes what node runs, with FILE after it.
 import { readFileSync } from 'node:fs';
 
 import { PayloadReader, framesOf } from '../src/containers/payloads.js';

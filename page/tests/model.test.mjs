@@ -4,7 +4,7 @@ import test from 'node:test';
 import { gzipSync } from 'node:zlib';
 
 import { LineFault, linesOf, payloadsIn } from '../src/containers/lines.js';
-import { hostOf, portOf, shown } from '../src/containers/ends.js';
+import { partsOf, shown } from '../src/containers/ends.js';
 import { slicesOf } from '../src/containers/slices.js';
 import { Blocks, Column, Texts } from '../src/model/columns.js';
 import { commentOf, made, textOf, written } from '../src/model/capture.js';
@@ -30,8 +30,7 @@ const fileOf = (text) => slicesOf(bytes(text));
 test('ends with and without ports, of both kinds of addresses', () => {
     for (const [end, host, port] of [['10.0.0.5:137', '10.0.0.5', '137'], ['[fe80::5]:138', 'fe80::5', '138'], ['[fe80::5]', 'fe80::5', ''],
         ['10.0.0.5', '10.0.0.5', ''], ['', '', '']]) {
-        assert.equal(hostOf(end), host);
-        assert.equal(portOf(end), port);
+        assert.deepEqual(partsOf(end), { host, port });
     }
     assert.equal(shown('10.0.0.5:137', ['137']), '10.0.0.5');
     assert.equal(shown('[fe80::5]:1024', ['137']), '[fe80::5]:1024');
@@ -182,7 +181,7 @@ test('words of the filter: kinds, ports, and parts of what is said', () => {
     const texts = ['', '10.0.0.5', 'query response', 'refused'];
     const rows = {
         texts, said: ['answers: FRED<20> is at 10.0.0.9', 'refused: truncated, at byte 2'], port: { at: () => 137 },
-        worded: { kinds: { at: (row) => row + 2 }, source: { at: () => 1 }, destination: { at: () => 0 } }, text: () => '',
+        columns: { kinds: { at: (row) => row + 2 }, source: { at: () => 1 }, destination: { at: () => 0 } }, text: () => '',
     };
     const wanted = (words) => [0, 1].filter((row) => new Filter({ words, kind: '', sender: '', reason: '' }).wants(rows, row));
     assert.deepEqual(['10.0.0.9', '10.0.0.', '0.0.5', '10.0.0.90', '0.0.0.9'].map(wanted), [[0], [0, 1], [0, 1], [], []]);

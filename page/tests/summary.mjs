@@ -1,5 +1,5 @@
 // Prints the tables that the page has of pcap files, a line of JSON for each: by title the columns, and rows of texts as the page shows them.
-// Usage: node page/tests/summary.mjs PROGRAM FILE..
+// tests/lib/bundled.py makes what node runs, with PROGRAM FILE.. after it.
 import { readFileSync } from 'node:fs';
 
 import { PayloadReader, framesOf } from '../src/containers/payloads.js';

@@ -1,4 +1,4 @@
-// Rows in the form of cases.txt, which says how they are written: calls.mjs and bindings/javascript/tests/cases.mjs read them.
+// Rows in the form of cases.txt, which says how they are written: calls.mjs and cases.mjs read them.
 
 const WORD = /(?:'[^']*'|[^' ])+/g, PART = /(?:'([^']*)'|([A-Z]\w*)|([0-9a-f]*))(?:\*(\d+))?(?:\+|$)/g;
 

@@ -1,4 +1,4 @@
-"""Rows in the form of cases.txt, which says how they are written: payload_rows.py and bindings/python/tests/test_cases.py read them."""
+"""Rows in the form of cases.txt, which says how they are written: payload_rows.py and cases_in_python.py read them."""
 import pathlib
 import re
 

@@ -1,4 +1,4 @@
-// What tests/model/values.py says of payloads, by nbt.mjs: targets.mjs prints it, and bindings/javascript/tests/cases.mjs asks for it.
+// What tests/model/values.py says of payloads, by nbt.mjs: targets.mjs prints it, and cases.mjs asks for it.
 
 const SECTIONS = ['question', 'answer', 'authority', 'additional'];
 const hex = (bytes) => Buffer.from(bytes).toString('hex'), digits = (bytes) => hex(bytes) || 'empty';

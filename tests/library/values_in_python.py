@@ -1,5 +1,5 @@
 #!/usr/bin/env python3
-"""Prints what tests/model/values.py does, by the package for Python. bindings/python/tests/test_cases.py asks for it, too."""
+"""Prints what tests/model/values.py does, by the package for Python. cases_in_python.py asks for it, too."""
 import sys
 from dataclasses import replace
 

@@ -16,10 +16,10 @@ sys.dont_write_bytecode = True
 HERE = os.path.dirname(os.path.abspath(__file__))
 sys.path[1:1] = [f'{HERE}/../{it}' for it in ('captures', 'lib')]
 import summary_cases
+from bundled import bundled
 from tally import tally
 
 TOOL = f'{HERE}/../../tools/nbt-look'
-PAGE = f'{HERE}/../../page/tests/summary.mjs'
 
 
 def main():
@@ -55,7 +55,9 @@ def shown_by_tool(path):
 
 
 def shown_by_page(program, paths):
-    done = subprocess.run(['node', PAGE, program, *paths], stdout=subprocess.PIPE, text=True, timeout=300, check=True)
+    with tempfile.TemporaryDirectory() as folder:
+        page, = bundled(folder, 'summary.mjs')
+        done = subprocess.run(['node', page, program, *paths], stdout=subprocess.PIPE, text=True, timeout=300, check=True)
     return [{title: summary_cases.Table(**each) for title, each in json.loads(line).items()} for line in done.stdout.splitlines()]
 
 

@@ -1,5 +1,5 @@
 """What a caller of the library should read out of payloads, which come as lines of a port and digits. Usage: python3 -m model.values,
-in tests/. tests/library/values_in_python.py and bindings/rust/examples/show_values.rs print the same by the bindings.
+in tests/. tests/library/values_in_python.py and values.rs print the same by the bindings.
 
 Of port 137 there is a line for the packet, one for its header and one for each question and record that stands; of the other ports one
 for the packet, and one for what stands at its front. A fault is the number of its status, and its place, or - where it has none."""

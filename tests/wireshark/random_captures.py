@@ -15,14 +15,15 @@ import struct
 import random
 import subprocess
 import sys
+import tempfile
 
 sys.dont_write_bytecode = True
 sys.path[1:1] = [f'{sys.path[0]}/../{it}' for it in ('captures', 'lib')]
 import random_pcap
+from bundled import bundled
 from seeds import compared, first_unlike
 
 TOP = os.path.realpath(f'{sys.path[0]}/../..')
-PROGRAM = ['node', f'{TOP}/page/tests/capture.mjs']
 TOOL = [f'{TOP}/tools/pcap2cap']
 
 
@@ -59,14 +60,16 @@ def relinked(data, rng):
 
 
 def main():
-    return compared('captures', lambda rng: relinked(random_pcap.pcap_of(rng, ()), rng), first_difference)
+    with tempfile.TemporaryDirectory() as folder:
+        program = ['node', *bundled(folder, 'capture.mjs')]
+        return compared('captures', lambda rng: relinked(random_pcap.pcap_of(rng, ()), rng), lambda path: first_difference(program, path))
 
 
-def first_difference(path):
+def first_difference(program, path):
     """What is printed of a capture otherwise by the page than by the tool, or of one with tunnels otherwise than without."""
     seed = re.search(r'(\d+)\.pcap$', path)[1]
     if int(seed) % 3:
-        return unlike(run([*PROGRAM, path]), run([*TOOL, path]))
+        return unlike(run([*program, path]), run([*TOOL, path]))
     printed = []
     for tunnels in ((), random_pcap.TUNNELS):
         with open(path, 'wb') as file:

@@ -1,5 +1,4 @@
-"""What the crates have of the numbers of nbt.h; and the words that `nbt build` takes: crates/nbt/src/forms.rt has them, and each other place says
-the same."""
+"""What the crates have of the numbers of nbt.h."""
 import re
 
 from .header import TOP
@@ -24,12 +23,8 @@ LIMITS = {'MOST_LINE': ('nb_member/src/limits.rt', 'MAX_LINE'), 'MOST_DATAGRAM':
           'KEYS': ('nbt/src/limits.rt', 'KEYS')}
 
 
-def whole(path):
-    return (TOP / path).read_text(encoding='utf-8')
-
-
 def text_of(path):
-    return whole(f'crates/{path}')
+    return (TOP / 'crates' / path).read_text(encoding='utf-8')
 
 
 def constants(path):
@@ -56,78 +51,3 @@ def numbers(header):
                 yield f'{enum} {each.name}', each.number, found.get(each.name)
     for name, (path, constant) in LIMITS.items():
         yield name, header.limits[name], constants(path).get(constant)
-
-
-# ---- the words of `nbt build`
-
-FORMS = 'crates/nbt/src/forms.rt'
-NAME = re.compile(r'const (\w+): Field = Field\("([A-Z]+)",')
-FORM = re.compile(r'Form\("(\w+)", &\[([^\]]*)\]\)')
-# By file the head of its table.
-TABLES = {'crates/nb_building/src/building.rt': '/// | `what` | `words` |\n', 'docs/FORMATS.md': '| WHAT | ARG.. |\n'}
-ROW = re.compile(r'\| ((?:`\w+`(?:, )?)+) \|((?: [A-Z]+)*) \|')
-HELP = 'crates/nbt/src/help.rt'
-# An item of it: packets, and the words of each, or that they are those of the packet before.
-ITEM = re.compile(r'([a-z]+)(?: and ([a-z]+))?((?: [A-Z]+)*)( \(the same\))?')
-MANUAL = 'man/nbt.1'
-ENTRY = re.compile(r'\.It (?:Xo\n\.)?Cm ([a-z| ]+?)(?:\n\.Xc|(?:\n\.| )Ar ([A-Z ]+))?\n')
-BUILDING = 'crates/nb_building/src'
-ARM = re.compile(r'"(\w+)" => (\w+(?:::build)?)\(')
-TAKEN = re.compile(r'let \[(.*?)\] = words|match words \{\s*\[(.*?)\] =>')
-
-
-def forms():
-    """By the word of each packet the words after it, in order."""
-    text = whole(FORMS)
-    names = dict(NAME.findall(text))
-    return {what: [names[each] for each in re.findall(r'\w+', fields)] for what, fields in FORM.findall(text)}
-
-
-def of_table(path):
-    """The same by the table of a file."""
-    found = {}
-    for line in whole(path).partition(TABLES[path])[2].splitlines()[1:]:
-        row = ROW.search(line)
-        if not row:
-            return found
-        found.update(dict.fromkeys(re.findall(r'`(\w+)`', row[1]), row[2].split()))
-    return found
-
-
-def of_help():
-    """The same by the help."""
-    text = re.search(r'const BUILD_HELP: &str =\s*"(.*?)\{n\}\{n\}', whole(HELP), re.DOTALL)[1]
-    items = re.split(r',(?: |\{n\})|(?:\{n\})?Port \d+: ', re.sub(r'\\\s+', '', text))
-    found, words = {}, []
-    for item in filter(None, (ITEM.fullmatch(each.replace('{n}', ' ').strip()) for each in items)):
-        words = words if item[4] else item[3].split()
-        found.update(dict.fromkeys(filter(None, item.group(1, 2)), words))
-    return found
-
-
-def of_manual():
-    """The same by the manual page."""
-    section = whole(MANUAL).partition('.Sh PACKETS\n')[2].partition('\n.El\n')[0]
-    return {what: words.split() for packets, words in ENTRY.findall(section) for what in packets.split(' | ')}
-
-
-def taken():
-    """How many words each packet takes, by the code of nb_building."""
-    texts = {name: whole(f'{BUILDING}/{name}.rt') for name in ('service', 'response', 'session', 'datagram')}
-    found = {}
-    for module in 'service', 'session', 'datagram':
-        for what, call in ARM.findall(texts[module].split('\n}\n', 1)[0]):
-            text, name = (texts['response'], 'build') if '::' in call else (texts[module], call)
-            pattern = TAKEN.search(text, text.index(f'fn {name}('))
-            found[what] = len(re.findall(r'\w+', pattern[1] or pattern[2] or ''))
-    return found
-
-
-def compared():
-    """A place, what it has, and what it should have."""
-    wanted = forms()
-    for path, found in (*((each, of_table(each)) for each in TABLES), (HELP, of_help()), (MANUAL, of_manual())):
-        yield from ((f'{path}, {what}', found.get(what), words) for what, words in wanted.items())
-        yield f'{path}, packets', len(found), len(wanted)
-    found = taken()
-    yield from ((f'{BUILDING}, {what}', found.get(what), len(words)) for what, words in wanted.items())

@@ -26,10 +26,6 @@ HANDLE = """/// struct nbt_station.
 #[repr(C)]
 pub struct Handle {
     pub at: *mut c_void,
-}
-
-impl Handle {
-    pub const EMPTY: Handle = Handle { at: std::ptr::null_mut() };
 }"""
 SERDE = '#[cfg_attr(feature = "serde", serde(%s))]'
 # Numbers that are no type's, by the module in which they stand, and how wide they are.

@@ -20,11 +20,9 @@ OF_TSHARK = {
 
 def options_of(words):
     parser = arguments.Words(prog=NAME, add_help=False, allow_abbrev=False)
-    parser.add_argument('-h', '--help', action='store_true')
-    parser.add_argument('--version', action='store_true')
+    for each in ('-h', '--help'), ('--version',), ('--summary',), ('--json',), ('--quiet',), ('--live',):
+        parser.add_argument(*each, action='store_true')
     parser.add_argument('--frame', type=number)
-    parser.add_argument('--summary', action='store_true')
-    parser.add_argument('--json', action='store_true')
     parser.add_argument('--html')
     parser.add_argument('--name', dest='names', action='append', default=[])
     parser.add_argument('--host', dest='hosts', action='append', type=address, default=[])
@@ -32,8 +30,6 @@ def options_of(words):
     parser.add_argument('--port', dest='given_ports', action='append', type=port, default=[])
     parser.add_argument('--time', choices=('start', 'utc'), default='start')
     parser.add_argument('--color', choices=('auto', 'always', 'never'), default='auto')
-    parser.add_argument('--quiet', action='store_true')
-    parser.add_argument('--live', action='store_true')
     parser.add_argument('-i', dest='interface')
     parser.add_argument('-r', dest='read')
     parser.add_argument('files', nargs='*')

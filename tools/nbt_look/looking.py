@@ -10,7 +10,6 @@ from nbt_pcap.lines import Refused
 from nbt_pcap.process import Stopped, say
 from nbt_pcap.progress import Progress
 from nbt_pcap.reasons import CUT
-from nbt_shards import ending
 from nbt_shards.programs import BUILT, INSTALLED, local_program
 
 from . import trial
@@ -180,7 +179,7 @@ def program():
     """Where nbt is. One on PATH has to be the one that goes with this tool."""
     try:
         found = local_program(None)
-    except ending.Stopped as why:
+    except Stopped as why:
         raise Stopped(3, "nbt isn't there: make build builds it, make install puts it beside this tool") from why
     if found not in map(os.path.abspath, (BUILT, INSTALLED)):
         trial.judge(found)

@@ -1,5 +1,4 @@
 """`nbt replay` as a child: what becomes of the pieces of datagrams. What it reports counts, and nothing beside it."""
-import select
 import subprocess
 
 from nbt_pcap.capture import NO_LIMIT
@@ -7,7 +6,7 @@ from nbt_pcap.header import MOST_KEYS
 from nbt_pcap.process import Stopped
 
 from .pieces import Piece, Pieces
-from .telling import READ, Child
+from .telling import READ, Child, exchange
 from .vocabulary import PIECES
 
 # A station that has this name alone: whether it hears a datagram or not, the report says when one is whole.
@@ -50,12 +49,7 @@ class Replay:
     def exchange(self, goes_on):
         """Gives the child what waits, and takes its reports."""
         while goes_on():
-            ready = select.poll()
-            ready.register(self.child.back, select.POLLIN)
-            if self.child.waiting:
-                ready.register(self.child.to, select.POLLOUT)
-            for number, _ in ready.poll(None):
-                self.child.read() if number == self.child.back else self.child.write()
+            exchange([self.child], None)
             for piece, text in self.child.told():
                 self.pieces.report(piece, READ(text)[0])
 

@@ -86,6 +86,19 @@ class Child:
         self.child.wait()
 
 
+def exchange(children, timeout):
+    """Gives children what they take of what waits for them, and reads what they say."""
+    ready, acts = select.poll(), {}
+    for each in children:
+        acts[each.back] = each.read
+        ready.register(each.back, select.POLLIN)
+        if each.waiting:
+            acts[each.to] = each.write
+            ready.register(each.to, select.POLLOUT)
+    for number, _ in ready.poll(timeout):
+        acts[number]()
+
+
 class Telling:
     """Items on their way through the children. `take` is given them in order, with the text of JSON of each that has a payload, and of one that
     is cut or refused also the texts of what stands of it."""
@@ -128,16 +141,7 @@ class Telling:
 
     def exchange(self, timeout):
         """Gives the children what they take, and hands on what they said."""
-        ready = select.poll()
-        acts = {}
-        for each in self.children:
-            acts[each.back] = each.read
-            ready.register(each.back, select.POLLIN)
-            if each.waiting:
-                acts[each.to] = each.write
-                ready.register(each.to, select.POLLOUT)
-        for number, _ in ready.poll(timeout):
-            acts[number]()
+        exchange(self.children, timeout)
         self.sort_out()
         self.pass_on()
 

@@ -17,12 +17,8 @@ class Words(argparse.ArgumentParser):
 
 def options_of(arguments):
     words = Words(prog=NAME, add_help=False, allow_abbrev=False)
-    words.add_argument('-h', '--help', action='store_true')
-    words.add_argument('--bare', action='store_true')
-    words.add_argument('--no-ticks', action='store_true')
-    words.add_argument('--cut', action='store_true')
-    words.add_argument('--quiet', action='store_true')
-    words.add_argument('--live', action='store_true')
+    for each in ('-h', '--help'), ('--bare',), ('--no-ticks',), ('--cut',), ('--quiet',), ('--live',):
+        words.add_argument(*each, action='store_true')
     words.add_argument('-i', dest='interface')
     words.add_argument('--port', dest='ports', action='append', type=mapped, default=[(port, port) for port in SERVICES])
     words.add_argument('file', nargs='?')

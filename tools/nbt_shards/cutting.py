@@ -8,8 +8,8 @@ import re
 from collections import namedtuple
 
 from nbt_pcap.header import INPUT, KEPT_FOR
+from nbt_pcap.process import Stopped
 
-from .ending import Stopped
 
 # Whole lines of an input: the offsets between which they stand, the number of the first, and how many they are.
 Range = namedtuple('Range', 'capture begin end first lines')
@@ -33,7 +33,7 @@ def ranges_of(capture, options):
             places = line_ends(capture, options.shard_bytes)
         ranges = list(packed(capture, places, options.shard_bytes * (options.by_source or 1)))
     except OSError as error:
-        raise Stopped('%s: %s' % (capture, error.strerror)) from error
+        raise Stopped(3, '%s: %s' % (capture, error.strerror)) from error
     for each in ranges:
         if each.end - each.begin > INPUT and not options.by_source:
             raise too_long(each, options)
@@ -73,7 +73,7 @@ def line_ends(capture, most):
                 lines += count
                 yield Place(at, count, True)
             elif len(rest) == most:
-                raise Stopped('%s: line %d is malformed' % (capture, lines + 1), 1)
+                raise Stopped(1, '%s: line %d is malformed' % (capture, lines + 1))
     if rest:
         yield Place(at + len(rest), 1, True)
 
@@ -131,11 +131,11 @@ def too_long(each, options):
     """Why a range isn't cut further."""
     size = each.end - each.begin
     if options.tables:
-        return Stopped('%s: line %d has %d bytes, and `nbt merge` reads %d' % (each.capture, each.first, size, INPUT), 1)
-    return Stopped(
+        return Stopped(1, '%s: line %d has %d bytes, and `nbt merge` reads %d' % (each.capture, each.first, size, INPUT))
+    return Stopped(1,
         '%s has %d bytes, of which `nbt save` reads %d, and can\'t be cut there: keys live across each of its ticks. Cut it '
         'by source address (--by-source %d), or leave the ticks out (nbt-pcap2cap --no-ticks) where no key has to be dropped'
-        % (place_of(each), size, INPUT, 1 + size // (INPUT // 2)), 1)
+        % (place_of(each), size, INPUT, 1 + size // (INPUT // 2)))
 
 
 def place_of(each):

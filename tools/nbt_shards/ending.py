@@ -1,18 +1,10 @@
-"""Why a run is stopped, its exit status, and how far it is, on a terminal."""
+"""How an engine ends, and how far it is, on a terminal."""
 import os
 import signal
 import sys
 
-from nbt_pcap.process import NAME
+from nbt_pcap.process import NAME, Stopped
 from nbt_pcap.progress import Line
-
-
-class Stopped(Exception):
-    """Why no table was made: a text for the user, and the exit status. 1: the input; 2: the words; 3: a device."""
-
-    def __init__(self, text, status=3):
-        super().__init__(text)
-        self.status = status
 
 
 class Progress(Line):

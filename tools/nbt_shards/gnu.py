@@ -8,8 +8,9 @@ import subprocess
 import tempfile
 
 from nbt_pcap.header import MOST_KEYS
+from nbt_pcap.process import Stopped
 
-from .ending import Stopped, progress
+from .ending import progress
 
 # A job: reads what it was given, counts it, and puts the table there at once, if it is one. Its last line tells what it did.
 JOB = r'''
@@ -56,10 +57,10 @@ def find_tools(options):
     needed = ['parallel', 'rsync', 'ssh'] if options.sshlogin else ['parallel']
     missing = [each for each in needed if shutil.which(each) is None]
     if missing:
-        raise Stopped('%s: no such program; Debian\'s packages parallel, rsync and openssh-client have them' % ', '.join(missing))
+        raise Stopped(3, '%s: no such program; Debian\'s packages parallel, rsync and openssh-client have them' % ', '.join(missing))
     version = subprocess.run(['parallel', '--version'], stdin=subprocess.DEVNULL, capture_output=True)
     if not version.stdout.startswith(b'GNU parallel'):
-        raise Stopped('parallel: the program of that name isn\'t GNU parallel; Debian\'s package parallel has it')
+        raise Stopped(3, 'parallel: the program of that name isn\'t GNU parallel; Debian\'s package parallel has it')
 
 
 def identities(options):
@@ -69,7 +70,7 @@ def identities(options):
         done = subprocess.run(command, env=environment(folder), stdin=subprocess.DEVNULL, capture_output=True, text=True, errors='replace')
     found = sorted(set(done.stdout.splitlines()))
     if not found:
-        raise Stopped('no machine has the program: %s' % first_line(done.stderr))
+        raise Stopped(3, 'no machine has the program: %s' % first_line(done.stderr))
     return found
 
 
@@ -84,7 +85,7 @@ def run_jobs(options, work, step, jobs):
         errors.seek(0)
         words = errors.read()
     if 'Is the disk full?' in words:
-        raise Stopped('%s: No space left on device' % work.folder)
+        raise Stopped(3, '%s: No space left on device' % work.folder)
     ended = 3, why_ended(status, options.retries, first_line(words))
     return {job.table: told.get(job.table, ended) for job in missing if not work.size(job.table)}
 

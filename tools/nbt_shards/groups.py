@@ -2,9 +2,10 @@
 import os
 
 from nbt_pcap.header import INPUT, MOST_KEYS, MOST_LINE
+from nbt_pcap.process import Stopped
 
 from .cutting import has_ticks, last_tick
-from .ending import Stopped, progress
+from .ending import progress
 from .sample import Sample
 
 MOST_GROUPS = 4_096
@@ -37,9 +38,9 @@ def judge_groups(options):
     if fits(sums, groups, MOST_KEYS * (1 if counted else sure), INPUT * sure):
         return
     keys, digits = (sum(each) for each in zip(*sums.values()))
-    raise Stopped('%s about %d keys and %d bytes of saved tables%s, of which a group may have %d and %d (--no-estimate begins all the same). %s'
+    raise Stopped(1, '%s about %d keys and %d bytes of saved tables%s, of which a group may have %d and %d (--no-estimate begins all the same). %s'
                   % ('the captures have' if len(options.captures) > 1 else options.captures[0] + ' has', keys, digits,
-                     ' in %d groups' % groups if groups > 1 else '', MOST_KEYS, HALF, enough(sums, groups, sure)), 1)
+                     ' in %d groups' % groups if groups > 1 else '', MOST_KEYS, HALF, enough(sums, groups, sure)))
 
 
 def blocks_of(capture, begin):

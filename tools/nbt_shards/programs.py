@@ -3,7 +3,8 @@ import os
 import shutil
 import subprocess
 
-from .ending import Stopped
+from nbt_pcap.process import Stopped
+
 from .tables import checksum_of_file
 
 HERE = os.path.dirname(os.path.abspath(__file__))
@@ -18,7 +19,7 @@ def local_program(asked):
         asked = beside if os.path.exists(beside) else 'nbt'
     found = shutil.which(asked)
     if found is None:
-        raise Stopped('%s: no such program; `make build` builds it, --program PATH names another' % asked)
+        raise Stopped(3, '%s: no such program; `make build` builds it, --program PATH names another' % asked)
     return os.path.abspath(found)
 
 
@@ -28,4 +29,4 @@ def identity(program):
         version = subprocess.run([program, '--version'], stdin=subprocess.DEVNULL, capture_output=True).stdout
         return ['%s %s' % (version.decode(errors='replace').strip(), checksum_of_file(program))]
     except OSError as error:
-        raise Stopped('%s: %s' % (program, error.strerror)) from error
+        raise Stopped(3, '%s: %s' % (program, error.strerror)) from error

@@ -4,9 +4,9 @@ import re
 import zlib
 
 from nbt_pcap.header import INPUT, MOST_KEYS
+from nbt_pcap.process import Stopped
 
 from .cutting import place_of
-from .ending import Stopped
 
 BLOCK = 1 << 22
 
@@ -22,7 +22,7 @@ def lines_of(each):
             left, lines = left - len(line), lines + 1
             yield line
     if left or lines != each.lines:
-        raise Stopped('%s have changed while they were read' % place_of(each))
+        raise Stopped(3, '%s have changed while they were read' % place_of(each))
 
 
 def shard_bytes(shard, checksum=None):
@@ -31,7 +31,7 @@ def shard_bytes(shard, checksum=None):
     parts = checked([whole(shard.range)] if shard.group is None else lines_of(shard.range), read if checksum else None)
     data = b''.join(part for part in parts if shard.group is None or group_of(part, shard.groups) in (None, shard.group))
     if checksum and read.digest() != checksum:
-        raise Stopped('%s: a worker reads other bytes there; --send sends the shards' % place_of(shard.range))
+        raise Stopped(3, '%s: a worker reads other bytes there; --send sends the shards' % place_of(shard.range))
     return data
 
 
@@ -41,7 +41,7 @@ def whole(each):
         file.seek(each.begin)
         data = file.read(each.end - each.begin)
     if len(data) != each.end - each.begin or line_count(data) != each.lines:
-        raise Stopped('%s have changed while they were read' % place_of(each))
+        raise Stopped(3, '%s have changed while they were read' % place_of(each))
     return data
 
 
@@ -97,8 +97,8 @@ def group_of(line, groups):
 def judge_size(shard, size):
     """Refuses a shard that `nbt save` wouldn't read."""
     if size > INPUT:
-        raise Stopped('%s: group %d has %d bytes, of which `nbt save` reads %d. More groups (--by-source) make it smaller, or '
-                      'shorter shards (--shard-bytes) where no tick is in the way' % (place_of(shard.range), shard.group, size, INPUT), 1)
+        raise Stopped(1, '%s: group %d has %d bytes, of which `nbt save` reads %d. More groups (--by-source) make it smaller, or '
+                      'shorter shards (--shard-bytes) where no tick is in the way' % (place_of(shard.range), shard.group, size, INPUT))
 
 
 def refusal(shard, words):
@@ -117,7 +117,7 @@ def line_of(shard, place):
         place -= group_of(line, shard.groups) in (None, shard.group)
         if place == 0:
             return number_there
-    raise Stopped('%s have changed while they were read' % place_of(shard.range))
+    raise Stopped(3, '%s have changed while they were read' % place_of(shard.range))
 
 
 def explained(words):

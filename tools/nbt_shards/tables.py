@@ -4,8 +4,8 @@ import hashlib
 import os
 
 from nbt_pcap.header import INPUT
+from nbt_pcap.process import Stopped
 
-from .ending import Stopped
 from .groups import HALF
 
 MOST_TOGETHER = 16
@@ -21,9 +21,9 @@ def grouped(sizes, options):
         rows[-1].append(place)
         room -= sizes[place]
     if len(rows) == len(sizes):
-        raise Stopped('%d tables are left, of which no two can be merged: the two smallest have %d bytes together, and `nbt '
+        raise Stopped(1, '%d tables are left, of which no two can be merged: the two smallest have %d bytes together, and `nbt '
                       'merge` reads %d. Cut by source address: --by-source %d'
-                      % (len(sizes), sum(sorted(sizes)[:2]), INPUT, groups_for(sum(sizes), options)), 1)
+                      % (len(sizes), sum(sorted(sizes)[:2]), INPUT, groups_for(sum(sizes), options)))
     return rows
 
 
@@ -41,11 +41,11 @@ def part_beside(out):
     try:
         open(part, 'xb').close()
     except OSError as error:
-        raise Stopped('%s: %s' % (part, error.strerror)) from error
+        raise Stopped(3, '%s: %s' % (part, error.strerror)) from error
     try:
         yield part
     except OSError as error:
-        raise Stopped('%s: %s' % (out, error.strerror)) from error
+        raise Stopped(3, '%s: %s' % (out, error.strerror)) from error
     finally:
         if os.path.exists(part):
             os.unlink(part)

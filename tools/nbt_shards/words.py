@@ -3,8 +3,8 @@ import argparse
 import os
 
 from nbt_pcap.header import INPUT, MOST_LINE
+from nbt_pcap.process import Stopped
 
-from .ending import Stopped
 from .groups import MOST_GROUPS
 
 ABOUT = 'Makes the saved table of captures of any size: cuts them, saves each shard, and merges the tables in a tree.'
@@ -42,18 +42,18 @@ def number(least, most):
 def judge(options):
     """Refuses words that don't go together, and an OUT that is no place for a table."""
     if options.tables and options.by_source:
-        raise Stopped('--tables and --by-source: a saved table isn\'t cut', 2)
+        raise Stopped(2, '--tables and --by-source: a saved table isn\'t cut')
     for capture in options.captures:
         if not os.path.isfile(capture):
-            raise Stopped('%s: no such file' % capture if not os.path.exists(capture) else '%s: no regular file' % capture)
+            raise Stopped(3, '%s: no such file' % capture if not os.path.exists(capture) else '%s: no regular file' % capture)
         if os.path.exists(options.out) and os.path.samefile(capture, options.out):
-            raise Stopped('%s is read, and OUT too: the last word is the file to be written' % capture, 2)
+            raise Stopped(2, '%s is read, and OUT too: the last word is the file to be written' % capture)
         judge_kind(capture)
     folder = os.path.dirname(os.path.abspath(options.out))
     if not os.path.isdir(folder):
-        raise Stopped('%s: no such folder' % folder)
+        raise Stopped(3, '%s: no such folder' % folder)
     if os.path.exists(options.out) and not is_table(options.out):
-        raise Stopped('%s is there, and is no saved table: it is left as it is' % options.out, 2)
+        raise Stopped(2, '%s is there, and is no saved table: it is left as it is' % options.out)
 
 
 def judge_kind(capture):
@@ -62,15 +62,15 @@ def judge_kind(capture):
         with open(capture, 'rb') as file:
             front = file.read(4)
     except OSError as error:
-        raise Stopped('%s: %s' % (capture, error.strerror)) from error
+        raise Stopped(3, '%s: %s' % (capture, error.strerror)) from error
     if front in PCAPS:
-        raise Stopped('%s is a pcap file, and a capture is wanted: nbt-pcap2cap --no-ticks makes one of it' % capture, 1)
+        raise Stopped(1, '%s is a pcap file, and a capture is wanted: nbt-pcap2cap --no-ticks makes one of it' % capture)
 
 
 def judge_force(options):
     """Refuses to replace a saved table without the word for it."""
     if not options.force and os.path.exists(options.out) and os.path.getsize(options.out):
-        raise Stopped('%s is there, and is a saved table: --force replaces it' % options.out, 2)
+        raise Stopped(2, '%s is there, and is a saved table: --force replaces it' % options.out)
 
 
 def is_table(path):

@@ -14,8 +14,10 @@ import re
 import shutil
 import time
 
+from nbt_pcap.process import Stopped
+
 from .cutting import shards_of
-from .ending import Stopped, progress, say
+from .ending import progress, say
 from .groups import judge_groups
 from .shards import judge_size, rows_by_source, shard_bytes
 from .tables import checksum_of_file, put, write_whole
@@ -42,7 +44,7 @@ class Work:
     def locked(self):
         """Keeps other runs out. The lock goes with this process, however it ends."""
         if os.path.lexists(self.top) and not self.is_own():
-            raise Stopped('%s is there, and isn\'t of an earlier run: it is left as it is' % self.top, 2)
+            raise Stopped(2, '%s is there, and isn\'t of an earlier run: it is left as it is' % self.top)
         with self.lock() as file:
             if not file.read(1):
                 file.write(MARK)
@@ -79,7 +81,7 @@ class Work:
             os.stat(path)
         except OSError:
             file.close()
-            raise Stopped('%s: another run is at work there' % self.top) from None
+            raise Stopped(3, '%s: another run is at work there' % self.top) from None
         return file
 
     def remove(self):

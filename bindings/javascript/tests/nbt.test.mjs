@@ -6,7 +6,7 @@ import { createServer } from 'node:http';
 import { test } from 'node:test';
 import { pathToFileURL } from 'node:url';
 import vm from 'node:vm';
-import { testRows } from './cases.mjs';
+import { testRows } from '../../../tests/library/cases.mjs';
 
 const [folder, header] = process.argv.slice(2);
 const { load, NbtError, Status } = await import(pathToFileURL(`${folder}/nbt.mjs`));

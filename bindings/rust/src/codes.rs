@@ -28,22 +28,7 @@ macro_rules! statuses {
     };
 }
 
-/// What a structure has before a call fills it in.
-pub(crate) trait Empty {
-    const EMPTY: Self;
-}
-
-macro_rules! empty {
-    ($($number:ty)*) => { $(impl Empty for $number { const EMPTY: $number = 0; })* };
-}
-
-empty! { u8 u16 u32 u64 usize }
-
-impl<const LENGTH: usize> Empty for [u8; LENGTH] {
-    const EMPTY: [u8; LENGTH] = [0; LENGTH];
-}
-
-/// Structures as C has them, which calls fill in.
+/// Structures as C has them, of numbers alone, which calls fill in.
 macro_rules! structures {
     ($($(#[$of:meta])* $name:ident { $($field:ident: $kind:ty,)* })*) => {
         $($(#[$of])*
@@ -54,11 +39,9 @@ macro_rules! structures {
         }
 
         impl $name {
-            pub const EMPTY: $name = $name { $($field: <$kind as crate::codes::Empty>::EMPTY,)* };
-        }
-
-        impl crate::codes::Empty for $name {
-            const EMPTY: $name = $name::EMPTY;
+            /// What it has before a call fills it in.
+            // SAFETY: of numbers alone, it may have any bytes.
+            pub const EMPTY: $name = unsafe { std::mem::transmute([0_u8; std::mem::size_of::<$name>()]) };
         })*
     };
 }

@@ -37,7 +37,6 @@
 #![deny(missing_docs, unsafe_op_in_unsafe_fn)]
 
 mod codes;
-mod datagram_front;
 mod error;
 // Made, line by line.
 #[allow(dead_code)]

@@ -1,6 +1,5 @@
 //! Names as texts, as packets spell them, and as they lie in place: RFC 1001 section 14, RFC 1002 section 4.1.
 
-use std::cmp::Ordering;
 use std::fmt::{self, Write};
 use std::hash::{Hash, Hasher};
 use std::str::FromStr;
@@ -111,8 +110,9 @@ const FIRST_LABEL: usize = 33;
 /// assert_eq!(Name::from(*b"FRED            ").to_string(), "FRED<20>");
 /// # Ok::<(), nbt::Error>(())
 /// ```
-#[derive(Clone, Copy)]
+#[derive(Clone, Copy, PartialEq, Eq, PartialOrd, Ord)]
 pub struct Name {
+    /// The spelling, and bytes of zero after it. No spelling is the front of another, so all of them compare as spellings do.
     bytes: [u8; LONGEST],
     length: u8,
 }
@@ -125,7 +125,7 @@ impl Name {
         Name::of_bytes(bytes, spelling.len() as u8)
     }
 
-    /// The name whose spelling is at the front of these bytes.
+    /// The name whose spelling is at the front of these bytes, of which the others are zeros.
     pub(crate) fn of_bytes(bytes: [u8; LONGEST], length: u8) -> Name {
         Name { bytes, length }
     }
@@ -229,26 +229,6 @@ impl FromStr for Name {
 impl AsRef<[u8]> for Name {
     fn as_ref(&self) -> &[u8] {
         self.as_bytes()
-    }
-}
-
-impl PartialEq for Name {
-    fn eq(&self, other: &Name) -> bool {
-        self.as_bytes() == other.as_bytes()
-    }
-}
-
-impl Eq for Name {}
-
-impl PartialOrd for Name {
-    fn partial_cmp(&self, other: &Name) -> Option<Ordering> {
-        Some(self.cmp(other))
-    }
-}
-
-impl Ord for Name {
-    fn cmp(&self, other: &Name) -> Ordering {
-        self.as_bytes().cmp(other.as_bytes())
     }
 }
 

@@ -1,0 +1,62 @@
+/** Elements. Texts are set as text: nothing that stands in a file is ever read as HTML. */
+
+/** An element with attributes and children.
+ * @param attributes null and false leave one out, true gives it no value */
+export function element<T extends keyof HTMLElementTagNameMap>(
+    tag: T, attributes: Record<string, string | number | boolean | null> = {}, ...children: (Node | string)[]
+): HTMLElementTagNameMap[T] {
+    const made = document.createElement(tag);
+    for (const [name, value] of Object.entries(attributes)) {
+        if (value !== null && value !== false) made.setAttribute(name, value === true ? '' : String(value));
+    }
+    made.append(...children);
+    return made;
+}
+
+/** The element of the page with this name, and of this kind. */
+export function byId<T extends HTMLElement>(id: string, kind: new () => T): T {
+    const found = document.getElementById(id);
+    if (found instanceof kind) return found;
+    throw new Error(`the page lacks ${id}`);
+}
+
+/** Sets a text where it differs, so that what is selected stays selected. */
+export function say(node: Node, text: string) {
+    if (node.textContent !== text) node.textContent = text;
+}
+
+/** A text whose words between backquotes are code. */
+export function withCode(text: string) {
+    return text.split('`').map((part, at) => (at % 2 ? element('code', {}, part) : part));
+}
+
+/** A table, of which only the first rows are shown until more are wanted.
+ * @param kind a class of each row */
+export function table(title: string, head: string[], rows: (Node | string)[][], kind: (row: number) => string = () => '') {
+    const body = element('tbody');
+    const made = element('table', {}, element('caption', {}, title),
+        element('thead', {}, element('tr', {}, ...head.map((each) => element('th', { scope: 'col' }, each)))), body);
+    const scroller = element('div', { class: 'table', tabindex: 0, role: 'region', 'aria-label': title }, made);
+    const more = element('button', { type: 'button' });
+    const show = (count: number) => {
+        const from = body.rows.length;
+        body.append(...rows.slice(from, count).map((cells, at) =>
+            element('tr', { class: kind(from + at) || null }, ...cells.map((cell, place) => element('td', { 'data-column': head[place] }, cell)))));
+        more.hidden = count >= rows.length;
+    };
+    more.textContent = `Show all ${rows.length} rows`;
+    more.addEventListener('click', () => show(rows.length));
+    show(MOST_ROWS);
+    return element('section', {}, scroller, more);
+}
+
+const MOST_ROWS = 400;
+
+/** A number with a space between thousands, and the word after it. */
+export function counted(count: number, one: string, many: string = `${one}s`) {
+    return `${number(count)} ${count === 1 ? one : many}`;
+}
+
+export function number(count: number) {
+    return String(count).replace(/\B(?=(\d{3})+$)/g, ',');
+}

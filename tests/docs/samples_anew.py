@@ -2,7 +2,7 @@
 """Writes the console samples of pages anew: behind each command what it prints now, as tests/program.sh looks for it.
 
 Usage: tests/docs/samples_anew.py [PROGRAM [PAGE..]], without pages of README.md and docs/GUIDE.md. What has changed is then a difference to be read
-before it is committed: nothing else says that it is right. Samples of pcap files want tshark.
+before it is committed: nothing else says that it is right. What still fits stays, with the lines that it leaves out. Samples of pcap files want tshark.
 """
 import os
 import pathlib
@@ -11,12 +11,15 @@ import subprocess
 import sys
 import tempfile
 
+sys.path[1:1] = [f'{sys.path[0]}/../lib']
+from samples import is_shown
+
 TOP = pathlib.Path(__file__).resolve().parents[2]
 BUILT = TOP / 'crates/nbt/out/nbt'
 PAGES = 'README.md', 'docs/GUIDE.md'
 TOOLS = {'nbt-pcap2cap': 'pcap2cap', 'nbt-cap2pcap': 'cap2pcap', 'nbt-look': 'nbt-look'}
 SAMPLES = re.compile(r'(?<=^```console\n).*?(?=^```$)', re.MULTILINE | re.DOTALL)
-SAMPLE = re.compile(r'^(\$ (.*)\n)(?:(?!\$ ).*\n)*', re.MULTILINE)
+SAMPLE = re.compile(r'^(\$ (.*)\n)((?:(?!\$ ).*\n)*)', re.MULTILINE)
 
 
 def installed(folder, program):
@@ -38,13 +41,19 @@ def told(room, command):
     return done.stdout.decode()
 
 
+def anew(room, sample):
+    """A sample with what its command prints now, which a page may leave out in part."""
+    shown = told(room, sample[2])
+    return sample[0] if is_shown(shown, sample[3]) else sample[1] + shown
+
+
 def main():
     program, pages = pathlib.Path(*sys.argv[1:2] or [BUILT]).resolve(), sys.argv[2:] or PAGES
     for page in (TOP / each for each in pages):
         with tempfile.TemporaryDirectory() as folder:
             room = installed(pathlib.Path(folder), program)
-            anew = lambda samples: SAMPLE.sub(lambda it: it[1] + told(room, it[2]), samples[0])
-            page.write_text(SAMPLES.sub(anew, page.read_text('utf-8')), 'utf-8')
+            samples = lambda block: SAMPLE.sub(lambda it: anew(room, it), block[0])
+            page.write_text(SAMPLES.sub(samples, page.read_text('utf-8')), 'utf-8')
 
 
 main()

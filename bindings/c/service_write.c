@@ -6,12 +6,12 @@
 static const uint8_t name[] = {'F', 'R', 'E', 'D', '<', '2', '0', '>'};
 
 static void show(uint32_t status, const uint8_t *packet, size_t length, size_t at) {
-    uint8_t text[512];
+    uint8_t text[NBT_BRIEF_ROOM];
     size_t shown;
     if (status != NBT_DONE)
         printf("status %u at %zu\n", (unsigned)status, at);
-    else if (nbt_show(137, packet, length, text, sizeof text, &shown) == NBT_DONE)
-        fwrite(text, 1, shown, stdout);
+    else if (nbt_brief(137, packet, length, text, sizeof text, &shown) == NBT_DONE)
+        printf("%02x%02x, %zu bytes: %.*s\n", packet[2], packet[3], length, (int)shown, (const char *)text);
 }
 
 static void request(uint32_t kind, uint32_t time_to_live, uint32_t address) {
@@ -39,18 +39,10 @@ int main(void) {
     return 0;
 }
 /* Prints:
- * id=0003 word=0110 op=query flags=RD+B rcode=ok qd=1 an=0 ns=0 ar=0 used=50
- *   question FRED<20> type=0020 class=0001
- * id=0003 word=2910 op=registration flags=RD+B rcode=ok qd=1 an=0 ns=0 ar=1 used=68
- *   question FRED<20> type=0020 class=0001
- *   additional FRED<20> type=0020 class=0001 ttl=300000 data=00000a000005
- *     entry flags=0000 ont=0 address=10.0.0.5
- * id=0007 word=8580 op=query flags=AA+RD+RA rcode=ok qd=0 an=1 ns=0 ar=0 used=62
- *   answer FRED<20> type=0020 class=0001 ttl=300000 data=00000a000006
- *     entry flags=0000 ont=0 address=10.0.0.6
- * id=0007 word=8583 op=query flags=AA+RD+RA rcode=NAM_ERR qd=0 an=1 ns=0 ar=0 used=56
- *   answer FRED<20> type=000a class=0001 ttl=0 data=empty
- * id=0007 word=8580 op=query flags=AA+RD+RA rcode=ok qd=0 an=1 ns=0 ar=0 used=64
- *   answer FRED<20> type=0002 class=0001 ttl=300000 domain=NS.COM
+ * 0110, 50 bytes: asks for FRED<20>
+ * 2910, 68 bytes: claims FRED<20> for 10.0.0.5, for 300000 s
+ * 8580, 62 bytes: answers: FRED<20> is at 10.0.0.6
+ * 8583, 56 bytes: answers: FRED<20> is not found: no such name (NAM_ERR)
+ * 8580, 64 bytes: answers: FRED<20> is known to NS.COM at no address
  * status 20 at 7
  */

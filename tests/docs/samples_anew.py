@@ -2,7 +2,7 @@
 """Writes the console samples of pages anew: behind each command what it prints now, as tests/program.sh looks for it.
 
 Usage: tests/docs/samples_anew.py [PROGRAM [PAGE..]], without pages of README.md and docs/GUIDE.md. What has changed is then a difference to be read
-before it is committed: nothing else says that it is right. Samples of pcap files want tshark.
+before it is committed: nothing else says that it is right. What still fits stays, with the lines that it leaves out. Samples of pcap files want tshark.
 """
 import os
 import pathlib
@@ -12,13 +12,13 @@ import sys
 import tempfile
 
 sys.path.insert(1, f'{sys.path[0]}/../lib')
-from samples import CONSOLE, bash
+from samples import CONSOLE, bash, is_shown
 
 TOP = pathlib.Path(__file__).resolve().parents[2]
 BUILT = TOP / 'crates/nbt/out/nbt'
 PAGES = 'README.md', 'docs/GUIDE.md'
 TOOLS = {'nbt-pcap2cap': 'pcap2cap', 'nbt-cap2pcap': 'cap2pcap', 'nbt-look': 'nbt-look'}
-SAMPLE = re.compile(r'^(\$ (.*)\n)(?:(?!\$ ).*\n)*', re.MULTILINE)
+SAMPLE = re.compile(r'^(\$ (.*)\n)((?:(?!\$ ).*\n)*)', re.MULTILINE)
 
 
 def installed(folder, program):
@@ -34,13 +34,19 @@ def installed(folder, program):
     return room
 
 
+def anew(room, sample):
+    """A sample with what its command prints now, which a page may leave out in part."""
+    shown = bash(room, sample[2], subprocess.STDOUT).stdout.decode()
+    return sample[0] if is_shown(shown, sample[3]) else sample[1] + shown
+
+
 def main():
     program, pages = pathlib.Path(*sys.argv[1:2] or [BUILT]).resolve(), sys.argv[2:] or PAGES
     for page in (TOP / each for each in pages):
         with tempfile.TemporaryDirectory() as folder:
             room = installed(pathlib.Path(folder), program)
-            told = lambda sample: sample[1] + bash(room, sample[2], subprocess.STDOUT).stdout.decode()
-            page.write_text(CONSOLE.sub(lambda it: f'```console\n{SAMPLE.sub(told, it[1])}```', page.read_text('utf-8')), 'utf-8')
+            samples = lambda block: f'```console\n{SAMPLE.sub(lambda it: anew(room, it), block[1])}```'
+            page.write_text(CONSOLE.sub(samples, page.read_text('utf-8')), 'utf-8')
 
 
 main()

@@ -8,8 +8,9 @@ stands behind `% ` is no case here: a model holds it (tests/program/beside_model
 the shell's. {NAME} stands for VALUE, or for what limits.py has. Lines that begin with # say nothing, and neither do blank ones at the end of a
 sample. A part begins with `== PART`. Commands run in FOLDER; of several in a pipe the first that fails has the status.
 
-Of a page, FILE.md, each block that begins with ```console is a part of `$ COMMAND`s, with the lines that a terminal shows. Without tshark those of
-its samples that need it are left out. The last line is 'N passed, M failed, K skipped'.
+Of a page, FILE.md, each block that begins with ```console is a part of `$ COMMAND`s, with the lines that a terminal shows; there a line `...` stands
+for one line or more that the page isn't about. Without tshark those of its samples that need it are left out. The last line is 'N passed, M failed,
+K skipped'.
 """
 import fnmatch
 import os
@@ -93,6 +94,11 @@ def difference(folder, command, told):
     return f'{lines[at:at + 3]}, not {told[at:at + 3]}'
 
 
+def is_shown(shown, told):
+    """Whether a page has what a terminal shows, but for lines that it leaves out."""
+    return re.fullmatch(''.join('(?:.*\n)+' if line == '...\n' else re.escape(line) for line in told.splitlines(True)), shown) is not None
+
+
 def on_page(folder, path):
     """The cases of a page: what a terminal shows of each command, and what it shows otherwise."""
     name = os.path.basename(path)
@@ -104,7 +110,7 @@ def on_page(folder, path):
             leave_out(1, f'{name}: {command}', "tshark isn't installed")
             continue
         shown = bash(folder, command, subprocess.STDOUT).stdout.decode(errors='backslashreplace')
-        yield f'{name}: {command}', shown != told and f'{shown!r}, not {told!r}'
+        yield f'{name}: {command}', not is_shown(shown, told) and f'{shown!r}, not {told!r}'
 
 
 def cases(folder, path, part='', *words):

@@ -49,7 +49,7 @@ byte_at [] i h = omega arith
 byte_at (b ∷ bytes) zero h = h.0
 byte_at (b ∷ bytes) (suc i) h = byte_at bytes i h.1
 
-some-append : (xs ys : List ℕ) → 0 < length ys → 0 < length (xs ++ ys)
+pub some-append : (xs ys : List ℕ) → 0 < length ys → 0 < length (xs ++ ys)
 some-append xs ys some = omega (arith, some, length-append xs ys)
 
 some-front : (xs ys : List ℕ) → 0 < length xs → 0 < length (xs ++ ys)
@@ -63,7 +63,7 @@ graphic c h =
     let high : c ≤ 126 = grind (arith, nat_tests) in
     (low, high)
 
-graphic_row : (cs : List ℕ) → list_all is_ascii_graphic cs ≡ true → IsSeen cs
+pub graphic_row : (cs : List ℕ) → list_all is_ascii_graphic cs ≡ true → IsSeen cs
 graphic_row [] h = tt
 graphic_row (c ∷ cs) h =
     let parts = and_parts (is_ascii_graphic c) (list_all is_ascii_graphic cs) h in
@@ -144,6 +144,9 @@ word_seen n =
     let high : n / 256 % 256 < 256 = omega arith in
     let low : n % 256 < 256 = omega arith in
     data_seen (to_be_bytes w16 n) (high, (low, tt))
+
+pub word_word : (n : ℕ) → IsWord (word_text n)
+word_word n = (omega arith, word_seen n)
 
 -- ---- names
 

@@ -6,6 +6,7 @@ pub mod TellsLemmas
 pub mod PlaceLemmas
 pub mod FieldLemmas
 pub mod MidLemmas
+pub mod RowLemmas
 pub mod ServiceLines
 pub mod ShownLines
 pub mod TellLemmas

@@ -1,30 +1,31 @@
 -- The text of a packet of port 137 is a line of words, and then lines of parts.
-use Rattle.std.proofs.Common.{◌≡◌, ◌==◌, ℕ, zero, suc, ◌+◌, ◌*◌, ◌/◌, ◌<◌, ◌^◌, nat_lt, nat_le, Bool, true, false, if◌then◌else◌, List, [], ◌∷◌, ◌++◌, length, take, drop, Option, Some, None, refl, arith, codes}
+use Rattle.std.proofs.Common.{◌≡◌, ◌==◌, ℕ, zero, suc, ◌+◌, ◌-◌, ◌*◌, ◌/◌, ◌<◌, ◌^◌, nat_lt, nat_le, Bool, true, false, if◌then◌else◌, List, [], ◌∷◌, ◌++◌, length, take, drop, Option, Some, None, refl, arith, codes}
 use Rattle.std.specs.List.{AllByRecursion, flat_map, list_all}
 use Rattle.std.proofs.lemmas.Bool.{and_parts}
-use Rattle.nb_names.specs.Addresses.{address_text}
 use Rattle.nb_names.specs.DomainName.{AreBytes, AreByteLabels, IsDomain}
 use Rattle.nb_names.specs.Hexadecimal.{data_text, digits_text, word_text}
 use Rattle.nb_names.specs.Labels.{NameAt}
-use Rattle.nb_names.specs.Name.{NetbiosName}
-use Rattle.nb_names.specs.NameText.{labels_written, written}
+use Rattle.nb_names.specs.NameText.{labels_written}
 use Rattle.nb_names.specs.declared.pointers.Pointers.TheVariants.{Followed}
 use Rattle.nb_names.proofs.LabelsLemmas.{IsDomain-read}
 use Rattle.nb_service.specs.declared.address_entry.AddressEntry.{AddressEntry}
 use Rattle.nb_service.specs.declared.kinds.TheConstants.{NBSTAT}
 use Rattle.nb_service.specs.declared.node_name.NodeName.{NodeName}
 use Rattle.nb_service.specs.declared.question.Question.{Question}
-use Rattle.nb_service.specs.Header.{opcode_of, rcode_of, ont_of, PacketHeader}
+use Rattle.nb_service.specs.Header.{opcode_of, rcode_of, PacketHeader}
 use Rattle.nb_service.specs.Packet.{ServicePacket, header_of, IsPacket, QuestionAt, RecordAt, RdataAt, bytes_there, domain_there, Row, none, more}
 use Rattle.nb_service.specs.Record.{ResourceData, of_bytes, of_domain, ResourceRecord}
 use Rattle.nb_service.specs.Views.{StatusParts, pieces, entries_in, node_name_of, status_of_size, status_of_data, status_in, no_status}
 use Rattle.nb_service.proofs.SectionLemmas.{sections}
+use Rattle.nb_telling.specs.Telling.{Field}
 use Rattle.nb_text.specs.Fields.{IsWord, two, four, AreLines}
 use Rattle.nb_text.specs.Lines.{line_end}
 use Rattle.nb_text.specs.Words.{word_of, operations, results, operation_word, rcode_word, named_text, packet_flags, name_flags, set_text}
-use Rattle.nb_text.specs.ServiceText.{state_text, counts_text, header_line, type_text, question_line, rdata_text, record_line, entry_line, node_name_line, unit_line, status_lines, record_lines, service_text}
-use Rattle.nb_text.proofs.FieldLemmas.{IsSeen, bytes-take, number_word, word_seen, is_literal, literal, data_seen, data_word, written_word, labels_word, address_word, packet_set_word, name_set_word}
-use Rattle.nb_text.proofs.MidLemmas.{IsMid, mid_then, mid_both, mid_seen, mid_word, mid_field, number_field, used_ends, ends_here, AreParts, no_parts, parts_both, parts_each, parts_all, part_line, lines_then, IsNamed, chosen, bytes-drop, bytes-stand, labels_bytes}
+use Rattle.nb_text.specs.ServiceFields.{named_fields, head_fields, entry_fields, node_name_fields}
+use Rattle.nb_text.specs.ServiceText.{state_text, counts_text, header_line, question_line, rdata_text, record_line, entry_line, node_name_line, unit_line, status_lines, record_lines, service_text}
+use Rattle.nb_text.proofs.FieldLemmas.{IsSeen, bytes-take, number_word, word_seen, word_word, is_literal, literal, data_seen, data_word, written_word, labels_word, address_word, packet_set_word, name_set_word}
+use Rattle.nb_text.proofs.MidLemmas.{IsMid, mid_then, mid_both, mid_seen, mid_field, number_field, used_ends, ends_here, AreParts, no_parts, parts_both, parts_each, parts_all, part_line, lines_then, IsNamed, chosen, bytes-drop, bytes-stand, labels_bytes}
+use Rattle.nb_text.proofs.RowLemmas.{AreShown, row_ends}
 
 -- ---- the header
 
@@ -53,13 +54,9 @@ counts_mid header =
     mid_both (number_field (codes "qd=") header.questions refl) (mid_both (number_field (codes "an=") header.answers refl)
     (mid_both (number_field (codes "ns=") header.authorities refl) (number_field (codes "ar=") header.additional refl)))
 
--- four digits
-digits_field : (cs : List ℕ) (n : ℕ) → is_literal cs ≡ true → IsMid (32 ∷ (cs ++ word_text n))
-digits_field cs n h = mid_field cs (word_text n) h (word_seen n)
-
 header_lines : (header : PacketHeader) (used : ℕ) → AreLines (header_line header used)
 header_lines header used =
-    (mid_then (mid_both (mid_seen (word_text header.id) (word_seen header.id)) (digits_field (codes "word=") header.word refl))
+    (mid_then (mid_both (mid_seen (word_text header.id) (word_seen header.id)) (mid_field (codes "word=") (word_text header.word) refl (word_seen header.word)))
     (mid_then (state_mid header.word) (mid_then (counts_mid header) (used_ends used)))).lines (codes "id=") (literal (codes "id=") refl)
 
 -- ---- questions and records
@@ -68,22 +65,21 @@ header_lines header used =
 abbrev pub AreLabels : List (List ℕ) → Type 0
 AreLabels labels = IsDomain labels × AreByteLabels labels
 
-label_word : (labels : List (List ℕ)) → AreLabels labels → IsWord (labels_written labels)
-label_word labels h = labels_word labels h.0 h.1
-
-type_mid : (kind class : ℕ) → IsMid (type_text kind class)
-type_mid kind class = mid_both (digits_field (codes "type=") kind refl) (digits_field (codes "class=") class refl)
-
 -- a question that stands in bytes, with its numbers
 pub record IsShownQuestion (question : Question) : Type 0 where
   pub name : AreLabels question.name
   pub kind : question.kind < 2 ^ 16
   pub class : question.class < 2 ^ 16
 
+-- the values of its line are words
+pub named_shown : (labels : List (List ℕ)) (kind class : ℕ) → AreLabels labels → AreShown (named_fields labels kind class)
+named_shown labels kind class h = (labels_word labels h.0 h.1, (word_word kind, (word_word class, tt)))
+
 question_parts : (question : Question) → IsShownQuestion question → AreParts (question_line question)
 question_parts question h =
-    part_line (codes "  ") two ((mid_then (mid_word (labels_written question.name) (label_word question.name h.name))
-    (mid_then (type_mid question.kind question.class) ends_here)).lines (codes "question") (literal (codes "question") refl))
+    let row = named_fields question.name question.kind question.class in
+    part_line (codes "  ") two
+    ((row_ends row refl (named_shown question.name question.kind question.class h.name) ends_here).lines (codes "question") (literal (codes "question") refl))
 
 -- RDATA that stands in bytes
 abbrev pub IsByteData : ResourceData → Type 0
@@ -92,7 +88,7 @@ IsByteData (of_domain labels) = AreLabels labels
 
 rdata_mid : (rdata : ResourceData) → IsByteData rdata → IsMid (rdata_text rdata)
 rdata_mid (of_bytes bytes) h = mid_field (codes "data=") (data_text bytes) refl (data_word bytes h).1
-rdata_mid (of_domain labels) h = mid_field (codes "domain=") (labels_written labels) refl (label_word labels h).1
+rdata_mid (of_domain labels) h = mid_field (codes "domain=") (labels_written labels) refl (labels_word labels h.0 h.1).1
 
 -- a record that stands in bytes, with its numbers
 pub record IsShownRecord (entry : ResourceRecord) : Type 0 where
@@ -102,18 +98,26 @@ pub record IsShownRecord (entry : ResourceRecord) : Type 0 where
   pub ttl : entry.ttl < 2 ^ 32
   pub rdata : IsByteData entry.rdata
 
+-- the values before its RDATA are words
+pub head_shown : (entry : ResourceRecord) → IsShownRecord entry → AreShown (head_fields entry.name entry.kind entry.class entry.ttl)
+head_shown entry h = named_shown entry.name entry.kind entry.class h.name
+
 record_parts : (section : List ℕ) (entry : ResourceRecord) → IsWord section → IsShownRecord entry → AreParts (record_line section entry)
 record_parts section entry is h =
-    part_line (codes "  ") two ((mid_then (mid_word (labels_written entry.name) (label_word entry.name h.name))
-    (mid_then (type_mid entry.kind entry.class)
-    (mid_then (number_field (codes "ttl=") entry.ttl refl) (mid_then (rdata_mid entry.rdata h.rdata) ends_here)))).lines section is)
+    let row = head_fields entry.name entry.kind entry.class entry.ttl in
+    part_line (codes "  ") two
+    ((row_ends row refl (head_shown entry h) (mid_then (rdata_mid entry.rdata h.rdata) ends_here)).lines section is)
 
 -- ---- parts of RDATA
 
+-- the row of a part that is a line, between its beginning and its ends
+abbrev row_of : List Field → List Field
+row_of part = take (length part - 3) (drop 1 part)
+
 entry_parts : (entry : AddressEntry) → AreParts (entry_line entry)
 entry_parts entry =
-    part_line (codes "    ") four ((mid_then (digits_field (codes "flags=") entry.flags refl) (mid_then (number_field (codes "ont=") (ont_of entry.flags) refl)
-    (mid_then (mid_field (codes "address=") (address_text entry.address) refl (address_word entry.address).1) ends_here))).lines
+    part_line (codes "    ") four
+    ((row_ends (row_of (entry_fields entry)) refl (word_word entry.flags, (address_word entry.address, tt)) ends_here).lines
     (codes "entry") (literal (codes "entry") refl))
 
 abbrev pub IsByteNode : NodeName → Type 0
@@ -121,10 +125,9 @@ IsByteNode name = AreBytes name.bytes
 
 node_parts : (name : NodeName) → IsByteNode name → AreParts (node_name_line name)
 node_parts name h =
-    let plain : NetbiosName = record { bytes = name.bytes; scope = [] } in
-    part_line (codes "    ") four ((mid_then (mid_word (written plain) (written_word plain h tt))
-    (mid_then (digits_field (codes "flags=") name.flags refl) (mid_then (number_field (codes "ont=") (ont_of name.flags) refl)
-    (mid_then (mid_field (codes "set=") (set_text name_flags name.flags) refl (name_set_word name.flags).1) ends_here)))).lines
+    part_line (codes "    ") four
+    ((row_ends (row_of (node_name_fields name)) refl
+    (written_word (record { bytes = name.bytes; scope = [] }) h tt, (word_word name.flags, (name_set_word name.flags, tt))) ends_here).lines
     (codes "name") (literal (codes "name") refl))
 
 unit_parts : (statistics : List ℕ) → AreBytes statistics → AreParts (unit_line statistics)

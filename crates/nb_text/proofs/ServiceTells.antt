@@ -2,19 +2,22 @@
 use Rattle.std.proofs.Common.{◌≡◌, ℕ, ◌<◌, ◌^◌, nat_lt, Bool, true, false, if◌then◌else◌, List, [], ◌++◌, length, take, refl, ap, arith, codes}
 use Rattle.std.specs.List.{AllByRecursion, flat_map}
 use Rattle.std.specs.Fmt.{decimal}
+use Rattle.std.proofs.lemmas.Fmt.{decimal_injective}
 use Rattle.nb_names.specs.DomainName.{AreBytes}
-use Rattle.nb_names.specs.Hexadecimal.{digits_text}
+use Rattle.nb_names.specs.Hexadecimal.{digits_text, word_text}
 use Rattle.nb_service.specs.declared.question.Question.{Question}
 use Rattle.nb_service.specs.Packet.{ServicePacket, header_of, IsPacket}
 use Rattle.nb_service.specs.Record.{ResourceData, of_bytes, of_domain, ResourceRecord}
 use Rattle.nb_service.specs.Views.{entries_in, status_in}
 use Rattle.nb_text.specs.Lines.{line_end, used_text}
-use Rattle.nb_text.specs.ServiceText.{state_text, counts_text, header_line, type_text, question_line, rdata_text, record_line, entry_line, node_name_line, unit_line, status_lines, record_lines, service_text}
+use Rattle.nb_text.specs.ServiceFields.{named_fields, head_fields}
+use Rattle.nb_text.specs.ServiceText.{state_text, counts_text, header_line, question_line, rdata_text, record_line, entry_line, node_name_line, unit_line, status_lines, record_lines, service_text}
 use Rattle.nb_text.proofs.FieldLemmas.{number_word}
-use Rattle.nb_text.proofs.FieldTells.{number_tells, word_tells, data_tells}
+use Rattle.nb_text.proofs.FieldTells.{number_tells, word_tells, word_then, data_tells}
 use Rattle.nb_text.proofs.FormFields.{lists_text}
-use Rattle.nb_text.proofs.LabelTells.{labels_tell}
-use Rattle.nb_text.proofs.ServiceLines.{IsByteData, IsCounted, IsShownQuestion, IsShownRecord, IsShownPacket, packet_stands}
+use Rattle.nb_text.proofs.LabelTells.{labels_same, labels_tell}
+use Rattle.nb_text.proofs.RowLemmas.{rows_tell, value_at}
+use Rattle.nb_text.proofs.ServiceLines.{IsByteData, IsCounted, IsShownQuestion, IsShownRecord, IsShownPacket, named_shown, head_shown, packet_stands}
 use Rattle.nb_text.proofs.TellLemmas.{EndsField, ends_both, ends_each, Tells, space, feed, tells_whole, seen_tells, both_tell, field_then, after_tells, same_tells, differ_tells, tells_then, TellsAfter, both_after, each_after}
 
 -- ---- the header
@@ -60,16 +63,22 @@ header_tells p q m n a b =
 
 -- ---- questions
 
-type_tells : (kind class other another : ℕ) → kind < 2 ^ 16 → class < 2 ^ 16 → other < 2 ^ 16 → another < 2 ^ 16
-    → Tells (type_text kind class) (type_text other another) ((kind ≡ other) × (class ≡ another))
-type_tells kind class other another a b p q =
-    field_then (codes " type=") (word_tells kind other a p) (after_tells (codes " class=") (word_tells class another b q)) space space
+-- numbers of sixteen bits that are shown alike
+word_same : (m n : ℕ) → m < 2 ^ 16 → n < 2 ^ 16 → word_text m ≡ word_text n → m ≡ n
+word_same m n a b e = (word_then m n [] [] a b (ap (λ (t : List ℕ). t ++ []) e)).0
 
 question_tells : (x y : Question) → IsShownQuestion x → IsShownQuestion y → Tells (question_line x) (question_line y) (x ≡ y)
 question_tells x y a b =
-    let types = both_tell (type_tells x.kind x.class y.kind y.class a.kind a.class b.kind b.class) (λ _. end_tells) feed feed in
-    tells_then (field_then (codes "  question ") (labels_tell x.name y.name a.name b.name) types space space)
-    (λ h. λ i. record { name = h.0 i; kind = h.1.0.0 i; class = h.1.0.1 i })
+    let own = named_fields x.name x.kind x.class in
+    let shown = named_shown x.name x.kind x.class a.name in
+    let other = named_shown y.name y.kind y.class b.name in
+    let row = rows_tell own (named_fields y.name y.kind y.class) refl refl refl shown other end_tells feed feed in
+    tells_then (after_tells (codes "  question") row)
+    (λ h. λ i. record {
+      name = labels_same x.name y.name a.name b.name (ap (value_at (codes " ") own) h.0) i;
+      kind = word_same x.kind y.kind a.kind b.kind (ap (value_at (codes " type=") own) h.0) i;
+      class = word_same x.class y.class a.class b.class (ap (value_at (codes " class=") own) h.0) i;
+    })
 
 -- ---- records
 
@@ -88,12 +97,17 @@ record_tells : (section : List ℕ) (x y : ResourceRecord) → IsShownRecord x �
 record_tells section x y a b =
     let low = a.ttl in
     let small = b.ttl in
+    let own = head_fields x.name x.kind x.class x.ttl in
     let rdata = both_tell (rdata_tells x.rdata y.rdata a.rdata b.rdata) (λ _. end_tells) feed feed in
-    let ttl = field_then (codes " ttl=") (number_tells x.ttl y.ttl (omega (arith, low)) (omega (arith, small))) rdata (rdata_space x.rdata) (rdata_space y.rdata) in
-    let types = both_tell (type_tells x.kind x.class y.kind y.class a.kind a.class b.kind b.class) (λ _. ttl) space space in
-    let name = field_then (codes " ") (labels_tell x.name y.name a.name b.name) types space space in
-    tells_then (after_tells (codes "  ") (after_tells section name))
-    (λ h. λ i. record { name = h.0 i; kind = h.1.0.0 i; class = h.1.0.1 i; ttl = h.1.1.0 i; rdata = h.1.1.1.0 i })
+    let row = rows_tell own (head_fields y.name y.kind y.class y.ttl) refl refl refl (head_shown x a) (head_shown y b) rdata (rdata_space x.rdata) (rdata_space y.rdata) in
+    tells_then (after_tells (codes "  ") (after_tells section row))
+    (λ h. λ i. record {
+      name = labels_same x.name y.name a.name b.name (ap (value_at (codes " ") own) h.0) i;
+      kind = word_same x.kind y.kind a.kind b.kind (ap (value_at (codes " type=") own) h.0) i;
+      class = word_same x.class y.class a.class b.class (ap (value_at (codes " class=") own) h.0) i;
+      ttl = decimal_injective x.ttl y.ttl (omega (arith, low)) (omega (arith, small)) (ap (value_at (codes " ttl=") own) h.0) i;
+      rdata = h.1.0 i;
+    })
 
 -- what follows a record's own line
 abbrev parts_lines : ResourceRecord → List ℕ

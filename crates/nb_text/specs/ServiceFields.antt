@@ -98,11 +98,15 @@ view_fields entry =
 abbrev pub data_fields : ℕ → List ℕ → List Field
 data_fields kind bytes = view_fields (record_of [] kind 0 0 (of_bytes bytes))
 
+-- head_fields labels kind class ttl: what a record has before its RDATA
+abbrev pub head_fields : List (List ℕ) → ℕ → ℕ → ℕ → List Field
+head_fields labels kind class ttl = named_fields labels kind class ++ Number (key_named "ttl") ttl ∷ []
+
 -- record_fields lead entry: a record, which begins so in text
 abbrev pub record_fields : List ℕ → ResourceRecord → List Field
 record_fields lead entry =
-    Part lead ∷ (named_fields entry.name entry.kind entry.class
-    ++ Number (key_named "ttl") entry.ttl ∷ rdata_field entry.rdata ∷ LineEnds ∷ (view_fields entry ++ PartEnds ∷ []))
+    Part lead ∷ (head_fields entry.name entry.kind entry.class entry.ttl
+    ++ rdata_field entry.rdata ∷ LineEnds ∷ (view_fields entry ++ PartEnds ∷ []))
 
 -- ---- the packet
 

@@ -10,7 +10,7 @@ ghost use Rattle.nb_text.specs.Tells.{IsTold};
 
 use crate::codes::{ERROR, query_name};
 use crate::faults::tell_refusal;
-use crate::keys::{CODE, DATA, DESTINATION, FLAGS, KEY, OFFSET, SOURCE};
+use crate::keys::field_key;
 use crate::words::{tell_byte, tell_kind, tell_number, tell_used};
 use nb_datagram::{ErrorPacket, Key, LentFragment, LentPacket, LentQuery, decode_lent, kind_name};
 use nb_names::NoMemory;
@@ -58,8 +58,8 @@ fn tell_begin<S: Sink>(kind: &str, flags: u8, key: Key, sink: &mut S) -> Result<
     ensures front { Grows S.is_front (S.seen sink.old) (S.seen sink.new) }
 {
     tell_kind(kind, sink)?;
-    tell_byte(FLAGS, flags, sink)?;
-    sink.shown(KEY, &key)
+    tell_byte(field_key!("flags"), flags, sink)?;
+    sink.shown(field_key!("key"), &key)
 }
 
 /// Tells a fragment's parts.
@@ -70,7 +70,7 @@ fn tell_fragment<S: Sink>(fragment: &LentFragment<'_>, sink: &mut S) -> Result<(
 {
     tell_fragment_header(fragment, sink)?;
     tell_ends(fragment, sink)?;
-    sink.data(DATA, fragment.bytes())
+    sink.data(field_key!("data"), fragment.bytes())
 }
 
 /// Tells what a fragment's header says.
@@ -86,7 +86,7 @@ fn tell_fragment_header<S: Sink>(fragment: &LentFragment<'_>, sink: &mut S) -> R
         fragment.key(),
         sink,
     )?;
-    tell_number(OFFSET, fragment.offset(), sink)
+    tell_number(field_key!("offset"), fragment.offset(), sink)
 }
 
 /// Tells who sends a fragment, and to whom.
@@ -96,8 +96,8 @@ fn tell_ends<S: Sink>(fragment: &LentFragment<'_>, sink: &mut S) -> Result<(), N
         ∷ Text (key_named "destination") (written fragment.now.destination) ∷ [])) }
     ensures front { Grows S.is_front (S.seen sink.old) (S.seen sink.new) }
 {
-    sink.shown(SOURCE, fragment.source())?;
-    sink.shown(DESTINATION, fragment.destination())
+    sink.shown(field_key!("source"), fragment.source())?;
+    sink.shown(field_key!("destination"), fragment.destination())
 }
 
 /// Tells an error's parts.
@@ -107,7 +107,7 @@ fn tell_error<S: Sink>(error: ErrorPacket, sink: &mut S) -> Result<(), NoMemory>
     ensures front { Grows S.is_front (S.seen sink.old) (S.seen sink.new) }
 {
     tell_begin(ERROR, error.flags, error.key, sink)?;
-    tell_byte(CODE, error.code, sink)
+    tell_byte(field_key!("code"), error.code, sink)
 }
 
 /// Tells a query's parts.
@@ -117,5 +117,5 @@ fn tell_query<S: Sink>(query: &LentQuery<'_>, sink: &mut S) -> Result<(), NoMemo
     ensures front { Grows S.is_front (S.seen sink.old) (S.seen sink.new) }
 {
     tell_begin(query_name(query.kind), query.flags, query.key, sink)?;
-    sink.shown(DESTINATION, &query.destination)
+    sink.shown(field_key!("destination"), &query.destination)
 }

@@ -13,7 +13,7 @@ ghost use Rattle.nb_text.specs.TellsFront.{FrontOf};
 ghost use Rattle.nb_text.specs.Words.{datagram_word, session_word};
 
 use crate::codes::{datagram_name, session_name};
-use crate::keys::{DESTINATION, FLAGS, KEY, LENGTH, OFFSET, PACKET_TYPE, SOURCE};
+use crate::keys::field_key;
 use crate::words::{tell_byte, tell_kind, tell_number};
 use nb_datagram::{FragmentFront, Front, decode_lent, read_front};
 use nb_names::{LentName, NoMemory};
@@ -67,8 +67,8 @@ fn tell_datagram_header<S: Sink>(front: &Front<'_>, sink: &mut S) -> Result<(), 
     ensures front { Grows S.is_front (S.seen sink.old) (S.seen sink.new) }
 {
     tell_type(datagram_name(front.message_type), front.message_type, sink)?;
-    tell_byte(FLAGS, front.flags, sink)?;
-    sink.shown(KEY, &front.key)
+    tell_byte(field_key!("flags"), front.flags, sink)?;
+    sink.shown(field_key!("key"), &front.key)
 }
 
 /// Tells what stands after the ten bytes with which all packets of port 138 begin.
@@ -92,9 +92,9 @@ fn tell_fragment<S: Sink>(front: &FragmentFront<'_>, sink: &mut S) -> Result<(),
         ≡ fold S.after (S.seen sink.old) (fragment_front_fields (Some front.now))) }
     ensures front { Grows S.is_front (S.seen sink.old) (S.seen sink.new) }
 {
-    tell_number(OFFSET, front.offset, sink)?;
-    tell_standing_name(SOURCE, &front.source, sink)?;
-    tell_standing_name(DESTINATION, &front.destination, sink)
+    tell_number(field_key!("offset"), front.offset, sink)?;
+    tell_standing_name(field_key!("source"), &front.source, sink)?;
+    tell_standing_name(field_key!("destination"), &front.destination, sink)
 }
 
 /// Tells a name, where it stands whole.
@@ -150,7 +150,7 @@ fn tell_session_line<S: Sink>(header: &Header, sink: &mut S) -> Result<(), NoMem
 {
     sink.words("  ")?;
     tell_type(session_name(header.packet_type), header.packet_type, sink)?;
-    sink.number(LENGTH, header.body_length() as u64)?;
+    sink.number(field_key!("length"), header.body_length() as u64)?;
     sink.line_ends()
 }
 
@@ -166,6 +166,6 @@ fn tell_type<S: Sink>(
 {
     match word {
         Some(word) => tell_kind(word, sink),
-        None => tell_byte(PACKET_TYPE, packet_type, sink),
+        None => tell_byte(field_key!("type", "type="), packet_type, sink),
     }
 }

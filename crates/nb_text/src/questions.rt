@@ -13,7 +13,7 @@ ghost use Rattle.nb_telling.specs.Telling.{Text, Grows, key_of};
 ghost use Rattle.nb_text.specs.Fields.{list_fields};
 ghost use Rattle.nb_text.specs.ServiceFields.{named_fields, question_fields};
 
-use crate::keys::{CLASS, NAME, TYPE};
+use crate::keys::field_key;
 use crate::words::{end_part, tell_word};
 use nb_names::{NameReader, NoMemory, Pointers};
 use nb_service::{Seen, see_question};
@@ -94,9 +94,9 @@ pub fn tell_named_fields<S: Sink>(
         (named_fields labels seen.now.fields.kind seen.now.fields.class)) }
     ensures front { Grows S.is_front (S.seen sink.old) (S.seen sink.new) }
 {
-    tell_name(NAME, names, seen, sink)?;
-    tell_word(TYPE, seen.fields.kind, sink)?;
-    tell_word(CLASS, seen.fields.class, sink)
+    tell_name(field_key!("name", " "), names, seen, sink)?;
+    tell_word(field_key!("type"), seen.fields.kind, sink)?;
+    tell_word(field_key!("class"), seen.fields.class, sink)
 }
 
 /// Tells the name of a question or a record, from where it stands if it stands there in one run.

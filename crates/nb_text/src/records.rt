@@ -2,7 +2,9 @@
 
 ghost use Rattle.std.specs.Prelude.{◌≡◌, ◌∷◌, [], ℕ, List, IfOk, OnOk, codes, fold};
 ghost use Rattle.std.specs.List.{flat_map};
+ghost use Rattle.nb_names.specs.declared.pointers.Pointers.TheVariants.{Followed};
 ghost use Rattle.nb_names.specs.NameText.{labels_written};
+ghost use Rattle.nb_names.specs.Skipped.{IsSkipped};
 ghost use Rattle.nb_service.specs.Code.Steps.{HasRow, RowOf};
 ghost use Rattle.nb_service.specs.Items.{SeesRecord};
 ghost use Rattle.nb_service.specs.Packet.{RecordAt};
@@ -11,9 +13,9 @@ ghost use Rattle.nb_service.specs.Views.{entries_of_data};
 ghost use Rattle.nb_telling.specs.Telling.{Data, LineEnds, Text, Grows};
 ghost use Rattle.nb_text.specs.Keys.{key_named};
 ghost use Rattle.nb_text.specs.Fields.{list_fields};
-ghost use Rattle.nb_text.specs.ServiceFields.{data_fields, entry_fields, rdata_field, record_fields, view_fields};
+ghost use Rattle.nb_text.specs.ServiceFields.{data_fields, entry_fields, head_fields, rdata_field, record_fields, view_fields};
 
-use crate::keys::{ADDRESS, DATA, DOMAIN, TTL};
+use crate::keys::field_key;
 use crate::questions::tell_named_fields;
 use crate::statuses::tell_status;
 use crate::words::{end_part, tell_owner};
@@ -102,10 +104,23 @@ fn tell_record<S: Sink>(
     ensures front { Grows S.is_front (S.seen sink.old) (S.seen sink.new) }
 {
     sink.part(lead)?;
-    tell_named_fields(names, seen, sink)?;
-    sink.number(TTL, u64::from(seen.fields.ttl))?;
+    tell_head(names, seen, sink)?;
     tell_rdata(names, seen, sink)?;
     sink.part_ends()
+}
+
+/// Tells what a record has before its RDATA.
+fn tell_head<S: Sink>(names: &NameReader<'_, '_>, seen: &Seen, sink: &mut S) -> Result<(), NoMemory>
+    requires { (labels : List (List ℕ)) × IsSkipped names.now Followed seen.now.at labels
+        seen.now.name }
+    ensures told { (labels : List (List ℕ)) →
+        IsSkipped names.now Followed seen.now.at labels seen.now.name → OnOk result
+        (S.seen sink.new ≡ fold S.after (S.seen sink.old) (head_fields labels seen.now.fields.kind
+        seen.now.fields.class seen.now.fields.ttl)) }
+    ensures front { Grows S.is_front (S.seen sink.old) (S.seen sink.new) }
+{
+    tell_named_fields(names, seen, sink)?;
+    sink.number(field_key!("ttl"), u64::from(seen.fields.ttl))
 }
 
 /// Tells the RDATA of a record, and what it says.
@@ -132,7 +147,7 @@ fn tell_domain<S: Sink>(domain: &DomainName, sink: &mut S) -> Result<(), NoMemor
         (Text (key_named "domain") (labels_written domain.now) ∷ LineEnds ∷ [])) }
     ensures front { Grows S.is_front (S.seen sink.old) (S.seen sink.new) }
 {
-    sink.shown(DOMAIN, domain)?;
+    sink.shown(field_key!("domain"), domain)?;
     sink.line_ends()
 }
 
@@ -142,7 +157,7 @@ fn tell_bytes<S: Sink>(kind: u16, bytes: &[u8], sink: &mut S) -> Result<(), NoMe
         (Data (key_named "data") bytes.now ∷ LineEnds ∷ data_fields kind bytes.now)) }
     ensures front { Grows S.is_front (S.seen sink.old) (S.seen sink.new) }
 {
-    sink.data(DATA, bytes)?;
+    sink.data(field_key!("data"), bytes)?;
     sink.line_ends()?;
     match kind {
         NB => tell_entries(bytes, sink),
@@ -186,6 +201,6 @@ fn tell_entry<S: Sink>(entry: AddressEntry, sink: &mut S) -> Result<(), NoMemory
 {
     sink.part("    entry")?;
     tell_owner(entry.flags, sink)?;
-    sink.shown(ADDRESS, &entry.address)?;
+    sink.shown(field_key!("address"), &entry.address)?;
     end_part(sink)
 }

@@ -12,7 +12,7 @@ ghost use Rattle.nb_text.specs.TellsFront.{ServiceTold};
 use crate::codes::{operation_name, rcode_name};
 use crate::faults::tell_refusal;
 use crate::flags::packet_flags_of;
-use crate::keys::{AN, AR, FLAGS, ID, NS, OP, QD, RCODE, WORD};
+use crate::keys::field_key;
 use crate::questions::tell_questions;
 use crate::records::tell_section;
 use crate::words::{tell_named, tell_number, tell_used, tell_word};
@@ -156,8 +156,8 @@ fn tell_words<S: Sink>(header: &Header, sink: &mut S) -> Result<(), NoMemory>
         ∷ state_fields header.now.word)) }
     ensures front { Grows S.is_front (S.seen sink.old) (S.seen sink.new) }
 {
-    tell_word(ID, header.id, sink)?;
-    tell_word(WORD, header.word, sink)?;
+    tell_word(field_key!("id", "id="), header.id, sink)?;
+    tell_word(field_key!("word"), header.word, sink)?;
     tell_state(header.word, sink)
 }
 
@@ -168,9 +168,9 @@ fn tell_state<S: Sink>(word: u16, sink: &mut S) -> Result<(), NoMemory>
     ensures front { Grows S.is_front (S.seen sink.old) (S.seen sink.new) }
 {
     let (operation, outcome) = (opcode(word), rcode(word));
-    tell_named(OP, operation_name(operation), operation, sink)?;
-    sink.set(FLAGS, &packet_flags_of(word))?;
-    tell_named(RCODE, rcode_name(outcome), outcome, sink)
+    tell_named(field_key!("op"), operation_name(operation), operation, sink)?;
+    sink.set(field_key!("flags"), &packet_flags_of(word))?;
+    tell_named(field_key!("rcode"), rcode_name(outcome), outcome, sink)
 }
 
 /// Tells how many questions, answers, authorities and additional records there are.
@@ -179,8 +179,8 @@ fn tell_counts<S: Sink>(header: &Header, sink: &mut S) -> Result<(), NoMemory>
         ≡ fold S.after (S.seen sink.old) (count_fields (header_value header.now))) }
     ensures front { Grows S.is_front (S.seen sink.old) (S.seen sink.new) }
 {
-    tell_number(QD, header.questions, sink)?;
-    tell_number(AN, header.answers, sink)?;
-    tell_number(NS, header.authorities, sink)?;
-    tell_number(AR, header.additional, sink)
+    tell_number(field_key!("qd"), header.questions, sink)?;
+    tell_number(field_key!("an"), header.answers, sink)?;
+    tell_number(field_key!("ns"), header.authorities, sink)?;
+    tell_number(field_key!("ar"), header.additional, sink)
 }

@@ -8,7 +8,7 @@ ghost use Rattle.nb_text.specs.Tells.{IsTold};
 
 use crate::codes::{KEEPALIVE, MESSAGE, NEGATIVE, POSITIVE, REQUEST, RETARGET};
 use crate::faults::tell_refusal;
-use crate::keys::{ADDRESS, CALLED, CALLING, CODE, DATA, LENGTH, MORE, TO_PORT};
+use crate::keys::field_key;
 use crate::words::{tell_byte, tell_kind, tell_number, tell_used};
 use nb_names::{LentName, NoMemory};
 use nb_session::{LentPacket, LentParsed, Packet, Parsed, parse_lent};
@@ -52,7 +52,7 @@ fn tell_more<S: Sink>(needed: usize, sink: &mut S) -> Result<(), NoMemory>
         ≡ fold S.after (S.seen sink.old) (session_fields (Parsed.More needed))) }
     ensures front { Grows S.is_front (S.seen sink.old) (S.seen sink.new) }
 {
-    sink.number(MORE, needed as u64)?;
+    sink.number(field_key!("more", "more "), needed as u64)?;
     sink.line_ends()
 }
 
@@ -79,8 +79,8 @@ fn tell_message<S: Sink>(bytes: &[u8], sink: &mut S) -> Result<(), NoMemory>
     ensures front { Grows S.is_front (S.seen sink.old) (S.seen sink.new) }
 {
     tell_kind(MESSAGE, sink)?;
-    sink.number(LENGTH, bytes.len() as u64)?;
-    sink.data(DATA, bytes)
+    sink.number(field_key!("length"), bytes.len() as u64)?;
+    sink.data(field_key!("data"), bytes)
 }
 
 /// Tells a request's parts.
@@ -94,8 +94,8 @@ fn tell_request<S: Sink>(
     ensures front { Grows S.is_front (S.seen sink.old) (S.seen sink.new) }
 {
     tell_kind(REQUEST, sink)?;
-    sink.shown(CALLED, called)?;
-    sink.shown(CALLING, calling)
+    sink.shown(field_key!("called"), called)?;
+    sink.shown(field_key!("calling"), calling)
 }
 
 /// Tells a negative response's parts.
@@ -105,7 +105,7 @@ fn tell_negative<S: Sink>(code: u8, sink: &mut S) -> Result<(), NoMemory>
     ensures front { Grows S.is_front (S.seen sink.old) (S.seen sink.new) }
 {
     tell_kind(NEGATIVE, sink)?;
-    tell_byte(CODE, code, sink)
+    tell_byte(field_key!("code"), code, sink)
 }
 
 /// Tells a retarget response's parts.
@@ -115,6 +115,6 @@ fn tell_retarget<S: Sink>(address: [u8; 4], port: u16, sink: &mut S) -> Result<(
     ensures front { Grows S.is_front (S.seen sink.old) (S.seen sink.new) }
 {
     tell_kind(RETARGET, sink)?;
-    sink.shown(ADDRESS, &address)?;
-    tell_number(TO_PORT, port, sink)
+    sink.shown(field_key!("address"), &address)?;
+    tell_number(field_key!("to_port", " port="), port, sink)
 }

@@ -9,7 +9,7 @@ ghost use Rattle.nb_text.specs.Fields.{list_fields};
 ghost use Rattle.nb_text.specs.ServiceFields.{node_name_fields, status_fields, unit_fields};
 
 use crate::flags::name_flags_of;
-use crate::keys::{NAME, SET, UNIT};
+use crate::keys::field_key;
 use crate::words::{end_part, tell_owner};
 use nb_names::{Name, NoMemory, Scope};
 use nb_service::kinds::NBSTAT;
@@ -74,7 +74,7 @@ fn tell_unit<S: Sink>(status: &NodeStatus<'_>, sink: &mut S) -> Result<(), NoMem
 {
     match status.unit_id() {
         Some(unit) => {
-            sink.digits(UNIT, &unit)?;
+            sink.digits(field_key!("unit", "    unit="), &unit)?;
             sink.line_ends()
         }
         None => Ok(()),
@@ -88,8 +88,11 @@ fn tell_node_name<S: Sink>(name: NodeName, sink: &mut S) -> Result<(), NoMemory>
     ensures front { Grows S.is_front (S.seen sink.old) (S.seen sink.new) }
 {
     sink.part("    name")?;
-    sink.shown(NAME, &Name::new(name.bytes, Scope::empty()))?;
+    sink.shown(
+        field_key!("name", " "),
+        &Name::new(name.bytes, Scope::empty()),
+    )?;
     tell_owner(name.flags, sink)?;
-    sink.set(SET, &name_flags_of(name.flags))?;
+    sink.set(field_key!("set"), &name_flags_of(name.flags))?;
     end_part(sink)
 }

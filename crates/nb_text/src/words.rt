@@ -7,7 +7,7 @@ ghost use Rattle.nb_text.specs.Keys.{key_named, kind_key};
 ghost use Rattle.nb_text.specs.Fields.{used_fields};
 ghost use Rattle.nb_text.specs.ServiceFields.{named_field, word_field};
 
-use crate::keys::{FLAGS, KIND, ONT, USED};
+use crate::keys::{KIND, field_key};
 use nb_names::NoMemory;
 use nb_service::ont;
 use nb_telling::{FieldKey, Sink};
@@ -77,8 +77,8 @@ pub fn tell_owner<S: Sink>(flags: u16, sink: &mut S) -> Result<(), NoMemory>
         (word_field (key_named "flags") flags ∷ Number (key_named "ont") (ont_of flags) ∷ [])) }
     ensures front { Grows S.is_front (S.seen sink.old) (S.seen sink.new) }
 {
-    tell_word(FLAGS, flags, sink)?;
-    sink.number(ONT, u64::from(ont(flags)))
+    tell_word(field_key!("flags"), flags, sink)?;
+    sink.number(field_key!("ont"), u64::from(ont(flags)))
 }
 
 /// Ends the line of a part, and the part.
@@ -98,6 +98,6 @@ pub fn tell_used<S: Sink>(used: usize, sink: &mut S) -> Result<(), NoMemory>
         (S.seen sink.new ≡ fold S.after (S.seen sink.old) (used_fields used)) }
     ensures front { Grows S.is_front (S.seen sink.old) (S.seen sink.new) }
 {
-    sink.number(USED, used as u64)?;
+    sink.number(field_key!("used"), used as u64)?;
     sink.line_ends()
 }

@@ -14,7 +14,7 @@ ghost use Rattle.nb_text.specs.ServiceSaid.{About, IsAbout, about_first, name_sa
 use crate::brief::form::{form_of, push_ending};
 use crate::brief::pieces::{counts_in, push_follow, push_refused, push_text};
 use crate::brief::told::Told;
-use crate::keys::NO_KEY;
+use crate::keys::field_key;
 use crate::questions::tell_name;
 use nb_names::limits::POINTED_OFFSETS;
 use nb_names::{NameReader, NoMemory};
@@ -125,7 +125,7 @@ fn push_subject(
         Adds result text.old text.new (name_said subject ∷ []) }
 {
     match about {
-        Some(seen) => tell_name(NO_KEY, names, seen, text),
+        Some(seen) => tell_name(field_key!("", ""), names, seen, text),
         None => push_text("no name", text),
     }
 }

@@ -109,7 +109,8 @@ pub const FORMS: [CommandForm; 8] = [
     },
     CommandForm {
         name: "replay",
-        about: "Replay the capture on standard input in a station with these names, and print the report",
+        about: "Replay the capture on standard input in a station with these names, and print the \
+                report",
         arguments: &[
             Argument::Keys,
             PER_SOURCE,
@@ -137,7 +138,8 @@ pub const FORMS: [CommandForm; 8] = [
     },
     CommandForm {
         name: "list",
-        about: "Print what the saved tables on standard input, a line each, know together of each key",
+        about: "Print what the saved tables on standard input, a line each, know together of each \
+                key",
         arguments: &[Argument::Keys, PER_SOURCE, JSON],
         after: LIST_HELP,
     },

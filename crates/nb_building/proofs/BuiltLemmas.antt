@@ -61,10 +61,9 @@ pub fragments_named : {F : Type 0} (P : Type 0) (what word : List ℕ) (words te
 fragments_named P what word words texts q (Ok payloads) is_what are named (cut, is) = rw (is_what, are, is) (named cut)
 fragments_named P what word words texts q (Err fault) is_what are named h = tt
 
-pub datagrams_named : {F : Type 0} (what word : List ℕ) (words texts q : List (List ℕ)) (out : Result (List (List ℕ)) F)
-    → what ≡ word → words ≡ texts → NamesDatagrams word texts q → IfOk out (λ payloads. payloads ≡ q) → IfOk out (NamesDatagrams what words)
-datagrams_named what word words texts q (Ok payloads) is_what are named is = rw (is_what, are, is) named
-datagrams_named what word words texts q (Err fault) is_what are named is = tt
+pub datagrams_named : (what word : List ℕ) (words texts q payloads : List (List ℕ)) → what ≡ word → words ≡ texts → NamesDatagrams word texts q
+    → payloads ≡ q → NamesDatagrams what words payloads
+datagrams_named what word words texts q payloads is_what are named is = rw (is_what, are, is) named
 
 -- words that give too much, one by one
 pub too_much : (what word : List ℕ) (words texts : List (List ℕ)) → what ≡ word → words ≡ texts → GiveTooMuch word texts → GiveTooMuch what words

@@ -1,3 +1,4 @@
+pub mod FaultTexts
 pub mod Built
 pub mod Refusals
 pub mod Building

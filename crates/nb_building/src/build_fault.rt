@@ -2,14 +2,14 @@
 
 use nb_datagram::CutFault;
 use nb_names::{DigitsFault, NoMemory, TextFault};
-use std::alloc::{AllocError, AllocFailed};
+use std::fmt;
 
 /// Why no packet is built.
 #[derive(Clone, Copy, Debug, PartialEq, Eq)]
 pub enum BuildFault {
     /// The text of a name was refused.
     Text(TextFault),
-    /// There is no such packet, or it takes other words.
+    /// There is no such packet, it takes another number of words, or one of them is bad.
     Arguments,
     /// The packet takes fewer bytes.
     TooLong,
@@ -17,6 +17,23 @@ pub enum BuildFault {
     ZeroPiece,
     /// Memory ran out.
     Memory,
+}
+
+impl fmt::Display for BuildFault {
+    ghost use Rattle.std.specs.Prelude.{Some};
+    ghost use Rattle.nb_building.specs.FaultTexts.{build_fault_text};
+
+    ghost output = { λ fault. Some (build_fault_text fault) };
+
+    fn fmt<W: fmt::Write>(&self, f: &mut fmt::Formatter<W>) -> fmt::Result {
+        match self {
+            BuildFault::Text(fault) => write!(f, "{fault}"),
+            BuildFault::Arguments => f.write_str("arguments"),
+            BuildFault::TooLong => f.write_str("too long"),
+            BuildFault::ZeroPiece => f.write_str("zero piece"),
+            BuildFault::Memory => f.write_str("memory"),
+        }
+    }
 }
 
 impl From<TextFault> for BuildFault {
@@ -51,28 +68,6 @@ impl From<NoMemory> for BuildFault {
     ghost from_gives = { λ _ made. made ≡ Memory };
 
     fn from(_fault: NoMemory) -> BuildFault {
-        BuildFault::Memory
-    }
-}
-
-impl From<AllocError> for BuildFault {
-    ghost use Rattle.std.specs.Prelude.{◌≡◌};
-    ghost use Rattle.nb_building.specs.declared.build_fault.BuildFault.TheVariants.{Memory};
-
-    ghost from_gives = { λ _ made. made ≡ Memory };
-
-    fn from(_fault: AllocError) -> BuildFault {
-        BuildFault::Memory
-    }
-}
-
-impl<T: Drop> From<AllocFailed<T>> for BuildFault {
-    ghost use Rattle.std.specs.Prelude.{◌≡◌};
-    ghost use Rattle.nb_building.specs.declared.build_fault.BuildFault.TheVariants.{Memory};
-
-    ghost from_gives = { λ _ made. made ≡ Memory };
-
-    fn from(_fault: AllocFailed<T>) -> BuildFault {
         BuildFault::Memory
     }
 }

@@ -36,9 +36,7 @@ use std::alloc::Global;
 ///
 /// # Errors
 ///
-/// [`BuildFault::Text`] for a bad name; [`BuildFault::Arguments`] for another `what`, another
-/// number of words, or another bad one; [`BuildFault::TooLong`] for more data than a packet takes;
-/// [`BuildFault::ZeroPiece`] for pieces of no bytes; [`BuildFault::Memory`].
+/// The first that is met, as each [`BuildFault`] says.
 ///
 /// The words and the form are our choice.
 pub fn capture_lines(

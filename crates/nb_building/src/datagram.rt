@@ -13,7 +13,7 @@ use nb_datagram::limits::FIRST;
 use nb_datagram::{
     Datagram, ErrorPacket, Kind, Packet, Pieces, QueryKind, QueryPacket, cut, encode,
 };
-use nb_names::{Bytes, Items, name_from_text};
+use nb_names::{Bytes, Items, NoMemory, name_from_text};
 use std::alloc::Global;
 
 /// The bytes of the packets that WHAT and its arguments give.
@@ -72,14 +72,13 @@ fn fragments_of(alloc: Global, datagram: &Datagram, most: u16) -> Result<Items<B
         1 ≤ most → AreTooLong datagram.now most) }
 {
     let pieces = cut(alloc, datagram, most)?;
-    encoded_pieces(alloc, pieces)
+    Ok(encoded_pieces(alloc, pieces)?)
 }
 
 /// The packets of these pieces.
-fn encoded_pieces(alloc: Global, pieces: Pieces<'_>) -> Result<Items<Bytes>, BuildFault>
-    ensures built { IfOk result (λ packets. packets ≡
+fn encoded_pieces(alloc: Global, pieces: Pieces<'_>) -> Result<Items<Bytes>, NoMemory>
+    ensures { IfOk result (λ packets. packets ≡
         map (λ piece. packet_bytes (Packet.Direct piece)) pieces.entry) }
-    ensures memory { IfErr result (λ fault. fault ≡ BuildFault.Memory) }
 {
     let mut packets = Items::from_vec(Vec::new(alloc));
     for piece in pieces.into_vec() {
@@ -101,7 +100,8 @@ fn error(alloc: Global, words: &[&str]) -> Result<Items<Bytes>, BuildFault>
     let key = key(alloc, place)?;
     let code = code(alloc, digits)?;
     let flags = FIRST;
-    alone(alloc, Packet::Error(ErrorPacket { flags, key, code }))
+    let packet = Packet::Error(ErrorPacket { flags, key, code });
+    Ok(alone(alloc, packet)?)
 }
 
 /// A query packet, from KEY NAME.
@@ -117,21 +117,18 @@ fn query(alloc: Global, kind: QueryKind, words: &[&str]) -> Result<Items<Bytes>,
     let key = key(alloc, place)?;
     let destination = name_from_text(name)?;
     let flags = FIRST;
-    alone(
-        alloc,
-        Packet::Query(QueryPacket {
-            kind,
-            flags,
-            key,
-            destination,
-        }),
-    )
+    let packet = Packet::Query(QueryPacket {
+        kind,
+        flags,
+        key,
+        destination,
+    });
+    Ok(alone(alloc, packet)?)
 }
 
 /// The bytes of one packet.
-fn alone(alloc: Global, packet: Packet<'_>) -> Result<Items<Bytes>, BuildFault>
-    ensures built { IfOk result (λ packets. packets ≡ packet_bytes packet.entry ∷ []) }
-    ensures memory { IfErr result (λ fault. fault ≡ BuildFault.Memory) }
+fn alone(alloc: Global, packet: Packet<'_>) -> Result<Items<Bytes>, NoMemory>
+    ensures { IfOk result (λ packets. packets ≡ packet_bytes packet.entry ∷ []) }
 {
     let mut packets = Items::from_vec(Vec::new(alloc));
     push(alloc, packet, &mut packets)?;
@@ -139,9 +136,8 @@ fn alone(alloc: Global, packet: Packet<'_>) -> Result<Items<Bytes>, BuildFault>
 }
 
 /// Adds the bytes of a packet after those of the others.
-fn push(alloc: Global, packet: Packet<'_>, packets: &mut Items<Bytes>) -> Result<(), BuildFault>
-    ensures added { OnOk result (packets.new ≡ packets.old ++ packet_bytes packet.entry ∷ []) }
-    ensures memory { IfErr result (λ fault. fault ≡ BuildFault.Memory) }
+fn push(alloc: Global, packet: Packet<'_>, packets: &mut Items<Bytes>) -> Result<(), NoMemory>
+    ensures { OnOk result (packets.new ≡ packets.old ++ packet_bytes packet.entry ∷ []) }
 {
     packets.push(encode(alloc, &packet)?)?;
     Ok(())

@@ -1,3 +1,4 @@
 -- Words that private functions' contracts alone cite.
+pub mod CommandForms
 pub mod Marks
 pub mod PrintedLines

@@ -1,16 +1,14 @@
 -- The program's command line, as clap reads it (our choice).
-use Rattle.std.specs.Prelude.{◌≡◌, ◌⊎◌, ℕ, List, [], ◌∷◌, Option, Some, true, false, codes, Result, IfOk, IsOkAnd, Bool, filter, map, ◌≢◌}
+use Rattle.std.specs.Prelude.{◌≡◌, ◌⊎◌, ℕ, List, [], ◌∷◌, ◌++◌, Option, Some, true, false, codes, Bool, filter, map, ◌≢◌}
 use Rattle.std.specs.Fmt.{decimal}
 use Rattle.nbt.specs.declared.limits.TheConstants.{KEYS, MOST_INPUT, MOST_KEYS}
 use Rattle.nbt.specs.declared.subcommand.Subcommand.{Subcommand}
 use Rattle.nbt.specs.declared.subcommand.Subcommand.TheVariants as commands
-use Rattle.clap.specs.Words.{App, Rule, Text, app_of, new_app, new_rule, with_rule, with_subcommand, found_of, rows_of, subcommand_of}
-use Rattle.clap.specs.declared.builder.command.Command.{Command}
-use Rattle.clap.specs.declared.builder.command.Command.TheViews.{out-Command as fields_of}
+use Rattle.clap.specs.Words.{App, Rule, Text, new_app, new_rule, with_rule, with_subcommand, found_of, rows_of, subcommand_of}
 use Rattle.clap.specs.Simple.{on_top, Shape, built}
 use Rattle.clap.specs.declared.builder.action.ArgAction.TheVariants.{Set, SetTrue, Append}
 use Rattle.clap.specs.declared.builder.value_parser.ValueParser.TheVariants.{Unsigned}
-use Rattle.std.specs.List.{flat_map}
+use Rattle.std.specs.List.{flat_map, fold}
 use Rattle.clap.specs.Walk.{action_of}
 use Rattle.clap.specs.declared.builder.action.ArgAction.{ArgAction}
 use Rattle.clap.specs.declared.parser.matches.ArgMatches.{ArgMatches}
@@ -79,73 +77,65 @@ per_source_rule = number_rule (codes "per-source") MOST_KEYS
 abbrev pub input_limit_rule : Rule
 input_limit_rule = number_rule (codes "input-limit") MOST_INPUT
 
--- a command that makes a table, with the options for its limits
-abbrev pub limited_app : Text → App
-limited_app name = with_rule (with_rule (new_app name) keys_rule) per_source_rule
+-- with_rules app rules: with these arguments more, in this order
+abbrev pub with_rules : App → List Rule → App
+with_rules app rules = fold with_rule app rules
+
+-- the options for the limits of a table
+abbrev pub limit_rules : List Rule
+limit_rules = keys_rule ∷ per_source_rule ∷ []
+
+-- the options of a command that reads a capture
+abbrev pub capture_rules : List Rule
+capture_rules = input_limit_rule ∷ flag_rule (codes "comments") ∷ []
 
 -- `name [--bytes] VALUE`
 abbrev pub name_app : App
-name_app = with_rule (with_rule (new_app (codes "name")) (flag_rule (codes "bytes"))) (value_rule (codes "VALUE"))
+name_app = with_rules (new_app (codes "name")) (flag_rule (codes "bytes") ∷ value_rule (codes "VALUE") ∷ [])
 
 -- `show [--input-limit BYTES] [--comments] [--brief] [--partial] [--json]`
 abbrev pub show_app : App
 show_app =
-    with_rule (with_rule (with_rule (with_rule (with_rule (new_app (codes "show")) input_limit_rule) (flag_rule (codes "comments"))) (flag_rule (codes "brief")))
-    (flag_rule (codes "partial"))) (flag_rule (codes "json"))
+    with_rules (new_app (codes "show"))
+    (capture_rules ++ (flag_rule (codes "brief") ∷ flag_rule (codes "partial") ∷ flag_rule (codes "json") ∷ []))
 
 -- `build [--broadcast] WHAT ARG..`
 abbrev pub build_app : App
-build_app = with_rule (with_rule (with_rule (new_app (codes "build")) (flag_rule (codes "broadcast"))) (value_rule (codes "WHAT"))) (list_rule (codes "ARG"))
+build_app =
+    with_rules (new_app (codes "build")) (flag_rule (codes "broadcast") ∷ value_rule (codes "WHAT") ∷ list_rule (codes "ARG") ∷ [])
 
 -- `replay [--keys N] [--per-source N] [--input-limit BYTES] [--comments] [--json] NAME..`
 abbrev pub replay_app : App
 replay_app =
-    with_rule (with_rule (with_rule (with_rule (limited_app (codes "replay")) input_limit_rule) (flag_rule (codes "comments"))) (flag_rule (codes "json"))) (some_rule (codes "NAME"))
+    with_rules (new_app (codes "replay")) (limit_rules ++ (capture_rules ++ (flag_rule (codes "json") ∷ some_rule (codes "NAME") ∷ [])))
 
 -- `save [--keys N] [--per-source N] [--input-limit BYTES]`
 abbrev pub save_app : App
-save_app = with_rule (limited_app (codes "save")) input_limit_rule
+save_app = with_rules (new_app (codes "save")) (limit_rules ++ (input_limit_rule ∷ []))
 
 -- `merge [--keys N] [--per-source N]`
 abbrev pub merge_app : App
-merge_app = limited_app (codes "merge")
+merge_app = with_rules (new_app (codes "merge")) limit_rules
 
 -- `list [--keys N] [--per-source N] [--json]`
 abbrev pub list_app : App
-list_app = with_rule (limited_app (codes "list")) (flag_rule (codes "json"))
+list_app = with_rules (new_app (codes "list")) (limit_rules ++ (flag_rule (codes "json") ∷ []))
 
 -- `agree [--list]`
 abbrev pub agree_app : App
-agree_app = with_rule (new_app (codes "agree")) (flag_rule (codes "list"))
+agree_app = with_rules (new_app (codes "agree")) (flag_rule (codes "list") ∷ [])
 
 -- the program itself has a version, and asks for a subcommand
 abbrev pub top_app : App
 top_app = on_top (λ s. record s { subcommand_required = true }) (on_top (λ s. record s { has_version = true }) (new_app (codes "nbt")))
 
+-- a command with a subcommand more
+abbrev pub with_command : App → App → App
+with_command app command = with_subcommand app command.top
+
 -- the whole command line
 abbrev pub nbt_app : App
-nbt_app = with_subcommand (with_subcommand (with_subcommand (with_subcommand (with_subcommand (with_subcommand (with_subcommand (with_subcommand top_app name_app.top) show_app.top) build_app.top) replay_app.top) save_app.top) merge_app.top) list_app.top) agree_app.top
-
--- with the options of a command that reads a capture
-abbrev pub capture_added : App → App
-capture_added app = with_rule (with_rule app input_limit_rule) (flag_rule (codes "comments"))
-
--- with the subcommands of packets and captures
-abbrev pub packets_added : App → App
-packets_added app = with_subcommand (with_subcommand (with_subcommand (with_subcommand app name_app.top) show_app.top) build_app.top) replay_app.top
-
--- with the subcommands of saved tables
-abbrev pub tables_added : App → App
-tables_added app = with_subcommand (with_subcommand (with_subcommand (with_subcommand app save_app.top) merge_app.top) list_app.top) agree_app.top
-
--- a command has this shape of another's, and nothing more that its subcommands inherit
-pub record Extends (old : Command) (more : App → App) (new : Command) : Type 0 where
-  pub app : app_of new ≡ more (app_of old)
-  pub local : (fields_of old).has_globals ≡ false → (fields_of new).has_globals ≡ false
-
--- where a command was made, it was made of this one, and has this shape of it
-abbrev pub IsMadeOf : {E : Type 0} → Result Command E → (App → App) → Result Command E → Type 0
-IsMadeOf old more new = IfOk new (λ whole. IsOkAnd old (λ command. Extends command more whole))
+nbt_app = fold with_command top_app (name_app ∷ show_app ∷ build_app ∷ replay_app ∷ save_app ∷ merge_app ∷ list_app ∷ agree_app ∷ [])
 
 -- a subcommand that may stand alone
 abbrev pub IsAlone : Text → Type 0

@@ -5,8 +5,10 @@ use Rattle.nb_names.specs.FaultTexts.{name_fault_text}
 use Rattle.nb_names.specs.TextFaults.{text_fault_text}
 use Rattle.nb_entries.specs.FaultTexts.{load_fault_text}
 use Rattle.nb_entries.specs.declared.load_fault.LoadFault.TheVariants as loads
+use Rattle.nb_building.specs.FaultTexts.{build_fault_text}
+use Rattle.nb_building.specs.declared.build_fault.BuildFault.TheVariants as builds
 use Rattle.nbt.specs.declared.fault.Fault.{Fault}
-use Rattle.nbt.specs.declared.fault.Fault.TheVariants.{Text, Name, BadHex, TrailingBytes, Arguments, TooLong, ZeroPiece, Line, FullSource, Full, TooManyNames, Load, NoTables, TwoTablesWanted, Read, Write, Memory}
+use Rattle.nbt.specs.declared.fault.Fault.TheVariants.{Text, Name, BadHex, TrailingBytes, Build, Arguments, TooLong, Line, FullSource, Full, TooManyNames, Load, NoTables, TwoTablesWanted, Read, Write, Memory}
 use Rattle.nbt.specs.declared.status.Status.{Status}
 use Rattle.nbt.specs.declared.status.Status.TheVariants.{Refused, Failed}
 
@@ -16,9 +18,9 @@ fault_text (Text fault) = text_fault_text fault
 fault_text (Name fault) = name_fault_text fault
 fault_text BadHex = codes "bad hex"
 fault_text (TrailingBytes at) = codes "trailing bytes " ++ decimal at
+fault_text (Build fault) = build_fault_text fault
 fault_text Arguments = codes "arguments"
 fault_text TooLong = codes "too long"
-fault_text ZeroPiece = codes "zero piece"
 fault_text (Line number) = codes "line " ++ decimal number
 fault_text FullSource = codes "full source"
 fault_text Full = codes "full"
@@ -36,24 +38,12 @@ fault_line fault = codes "nbt: " ++ (fault_text fault ++ codes "\n")
 
 -- the exit status that goes with a fault: 3 where a device or memory failed
 abbrev pub status_of : Fault → Status
-status_of (Text fault) = Refused
-status_of (Name fault) = Refused
-status_of BadHex = Refused
-status_of (TrailingBytes at) = Refused
-status_of Arguments = Refused
-status_of TooLong = Refused
-status_of ZeroPiece = Refused
-status_of (Line number) = Refused
-status_of FullSource = Refused
-status_of Full = Refused
-status_of TooManyNames = Refused
+status_of (Build builds.Memory) = Failed
 status_of (Load loads.NoMemory) = Failed
-status_of (Load fault) = Refused
-status_of NoTables = Refused
-status_of TwoTablesWanted = Refused
 status_of Read = Failed
 status_of Write = Failed
 status_of Memory = Failed
+status_of _ = Refused
 
 -- the exit status of a command that ended so
 abbrev pub status_after : Result Status Fault → Status

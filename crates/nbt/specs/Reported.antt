@@ -6,15 +6,12 @@ use Rattle.nb_member.specs.declared.replay_fault.ReplayFault.TheVariants as repl
 use Rattle.nb_names.specs.declared.hexadecimal.DigitsFault.{DigitsFault}
 use Rattle.nb_names.specs.declared.hexadecimal.DigitsFault.TheVariants as digits
 use Rattle.nbt.specs.declared.fault.Fault.{Fault}
-use Rattle.nbt.specs.declared.fault.Fault.TheVariants.{Text, BadHex, Arguments, TooLong, ZeroPiece, Line, Read, Write, Memory}
+use Rattle.nbt.specs.declared.fault.Fault.TheVariants.{Build, BadHex, Line, Read, Write, Memory}
 
 -- of words that name no packet
 abbrev pub of_building : BuildFault → Fault
-of_building (built.Text fault) = Text fault
-of_building built.Arguments = Arguments
-of_building built.TooLong = TooLong
-of_building built.ZeroPiece = ZeroPiece
 of_building built.Memory = Memory
+of_building fault = Build fault
 
 -- of a text that isn't hexadecimal
 abbrev pub of_digits : DigitsFault → Fault

@@ -21,12 +21,12 @@ pub enum Fault {
     BadHex,
     /// Bytes follow the name that should have been alone. The offset is that of the first of them.
     TrailingBytes(usize),
+    /// The words of a packet were refused.
+    Build(BuildFault),
     /// The words after the subcommand are none that it takes.
     Arguments,
-    /// The data is more than a packet takes.
+    /// A saved table has a longer datagram than the others may have.
     TooLong,
-    /// A datagram was to be cut into pieces of no bytes.
-    ZeroPiece,
     /// A line of a capture is malformed. The number is the line's, the first being 1.
     Line(u64),
     /// A capture has fragments of more keys of one address at a time than are held, or tables have
@@ -56,23 +56,12 @@ impl Fault {
         ensures { result ≡ status_of self }
     {
         match self {
-            Fault::Load(LoadFault::NoMemory) | Fault::Read | Fault::Write | Fault::Memory => {
-                Status::Failed
-            }
-            Fault::Text(_)
-            | Fault::Name(_)
-            | Fault::BadHex
-            | Fault::TrailingBytes(_)
-            | Fault::Arguments
-            | Fault::TooLong
-            | Fault::ZeroPiece
-            | Fault::Line(_)
-            | Fault::FullSource
-            | Fault::Full
-            | Fault::TooManyNames
-            | Fault::Load(_)
-            | Fault::NoTables
-            | Fault::TwoTablesWanted => Status::Refused,
+            Fault::Build(BuildFault::Memory)
+            | Fault::Load(LoadFault::NoMemory)
+            | Fault::Read
+            | Fault::Write
+            | Fault::Memory => Status::Failed,
+            _ => Status::Refused,
         }
     }
 }
@@ -89,9 +78,9 @@ impl fmt::Display for Fault {
             Fault::Name(fault) => write!(f, "{fault}"),
             Fault::BadHex => f.write_str("bad hex"),
             Fault::TrailingBytes(at) => write!(f, "trailing bytes {at}"),
+            Fault::Build(fault) => write!(f, "{fault}"),
             Fault::Arguments => f.write_str("arguments"),
             Fault::TooLong => f.write_str("too long"),
-            Fault::ZeroPiece => f.write_str("zero piece"),
             Fault::Line(number) => write!(f, "line {number}"),
             Fault::FullSource => f.write_str("full source"),
             Fault::Full => f.write_str("full"),
@@ -136,11 +125,8 @@ impl From<BuildFault> for Fault {
 
     fn from(fault: BuildFault) -> Fault {
         match fault {
-            BuildFault::Text(fault) => Fault::Text(fault),
-            BuildFault::Arguments => Fault::Arguments,
-            BuildFault::TooLong => Fault::TooLong,
-            BuildFault::ZeroPiece => Fault::ZeroPiece,
             BuildFault::Memory => Fault::Memory,
+            _ => Fault::Build(fault),
         }
     }
 }

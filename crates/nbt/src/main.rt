@@ -3,6 +3,7 @@
 
 mod advice;
 mod clap_answer;
+mod command_forms;
 mod command_line;
 mod commands;
 mod differences;

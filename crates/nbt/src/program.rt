@@ -29,6 +29,7 @@ use crate::status::Status;
 use crate::streams::{Call, run_for};
 use crate::subcommand::Subcommand;
 use clap::{ArgMatches, Error};
+use nb_building::BuildFault;
 use nb_names::Counted;
 use std::alloc::Global;
 use std::io::{Read, Write};
@@ -171,7 +172,7 @@ fn report_run<E: Write>(
     ensures quiet { result ≡ Status.Done → errors.new ≡ errors.old }
 {
     match outcome {
-        Err(Fault::Arguments) => {
+        Err(Fault::Arguments) | Err(Fault::Build(BuildFault::Arguments)) => {
             let _ = errors.print_fault(Fault::Arguments);
             print_mistake(alloc, matches, errors);
             Status::Refused

@@ -20,10 +20,8 @@ use std::io::Write;
 ///
 /// # Errors
 ///
-/// [`Fault::Text`] for a bad name; [`Fault::Arguments`] for another WHAT, another number of
-/// arguments, or another bad one; [`Fault::TooLong`] for more data than a packet takes;
-/// [`Fault::ZeroPiece`] for pieces of no bytes; [`Fault::Memory`]. Nothing is printed then.
-/// [`Fault::Write`] where the output failed.
+/// [`Fault::Build`] where [`capture_lines`] refuses the words, and [`Fault::Memory`]; nothing is
+/// printed then. [`Fault::Write`] where the output failed.
 pub fn run_build<W: Write>(
     alloc: Global,
     matches: &ArgMatches<'_>,
@@ -36,7 +34,8 @@ pub fn run_build<W: Write>(
     ensures err { IfErr result (λ fault. fault ≢ Fault.Write →
         Keeps (W.contents output.old.inner) (W.contents output.new.inner)) }
     ensures why { ExplainsWrite result output.old.counts output.new.counts }
-    ensures too_long { IfErr result (λ fault. fault ≡ Fault.TooLong → AreTooMuch matches.now) }
+    ensures too_long { IfErr result (λ fault. fault ≡ Fault.Build BuildFault.TooLong →
+        AreTooMuch matches.now) }
     ensures refused { IfErr result (λ fault. fault ≢ Fault.Write → fault ≢ Fault.Memory →
         NameNone matches.now) }
 {

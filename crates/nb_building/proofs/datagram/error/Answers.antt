@@ -8,9 +8,9 @@ use Rattle.nb_building.proofs.datagram.error.Goals as goal
 
 pub returns-clause-built : goal.returns-clause-built
 returns-clause-built c =
-    datagrams_named _ _ _ _ _ c.alone.result refl
+    datagrams_named _ _ _ _ _ _ refl
     (two_words (λ w. w.now) _ c.args.words.now c.in-len2.len_at_least c.in-len2.len_below)
-    (error _ _ _ _ c.in_ok-key.ensures c.in_ok-code.ensures) c.alone.ensures.built
+    (error _ _ _ _ c.in_ok-key.ensures c.in_ok-code.ensures) c.in_ok-alone.ensures
 
 pub returns-in_err-key-clause-refused : goal.returns-in_err-key-clause-refused
 returns-in_err-key-clause-refused c =

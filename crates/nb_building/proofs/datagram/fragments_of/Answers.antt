@@ -1,5 +1,4 @@
 use Rattle.nb_building.proofs.Common.{◌≡◌, ap, ◌∙◌, arith, map, Direct, packet_bytes}
-use Rattle.std.proofs.lemmas.Result.{IfOk-weaker}
 use Rattle.nb_datagram.specs.Pieces.{AreTooLong}
 use Rattle.nb_building.proofs.datagram.fragments_of.Goals as goal
 
@@ -8,6 +7,4 @@ returns-clause-built c =
     let some : ¬ (c.args.most ≡ 0) = λ zero. let clash = c.cut.ensures.zero.1 zero in cc (clash, c.in_ok-pieces.was) in
     let fit : ¬ AreTooLong c.args.datagram.now c.args.most =
     λ long. let clash = c.cut.ensures.too_long.1 (omega (arith, some), long) in cc (clash, c.in_ok-pieces.was) in
-    IfOk-weaker c.encoded_pieces.result _ _
-    (λ packets is. ((omega (arith, some), fit), is ∙ ap (map (λ piece. packet_bytes (Direct piece))) c.in_ok-pieces.ensures.value))
-    c.encoded_pieces.ensures.built
+    ((omega (arith, some), fit), c.in_ok-encoded_pieces.ensures ∙ ap (map (λ piece. packet_bytes (Direct piece))) c.in_ok-pieces.ensures.value)

@@ -7,7 +7,7 @@ use std::str;
 
 /// The most bytes of a line, its line feed not counted.
 const LONGEST_LINE: usize = 262_200;
-const MOST_INPUT: u64 = 16_777_216;
+pub const MOST_INPUT: u64 = 16_777_216;
 
 /// Standard input, up to what a command takes of it.
 pub fn read_input() -> io::Result<Vec<u8>> {

@@ -15,13 +15,15 @@ front=N, so many bytes of the payload alone; by=ADDRESS, another sender; or pick
 named as --summary has it, is `TABLE: CELL | CELL ..`; a cell is COLUMN=TEXT, or the text of the first column, and after a last ` |` the row goes on.
 Tables that aren't there must not be shown, but for those of what is left out and, unless it is there, of stations.
 """
+import functools
 import glob
 import os
 import re
 import subprocess
+import time
 from dataclasses import dataclass, field
 
-from wire import ACK, SYN, Frames, pcap
+from wire import ACK, START, SYN, UDP, Frames
 
 FOLDER = os.path.join(os.path.dirname(os.path.abspath(__file__)), '..', 'summary')
 PACKETS = re.compile(r'([\d.,]+) +(\S+) (> \S+) +(.*)')
@@ -107,10 +109,16 @@ class Network(Frames):
             return []
         if verb == 'bytes':
             return [(int(words[1]), changed(bytes.fromhex(words[2]), options), ACK)]
-        lines = subprocess.run([self.program, 'build', *words], stdout=subprocess.PIPE, check=True, text=True).stdout.splitlines()
+        lines = built(self.program, *words)
         lines = lines[int(options['pick'].split(',')[number]) - 1:][:1] if 'pick' in options else lines
         parted = [line.split() for line in lines]
         return [(int(port), changed(b'' if digits == 'empty' else bytes.fromhex(digits), options), ACK) for port, _, digits in parted]
+
+
+@functools.cache
+def built(program, *words):
+    """The lines of `nbt build`."""
+    return subprocess.run([program, 'build', *words], stdout=subprocess.PIPE, check=True, text=True).stdout.splitlines()
 
 
 def options_of(text):
@@ -143,12 +151,26 @@ def changed(payload, options):
     return payload[:int(options['front'])] if 'front' in options else payload
 
 
-def capture_of(case, program):
-    """The pcap file of a case."""
+def frames_of(case, program):
+    """The frames of a case."""
     network = Network(program)
     for line in case.packets:
         network.says(line)
-    return pcap(network.frames)
+    return network.frames
+
+
+def as_text(frames):
+    """The frames as lines of a capture; nothing where those can't say all: what is cut or has a port of TCP, or whose station has a MAC of another."""
+    if any(snap or data[23] != UDP or data[11] != data[29] for _, data, snap in frames):
+        return b''
+    lines = []
+    for number, (at, data, _) in enumerate(frames, 1):
+        second, part = divmod(START + at, 10**6)
+        ends = ' > '.join('%d.%d.%d.%d:%d' % (*data[host:host + 4], int.from_bytes(data[port:port + 2], 'big')) for host, port in ((26, 34), (30, 36)))
+        service = next(each for each in (137, 138) if each in (int.from_bytes(data[34:36], 'big'), int.from_bytes(data[36:38], 'big')))
+        lines += [f'# frame {number} {time.strftime("%Y-%m-%dT%H:%M:%S", time.gmtime(second))}.{part:06d}Z {ends}\n',
+                  f'{service} {max(0, at - frames[0][0]) // 1_000} {data[42:].hex() or "empty"}\n']
+    return ''.join(lines).encode()
 
 
 def tables_in(text):

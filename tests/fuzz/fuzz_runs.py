@@ -8,6 +8,7 @@ import re
 import resource
 import subprocess
 
+from fuzz_inputs import ROOT
 from served import compiled
 
 SECONDS = 30

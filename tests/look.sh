@@ -44,7 +44,7 @@ samba() {
     local length
     for length in 54 96 200 400; do editcap -s $length "$here/../examples/samba.pcap" "$room/samba-$length.pcap"; done
     editcap "$here/../examples/samba.pcap" "$room/samba-gaps.pcap" 30-40 113 137
-    counted_by look/beside_tshark.py "$here/../examples/samba.pcap" "$room"/samba*.pcap
+    counted_by look/beside_tshark.py "$here"/../examples/{office,samba}.pcap "$room"/samba*.pcap
     cases samba
 }
 

@@ -18,7 +18,8 @@ SHORT_UDP = ' is left out: its UDP length is %d, and the file has %d bytes of it
 
 def ends(packet):
     """Where a packet comes from, and where it goes, and the port of its service."""
-    family, form, first, size, ports = (socket.AF_INET6, '[%s]:%d', 8, 16, 40) if packet[0] >> 4 == 6 else (socket.AF_INET, '%s:%d', 12, 4, 20)
+    six = packet[0] >> 4 == 6
+    family, form, first, size, ports = (socket.AF_INET6, '[%s]:%d', 8, 16, 40) if six else (socket.AF_INET, '%s:%d', 12, 4, 20)
     numbers = struct.unpack('>HH', packet[ports:ports + 4])
     hosts = (socket.inet_ntop(family, packet[at:at + size]) for at in (first, first + size))
     return ' > '.join(form % each for each in zip(hosts, numbers)), next((each for each in numbers if each in SERVICES), None)
@@ -32,7 +33,7 @@ class Network:
         self.file.write(pcap_header(link))
 
     def frame(self, moment, packet, *given, captured=None, tag=b'', inner=None):
-        """A frame at so many milliseconds, of which only so many bytes were captured; with a packet in a tunnel, perhaps. It gives some lines."""
+        """A frame at so many milliseconds, of which so many bytes were captured; with a packet in a tunnel, perhaps. It gives lines."""
         kind = b'\x86\xdd' if packet[0] >> 4 == 6 else b'\x08\x00'
         self.record(moment, bytes(12) + tag + kind + packet, captured)
         self.gives(moment, inner or packet, *given)
@@ -42,8 +43,8 @@ class Network:
         self.number += 1
 
     def gives(self, moment, packet, *given):
-        """The lines that this packet of the latest frame gives: of bytes the comment on the frame and a payload, of a number a tick, of a text what
-        is said of the frame, or of a stream where it begins with #."""
+        """The lines that this packet of the latest frame gives: of bytes the comment on the frame and a payload, of a number a tick, of a
+        text what is said of the frame, or of a stream where it begins with #."""
         when = 1_700_000_000_700 + moment
         shown = time.strftime('%Y-%m-%dT%H:%M:%S', time.gmtime(when // 1000)) + '.%06dZ' % (when % 1000 * 1000)
         comment, port = ends(packet)
@@ -165,7 +166,8 @@ def starts(network):
     """A stream without its start: short segments, and bytes before what is taken for the start."""
     client = Side(network, 1032, 139, 100)
     client.sends(20_960, 0, b'abc', ' is left out: it has 3 bytes of a stream whose start the file lacks')
-    client.sends(20_961, 10, KEEPALIVE, '# stream 7 from 10.0.0.5 port 1032: frame 52 is taken for its start, which the file lacks', KEEPALIVE)
+    client.sends(20_961, 10, KEEPALIVE,
+                 '# stream 7 from 10.0.0.5 port 1032: frame 52 is taken for its start, which the file lacks', KEEPALIVE)
     client.sends(20_962, 6, KEEPALIVE, ' is left out: 4 bytes before the start of stream 7 from 10.0.0.5 port 1032')
 
 

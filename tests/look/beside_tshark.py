@@ -1,13 +1,15 @@
 #!/usr/bin/env python3
-"""Captures through tools/nbt-look, beside tools/pcap2cap and the fields of tshark.  Usage: tests/look/beside_tshark.py COUNT [SEED], or .. FILE..
+"""Captures through tools/nbt-look, beside tools/pcap2cap and the fields of tshark.  Usage: tests/look/beside_tshark.py COUNT [SEED], or ..
+FILE..
 
-Random captures are those of tests/captures/random_pcap.py. Of each capture the packets are those that pcap2cap has, each with its frame, time, addresses,
-ports and service; as much is left out for each reason, but for fragments of IP; and what the last lines count adds up. Of each frame the packets are those
-that tshark dissects: nbns by the number and the word of its header, nbdgm by its kind and number, nbss by its type and length. Of a packet that is
-refused their count alone is compared; a frame of which something is left out, with a reason, may differ; of a packet that is cut the header is the same, where
-it stands. What ICMP quotes is no packet, and for tshark neither is a payload of no bytes. Of random captures, whose bytes are seldom what those ports have,
-tshark's frames of the name and datagram services have to be there alone. The last line is 'N passed, M failed'; a random capture that fails is kept in the
-folder of temporary files, and named.
+Random captures are those of tests/captures/random_pcap.py. Of each capture the packets are those that pcap2cap has, each with its frame,
+time, addresses, ports and service; as much is left out for each reason, but for fragments of IP; and what the last lines count adds up.
+Of each frame the packets are those that tshark dissects: nbns by the number and the word of its header, nbdgm by its kind and number,
+nbss by its type and length. Of a packet that is refused their count alone is compared; a frame of which something is left out, with a
+reason, may differ; of a packet that is cut the header is the same, where it stands. What ICMP quotes is no packet, and for tshark neither
+is a payload of no bytes. Of random captures, whose bytes are seldom what those ports have, tshark's frames of the name and datagram
+services have to be there alone. The last line is 'N passed, M failed'; a random capture that fails is kept in the folder of temporary
+files, and named.
 """
 import collections
 import functools
@@ -89,7 +91,8 @@ def found_by_tshark(path):
     for line in rows.splitlines():
         number, protocols, *values = line.split('\t')
         protocols = protocols.split(':')
-        for service, is_there, pair in ((137, 'nbns' in protocols, values[:2]), (138, 'nbdgm' in protocols, values[2:4]), (139, values[4], values[4:])):
+        parted = ((137, 'nbns' in protocols, values[:2]), (138, 'nbdgm' in protocols, values[2:4]), (139, values[4], values[4:]))
+        for service, is_there, pair in parted:
             if is_there:
                 found[int(number), service] = list(zip(*(map(whole, each.split(',')) for each in pair)))
     return found

@@ -1,9 +1,10 @@
 #!/usr/bin/env python3
-"""The cases of tests/summary/ through tools/nbt-look --summary, or with --page through the modules of the page, in node: each has the tables that
-stand there, and no others. nbt-look reads those as text whose packets text can have, and the others, as the page does all, from a pcap file.
+"""The cases of tests/summary/ through tools/nbt-look --summary, or with --page through the modules of the page, in node: each has the
+tables that stand there, and no others. nbt-look reads those as text whose packets text can have, and the others, as the page does all,
+from a pcap file.
 
-Usage: tests/look/summary.py [--page] [--only=WORD] [PROGRAM], with nbt on PATH for nbt-look, or PROGRAM in its place where packets are made, and where
-the page asks the library. The last line is 'N passed, M failed'.
+Usage: tests/look/summary.py [--page] [--only=WORD] [PROGRAM], with nbt on PATH for nbt-look, or PROGRAM in its place where packets are
+made, and where the page asks the library. The last line is 'N passed, M failed'.
 """
 import json
 import os

@@ -1,8 +1,8 @@
 """The cases of tests/summary/: captures as text, and the tables that they have. docs/SUMMARY.md has the rules.
 
-A file has cases, each after a line `== WHAT`. A line of packets is `MOMENTS FROM > TO WORDS`, with ` < WORDS` behind it for each packet that comes
-back, and ` > WORDS` for further ones. MOMENTS are milliseconds with commas between: one for each of them, or those at which a single one is sent again.
-FROM and TO are addresses, with a port where it isn't the service's own. WORDS are
+A file has cases, each after a line `== WHAT`. A line of packets is `MOMENTS FROM > TO WORDS`, with ` < WORDS` behind it for each packet
+that comes back, and ` > WORDS` for further ones. MOMENTS are milliseconds with commas between: one for each of them, or those at which a
+single one is sent again. FROM and TO are addresses, with a port where it isn't the service's own. WORDS are
 
   bytes PORT HEX  a payload
   syn, ack        a SYN, or a SYN with ACK, of the session service
@@ -10,15 +10,17 @@ FROM and TO are addresses, with a port where it isn't the service's own. WORDS a
   ad86 ..         a response with this flag word to the line's first packet: the kind of its record where it isn't 0020, its TTL and its RDATA
   others          those of `nbt build`: a packet each of what it prints
 
-and before them an option is cut=N, a snap length; mac=DIGITS, the last two of the sender's MAC; patch=AT:HEX, other bytes of the payload, from AT on;
-front=N, so many bytes of the payload alone; by=ADDRESS, another sender; or pick=N,.., at each moment the N-th packet alone. A row of a table, which is
-named as --summary has it, is `TABLE: CELL | CELL ..`; a cell is COLUMN=TEXT, or the text of the first column, and after a last ` |` the row goes on.
-Tables that aren't there must not be shown, but for those of what is left out and, unless it is there, of stations.
+and before them an option is cut=N, a snap length; mac=DIGITS, the last two of the sender's MAC; patch=AT:HEX, other bytes of the payload,
+from AT on; front=N, so many bytes of the payload alone; by=ADDRESS, another sender; or pick=N,.., at each moment the N-th packet alone. A
+row of a table, which is named as --summary has it, is `TABLE: CELL | CELL ..`; a cell is COLUMN=TEXT, or the text of the first column,
+and after a last ` |` the row goes on. Tables that aren't there must not be shown, but for those of what is left out and, unless it is
+there, of stations.
 """
 import functools
 import glob
 import os
 import re
+import struct
 import subprocess
 import time
 from dataclasses import dataclass, field
@@ -96,7 +98,8 @@ class Network(Frames):
             words = answer(words, asked) if FLAG_WORD.fullmatch(words[0]) else words
             for port, payload, flags in self.payloads(words, options, ends, number):
                 snap = int(options['cut']) if 'cut' in options else None
-                self.add(float(moment), *(ends_of(each, port) for each in ends), port, payload, flags, snap, bytes.fromhex(options.get('mac', '')))
+                mac = bytes.fromhex(options.get('mac', ''))
+                self.add(float(moment), *(ends_of(each, port) for each in ends), port, payload, flags, snap, mac)
 
     def payloads(self, words, options, ends, number):
         """Port, payload and flags of TCP of each packet; `number` is that of its moment."""
@@ -160,14 +163,15 @@ def frames_of(case, program):
 
 
 def as_text(frames):
-    """The frames as lines of a capture; nothing where those can't say all: what is cut or has a port of TCP, or whose station has a MAC of another."""
+    """The frames as lines of a capture; nothing where lines can't say all: what is cut or of TCP, or comes with the MAC of another station."""
     if any(snap or data[23] != UDP or data[11] != data[29] for _, data, snap in frames):
         return b''
     lines = []
     for number, (at, data, _) in enumerate(frames, 1):
         second, part = divmod(START + at, 10**6)
-        ends = ' > '.join('%d.%d.%d.%d:%d' % (*data[host:host + 4], int.from_bytes(data[port:port + 2], 'big')) for host, port in ((26, 34), (30, 36)))
-        service = next(each for each in (137, 138) if each in (int.from_bytes(data[34:36], 'big'), int.from_bytes(data[36:38], 'big')))
+        ports = struct.unpack('>HH', data[34:38])
+        ends = ' > '.join('%d.%d.%d.%d:%d' % (*data[host:host + 4], port) for host, port in zip((26, 30), ports))
+        service = next(each for each in (137, 138) if each in ports)
         lines += [f'# frame {number} {time.strftime("%Y-%m-%dT%H:%M:%S", time.gmtime(second))}.{part:06d}Z {ends}\n',
                   f'{service} {max(0, at - frames[0][0]) // 1_000} {data[42:].hex() or "empty"}\n']
     return ''.join(lines).encode()

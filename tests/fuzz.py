@@ -71,7 +71,7 @@ class Rules:
 
     def capture(self):
         """A capture of changed lines, or of fragments that meet, with ticks and faults."""
-        self.commands(self.rng.choice((self.inputs.capture, self.inputs.maker.capture))(), 'show', 'replay', 'save')
+        self.commands(self.inputs.capture(), 'show', 'replay', 'save')
 
     def tables(self):
         """Lines that are saved tables, or were."""
@@ -100,7 +100,7 @@ class Rules:
         """Any words."""
         maker, rng = self.inputs.maker, self.rng
         first = rng.choice(('name', 'show', 'build', 'replay', 'save', 'merge', 'list', 'agree', maker.word()))
-        self.told([first] + [maker.word() for _ in range(rng.randrange(5))], rng.choice((maker.capture(), maker.saved(), b'')))
+        self.told([first] + [maker.word() for _ in range(rng.randrange(5))], rng.choice((self.inputs.capture(), maker.saved(), b'')))
 
 
 def seeds():

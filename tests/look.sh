@@ -44,7 +44,7 @@ samba() {
     local length
     for length in 54 96 200 400; do editcap -s $length "$here/../examples/samba.pcap" "$room/samba-$length.pcap"; done
     editcap "$here/../examples/samba.pcap" "$room/samba-gaps.pcap" 30-40 113 137
-    counted_by look/look_counts.py "$here/../examples/samba.pcap" "$room"/samba*.pcap
+    counted_by look/beside_tshark.py "$here"/../examples/{office,samba}.pcap "$room"/samba*.pcap
     cases samba
 }
 
@@ -71,7 +71,7 @@ END
 summaries() { counted_by look/summary.py "$program"; }
 
 # Random captures.
-random() { counted_by look/random_looks.py 10; }
+random() { counted_by look/beside_tshark.py 10; }
 
 # By the system's Python, for which Debian has rich.
 colours() {

@@ -2,7 +2,6 @@
 import os
 
 from example_lines import definitions as example_bytes  # noqa: F401: for those who make payloads of them
-from model.captures import LONGEST_LINE
 from wire import FRED, datagram, first_level
 
 ROOT = os.path.dirname(os.path.dirname(os.path.dirname(os.path.abspath(__file__))))
@@ -80,30 +79,6 @@ class Maker:
         names = spelled(rng.choice(('JOE', 'ANN')) if rng.random() < 0.1 else 'JOE') + FRED
         kind = rng.choice((16, 17, 18)) if rng.random() < 0.1 else 17
         return datagram(rng.randrange(3), data, kind=kind, flags=flags, offset=start, names=names)
-
-    def line(self):
-        """A line of a capture, mostly a well formed one."""
-        rng = self.rng
-        how = rng.randrange(20)
-        if how == 0:
-            return self.changed(rng.choice(self.lines))
-        if how == 1:
-            return rng.choice(self.lines)
-        if how == 2:
-            return b'tick %d' % rng.choice((0, 5, 1_999, 2_000, 2_005, (1 << 64) - 1, rng.randrange(1 << 66)))
-        if how == 3:
-            return rng.choice((b'', b'#', b'# any \xff', b'137 0 empty', b'138 00 empty', b'139 0 empty'))
-        if how == 4 and rng.random() < 0.02:
-            return b'#' * rng.choice((LONGEST_LINE, LONGEST_LINE + 1))
-        payload = self.payload()
-        digits = payload.hex().encode() or b'empty'
-        port = rng.choice((137, 138, 138, 139)) if rng.random() < 0.7 else likely_port(payload)
-        return b'%d %d %b' % (port, rng.choice((0, 1, 7, 3_000)), digits if rng.random() < 0.9 else digits.upper())
-
-    def capture(self):
-        """A capture of some lines."""
-        lines = [self.line() for _ in range(self.rng.choice((1, 1, 2, 3, 10, 40)))]
-        return b'\n'.join(lines) + (b'\n' if self.rng.random() < 0.8 else b'')
 
     def saved(self):
         """A saved table, mostly changed, as digits."""

@@ -1,5 +1,7 @@
 """Captures of port 138 in which fragments of a few datagrams meet, and streams of port 139, made by chance, for
 tests/fuzz.py."""
+from dataclasses import dataclass, replace
+
 from model.names import Name, spelling_of
 from model.packets import FIRST, MORE
 from model.tables import LONGEST, TIMER
@@ -12,14 +14,14 @@ LONGEST_PIECE = 65_000
 LONGEST_LAST_LABEL = 28
 
 
+@dataclass
 class Datagram:
-    """What a sender sends: a key, a kind, two names, data."""
+    """What a sender sends."""
 
-    def __init__(self, key, kind, names, data):
-        self.key = key
-        self.kind = kind
-        self.names = names
-        self.data = data
+    key: tuple
+    kind: int
+    names: list
+    data: bytes
 
     def packet(self, start, end, flags):
         """The payload of a part of it."""
@@ -78,25 +80,22 @@ class Traffic:
 
     def contradiction(self, datagram):
         """A fragment that another sender with the same key might send."""
-        rng = self.rng
-        other = Datagram(datagram.key, datagram.kind, datagram.names, datagram.data)
-        how = rng.randrange(6)
-        if how == 0:
-            other.kind = rng.choice((0x10, 0x11, 0x12))
-        elif how == 1:
-            other.names = rng.choice((datagram.names[::-1], [datagram.names[0], self.name()]))
-        elif how == 2:
-            other.data = (datagram.data + rng.randbytes(rng.choice((1, 2, 50))))[:LONGEST]
-        elif how == 3:
-            other.data = datagram.data[:rng.randrange(len(datagram.data) + 1)]
-        elif how == 4:
-            changed = bytearray(datagram.data or b'a')
-            changed[rng.randrange(len(changed))] ^= 1 << rng.randrange(8)
-            other.data = bytes(changed)
-        else:
-            start = rng.randrange(len(datagram.data) + 1)
-            return datagram.packet(start, min(len(datagram.data), start + LONGEST_PIECE), rng.randrange(4))
+        rng, names, data = self.rng, datagram.names, datagram.data
+        change = rng.choice((lambda: {'kind': rng.choice((0x10, 0x11, 0x12))},
+                             lambda: {'names': rng.choice((names[::-1], [names[0], self.name()]))},
+                             lambda: {'data': (data + rng.randbytes(rng.choice((1, 2, 50))))[:LONGEST]},
+                             lambda: {'data': data[:rng.randrange(len(data) + 1)]},
+                             lambda: {'data': self.flipped(data or b'a')}, None))
+        if not change:
+            start = rng.randrange(len(data) + 1)
+            return datagram.packet(start, min(len(data), start + LONGEST_PIECE), rng.randrange(4))
+        other = replace(datagram, **change())
         return self.loose_part(other) if rng.random() < 0.5 else rng.choice(self.parts(other))
+
+    def flipped(self, data):
+        """Bytes with another bit."""
+        at = self.rng.randrange(len(data))
+        return data[:at] + bytes([data[at] ^ 1 << self.rng.randrange(8)]) + data[at + 1:]
 
     def fault(self, datagram):
         """A payload that says nothing of a datagram, or is refused."""

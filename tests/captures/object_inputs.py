@@ -182,7 +182,7 @@ class Inputs:
         return rng.choice((b'', *COMMENTS, b'#' + rng.randbytes(rng.randrange(30)).replace(b'\n', b'\r')))
 
     def capture(self):
-        """A capture with some payloads, comments between them, and rarely a malformed line."""
+        """A capture with some payloads, comments between them, and rarely a malformed line, or one of the samples changed."""
         rng = self.rng
         if rng.random() < 0.3:
             self.traffic = Traffic(rng)
@@ -192,9 +192,9 @@ class Inputs:
         for port, payload in payloads:
             moment = rng.choice((0, 0, 7, 1_999, rng.randrange(20_000), rng.randrange(1 << 64)))
             lines += [self.between() for _ in range(rng.choice((0, 0, 0, 1, 1, 2)))]
-            lines.append(b'%d %d %b' % (port, moment, digits(payload)))
+            lines.append(b'%d %d %b' % (port, moment, payload.hex().upper().encode() if payload and rng.random() < 0.1 else digits(payload)))
         if rng.random() < 0.1:
-            lines.insert(rng.randrange(len(lines) + 1), rng.choice(MALFORMED))
+            lines.insert(rng.randrange(len(lines) + 1), rng.choice((*MALFORMED, *map(self.maker.changed, rng.sample(self.maker.lines, 2)))))
         if rng.random() < 0.08:
             lines.append(b'#' * (LONGEST_LINE + rng.choice((0, 1, 2, 2))))
         return b'\n'.join(lines) + rng.choice((b'\n', b'\n', b'', b'\n# no more'))

@@ -12,7 +12,8 @@ Usage: tests/docs/pages.py, whose last line is 'N passed, M failed'; --write wri
   stands there;
 - the crates of the table of costs in docs/PROOFS.md;
 - a paragraph of a Rust sample of README.md or docs/CALLING.md, which is lines of one source, indented as they may be;
-- how many words README.md has, and all pages that aren't made of the sources.
+- how many words README.md has, and all pages that aren't made of the sources;
+- the words that `nbt build` takes, of each packet in each place that lists them (build_words.py).
 """
 import functools
 import re
@@ -20,6 +21,7 @@ import subprocess
 import sys
 
 sys.path.insert(1, f'{sys.path[0]}/../lib')
+from build_words import FORMS, compared
 from made_pages import calls, definitions_of, made, spec_files
 from sources import CRATES, LISTED, ROOT, aliases, functions, law_files, sources
 from tally import tally
@@ -214,6 +216,12 @@ def rust_samples():
     yield found, 'the pages have Rust samples'
 
 
+def build_words():
+    """The words that `nbt build` takes, of each packet in each place."""
+    for place, found, words in compared():
+        yield found == words, f'{place}: {found}, and {FORMS} has {words}'
+
+
 def main(word=''):
     """Counts the cases that are right."""
     if word == '--write':
@@ -224,7 +232,7 @@ def main(word=''):
         for path, fields in edits():
             print(f'{path.parts[0]}/{path.stem}: {dict(fields)["what"]}\n    {dict(fields)["why"]}')
         return
-    checks = (places, names, promises, commented, wrong_bodies, named_bodies, costs, sizes, made_lines, rust_samples)
+    checks = (places, names, promises, commented, wrong_bodies, named_bodies, costs, sizes, made_lines, rust_samples, build_words)
     tally((case, not is_right) for check in checks for is_right, case in check())
 
 

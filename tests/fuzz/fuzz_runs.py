@@ -6,6 +6,7 @@ import os
 import resource
 import subprocess
 
+from fuzz_inputs import ROOT
 from served import compiled
 
 SECONDS = 30

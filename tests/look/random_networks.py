@@ -199,7 +199,7 @@ def main():
                 file.write(pcap(RandomNetwork(seed).frames))
         # Some at a time, since each time may take so long alone.
         by_page = [each for at in range(0, count, PART) for each in summary.shown_by_page(program, paths[at:at + PART])]
-        with concurrent.futures.ThreadPoolExecutor(AT_ONCE) as pool:
+        with concurrent.futures.ProcessPoolExecutor(AT_ONCE) as pool:
             return tally((path, difference(path, *tables)) for path, *tables in zip(paths, by_page, pool.map(summary.shown_by_tool, paths)))
 
 

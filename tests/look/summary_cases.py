@@ -1,37 +1,46 @@
 """The cases of tests/summary/: captures as text, and the tables that they have. docs/SUMMARY.md has the rules.
 
-A file has cases, each after a line `== WHAT`. A line of a packet is `MILLISECONDS FROM > TO [OPTION].. WORDS`: FROM and TO are addresses,
-with a port where it isn't the service's own; WORDS are
+A file has cases, each after a line `== WHAT`. A line of packets is `MOMENTS FROM > TO WORDS`, with ` < WORDS` behind it for each packet
+that comes back, and ` > WORDS` for further ones. MOMENTS are milliseconds with commas between: one for each of them, or those at which a
+single one is sent again. FROM and TO are addresses, with a port where it isn't the service's own. WORDS are
 
-  build ..        those of `nbt build`; a packet each of what it prints, or with pick=N the N-th one alone
   bytes PORT HEX  a payload
   syn, ack        a SYN, or a SYN with ACK, of the session service
   skip N          N bytes of a stream that aren't in the capture
+  ad86 ..         a response with this flag word to the line's first packet: the kind of its record where it isn't 0020, its TTL and its RDATA
+  others          those of `nbt build`: a packet each of what it prints
 
-and an option is cut=N, a snap length; mac=DIGITS, the last two of the sender's MAC; patch=AT:HEX, other bytes of the payload, from AT on; or
-front=N, so many bytes of the payload alone. A table is `-- TITLE: COLUMNS`, those that are compared, and a line for each row, with
-` | ` between. Tables that aren't there must not be shown, but for those of what is left out and, unless it is there, of stations.
+and before them an option is cut=N, a snap length; mac=DIGITS, the last two of the sender's MAC; patch=AT:HEX, other bytes of the payload,
+from AT on; front=N, so many bytes of the payload alone; by=ADDRESS, another sender; or pick=N,.., at each moment the N-th packet alone. A
+row of a table, which is named as --summary has it, is `TABLE: CELL | CELL ..`; a cell is COLUMN=TEXT, or the text of the first column,
+and after a last ` |` the row goes on. Tables that aren't there must not be shown, but for those of what is left out and, unless it is
+there, of stations.
 """
+import functools
 import glob
 import os
 import re
-import shlex
+import struct
 import subprocess
+import time
 from dataclasses import dataclass, field
 
-from wire import ACK, SYN, Frames, pcap
+from wire import ACK, START, SYN, UDP, Frames
 
 FOLDER = os.path.join(os.path.dirname(os.path.abspath(__file__)), '..', 'summary')
-PACKET = re.compile(r'(\d+(?:\.\d+)?)\s+(\S+) > (\S+)\s+(.*)')
-OPTION = re.compile(r'(cut|mac|patch|front|pick)=(\S+)')
+PACKETS = re.compile(r'([\d.,]+) +(\S+) (> \S+) +(.*)')
+STEPS = re.compile(r' +([<>]) ')
+OPTION = re.compile(r'(cut|mac|patch|front|pick|by)=(\S+) +')
+FLAG_WORD = re.compile('[0-9a-f]{4}')
 BETWEEN = ' | '
+TITLES = {'queries': 'queries without an answer', 'failed': 'failed datagrams', 'left-out': 'left out'}
 # What is shown of nearly each capture, or counted elsewhere.
 BESIDES = ('stations', 'left out')
 
 
 @dataclass
 class Table:
-    """The rows of a table, as texts, by the columns that are compared."""
+    """The rows of a table, as texts, by its columns."""
 
     columns: list
     rows: list = field(default_factory=list)
@@ -39,7 +48,7 @@ class Table:
 
 @dataclass
 class Case:
-    """A capture, and the tables that it has, by their titles."""
+    """A capture, and by its title each table that it has: of each row the cells that are compared, where '' is the first column."""
 
     file: str
     what: str
@@ -54,21 +63,18 @@ def cases():
 
 
 def cases_in(path):
-    found, table = [], None
-    with open(path, encoding='utf-8') as lines:
-        for line in map(str.rstrip, lines):
-            if line.startswith('== '):
-                found.append(Case(os.path.basename(path), line[3:]))
-                table = None
-            elif line.startswith('-- '):
-                title, _, columns = line[3:].partition(': ')
-                table = found[-1].tables[title] = Table(columns.split(BETWEEN))
-            elif not line or line.startswith('#'):
-                continue
-            elif table is None:
-                found[-1].packets.append(line)
-            else:
-                table.rows.append(line.split(BETWEEN))
+    found = []
+    with open(path, encoding='utf-8') as file:
+        lines = file.read().replace(' |\n', BETWEEN).splitlines()
+    for line in lines:
+        if line.startswith('== '):
+            found.append(Case(os.path.basename(path), line[3:]))
+        elif line[:1].isdigit():
+            found[-1].packets.append(line)
+        elif line and not line.startswith('#'):
+            name, _, cells = line.partition(': ')
+            parted = (each.rpartition('=') for each in cells.split(BETWEEN))
+            found[-1].tables.setdefault(TITLES.get(name, name), []).append({column: text for column, _, text in parted})
     return found
 
 
@@ -80,30 +86,58 @@ class Network(Frames):
         self.program = program
 
     def says(self, line):
-        moment, source, target, rest = PACKET.fullmatch(line).groups()
-        options = {}
-        while match := OPTION.match(rest):
-            options[match[1]] = match[2]
-            rest = rest[match.end():].lstrip()
-        verb, *words = shlex.split(rest)
-        for port, payload, flags in self.payloads(verb, words, options, (source, target)):
-            snap = int(options['cut']) if 'cut' in options else None
-            self.add(float(moment), ends_of(source, port), ends_of(target, port), port, payload, flags, snap, bytes.fromhex(options.get('mac', '')))
+        """Adds the packets of a line."""
+        moments, source, target, rest = PACKETS.fullmatch(line).groups()
+        moments, (_, *steps) = moments.split(','), STEPS.split(f' > {rest}')
+        ways, said = steps[::2], [options_of(each) for each in steps[1::2]]
+        assert len(said) in (1, len(moments)), line
+        asked = [each for each in said[0][1] if each != '--broadcast'][1:3]
+        for number, moment in enumerate(moments):
+            options, words = said[number % len(said)]
+            ends = (source, target[2:]) if ways[number % len(said)] == '>' else (options.get('by', target[2:]), source)
+            words = answer(words, asked) if FLAG_WORD.fullmatch(words[0]) else words
+            for port, payload, flags in self.payloads(words, options, ends, number):
+                snap = int(options['cut']) if 'cut' in options else None
+                mac = bytes.fromhex(options.get('mac', ''))
+                self.add(float(moment), *(ends_of(each, port) for each in ends), port, payload, flags, snap, mac)
 
-    def payloads(self, verb, words, options, ends):
-        """Port, payload and flags of TCP of each packet."""
+    def payloads(self, words, options, ends, number):
+        """Port, payload and flags of TCP of each packet; `number` is that of its moment."""
+        verb = words[0]
         if verb in ('syn', 'ack'):
             return [(139, b'', SYN if verb == 'syn' else SYN | ACK)]
         if verb == 'skip':
             key = tuple(ends_of(each, 139) for each in ends)
-            self.due[key] = self.due.get(key, 1_000) + int(words[0])
+            self.due[key] = self.due.get(key, 1_000) + int(words[1])
             return []
         if verb == 'bytes':
-            return [(int(words[0]), changed(bytes.fromhex(words[1]), options), ACK)]
-        lines = subprocess.run([self.program, 'build', *words], stdout=subprocess.PIPE, check=True, text=True).stdout.splitlines()
-        lines = lines[int(options['pick']) - 1:][:1] if 'pick' in options else lines
+            return [(int(words[1]), changed(bytes.fromhex(words[2]), options), ACK)]
+        lines = built(self.program, *words)
+        lines = lines[int(options['pick'].split(',')[number]) - 1:][:1] if 'pick' in options else lines
         parted = [line.split() for line in lines]
         return [(int(port), changed(b'' if digits == 'empty' else bytes.fromhex(digits), options), ACK) for port, _, digits in parted]
+
+
+@functools.cache
+def built(program, *words):
+    """The lines of `nbt build`."""
+    return subprocess.run([program, 'build', *words], stdout=subprocess.PIPE, check=True, text=True).stdout.splitlines()
+
+
+def options_of(text):
+    """The options of a packet, and its words."""
+    options = {}
+    while match := OPTION.match(text):
+        options[match[1]] = match[2]
+        text = text[match.end():]
+    return options, text.split()
+
+
+def answer(words, asked):
+    """The words of `nbt build` for a response with a flag word, about the identifier and the name of what was asked."""
+    word, *kind, lifetime, data = words
+    identifier, name = asked
+    return ['response', identifier, word, name, *(kind or ['0020']), lifetime, data]
 
 
 def ends_of(text, port):
@@ -120,12 +154,27 @@ def changed(payload, options):
     return payload[:int(options['front'])] if 'front' in options else payload
 
 
-def capture_of(case, program):
-    """The pcap file of a case."""
+def frames_of(case, program):
+    """The frames of a case."""
     network = Network(program)
     for line in case.packets:
         network.says(line)
-    return pcap(network.frames)
+    return network.frames
+
+
+def as_text(frames):
+    """The frames as lines of a capture; nothing where lines can't say all: what is cut or of TCP, or comes with the MAC of another station."""
+    if any(snap or data[23] != UDP or data[11] != data[29] for _, data, snap in frames):
+        return b''
+    lines = []
+    for number, (at, data, _) in enumerate(frames, 1):
+        second, part = divmod(START + at, 10**6)
+        ports = struct.unpack('>HH', data[34:38])
+        ends = ' > '.join('%d.%d.%d.%d:%d' % (*data[host:host + 4], port) for host, port in zip((26, 30), ports))
+        service = next(each for each in (137, 138) if each in ports)
+        lines += [f'# frame {number} {time.strftime("%Y-%m-%dT%H:%M:%S", time.gmtime(second))}.{part:06d}Z {ends}\n',
+                  f'{service} {max(0, at - frames[0][0]) // 1_000} {data[42:].hex() or "empty"}\n']
+    return ''.join(lines).encode()
 
 
 def tables_in(text):
@@ -151,8 +200,7 @@ def difference(case, shown):
         elif given is None:
             return f'{title} are not shown'
         else:
-            places = [given.columns.index(each) for each in wanted.columns]
-            rows = [[row[place] for place in places] for row in given.rows]
-            if rows != wanted.rows:
-                return f'{title}: {rows}, not {wanted.rows}'
+            rows = [dict(zip(given.columns, row)) | {'': row[0]} for row in given.rows]
+            if len(rows) != len(wanted) or not all(one.items() <= other.items() for one, other in zip(wanted, rows)):
+                return f'{title}: {given.rows}, not {wanted}'
     return ''

@@ -8,7 +8,7 @@ import sys
 
 sys.dont_write_bytecode = True
 sys.path[1:1] = [f'{sys.path[0]}/../{it}' for it in ('captures', 'lib')]
-from network import Network, Side
+from network import SHORT_UDP, Network, Side
 from wire import *
 
 WIFI = 105
@@ -24,15 +24,12 @@ def tunnels(network):
     for wrap, header in ((ip, 34), (ip6, 54)):
         outer = wrap(UDP, udp(50_000, 4789, TUNNEL + query))
         whole = header + 8 + len(TUNNEL) + len(query)
-        network.frame(0, outer, inner=query, gives=(137, QUERY))
-        network.frame(0, outer, whole - len(QUERY))
-        network.gives(('# frame %d is left out: its UDP length is %d, and the file has 0 bytes of its payload'
-                       % (network.number, 8 + len(QUERY)),))
-        network.frame(0, outer, whole - len(QUERY) - 6)
-        network.gives(('# frame %d is left out: the file ends before its ports' % network.number,))
+        network.frame(0, outer, QUERY, inner=query)
+        network.frame(0, outer, SHORT_UDP % (8 + len(QUERY), 0), captured=whole - len(QUERY))
+        network.frame(0, outer, ' is left out: the file ends before its ports', captured=whole - len(QUERY) - 6)
     segment = ip(TCP, tcp(1025, 139, 0, SHORT, acknowledged=0))
-    network.frame(0, ip(UDP, udp(50_000, 4789, TUNNEL + segment)), captured=34 + 8 + len(TUNNEL) + 20 + 8)
-    network.gives(('# frame 8 is left out: the file ends inside its TCP header',))
+    network.frame(0, ip(UDP, udp(50_000, 4789, TUNNEL + segment)), ' is left out: the file ends inside its TCP header',
+                  captured=34 + 8 + len(TUNNEL) + 20 + 8)
     print('8 frames, 5 of these ports, 5 left out: 5 cut by the snap length')
 
 
@@ -54,111 +51,82 @@ def aggregates(network):
     whole = aggregate(query, response)
     for packets in ((query, response), (other, query, response)):
         network.record(0, aggregate(*packets))
-        for packet, payload in ((query, QUERY), (response, RESPONSE)):
-            network.tells(0, packet)
-            network.gives((137, 0, payload))
+        network.gives(0, query, QUERY)
+        network.gives(0, response, RESPONSE)
     network.record(0, aggregate(quoting, query))
-    network.gives(("# frame 3 is left out: it isn't known which of its ports and payloads belong together",))
+    network.gives(0, query, " is left out: it isn't known which of its ports and payloads belong together")
     network.record(0, aggregate(ip(UDP, udp(53, 53, b'bad')), query))
-    network.gives(('# frame 4: tshark stopped before the end of its aggregate of packets',))
+    network.gives(0, query, ': tshark stopped before the end of its aggregate of packets')
     network.record(0, whole, len(whole) - 1)
-    network.tells(0, query)
-    network.gives((137, 0, QUERY), ('# frame 5 is left out: its UDP length is %d, and the file has %d bytes of its payload'
-                                    % (8 + len(RESPONSE), len(RESPONSE) - 1),))
+    network.gives(0, query, QUERY, SHORT_UDP % (8 + len(RESPONSE), len(RESPONSE) - 1))
     print('5 frames, 4 of these ports, 3 left out: 1 headers that do not pair, 1 where tshark stopped, 1 cut by the snap length')
 
 
 def ports_again(network):
     """After the end of a stream its bytes again, and then a stream of the same ports whose start isn't captured."""
     client = Side(network, 1025, 139, 10_000)
-    client.sends(0, -1, b'', SYN)
-    client.sends(1, 0, SHORT, gives=SHORT)
-    client.sends(2, len(SHORT), OTHER, FIN | ACK, gives=OTHER)
+    client.sends(0, -1, b'', flags=SYN)
+    client.sends(1, 0, SHORT, SHORT)
+    client.sends(2, len(SHORT), OTHER, OTHER, flags=FIN | ACK)
     client.sends(3, 0, SHORT + OTHER)
-    client.sends(4, -1, b'', SYN)
-    client.sends(5, -1_000, OTHER)
-    network.gives(('# stream 0 from 10.0.0.5 port 1025: frame 6 is taken for its start, which the file lacks',), (139, 5, OTHER))
-    client.sends(6, -1_000 + len(OTHER), SHORT, gives=SHORT)
+    client.sends(4, -1, b'', flags=SYN)
+    client.sends(5, -1_000, OTHER, '# stream 0 from 10.0.0.5 port 1025: frame 6 is taken for its start, which the file lacks', OTHER)
+    client.sends(6, -1_000 + len(OTHER), SHORT, SHORT)
     print('7 frames, 7 of these ports, 0 left out')
 
 
-class Fragments:
-    """Fragments of datagrams of IPv4 or IPv6, that have one identifier."""
+def fragments(network):
+    """A port that is mirrored, with the same identifier a day later; fragments a minute apart, and others that differ, some or all; of IPv4 and of
+    IPv6, all with one identifier."""
+    one, other = udp(138, 138, b'A' * 40), udp(138, 138, b'B' * 40)
+    longer = one + b'A' * 40
+    late, differ = (f' is left out: its fragments {why}' for why in ('lie more than 60 s apart', 'differ where they overlap'))
 
-    def __init__(self, network, six):
-        self.network, self.six = network, six
-
-    def piece(self, moment, whole, start, end):
+    def piece(moment, whole, start, end, *given):
         more = end < len(whole)
-        if self.six:
+        if six:
             packet = ip6(44, struct.pack('>BBHL', UDP, 0, start | more, 7) + whole[start:end])
         else:
             packet = ip(UDP, whole[start:end], fragment=start // 8 | (0x2000 if more else 0), identifier=7)
-        self.network.frame(moment, packet)
-        self.network.tells(moment, (ip6 if self.six else ip)(UDP, whole))
+        network.frame(moment, packet, *given, inner=(ip6 if six else ip)(UDP, whole))
 
-    def left_out(self, why):
-        self.network.gives(('# frame %d is left out: its fragments %s' % (self.network.number, why),))
-
-
-def fragments(network):
-    """A port that is mirrored, with the same identifier a day later; fragments a minute apart, and others that differ, some or all."""
-    one, other = udp(138, 138, b'A' * 40), udp(138, 138, b'B' * 40)
-    longer = one + b'A' * 40
     moment = 0
     for six in (False, True):
-        sent = Fragments(network, six)
-        for start, end in ((0, 24), (0, 24), (24, 48)):
-            sent.piece(moment, one, start, end)
-        network.gives((138, moment, b'A' * 40))
-        sent.piece(moment, one, 24, 48)
+        for start, end, *given in ((0, 24), (0, 24), (24, 48, b'A' * 40), (24, 48)):
+            piece(moment, one, start, end, *given)
         moment += DAY
-        sent.piece(moment, other, 0, 24)
-        sent.left_out('lie more than 60 s apart')
-        for start, end in ((0, 24), (24, 48)):
-            sent.piece(moment, other, start, end)
-        network.gives((138, moment, b'B' * 40))
-        for pause in (60_000, 60_001):
-            sent.piece(moment, one, 0, 24)
+        for start, end, given in ((0, 24, late), (0, 24, None), (24, 48, b'B' * 40)):
+            piece(moment, other, start, end, *filter(None, [given]))
+        for pause, given in ((60_000, b'A' * 40), (60_001, late)):
+            piece(moment, one, 0, 24)
             moment += pause
-            sent.piece(moment, one, 24, 48)
-            if pause == 60_000:
-                network.gives((138, moment, b'A' * 40))
-        sent.left_out('lie more than 60 s apart')
-        for pieces in (((one, 0, 24), (other, 16, 40), (one, 24, 48)), ((longer, 0, 56), (other, 24, 48))):
-            for whole, start, end in pieces:
-                sent.piece(moment, whole, start, end)
-            sent.left_out('differ where they overlap')
+            piece(moment, one, 24, 48, given)
+        for pieces in (((one, 0, 24), (other, 16, 40), (one, 24, 48, differ)), ((longer, 0, 56), (other, 24, 48, differ))):
+            for each in pieces:
+                piece(moment, *each)
     print('32 frames, 14 of these ports, 8 left out: 8 fragments of IP that come late or differ')
 
 
 def counts(network):
     """Frames of which bytes are in no line, each counted once: a segment around an early one, one that is cut past missing
     bytes, one that came otherwise; and what has no bytes: a bare SYN that the file cuts, a byte that keeps alive."""
-    client = Side(network, 1025, 139, 0)
+    client, other = Side(network, 1025, 139, 0), Side(network, 1026, 139, 0)
     sent = SHORT + OTHER + KEEPALIVE + SHORT
-    title = 'stream %d from 10.0.0.5 port 1025'
-    client.sends(0, -1, b'', SYN, captured=14 + 20 + 8)
-    client.sends(0, -1, b'', SYN)
+    otherwise = ': %d bytes of stream 0 from 10.0.0.5 port 1025 came before with other values, which are kept'
+    client.sends(0, -1, b'', flags=SYN, captured=14 + 20 + 8)
+    client.sends(0, -1, b'', flags=SYN)
     client.sends(0, 20, sent[20:24])
     client.sends(0, 16, sent[16:30])
-    client.sends(0, 34, sent[34:40], captured=54 + 2)
-    network.gives(('# frame 5: the file has 2 of the 6 bytes of its segment',))
+    client.sends(0, 34, sent[34:40], ': the file has 2 of the 6 bytes of its segment', captured=54 + 2)
     client.sends(0, 35, b'\xff')
-    client.sends(0, 18, b'\xff')
-    network.gives(('# frame 7: 1 bytes of %s came before with other values, which are kept' % title % 0,))
-    client.sends(0, 18, b'\xff\xff')
-    network.gives(('# frame 8: 2 bytes of %s came before with other values, which are kept' % title % 0,))
-    client.sends(0, 0, b'', RST)
-    network.gives(('# %s: bytes left over: 0, then missing: 16, then captured: 16' % title % 0,))
-    other = Side(network, 1026, 139, 0)
-    other.sends(0, -1, b'', SYN)
-    other.sends(0, 0, b'\x86\0\0\0' + FOREIGN[:4])
-    network.gives((139, 0, b'\x86\0\0\0'))
+    client.sends(0, 18, b'\xff', otherwise % 1)
+    client.sends(0, 18, b'\xff\xff', otherwise % 2)
+    client.sends(0, 0, b'', '# stream 0 from 10.0.0.5 port 1025: bytes left over: 0, then missing: 16, then captured: 16', flags=RST)
+    other.sends(0, -1, b'', flags=SYN)
+    other.sends(0, 0, b'\x86\0\0\0' + FOREIGN[:4], b'\x86\0\0\0')
     other.sends(0, 8, FOREIGN[4:])
     other.sends(0, 4, FOREIGN)
-    other.sends(0, 0, b'\x86\0\0\0')
-    network.gives(('# %s: bytes left over: 16 (%s)' % ((title % 1).replace('1025', '1026'), FOREIGN.hex()),))
+    other.sends(0, 0, b'\x86\0\0\0', f'# stream 1 from 10.0.0.5 port 1026: bytes left over: 16 ({FOREIGN.hex()})')
     print('14 frames, 14 of these ports, 7 left out: 2 sent again with other bytes, 2 after a gap in TCP, '
           '2 where no session packet begins, 1 cut by the snap length')
 

@@ -1,0 +1,139 @@
+#!/usr/bin/env python3
+"""Captures through tools/nbt-look, beside tools/pcap2cap and the fields of tshark.  Usage: tests/look/beside_tshark.py COUNT [SEED], or ..
+FILE..
+
+Random captures are those of tests/captures/random_pcap.py. Of each capture the packets are those that pcap2cap has, each with its frame,
+time, addresses, ports and service; as much is left out for each reason, but for fragments of IP; and what the last lines count adds up.
+Of each frame the packets are those that tshark dissects: nbns by the number and the word of its header, nbdgm by its kind and number,
+nbss by its type and length. Of a packet that is refused their count alone is compared; a frame of which something is left out, with a
+reason, may differ; of a packet that is cut the header is the same, where it stands. What ICMP quotes is no packet, and for tshark neither
+is a payload of no bytes. Of random captures, whose bytes are seldom what those ports have, tshark's frames of the name and datagram
+services have to be there alone. The last line is 'N passed, M failed'; a random capture that fails is kept in the folder of temporary
+files, and named.
+"""
+import collections
+import functools
+import json
+import re
+import subprocess
+import sys
+
+sys.dont_write_bytecode = True
+sys.path[1:1] = [f'{sys.path[0]}/../{it}' for it in ('captures', 'lib')]
+from random_pcap import pcap_of
+from seeds import compared
+from tally import tally
+
+TOOLS = f'{sys.path[0]}/../../tools'
+PAYLOAD = re.compile(r'^(# frame .* > .*)\n(13[789]) ', re.MULTILINE)
+FIELDS = ('frame.number', 'frame.protocols', 'nbns.id', 'nbns.flags', 'nbdgm.type', 'nbdgm.dgram_id', 'nbss.type', 'nbss.length')
+WANTED = '(nbss.type || frame.protocols matches ":(nbns|nbdgm)(:|$)") && !icmp && !icmpv6'
+SESSION_TYPES = {'message': 0x00, 'request': 0x81, 'positive': 0x82, 'negative': 0x83, 'retarget': 0x84, 'keepalive': 0x85}
+DATAGRAM_TYPES = {'unique': 0x10, 'group': 0x11, 'broadcast': 0x12, 'error': 0x13, 'find': 0x14, 'found': 0x15, 'missing': 0x16}
+REFUSED, EMPTY = None, 'truncated 0'
+
+
+def main():
+    if sys.argv[1].endswith('.pcap'):
+        return tally((path, first_difference(path, unlike_tshark)) for path in sys.argv[1:])
+    return compared('looks', pcap_of, functools.partial(first_difference, beside=unseen))
+
+
+def first_difference(path, beside):
+    """What the tool shows of a capture that the others don't find, or the other way round."""
+    done, other = (run(f'{TOOLS}/{tool}', *words, path) for tool, words in (('nbt-look', ['--json']), ('pcap2cap', [])))
+    objects = [json.loads(line) for line in done.stdout.splitlines()]
+    packets = [each for each in objects if 'left_out' not in each and 'cut' not in each]
+    given, wanted = collections.Counter(map(head_of, packets)), collections.Counter(PAYLOAD.findall(other.stdout))
+    if given != wanted:
+        return f'{list((given - wanted).items())[:3]} in place of {list((wanted - given).items())[:3]}'
+    return beside(objects, found_by_tshark(path)) or miscounted(done.stderr, objects, packets, other.stderr)
+
+
+def unseen(objects, theirs):
+    """The frames of the name and datagram services that are nowhere."""
+    missing = {frame for frame, service in theirs if service != 139} - frames_of(objects)
+    return missing and f'frames of these services are nowhere: {sorted(missing)}'
+
+
+def unlike_tshark(objects, theirs):
+    """The first frame of which tshark has other packets."""
+    ours, left_out = collections.defaultdict(list), {each['frame'] for each in objects if 'left_out' in each or 'cut' in each}
+    for each in objects:
+        found = theirs.get((each['frame'], each.get('port')), [])
+        if 'cut' in each:
+            if ('id' in each or 'kind' in each) and found and said(each) not in (REFUSED, *found):
+                return f'a cut packet: {each}, and tshark has {found}'
+        elif 'left_out' not in each and each.get('refused') != EMPTY:
+            ours[each['frame'], each['port']].append(said(each))
+    for key in sorted(ours.keys() | theirs.keys()):
+        one, other = ours.get(key, []), theirs.get(key, [])
+        if key[0] not in left_out and (len(one) != len(other) or not all(each in (REFUSED, its) for each, its in zip(one, other))):
+            return 'frame %d, port %d: %s, and tshark has %s' % (*key, one, other)
+    return ''
+
+
+def said(packet):
+    """What both say of a packet, by its object of JSON."""
+    if 'refused' in packet:
+        return REFUSED
+    if packet['port'] == 137:
+        return int(packet['id'], 16), int(packet['word'], 16)
+    if packet['port'] == 138:
+        return DATAGRAM_TYPES[packet['kind']], int(packet['key'].rpartition('/')[2], 16)
+    return SESSION_TYPES[packet['kind']], packet['used'] - 4
+
+
+def found_by_tshark(path):
+    """The packets of each frame and service."""
+    rows = run('tshark', '-n', '-r', path, '-Y', WANTED, '-T', 'fields', *(f'-e{each}' for each in FIELDS)).stdout
+    found = {}
+    for line in rows.splitlines():
+        number, protocols, *values = line.split('\t')
+        protocols = protocols.split(':')
+        parted = ((137, 'nbns' in protocols, values[:2]), (138, 'nbdgm' in protocols, values[2:4]), (139, values[4], values[4:]))
+        for service, is_there, pair in parted:
+            if is_there:
+                found[int(number), service] = list(zip(*(map(whole, each.split(',')) for each in pair)))
+    return found
+
+
+def whole(text):
+    return int(text, 0) if text else None
+
+
+def miscounted(summary, objects, packets, other):
+    """What the last lines of the tool count otherwise than its objects do, or pcap2cap does."""
+    found = re.fullmatch(r'(\d+) frames?, (\d+) packets?, (\d+) malformed, (\d+) left out(?:: (.*))?', summary.splitlines()[0])
+    frames, *counts = map(int, found.groups()[:4])
+    wanted = [len(packets), sum('refused' in each for each in packets), len(objects) - len(packets)]
+    if counts != wanted or counted(found[5]) != counted(other.strip().partition(': ')[2]):
+        return f'{summary.strip()}, not {wanted}, {other.strip()}'
+    without = re.search(r'^(\d+) frames? without a packet: (.*)$', summary, re.MULTILINE)
+    missing = [frames - len(frames_of(objects))] * 2 if packets else []
+    sums = [int(without[1]), sum(int(each.split()[0]) for each in without[2].split(', '))] if without else missing and [0, 0]
+    return '' if not packets or sums == missing else f'{summary.strip()}, not {missing[0]} frames without a packet'
+
+
+def run(*words):
+    return subprocess.run(words, capture_output=True, text=True, timeout=120, check=False)
+
+
+def frames_of(objects):
+    return {each['frame'] for each in objects}
+
+
+def counted(reasons):
+    """What is left out for each reason, but for fragments of IP."""
+    return sorted(each for each in (reasons or '').split(', ') if each and 'fragments of IP' not in each)
+
+
+def head_of(packet):
+    """The comment that pcap2cap writes of a packet, and its service."""
+    source, target = ('[%s]' % each if ':' in each else each for each in (packet['from'], packet['to']))
+    ends = '%s:%d > %s:%d' % (source, packet['ports'][0], target, packet['ports'][1])
+    return f'# frame {packet["frame"]} {packet["time"] or "-"} {ends}', str(packet['port'])
+
+
+if __name__ == '__main__':
+    sys.exit(main())

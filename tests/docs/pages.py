@@ -21,8 +21,8 @@ import sys
 
 sys.path.insert(1, f'{sys.path[0]}/../lib')
 from made_pages import calls, definitions_of, made, spec_files
+from parts import tally
 from sources import CRATES, ROOT, aliases, functions, law_files, sources
-from tally import tally
 
 LISTED = re.findall(r'^(\w+)\b[^:#\n]*:', (ROOT / 'crates.txt').read_text(encoding='utf-8'), re.MULTILINE)
 LIBRARIES = [it for it in LISTED if it != 'nbt' and not it.startswith('nb_examples')]

@@ -15,7 +15,7 @@ import subprocess
 import sys
 
 sys.path.insert(1, os.path.join(os.path.dirname(os.path.abspath(__file__)), '..', 'lib'))
-from tally import tally
+from parts import tally
 
 TOOL = os.path.join(os.path.dirname(os.path.abspath(__file__)), '../../tools/nbt-look')
 FIELDS = ('frame.number', 'frame.protocols', 'nbns.id', 'nbns.flags', 'nbdgm.type', 'nbdgm.dgram_id', 'nbss.type', 'nbss.length')

@@ -15,8 +15,8 @@ import tempfile
 sys.dont_write_bytecode = True
 HERE = os.path.dirname(os.path.abspath(__file__))
 sys.path[1:1] = [f'{HERE}/../{it}' for it in ('captures', 'lib')]
+from parts import tally
 import summary_cases
-from tally import tally
 
 TOOL = f'{HERE}/../../tools/nbt-look'
 PAGE = f'{HERE}/../../page/tests/summary.mjs'

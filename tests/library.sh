@@ -45,7 +45,6 @@ examples() {
         run=(env "LD_LIBRARY_PATH=$built")
         example "$each" shared "$CC" "$each" "-L$built" -lnbt
         run=()
-        example "$each" static "$CC" "$each" "$built/libnbt.a"
         example "$each" sanitized "$CC" "${sanitized[@]}" "$each" "$built/libnbt.a"
     done
     printf '#include <nbt.h>\nint main() { return nbt_status_text(0, nullptr, 0, nullptr) == NBT_DONE; }\n' >"$room/header.cpp"
@@ -58,20 +57,27 @@ under_valgrind() {
     for each in "$top"/bindings/c/*.c; do example "$each" valgrind "$CC" "$each" "$built/libnbt.a"; done
 }
 
-# instructions PROGRAM WORD..: how many a run takes, counted by valgrind.
-instructions() {
-    ended valgrind --tool=callgrind --callgrind-out-file=/dev/null "$@" 2>&1 >"$room/output" | sed -n 's/.*Collected : *//p'
+# chain POINTERS RECORDS: a payload of port 137 of a record whose RDATA is a chain of pointers to the last byte of the header, which is zero,
+# and of so many whose names of servers point to its end.
+chain() {
+    python3 -c '
+import struct, sys
+pointers, records = map(int, sys.argv[1:])
+places = [0xc000 | it for it in (11, *range(23, 23 + 2 * pointers, 2))]
+sys.stdout.buffer.write(struct.pack(">6H BHHLH", 1, 0x8500, 0, records + 1, 0, 0, 0, 10, 1, 0, 2 * pointers)
+                        + struct.pack(f">{pointers}H", *places[:-1]) + struct.pack(">BHHLHH", 0, 2, 1, 0, 2, places[-1]) * records)' "$@"
 }
 
 # Reading all items costs what the payload and the answer have, however long a chain of pointers their names end in: of a chain and of
 # records that are 4 and 16 times as many, some 4 and 16 times as much.
 chains() {
-    local each counted base
+    local each counted base=0
     $CC "${strict[@]}" -O2 -o "$room/chain" "$here/library/service_chain.c" "$built/libnbt.a" >"$room/log" 2>&1
     count $? "tests/library/service_chain.c: $(head -n 1 "$room/log")"
-    base=$(instructions "$room/chain" 511 236)
     for each in 1 4 16; do
-        counted=$(instructions "$room/chain" $((511 * each)) $((236 * each)))
+        counted=$(chain $((511 * each)) $((236 * each)) | ended valgrind --tool=callgrind --callgrind-out-file=/dev/null "$room/chain" 2>&1 >"$room/output" \
+            | sed -n 's/.*Collected : *//p')
+        [ $base -ne 0 ] || base=$counted
         grep -q "^$((236 * each + 1)) items, $((236 * each)) servers, " "$room/output" && [ "$counted" -lt $((base * each * 5 / 4)) ]
         count $? "items at the end of a chain $each times as long: $counted instructions, of $base at first; $(cat "$room/output")"
     done
@@ -87,32 +93,23 @@ callers() {
 }
 
 refused() {
-    few_payloads 6
-    every x86-64 "$room/plain"
+    few_payloads
+    each_refused x86-64 "$room/plain"
 }
 
-# varied NAME: a caller who goes to every limit of the header; its calls answer the statuses listed there.
-varied() {
-    ended "$room/$1" varied <"$room/limits" >"$room/statuses" 2>"$room/errors"
-    count $? "calls at each limit, $1: $(tail -n 3 "$room/errors" | head -c 500)"
-    "$here/library/statuses_reached.py" "$top/include/nbt.h" <"$room/statuses" >"$room/output" 2>&1
-    count $? "each call answers what the header lists, $1: $(head -n 3 "$room/output" | head -c 300)"
-}
-
-# short_of_memory NAME: an example of bindings/c that is granted ever more requests for memory, until it prints what it says. It leaves
-# nothing behind where it gives up.
+# The example of a station is granted ever more requests for memory, until it prints what it says. It leaves nothing behind where it gives up.
 short_of_memory() {
-    local granted leaks=0 source=$top/bindings/c/$1.c
+    local granted leaks=0 source=$top/bindings/c/station.c
     wanted "$source" >"$room/wanted"
     $CC "${strict[@]}" -fsanitize=address "${wrapped[@]}" -o "$room/example" "$source" "$here/library/memory.c" "$built/libnbt.a" >"$room/log" 2>&1
-    count $? "$1.c over tests/library/memory.c: $(head -n 1 "$room/log")"
+    count $? "station.c over tests/library/memory.c: $(head -n 1 "$room/log")"
     for ((granted = 0; granted < 200; granted++)); do
         NBT_GRANTED=$granted ended "$room/example" >"$room/output" 2>"$room/errors" \
             && sed 's/ *$//' "$room/output" | cmp -s - "$room/wanted" && break
         ! grep -q Sanitizer "$room/errors" || leaks=$((leaks + 1))
     done
     [ "$granted" -gt 0 ] && [ "$granted" -lt 200 ] && [ "$leaks" -eq 0 ]
-    count $? "$1.c without memory: $leaks leaks, and it is done when $granted requests are granted"
+    count $? "station.c without memory: $leaks leaks, and it is done when $granted requests are granted"
 }
 
 # The code is for processors of x86-64-v2: it has such instructions (SSE4.1), and none of those that came later.
@@ -125,19 +122,20 @@ processors() {
     count $? "libnbt.so.0 has no instructions past x86-64-v2: $(head -n 3 "$room/later")"
 }
 
-# The limits of what the header allows, and its bounds.
+# The limits of what the header allows, to each of which a caller goes, its bounds, and the statuses that it lists for each call.
 limits() {
-    local each
     "$here/library/payload_rows.py" limits | cat "$here/library/cases.txt" - >"$room/limits"
-    varied plain
-    varied sanitized
+    ended "$room/sanitized" varied <"$room/limits" >"$room/statuses" 2>"$room/errors"
+    count $? "calls at each limit: $(tail -n 3 "$room/errors" | head -c 500)"
+    "$here/library/statuses_reached.py" "$top/include/nbt.h" <"$room/statuses" >"$room/output" 2>&1
+    count $? "each call answers what the header lists: $(head -n 3 "$room/output" | head -c 300)"
     { "$here/captures/payloads.py" --seed 5 library 500; "$here/captures/payloads.py" worst 6; } | "$here/library/payload_rows.py" \
-        | cat "$room/limits" - | ended "$room/plain" measured >"$room/output" 2>"$room/errors" \
-        && grep -q '^text: nbt_brief: 1633 of ' "$room/output" \
-        && [ "$(grep -cE '^(text: nbt_name_text|bytes: nbt_capture_line): ([0-9]+) of \2$' "$room/output")" -eq 2 ]
-    count $? "the stack and the texts of calls: $(cat "$room/errors" <(grep nbt_ "$room/output") | head -n 4 | tr '\n' ' ')"
-    sed -n 's/: [0-9]* of 65536$//p' "$room/output" | sort | same "$(calls | sed 's/^nbt_//' | grep -vx station_free)" 'the stack of each call is measured'
-    short_of_memory station
+        | cat "$room/limits" - | ended "$room/plain" measured >"$room/output" 2>"$room/errors"
+    count $? "the stack and the texts of calls: $(tail -n 1 "$room/errors")"
+    sed -nE 's/^(brief|capture_line|name_text): .*, ([0-9]+) of text$/\1 \2/p' "$room/output" | sort \
+        | same "$(printf '%s\n' 'brief 1633' "capture_line $(limit LINE_ROOM)" "name_text $(limit NAME_ROOM)")" 'the longest texts'
+    cut -d : -f 1 "$room/output" | sort | same "$(calls | sed 's/^nbt_//' | grep -vx station_free)" 'the stack of each call is measured'
+    short_of_memory
     processors
 }
 
@@ -195,15 +193,6 @@ python() {
     shown show
     shown json --json
     shown brief --brief
-    replayed 9
-    listed && in_python -c '
-import sys, nbt
-sys.stdout.write(nbt.list_table(bytes.fromhex(sys.stdin.read())))
-' <"$room/table" >"$room/output" 2>"$room/errors" && cmp -s "$room/listed" "$room/output"
-    count $? "nbt.list_table prints what nbt list prints: $(tail -n 1 "$room/errors") $(diff "$room/listed" "$room/output" | head -c 300)"
-    in_python "$here/library/station_in_python.py" 'FRED<20>' 'JOE<00>' <"$room/capture" >"$room/output" 2>"$room/errors"
-    grep -q ' delivered ' "$room/output" && cmp -s "$room/replayed" "$room/output"
-    count $? "a station does what nbt replay does: $(tail -n 1 "$room/errors") $(diff "$room/replayed" "$room/output" | head -c 300)"
 }
 
 # The types of the package, and of calls that use them, by mypy's strict rules for the oldest Python that it is for.
@@ -217,18 +206,7 @@ types() {
 
 # tools/nbt-station on sockets of the loopback interface.
 station() {
-    NBT_LIBRARY=$built/libnbt.so.0 "$timeout" -k 5 600 "$here/library/station.py" "$top/tools/nbt-station" "$program" \
-        >"$room/cases" 2>"$room/errors"
-    count $? "tests/library/station.py: $(tail -n 1 "$room/errors")"
-    while IFS= read -r each; do
-        if [[ $each == skipped:* ]]; then
-            skipped=$((skipped + 1))
-            echo "$each"
-            continue
-        fi
-        [[ $each == ok:* ]]
-        count $? "nbt-station: ${each#failed: }"
-    done <"$room/cases"
+    NBT_LIBRARY=$built/libnbt.so.0 counted "$timeout" -k 5 600 "$here/library/station.py" "$top/tools/nbt-station" "$program"
 }
 
 # Installed in another folder, and found by pkg-config.
@@ -322,9 +300,8 @@ rust() {
     done
     released
     in_rust build --offline --release --manifest-path "$room/released/Cargo.toml"
-    lines "$payloads" 4
-    LD_LIBRARY_PATH=$room/root/lib ended "$room/target/release/values" shown <"$room/lines4" >"$room/output" 2>"$room/errors"
-    cmp -s "$room/lines4.wanted" "$room/output"
+    LD_LIBRARY_PATH=$room/root/lib ended "$room/target/release/values" shown <"$room/lines3" >"$room/output" 2>"$room/errors"
+    cmp -s "$room/lines3.wanted" "$room/output"
     count $? "nbt::show_into prints what nbt show prints: $(tail -n 1 "$room/errors")"
     LD_LIBRARY_PATH=$room/root/lib reads "$room/values" tests/library/values.rs ended "$room/target/release/values"
     block rust "$page" >"$room/first.rs"

@@ -4,7 +4,7 @@ import os
 import random
 import struct
 
-from wire import FRED, JOE, NB, NBSTAT, NULL, datagram, first_level, record, service, session
+from wire import FRED, JOE, NB, NBSTAT, NULL, datagram, first_level, pieces, record, service, session
 
 MOST_IN_A_CAPTURE = 16_777_216
 TO_FIRST_QUESTION = b'\xc0\x0c'
@@ -13,18 +13,6 @@ SERVICE = ('query',) * 8 + ('registration', 'registration', 'refresh', 'release'
                             'node status request', 'node status', 'node status', 'wack')
 DATAGRAMS = (0x10,) * 4 + (0x11,) * 8 + (0x12,) * 4 + (0x13, 0x14, 0x15, 0x16)
 SESSIONS = ('message',) * 15 + ('request', 'positive', 'negative', 'retarget', 'keepalive')
-
-
-def packet(address, identifier, flags, offset, data):
-    """A group datagram's packet from JOE<00> to FRED<20>."""
-    return datagram(identifier, data, address, flags=flags, offset=offset)
-
-
-def pieces(address, identifier, data, most):
-    """The packets of a datagram, cut into pieces of at most this many bytes."""
-    starts = range(0, max(len(data), 1), most)
-    return [packet(address, identifier, 2 * (start == 0) + (start != starts[-1]), start, data[start:start + most])
-            for start in starts]
 
 
 def line(moment, payload, port=138):
@@ -117,25 +105,25 @@ def unfragmented(rng, count):
         if i % 250 == 0:
             yield b'tick %d\n' % (i * 4)
         address = bytes([10, 0, i % 5, 1 + i % 200])
-        yield line(i * 4, packet(address, i % 65_536, 2, 0, rng.randbytes(rng.randrange(300))))
+        yield line(i * 4, datagram(i % 65_536, rng.randbytes(rng.randrange(300)), address))
 
 
 def shuffled(rng, datagrams, size, most):
     """Datagrams of this size, cut, with all their pieces shuffled together."""
-    lines = [line(0, piece) for i in range(datagrams) for piece in pieces(bytes([10, 0, 0, 5]), i, rng.randbytes(size), most)]
+    lines = [line(0, piece) for i in range(datagrams) for piece in pieces(i, rng.randbytes(size), most)]
     rng.shuffle(lines)
     return lines
 
 
 def descending(rng, size):
     """One datagram in pieces of a byte, the last one first."""
-    return [line(0, piece) for piece in reversed(pieces(bytes([10, 0, 0, 5]), 1, rng.randbytes(size), 1))]
+    return [line(0, piece) for piece in reversed(pieces(1, rng.randbytes(size), 1))]
 
 
 def one_address(count):
     """First fragments of one address, each of another datagram: as many keys, of which none is whole."""
     for i in range(count):
-        yield line(0, packet(bytes([10, 0, 0, 5]), i % 65_536, 3, 0, b'x'))
+        yield line(0, datagram(i % 65_536, b'x', flags=3))
 
 
 def saved_piece(offset, data):

@@ -4,7 +4,7 @@ import random
 import sys
 import tempfile
 
-from tally import tally
+from parts import tally
 
 
 def compared(name, made, first_difference):

@@ -23,8 +23,8 @@ import sys
 sys.path.insert(1, f'{sys.path[0]}/../lib')
 from build_words import FORMS, compared
 from made_pages import calls, definitions_of, made, spec_files
+from parts import tally
 from sources import CRATES, LISTED, ROOT, aliases, functions, law_files, sources
-from tally import tally
 
 LIBRARIES = [it for it in LISTED if it != 'nbt' and not it.startswith('nb_examples')]
 TICKED = re.compile(r'`([^`\n]+)`')

@@ -21,8 +21,8 @@ import re
 import sys
 import tempfile
 
+from parts import tally
 from served import Program, Served
-from tally import tally
 
 # The commands that write as they read.
 WRITING = ('show', 'replay')

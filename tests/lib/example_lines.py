@@ -42,14 +42,9 @@ def bytes_of(text):
 
 
 def number(text, n):
-    """A number, or one that is made of n."""
-    return int(re.sub(r'\bn\b', str(n), text)) if re.fullmatch(r'n|\d+', text) else made_of(text, n)
-
-
-def made_of(text, n):
-    """72-n or 4+n."""
-    whole, sign = re.fullmatch(r'(\d+)([-+])n', text).groups()
-    return int(whole) - n if sign == '-' else int(whole) + n
+    """A number, or one that is made of n, as 72-n."""
+    whole, sign, of_n = re.fullmatch(r'(\d*)([-+]?)(n?)', text).groups()
+    return int(whole or 0) + (n * (-1 if sign == '-' else 1) if of_n else 0)
 
 
 def inside(text, words, n):

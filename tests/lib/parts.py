@@ -53,3 +53,10 @@ def finish():
     """Prints the last line; whether any case failed."""
     print(', '.join(f'{count} {what}' for what, count in counts.items()))
     return counts['failed'] > 0
+
+
+def tally(cases):
+    """Counts cases, pairs of what each is and of what is wrong with it, if anything is; prints the last line, and answers whether any failed."""
+    for what, wrong in cases:
+        check(not wrong, what if wrong is True else f'{what}: {wrong}')
+    return finish()

@@ -61,6 +61,12 @@ def datagram(identifier, data, source=CLIENT, kind=0x11, flags=0x02, offset=0, n
     return struct.pack('>BBH4sHHH', kind, flags, identifier, source, port, len(names) + len(data), offset) + names + data
 
 
+def pieces(identifier, data, most=7, **others):
+    """The packets of a datagram, which is cut into pieces of at most so many bytes."""
+    starts = range(0, max(len(data), 1), most)
+    return [datagram(identifier, data[it:it + most], flags=2 * (it == 0) + (it != starts[-1]), offset=it, **others) for it in starts]
+
+
 def session(kind, body=b''):
     return struct.pack('>BBH', kind, len(body) >> 16, len(body) & 65_535) + body
 

@@ -2,14 +2,13 @@
  *
  * answers         prints what each call answers: the number of its `line`, the call, its status, *used, *at, and sums of the bytes and of
  *                 the fields that it wrote. calls.mjs prints the same in WebAssembly
- * every WANTED    refuses each request for memory in turn, and prints a line for each: whether one call met it, and whether the answers,
- *                 as above, are those of the file WANTED
- * judged [ROOMS]  each call answers what its row says, also in so many rooms that are too small, and with requests refused
+ * judged [ROOMS]  each call answers what its row says, also in so many rooms that are too small, and with requests for memory refused
+ * refused         so it does, and with each of its requests refused in turn
  * varied          so it does, and with its inputs and numbers changed: hostile.c
  * measured        the stack that each call wants, and how long texts are: bounds.c
  * inputs          no rows, but a fuzzer's inputs, lines of digits: corpus.c
  *
- * The last line of standard error counts what was done; that of `answers` and `every` is how many requests for memory there were. */
+ * The last line of standard error counts what was done. */
 #define _GNU_SOURCE
 #include "harness.h"
 #include <stdio.h>
@@ -19,16 +18,15 @@ const char *program = "calls";
 
 /* ---- what is answered */
 
-static FILE *out;
-
-static uint32_t sum_of(uint32_t sum, struct bytes it) {
+static uint32_t sum_of(struct bytes it) {
+    uint32_t sum = 0x811c9dc5;
     size_t i;
     for (i = 0; i < it.length; i++)
         sum = (sum ^ it.at[i]) * 0x01000193;
     return sum;
 }
 
-static void print_number(size_t number) { fprintf(out, number == UNSAID ? " -" : " %zu", number); }
+static void print_number(size_t number) { printf(number == UNSAID ? " -" : " %zu", number); }
 
 /* A call without room, with a byte less than it wants, and with three more. */
 static void answer(const struct sample *row) {
@@ -37,50 +35,21 @@ static void answer(const struct sample *row) {
         size_t wanted = it.used;
         it = attempt(row->of, &row->asked, wanted - 1, 1, SIZE_MAX);
         expect(it.status == NBT_NO_ROOM && it.used == wanted, "a byte too few");
-        it = attempt(row->of, &row->asked, wanted + 3, 1, SIZE_MAX);
+        it = attempt(row->of, &row->asked, wanted + 3, 0, SIZE_MAX);
     }
-    fprintf(out, "%lu %s %u", line_number, rows[row->of].name, (unsigned)it.status);
+    printf("%lu %s %u", line_number, rows[row->of].name, (unsigned)it.status);
     print_number(it.used);
     print_number(it.at);
-    fprintf(out, " %08x %08x\n", (unsigned)sum_of(0x811c9dc5, it.bytes),
-            (unsigned)(it.status == NBT_DONE ? sum_of(0x811c9dc5, fields_of(row->of, &it)) : 0));
-}
-
-/* What all calls answer where a request is refused, in memory of its own. */
-static char *answers_of(const char *text, size_t refused) {
-    struct sample row;
-    size_t mark, size;
-    char *answers;
-    out = open_memstream(&answers, &size);
-    expect(out != NULL, "open_memstream");
-    begin_rows();
-    refusal_count = 0;
-    memory.requests = 0;
-    memory.refuse = refused;
-    for (mark = kept_mark(); next_row(&text, &row); release(mark))
-        answer(&row);
-    memory.refuse = 0;
-    free_stations();
-    fclose(out);
-    return answers;
+    printf(" %08x %08x\n", (unsigned)sum_of(it.bytes), (unsigned)sum_of(fields_of(row->of, &it)));
 }
 
 int answer_rows(const char *text) {
-    fputs(answers_of(text, 0), stdout);
-    fprintf(stderr, "%zu\n", memory.requests);
-    return 0;
-}
-
-int refuse_each(const char *text, const char *wanted) {
-    size_t all, each;
-    free(answers_of(text, 0));
-    all = memory.requests;
-    for (each = 1; each <= all; each++) {
-        char *answers = answers_of(text, each);
-        printf("%s: request %zu\n", refusal_count == 1 && strcmp(answers, wanted) == 0 ? "ok" : "failed", each);
-        free(answers);
-    }
-    fprintf(stderr, "%zu\n", all);
+    struct sample row;
+    size_t mark;
+    for (mark = kept_mark(); next_row(&text, &row); release(mark))
+        answer(&row);
+    free_stations();
+    fprintf(stderr, "%lu calls\n", call_count);
     return 0;
 }
 
@@ -127,12 +96,15 @@ static void wide(void) {
            "a port with more bits");
 }
 
-int judge_rows(const char *text, size_t rooms) {
+/* Judges rows; each is tried with few requests granted, or with ever more of them until it is done. */
+static int judge_all(const char *text, size_t rooms, int is_each_refused) {
     struct sample row;
     size_t mark, count = 0;
     wide();
     for (mark = kept_mark(); next_row(&text, &row); release(mark)) {
         trials = (struct trials){.rooms = rooms, .least = count % 7, .most = count % 7 + 2};
+        if (is_each_refused)
+            trials = (struct trials){.rooms = rooms, .most = SIZE_MAX};
         count++;
         judge_answer(&row, answered(row.of, &row.asked));
     }
@@ -142,15 +114,19 @@ int judge_rows(const char *text, size_t rooms) {
     return 0;
 }
 
+int judge_rows(const char *text, size_t rooms) { return judge_all(text, rooms, 0); }
+
+int refuse_rows(const char *text) { return judge_all(text, 0, 1); }
+
 /* ---- the ways */
 
 #ifndef FUZZER
-/* All bytes of a file, and a zero byte, in memory that isn't counted. */
-static char *whole(FILE *file) {
+/* All bytes of standard input, and a zero byte, in memory that isn't counted. */
+static char *whole(void) {
     size_t space = 1 << 20, count = 0, more, blocks = memory.blocks;
     char *text = malloc(space);
-    expect(file != NULL && text != NULL, "a file");
-    while ((more = fread(text + count, 1, space - count - 1, file)) > 0) {
+    expect(text != NULL, "memory");
+    while ((more = fread(text + count, 1, space - count - 1, stdin)) > 0) {
         count += more;
         if (count + 1 == space)
             text = realloc(text, space *= 2);
@@ -162,14 +138,16 @@ static char *whole(FILE *file) {
 }
 
 int main(int words, char **word) {
-    const char *way = words > 1 ? word[1] : "", *more = words > 2 ? word[2] : NULL, *text = whole(stdin);
+    static const char *text;
+    const char *way = words > 1 ? word[1] : "";
+    text = whole();
     program = way;
     if (strcmp(way, "answers") == 0)
         return answer_rows(text);
-    if (strcmp(way, "every") == 0)
-        return refuse_each(text, whole(fopen(more, "r")));
     if (strcmp(way, "judged") == 0)
-        return judge_rows(text, more == NULL ? 0 : strtoul(more, NULL, 10));
+        return judge_rows(text, words > 2 ? strtoul(word[2], NULL, 10) : 0);
+    if (strcmp(way, "refused") == 0)
+        return refuse_rows(text);
     if (strcmp(way, "varied") == 0)
         return vary_rows(text);
     if (strcmp(way, "measured") == 0)

@@ -1,17 +1,21 @@
 // The calls of rows in WebAssembly, as tests/library/calls.c makes them: it reads the same rows of calls.def and of standard input, and prints
-// the same. Usage: node calls.mjs MODULE answers|every [WANTED] <ROWS. With `every` it also looks whether memory stays as large.
+// the same. Usage: node calls.mjs MODULE answers|refused <ROWS. With `refused` they are made once more, each request for memory refused in
+// turn: they answer the same, and memory stays as large.
 import { readFileSync, writeFileSync } from 'node:fs';
 import { bytesOf, wordsOf } from './rows.mjs';
 
-const [path, way, wanted] = process.argv.slice(2);
+const [path, way] = process.argv.slice(2);
 const { instance } = await WebAssembly.instantiate(readFileSync(path), {});
 const nbt = instance.exports;
 const DONE = 0, NO_ROOM = 1, NO_MEMORY = 2, FILL = 0xa5, UNSAID = 2n ** 64n - 89n, ENTRIES = 3, MOST_FILLED = ENTRIES * 600;
 const definitions = readFileSync(new URL('calls.def', import.meta.url), 'latin1');
-const rows = new Map(Array.from(definitions.matchAll(/^ROW\((\w+), (\w+), \w+, \((.*)\)\)$/gm),
-    ([, name, structure, words]) => [name, { structure, words: words.split(', ') }]));
-const fields = Array.from(definitions.matchAll(/FIELD\((\w+), [\w.]+, (\d+), (\d+)\)/g),
-    ([, structure, place, size]) => ({ structure, place: Number(place), size: Number(size) }));
+const rows = new Map(Array.from(definitions.matchAll(/^ROW\((\w+), (\w+), (\d+), \w+, \((.*)\)\)$/gm),
+    ([, name, structure, size, words]) => [name, { structure, size: Number(size), words: words.split(', ') }]));
+const holes = Array.from(definitions.matchAll(/HOLE\((\w+), (\d+), (\d+)\)/g), ([, structure, from, to]) => ({ structure, from, to }));
+for (const row of rows.values()) {
+    const own = holes.filter(({ structure }) => structure === row.structure);
+    row.isField = Array.from({ length: row.size }, (_, place) => own.every(({ from, to }) => place < from || place >= to));
+}
 
 // Where things lie, in one piece of memory.
 const SPACE = 1 << 21, big = BigInt;
@@ -19,7 +23,7 @@ const base = Number(nbt.heap_take(big(5 * SPACE)));
 const [numbers, into, ...inputs] = [0, 1, 2, 3, 4].map((which) => base + which * SPACE);
 const [used, at, filled] = [numbers, numbers + 8, numbers + 1024], stationAt = (which) => numbers + 64 + 8 * which;
 const names = new Map(), stations = new Map();
-let memory, view, out, number, refusals;
+let memory, view, out, number, refusals = 0;
 
 function look() {
     if (memory?.buffer === nbt.memory.buffer) return;
@@ -37,19 +41,18 @@ function expect(holds, what) {
 const size = (place) => view.getBigUint64(place, true);
 const isUntouched = (start, end) => memory.subarray(start, end).every((byte) => byte === FILL);
 
-function sumOf(sum, start, count) {
-    for (let i = start; i < start + count; i++) sum = Math.imul(sum ^ memory[i], 0x01000193);
-    return sum;
+/** The digits of a sum of bytes. */
+function sumOf(bytes) {
+    const sum = bytes.reduce((sum, byte) => Math.imul(sum ^ byte, 0x01000193), 0x811c9dc5);
+    return (sum >>> 0).toString(16).padStart(8, '0');
 }
-
-const digitsOf = (sum) => (sum >>> 0).toString(16).padStart(8, '0');
 
 // What is asked, by the words of a row of calls.def, as each of them stands there.
 const isGiven = (word) => /^(IN|N|L|B|STATION|MADE)\b/.test(word);
 
 function askedOf(row, given) {
-    const asked = { inputs: [], values: new Map() }, words = row.words.filter(isGiven);
-    words.forEach((word, index) => {
+    const asked = { inputs: [], values: new Map() };
+    row.words.filter(isGiven).forEach((word, index) => {
         const place = Number(/\d/.exec(word)?.[0]);
         if (word.startsWith('IN')) {
             asked.inputs[place] = bytesOf(given[index], names);
@@ -72,21 +75,24 @@ function askedOf(row, given) {
 const WRITTEN = { FILLED: [big(filled)], ENTRIES: [big(ENTRIES)], USED: [big(used)], AT: [big(at)] };
 const values = (word, asked, room) => asked.values.get(word) ?? (word === 'OUT' ? [big(into), big(room), big(used)] : WRITTEN[word]);
 
-// A call in a room, made again where memory runs out.
-function made(name, { structure, words }, asked, room) {
-    for (;;) {
+// A call in a room; before it calls in each of which another request is refused, where that is asked for.
+function made(name, { words }, asked, room, isRefused) {
+    for (let refused = Number(isRefused); ; refused++) {
         look();
         asked.inputs.forEach((input, index) => memory.set(input, inputs[index]));
         memory.fill(FILL, into, into + room + 8).fill(FILL, filled, filled + MOST_FILLED);
         [used, at].forEach((place) => view.setBigUint64(place, UNSAID, true));
+        nbt.heap_refuse(big(refused));
         const status = nbt[`nbt_${name}`](...words.flatMap((word) => values(word, asked, room))) >>> 0;
+        const requests = Number(nbt.heap_refuse(0n));
         look();
         const count = status === DONE && words.includes('OUT') ? Number(size(used)) : 0;
         expect(isUntouched(into + count, into + room + 8), `${name}: bytes past *used stay as they were`);
         expect(status === DONE || isUntouched(filled, filled + MOST_FILLED), `${name}: a structure is filled in at NBT_DONE alone`);
-        expect(status !== NO_MEMORY || (size(used) === UNSAID && size(at) === UNSAID), `${name}: a number is written where memory runs out`);
+        expect(status !== NO_MEMORY || (size(used) === UNSAID && size(at) === UNSAID), `${name}: no number is written where memory runs out`);
+        expect((status === NO_MEMORY) === (refused > 0 && requests >= refused), `${name}: memory runs out where a request is refused alone`);
         if (status !== NO_MEMORY) return { status, count };
-        refusals += 1;
+        refusals++;
     }
 }
 
@@ -99,37 +105,32 @@ function free(places) {
     }
 }
 
-function answer(name, asked) {
+function answer(name, asked, isRefused) {
     const row = rows.get(name), said = (place) => size(place) === UNSAID ? '-' : size(place);
     const station = row.words.find((word) => word.startsWith('MADE'));
     if (station) free([Number(asked.values.get(station)[0])]);
-    let { status, count } = made(name, row, asked, 0);
+    let { status, count } = made(name, row, asked, 0, isRefused);
     if (status === NO_ROOM) {
         const room = Number(size(used));
-        expect(made(name, row, asked, room - 1).status === NO_ROOM && size(used) === big(room), `${name}: a byte too few`);
-        ({ status, count } = made(name, row, asked, room + 3));
+        expect(made(name, row, asked, room - 1, isRefused).status === NO_ROOM && size(used) === big(room), `${name}: a byte too few`);
+        ({ status, count } = made(name, row, asked, room + 3, isRefused));
     }
     const structures = status !== DONE ? 0 : row.words.includes('ENTRIES') ? Number(size(used)) : 1;
-    const written = fields.filter((field) => field.structure === row.structure), last = written.at(-1);
-    let sum = status === DONE ? 0x811c9dc5 : 0;
-    for (let which = 0; which < structures; which++) {
-        for (const { place, size } of written) sum = sumOf(sum, filled + which * (last.place + last.size) + place, size);
-    }
-    out.push(`${number} ${name} ${status} ${said(used)} ${said(at)} ${digitsOf(sumOf(0x811c9dc5, into, count))} ${digitsOf(sum)}\n`);
+    const fields = memory.subarray(filled, filled + structures * row.size).filter((_, place) => row.isField[place % row.size]);
+    out.push(`${number} ${name} ${status} ${said(used)} ${said(at)} ${sumOf(memory.subarray(into, into + count))} ${sumOf(fields)}\n`);
 }
 
-/** What all calls answer, where a request is refused, and how many requests were made. */
-function run(refused) {
-    [out, number, refusals] = [[], 0, 0];
+/** What all calls answer. */
+function run(isRefused) {
+    [out, number] = [[], 0];
     look();
     for (const place of stations.values()) view.setBigUint64(place, 0n, true);
-    nbt.heap_refuse(big(refused));
     for (const step of steps) {
-        if (step) answer(...step);
-        else number += 1;
+        if (step) answer(...step, isRefused);
+        else number++;
     }
     free(stations.values());
-    return [out.join(''), Number(nbt.heap_refuse(0n))];
+    return out.join('');
 }
 
 /** What a line asks, null of one that begins a payload's; undefined of one that gives a name. */
@@ -140,12 +141,10 @@ function stepOf(line) {
 }
 
 const steps = readFileSync(0, 'latin1').split('\n').map(stepOf).filter((step) => step !== undefined);
-const [answered, requests] = run(0);
-if (way === 'every') {
-    const answers = readFileSync(wanted, 'latin1'), bytes = nbt.memory.buffer.byteLength;
-    const isRight = (refused) => run(refused)[0] === answers && refusals === 1 && nbt.memory.buffer.byteLength === bytes;
-    for (let each = 1; each <= requests; each += 1) console.log(`${isRight(each) ? 'ok' : 'failed'}: request ${each}`);
-} else {
-    writeFileSync(1, answered);
+const answered = run(false), bytes = nbt.memory.buffer.byteLength;
+if (way === 'refused') {
+    expect(run(true) === answered, 'the same answers where requests are refused');
+    expect(nbt.memory.buffer.byteLength === bytes, 'as much memory as before');
 }
-console.error(requests);
+writeFileSync(1, answered);
+console.error(`${refusals} refusals`);

@@ -128,12 +128,6 @@ static struct sample sample_at(const char *text) {
     return made;
 }
 
-void begin_rows(void) {
-    line_number = name_count = 0;
-    hold(0);
-    release(0);
-}
-
 int next_row(const char **text, struct sample *made) {
     for (;;) {
         const char *at = *text;

@@ -6,6 +6,8 @@
 #include <sys/mman.h>
 
 enum { PAGE = 4096, OUTPUT = INPUTS, FILLED, AREAS, SPACE = 6144 * PAGE, MORE = 3 };
+/* What stands before a call where it writes, by the side. */
+static const int FILLS[] = {0xa5, 0x5a};
 #define KEPT ((size_t)1 << 30)
 
 /* ---- the rows */
@@ -19,32 +21,30 @@ enum { PAGE = 4096, OUTPUT = INPUTS, FILLED, AREAS, SPACE = 6144 * PAGE, MORE = 
 #define AT at
 #define STATION it->station
 #define MADE &it->station->at
-#define ROW(name, structure, way, words) \
+#define HOLE(structure, from, to)
+#define ROW(name, structure, size, way, words) \
+    _Static_assert(sizeof(struct structure) == size, "the size of a structure of calls.def"); \
     static uint32_t name(const struct asked *it, void *FILLED, uint8_t *into, size_t room, size_t *used, size_t *at) { \
         (void)it, (void)FILLED, (void)into, (void)room, (void)used, (void)at; \
         return nbt_##name words; \
     }
-#define FIELD(structure, field, place, size) \
-    _Static_assert(offsetof(struct structure, field) == place && sizeof(((struct structure *)0)->field) == size, "a field of calls.def");
 #include "calls.def"
 #undef ROW
-#undef FIELD
 
 enum { READS, CHANGES };
-#define ROW(name, structure, way, words) {#name, #structure, #words, name, sizeof(struct structure), way},
-#define FIELD(structure, field, place, size)
+#define ROW(name, structure, size, way, words) {#name, #structure, #words, name, size, way},
 const struct row rows[CALLS] = {
 #include "calls.def"
 };
 #undef ROW
-#undef FIELD
+#undef HOLE
 
-static const struct field {
+static const struct hole {
     const char *structure;
-    size_t place, size;
-} fields[] = {
-#define ROW(name, structure, way, words)
-#define FIELD(structure, field, place, size) {#structure, place, size},
+    size_t from, to;
+} holes[] = {
+#define ROW(name, structure, size, way, words)
+#define HOLE(structure, from, to) {#structure, from, to},
 #include "calls.def"
 };
 
@@ -166,22 +166,31 @@ static size_t filled_count(enum call of, const struct answer *it) {
     return it->status != NBT_DONE ? 0 : has(of, "ENTRIES") ? it->used : 1;
 }
 
+/* Adds the fields of a structure to some bytes, and answers how many these are then. */
+static size_t add_fields(enum call of, const uint8_t *structure, uint8_t *into, size_t length) {
+    size_t place = 0, i;
+    for (i = 0; i <= COUNT(holes); i++) {
+        size_t end = i == COUNT(holes) ? rows[of].fills : holes[i].from;
+        if (i < COUNT(holes) && strcmp(holes[i].structure, rows[of].structure) != 0)
+            continue;
+        memcpy(into + length, structure + place, end - place);
+        length += end - place;
+        place = i == COUNT(holes) ? end : holes[i].to;
+    }
+    return length;
+}
+
 struct bytes fields_of(enum call of, const struct answer *it) {
-    static uint8_t all[ENTRIES * 600];
-    const uint8_t *structure = it->filled;
-    size_t count = filled_count(of, it), length = 0, i;
-    for (; count > 0; count--, structure += rows[of].fills)
-        for (i = 0; i < COUNT(fields); i++)
-            if (strcmp(fields[i].structure, rows[of].structure) == 0) {
-                memcpy(all + length, structure + fields[i].place, fields[i].size);
-                length += fields[i].size;
-            }
+    static uint8_t all[MOST_FILLED];
+    size_t length = 0, i;
+    for (i = 0; i < filled_count(of, it); i++)
+        length = add_fields(of, it->filled.at + i * rows[of].fills, all, length);
     return keep(all, length);
 }
 
 /* What has to hold of each call, whatever it was given. */
 static void judge(enum call of, const struct answer *it, const struct asked *before, const struct asked *after, size_t room, int fill) {
-    size_t filled = filled_count(of, it), fills = rows[of].fills;
+    size_t filled = filled_count(of, it) * rows[of].fills;
     int is_done = it->status == NBT_DONE, i;
     if (has(of, "OUT")) {
         expect(is_done ? it->used <= room : it->status == NBT_NO_ROOM ? it->used > room && it->used != UNSAID : it->used == UNSAID, "*used");
@@ -189,7 +198,7 @@ static void judge(enum call of, const struct answer *it, const struct asked *bef
     } else {
         expect(is_done && has(of, "USED") ? it->used > 0 && it->used <= ENTRIES : it->used == UNSAID, "*used");
     }
-    expect(is_filled((const uint8_t *)it->filled + filled * fills, (structures(of) - filled) * fills, fill), "a structure is filled in at NBT_DONE alone");
+    expect(is_filled(it->filled.at + filled, it->filled.length - filled, fill), "a structure is filled in at NBT_DONE alone");
     expect((it->at != UNSAID) == (has(of, "AT)") && has_place(it->status)), "*at is written at a status with a place alone");
     for (i = 0; i < INPUTS; i++)
         expect(is_same(before->in[i], after->in[i]), "inputs stay as they were");
@@ -199,38 +208,31 @@ static void judge(enum call of, const struct answer *it, const struct asked *bef
 
 struct answer attempt(enum call of, const struct asked *asked, size_t room, int side, size_t requests) {
     const struct row *row = &rows[of];
-    int fill = side == 0 ? 0xa5 : 0x5a, is_making = has(of, "MADE"), is_kept = is_making || has(of, "STATION");
-    struct answer it;
-    size_t lost, blocks, refused;
+    const size_t fills = structures(of) * row->fills, blocks = memory.blocks;
+    const int fill = FILLS[side], is_making = has(of, "MADE"), is_kept = is_making || has(of, "STATION");
+    struct asked made = placed(of, asked, side);
+    uint8_t *into = room == 0 && side == 0 ? NULL : area_at(OUTPUT, room, side, fill), *filled = area_at(FILLED, fills, side, fill);
+    struct answer it = {.used = UNSAID, .at = UNSAID, .filled = {filled, fills}};
     doing = row->name;
-    do {
-        struct asked made = placed(of, asked, side);
-        uint8_t *into = room == 0 && side == 0 ? NULL : area_at(OUTPUT, room, side, fill), *filled = area_at(FILLED, structures(of) * row->fills, side, fill);
-        it = (struct answer){.used = UNSAID, .at = UNSAID, .filled = filled};
-        if (is_making)
-            asked->station->at = filled;
-        blocks = memory.blocks;
-        lost = memory.lost;
-        grant(requests);
-        it.status = row->call(&made, filled, into, room, &it.used, &it.at);
-        lost = memory.lost - lost;
-        it.bytes = (struct bytes){into, it.status == NBT_DONE && has(of, "OUT") ? it.used : 0};
-        refused = lost + memory.denied > 0;
-        expect(it.status != NBT_NO_MEMORY || refused, "NBT_NO_MEMORY where a request is refused alone");
-        expect(!refused || (it.status != NBT_DONE && it.status != NBT_NO_ROOM), "nothing is done where a request is refused");
-        grant(SIZE_MAX);
-        judge(of, &it, asked, &made, room, fill);
-        expect(!is_making || (it.status == NBT_DONE) == (asked->station->at != NULL), "a station is made at NBT_DONE alone");
-        expect(is_kept || memory.blocks == blocks, "a call gives back what it took");
-        call_count++;
-        refusal_count += lost > 0;
-    } while (lost > 0);
+    if (is_making)
+        asked->station->at = filled;
+    grant(requests, call_count % 2);
+    it.status = row->call(&made, filled, into, room, &it.used, &it.at);
+    it.bytes = (struct bytes){into, it.status == NBT_DONE && has(of, "OUT") ? it.used : 0};
+    expect(it.status != NBT_NO_MEMORY || memory.denied > 0, "NBT_NO_MEMORY where a request is refused alone");
+    expect(memory.denied == 0 || (it.status != NBT_DONE && it.status != NBT_NO_ROOM), "nothing is done where a request is refused");
+    call_count++;
+    refusal_count += memory.denied > 0;
+    grant(SIZE_MAX, 0);
+    judge(of, &it, asked, &made, room, fill);
+    expect(!is_making || (it.status == NBT_DONE) == (asked->station->at != NULL), "a station is made at NBT_DONE alone");
+    expect(is_kept || memory.blocks == blocks, "a call gives back what it took");
     return it;
 }
 
-static struct answer kept_answer(enum call of, struct answer it) {
+static struct answer kept_answer(struct answer it) {
     it.bytes = keep(it.bytes.at, it.bytes.length);
-    it.filled = keep(it.filled, structures(of) * rows[of].fills).at;
+    it.filled = keep(it.filled.at, it.filled.length);
     return it;
 }
 
@@ -247,20 +249,19 @@ static void expect_no_room(struct answer it, size_t wanted) {
 
 static struct answer read(enum call of, const struct asked *asked, struct answer none) {
     size_t wanted = none.used, requests = trials.least, room = 0;
-    struct answer it = kept_answer(of, none), poor;
-    if (none.status != NBT_NO_ROOM) {
-        expect_same(of, it, attempt(of, asked, 0, 1, SIZE_MAX));
-    } else {
+    int side = none.status == NBT_NO_ROOM;
+    struct answer it = kept_answer(none), poor = {.status = NBT_NO_MEMORY};
+    if (side == 1) {
         for (room = 1; trials.rooms > 0 && room < wanted; room += wanted / (trials.rooms + 1) + 1)
             expect_no_room(attempt(of, asked, room, 0, SIZE_MAX), wanted);
         expect_no_room(attempt(of, asked, wanted - 1, (int)(call_count % 2), SIZE_MAX), wanted);
         room = wanted;
-        it = kept_answer(of, attempt(of, asked, room, 1, SIZE_MAX));
+        it = kept_answer(attempt(of, asked, room, side, SIZE_MAX));
         expect(it.status == NBT_DONE && it.used == wanted, "the room that is wanted");
-        expect_same(of, it, attempt(of, asked, wanted + MORE, 0, SIZE_MAX));
     }
-    for (poor.status = NBT_NO_MEMORY; requests < trials.most && poor.status == NBT_NO_MEMORY; requests++) {
-        poor = attempt(of, asked, room, 1, requests);
+    expect_same(of, it, attempt(of, asked, room + (size_t)side * MORE, 1 - side, SIZE_MAX));
+    for (; requests < trials.most && poor.status == NBT_NO_MEMORY; requests++) {
+        poor = attempt(of, asked, room, 1 - side, requests);
         if (poor.status != NBT_NO_MEMORY)
             expect_same(of, it, poor);
     }
@@ -284,7 +285,7 @@ static struct answer change(enum call of, const struct asked *asked) {
     size_t room = 0, requests;
     for (;;) {
         it.status = NBT_NO_MEMORY;
-        for (requests = trials.least; it.status != NBT_DONE && requests < trials.most; requests++)
+        for (requests = trials.least; it.status == NBT_NO_MEMORY && requests < trials.most; requests++)
             it = attempt(of, asked, room, 1, requests);
         if (it.status != NBT_DONE) {
             uint32_t poor = it.status;
@@ -297,7 +298,7 @@ static struct answer change(enum call of, const struct asked *asked) {
         expect_no_room(attempt(of, asked, it.used - 1, 1, SIZE_MAX), it.used);
         room = it.used + call_count % 2 * MORE;
     }
-    it = kept_answer(of, it);
+    it = kept_answer(it);
     if (it.status != NBT_DONE)
         expect(has(of, "MADE") || is_same(before, table_of(asked->station)), "a station is as it was where nothing is done");
     return it;

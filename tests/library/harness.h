@@ -7,7 +7,7 @@
 #include <string.h>
 
 /* ENTRIES is how many structures a call may fill in that fills in several. */
-enum { INPUTS = 3, NUMBERS = 6, ENTRIES = 3 };
+enum { INPUTS = 3, NUMBERS = 6, ENTRIES = 3, MOST_FILLED = ENTRIES * 600 };
 #define UNSAID (SIZE_MAX - 88)
 #define COUNT(list) (sizeof(list) / sizeof *(list))
 
@@ -35,11 +35,11 @@ struct dropped {
 };
 
 enum call {
-#define ROW(name, structure, way, words) OF_##name,
-#define FIELD(structure, field, place, size)
+#define ROW(name, structure, size, way, words) OF_##name,
+#define HOLE(structure, from, to)
 #include "calls.def"
 #undef ROW
-#undef FIELD
+#undef HOLE
     CALLS
 };
 
@@ -52,15 +52,14 @@ struct row {
 
 extern const struct row rows[CALLS];
 
-/* What a call answered: UNSAID where it wrote no number. Its bytes and its structure stay until what is kept is released. */
+/* What a call answered: UNSAID where it wrote no number. What it wrote stays until what is kept is released. */
 struct answer {
     uint32_t status;
     size_t used, at;
-    struct bytes bytes;
-    const void *filled;
+    struct bytes bytes, filled;
 };
 
-/* A row in the form of cases.txt: a call, what it is given, and its answer: bytes where `mark` is =, those of the fields of its structure
+/* A row in the form of cases.txt: a call, what it is given, and its answer: bytes where `mark` is =, those of the fields of its structures
  * where it is ~, words where it is : or !, and none where it is 0. */
 struct sample {
     enum call of;
@@ -72,7 +71,6 @@ struct sample {
 /* Passes over lines up to a row, which is read, and answers whether there is one. Names hold until the next `line`, those before the
  * first one for ever. What is kept for a row may be released once it is done. */
 int next_row(const char **text, struct sample *made);
-void begin_rows(void);
 struct bytes bytes_named(const char *name);
 void free_stations(void);
 
@@ -84,12 +82,13 @@ void expect(int holds, const char *what);
 extern const char *program, *doing;
 extern unsigned long line_number;
 
-/* How a call is tried: in how many rooms besides, and with how many requests for memory granted, from the least to less than the most. */
+/* How a call is tried: in how many rooms besides, and with how many requests for memory granted, from the least to less than the most, or
+ * until it is done. */
 extern struct trials {
     size_t rooms, least, most;
 } trials;
 
-/* How many calls were made, and how many of them came back because the machine refused a request. */
+/* How many calls were made, and in how many of them a request was refused. */
 extern unsigned long call_count, refusal_count;
 
 /* One call, in a room of so many bytes, on a side of it (0 the front, where an input without bytes is null, 1 the end), with so many
@@ -122,8 +121,8 @@ void print_statuses(void);
 
 /* What each way of calls.c does with rows; its status. */
 int answer_rows(const char *text);
-int refuse_each(const char *text, const char *wanted);
 int judge_rows(const char *text, size_t rooms);
+int refuse_rows(const char *text);
 int vary_rows(const char *text);
 int measure_rows(const char *text);
 int run_inputs(const char *text);

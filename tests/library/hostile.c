@@ -22,8 +22,8 @@ static struct answer tried(enum call of, const struct asked *asked) {
 static int number_count(enum call of) {
     int count = 0;
     const char *at;
-    for (at = rows[of].words; *at != '\0'; at++)
-        count += (*at == 'N' || *at == 'L' || *at == 'B') && at[1] == '(' && (at == rows[of].words || at[-1] != 'I');
+    for (at = rows[of].words + 1; *at != '\0'; at++)
+        count += strchr("NLB", *at) != NULL && at[1] == '(' && at[-1] != 'I';
     return count;
 }
 
@@ -41,12 +41,14 @@ static size_t longest(const struct asked *asked) {
     return length;
 }
 
-/* With each number at each of its values. */
-static void numbered(enum call of, struct asked asked) {
+/* With each number below so many, and at each of its values. */
+static void numbered(enum call of, struct asked asked, uint64_t below) {
     int i;
     size_t j;
     for (i = 0; i < number_count(of); i++) {
         uint64_t before = asked.n[i];
+        for (asked.n[i] = 0; asked.n[i] < below; asked.n[i]++)
+            tried(of, &asked);
         for (j = 0; j < COUNT(values); j++) {
             asked.n[i] = values[j];
             tried(of, &asked);
@@ -63,17 +65,6 @@ static void turned(enum call of, struct asked asked) {
     tried(of, &asked);
 }
 
-/* Each number up to 257, where no input is so long that this would take long. */
-static void counted(const struct sample *it) {
-    struct asked asked = it->asked;
-    int i;
-    for (i = 0; i < number_count(it->of) && longest(&asked) <= MOST_CHANGED; i++) {
-        for (asked.n[i] = 0; asked.n[i] < 258; asked.n[i]++)
-            tried(it->of, &asked);
-        asked.n[i] = it->asked.n[i];
-    }
-}
-
 /* Each front of an input, and all of it with each byte changed. */
 static void changed(const struct sample *it, int input) {
     static const uint8_t bytes[] = {0x00, 0x01, 0x3f, 0x40, 0x80, 0xc0, 0xff};
@@ -84,7 +75,7 @@ static void changed(const struct sample *it, int input) {
     for (length = 0; length <= whole.length; length++) {
         asked.in[input] = (struct bytes){whole.at, length};
         tried(it->of, &asked);
-        numbered(it->of, asked);
+        numbered(it->of, asked, 0);
     }
     asked.in[input] = (struct bytes){copy, whole.length};
     for (length = 0; length < whole.length; length++)
@@ -119,13 +110,12 @@ static void no_entries(void) {
     expect(nbt_service_items(it.at, it.length, 0, 12, NULL, 0, &count, &at) == NBT_DONE && count == 0 && at == UNSAID, "room for no entry");
 }
 
-/* A row, with other numbers and inputs. */
+/* A row, with other numbers and inputs: with many where no input is so long that this would take long. */
 static void varied(const struct sample *it) {
-    int input;
-    numbered(it->of, it->asked);
-    counted(it);
-    for (input = 0; input < INPUTS; input++)
-        if (has_input(it->of, input) && longest(&it->asked) <= MOST_CHANGED)
+    int input, is_short = longest(&it->asked) <= MOST_CHANGED;
+    numbered(it->of, it->asked, is_short ? 258 : 0);
+    for (input = 0; input < INPUTS && is_short; input++)
+        if (has_input(it->of, input))
             changed(it, input);
 }
 

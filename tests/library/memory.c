@@ -12,40 +12,36 @@ void __wrap_free(void *);
 
 struct memory memory;
 static size_t granted;
-static int is_said;
+static int is_for_ever, is_said;
 
-void grant(size_t requests) {
+void grant(size_t requests, int for_ever) {
     granted = requests;
     memory.denied = 0;
+    is_for_ever = for_ever;
     is_said = 1;
 }
 
 static int is_granted(void) {
     const char *number = is_said ? NULL : getenv("NBT_GRANTED");
     if (!is_said)
-        grant(number == NULL ? SIZE_MAX : strtoul(number, NULL, 10));
-    memory.requests++;
-    memory.denied += granted == 0;
-    return granted == SIZE_MAX || (granted > 0 && granted-- > 0);
-}
-
-/* A block that the machine gave, unless it didn't; `more` is how many blocks there are more if it did. */
-static void *given(void *block, size_t more) {
-    memory.lost += block == NULL;
-    memory.blocks += block == NULL ? 0 : more;
-    return block;
+        grant(number == NULL ? SIZE_MAX : strtoul(number, NULL, 10), 1);
+    if (granted == SIZE_MAX || granted-- > 0)
+        return 1;
+    memory.denied++;
+    granted = is_for_ever ? 0 : SIZE_MAX;
+    return 0;
 }
 
 void *__wrap_malloc(size_t size) {
-    if (!is_granted())
-        return NULL;
-    return given(memory.requests == memory.refuse ? NULL : __real_malloc(size), 1);
+    void *block = is_granted() ? __real_malloc(size) : NULL;
+    memory.blocks += block != NULL;
+    return block;
 }
 
 void *__wrap_realloc(void *block, size_t size) {
-    if (!is_granted())
-        return NULL;
-    return given(memory.requests == memory.refuse ? NULL : __real_realloc(block, size), block == NULL);
+    void *moved = is_granted() ? __real_realloc(block, size) : NULL;
+    memory.blocks += moved != NULL && block == NULL;
+    return moved;
 }
 
 void __wrap_free(void *block) {

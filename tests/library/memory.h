@@ -6,14 +6,11 @@
 #include <stdint.h>
 
 extern struct memory {
-    size_t requests; /* how many were made */
-    size_t refuse;   /* the number of one that is refused as if the machine did; 0 for none */
-    size_t lost;     /* how many the machine refused */
-    size_t denied;   /* how many were refused since the last grant, since no more were granted */
-    size_t blocks;   /* how many blocks there are */
+    size_t denied; /* how many were refused since the last grant */
+    size_t blocks; /* how many blocks there are */
 } memory;
 
-/* How many requests are granted from now on; SIZE_MAX is all. */
-void grant(size_t requests);
+/* How many requests are granted from now on, SIZE_MAX for all; then one is refused, and where `for_ever` says so all after it. */
+void grant(size_t requests, int for_ever);
 
 #endif

@@ -10,7 +10,7 @@ import sys
 from pathlib import Path
 
 sys.path.insert(1, f'{sys.path[0]}/../lib')
-from tally import tally
+from parts import tally
 
 BINDINGS = Path(__file__).resolve().parent.parent.parent / 'bindings'
 SOURCES = 'python/nbt/*.py', 'rust/*.rs', 'rust/src/*.rs', 'javascript/*.mjs', 'wireshark/*.c'

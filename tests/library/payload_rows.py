@@ -3,7 +3,7 @@
 
 Usage: payload_rows.py [limits] <LINES, each a port and the digits of a payload, or `empty`; `table` stands for the port of a saved table.
 The rows begin with the names of cases.txt. A payload has a `line`, and then rows of what it says, and a row for each call that needs
-no station with the payload for an input, beside what some row of cases.txt gives it; every sixteen have the rows of stations that took
+no station with the payload for an input, beside what some row of cases.txt gives it; every 48 have the rows of stations that took
 them. `limits` has no lines: stations at the limits of their names and keys.
 """
 import re
@@ -20,11 +20,11 @@ from model.packets import ERROR, FIRST, KINDS, MORE, REQUEST, RETARGET, Reader, 
 from rows import read_cases
 from station_rows import Station, digits, table_rows, told_rows
 
-CALL = re.compile(r'^ROW\((\w+), \w+, \w+, \((.*)\)\)$', re.MULTILINE)
+CALL = re.compile(r'^ROW\((\w+), \w+, \d+, \w+, \((.*)\)\)$', re.MULTILINE)
 GIVEN = re.compile(r'\b(IN|N|L|B)\(')
 # A word of a row that stands for many bytes.
 LONG = re.compile(r'\*\d{4}')
-TOGETHER, ENTRIES, MOST_ITEMS, LONGEST_CUT, MOST_PIECES, SPOILT_KEYS = 16, 3, 12, 4000, 50, 2000
+TOGETHER, ENTRIES, MOST_ITEMS, LONGEST_CUT, MOST_PIECES, SPOILT_KEYS = 48, 3, 12, 4000, 50, 2000
 NAMES, SAID = 'FRED<20> JOE<00>', ('show', 'json', 'brief')
 MOST = (1 << 32) - 1
 

@@ -65,21 +65,17 @@ judged() {
     count $? "calls answer what rows say, $1: $(tail -n 3 "$room/errors" | head -c 500)"
 }
 
-# every NAME COMMAND..: each request for memory is refused in turn, in the calls of a few payloads: the call that meets it says so, changes
-# nothing, and then does what it should.
-every() {
-    local each
-    ended "${@:2}" answers <"$room/few" >"$room/few.wanted" 2>"$room/log"
-    ended "${@:2}" every "$room/few.wanted" <"$room/few" >"$room/output" 2>"$room/errors"
-    count $? "each request is refused, $1: $(tail -n 2 "$room/errors" | tr '\n' ' ')"
-    wc -l <"$room/output" | same "$(tail -n 1 "$room/errors")" "as many as there are, $1"
-    while IFS= read -r each; do
-        [[ $each == ok:* ]]
-        count $? "$1: $each"
-    done <"$room/output"
+# each_refused NAME COMMAND..: in the calls of a few payloads each request for memory is refused in turn: the call that meets it says so,
+# changes nothing, and then does what it should. A case is a request.
+each_refused() {
+    judged "with each request refused, $1" "$room/few" "${@:2}" refused
+    refusals
 }
 
-# few_payloads COUNT: a datagram in two pieces, a response, a registration, and two packets of port 139, or so many of these: $room/few.
+# refusals: as many cases more as requests were refused, by the last line of errors.
+refusals() { passed=$((passed + 10#0$(sed -nE '$s/^(.* )?([0-9]+) refusals$/\2/p' "$room/errors"))); }
+
+# few_payloads: a datagram in two pieces, a response, a registration, and two packets of port 139: $room/few.
 few_payloads() {
     {
         ended "$program" build group 10.0.0.5:138/0001 'JOE<00>' 'FRED<20>' 68656c6c6f2c2046524544 6 | tac
@@ -87,8 +83,8 @@ few_payloads() {
         ended "$program" build registration 0002 'FRED<20>' 300000 0000 10.0.0.5
         ended "$program" build request 'FRED<20>' 'JOE<00>'
         ended "$program" build retarget 10.0.0.7 139
-    } 2>/dev/null | head -n "$1" | sed 's/ 0 / /' | "$here/library/payload_rows.py" >"$room/few"
-    [ "$(grep -c '^line$' "$room/few")" -eq "$1" ]
+    } | sed 's/ 0 / /' | "$here/library/payload_rows.py" >"$room/few"
+    [ "$(grep -c '^line$' "$room/few")" -eq 6 ]
     count $? 'the rows of a few payloads'
 }
 
@@ -113,20 +109,4 @@ reads() {
     count $? "$2: $(tail -n 1 "$room/errors")"
     cmp -s "$1.wanted" "$room/output"
     count $? "$2 reads what tests/model/values.py does: $(diff "$1.wanted" "$room/output" | head -c 300)"
-}
-
-# replayed SEED: a capture, $room/capture, and as $room/replayed what `nbt replay` reports of it, but for why a payload is refused.
-replayed() {
-    lines 1000 "$1"
-    { cat "$top/examples/capture.txt"; sed 's/ / 2500 /' "$room/lines$1"; echo tick 4000; } >"$room/capture"
-    ended "$program" replay 'FRED<20>' 'JOE<00>' <"$room/capture" | awk '
-        $2 == "refused" { print $1, $2 ($(NF - 1) == "error" ? " error " $NF : ""); next }
-        { print }' >"$room/replayed"
-}
-
-# listed: the table of that capture, $room/table, and what `nbt list` says of it, of some keys whole and partial: $room/listed.
-listed() {
-    grep -v '^tick' "$room/capture" | ended "$program" save --keys "$many" >"$room/table"
-    ended "$program" list --keys "$many" <"$room/table" >"$room/listed"
-    grep -q ' whole ' "$room/listed" && grep -q ' partial ' "$room/listed"
 }

@@ -1,26 +1,27 @@
 #!/usr/bin/env python3
 """tools/nbt-station on sockets of the loopback interface, beside the program.  Usage: tests/library/station.py TOOL PROGRAM [CASE]..
 
-Prints `ok: CASE`, `skipped: CASE: why`, or `failed: CASE: why`, for each case, or each of these.
+Runs each case, or each of these; the last line is 'N passed, M failed, K skipped'.
 """
 import json
 import os
 import random
 import signal
 import socket
-import subprocess
 import sys
 import tempfile
 import time
+import unittest
 
 sys.dont_write_bytecode = True
 sys.path[1:1] = [f'{sys.path[0]}/../{it}' for it in ('.', 'captures', 'lib')]
 import station_system
 from fuzz_inputs import Maker, capture_lines, example_bytes
 from limits import MOST_KEYS
-from station_runs import (ANN, EMPTY, ENDING, GROUP, OWN, PATIENCE, SENDER, TRIES, UNIQUE, LeftOut, TooSlow, Wrong, expect, nbt, packet, pieces,
-                          refused, replayed, station, whole_tables)
-from wire import FRED, JOE
+from parts import check, finish, leave_out
+from station_runs import (ANN, EMPTY, ENDING, GROUP, OWN, PATIENCE, UNIQUE, TooSlow, expect, nbt, packet, refused, replayed, result_of,
+                          station, whole_tables)
+from wire import FRED, JOE, SERVER, pieces
 
 # How many payloads wait in the socket of a station that stands still.
 WAITING = 200
@@ -150,7 +151,7 @@ def any_payloads():
 def limits():
     with station('--save', 'table', '--keys', '2', '--per-source', '1') as each:
         each.send(*pieces(1, b'hello'), *pieces(2, b'no room'))
-        each.send(packet(UNIQUE, 3, ANN, b'hi').replace(SENDER, bytes([10, 0, 0, 6, 0, 138])))
+        each.send(packet(UNIQUE, 3, ANN, b'hi', sender=SERVER))
         expect(b'\0\x03', each.answer()[2:4])
         expect(0, each.ended()[0])
         expect(['10.0.0.5:138/0001', '10.0.0.6:138/0003'],
@@ -208,22 +209,11 @@ CASES = (any_order_and_repeats, saved_at_its_end, read_at_its_end, saved_again, 
          any_payloads, limits, joined_tables, refused_beginnings, failing_devices, *station_system.CASES)
 
 
-def result_of(case):
-    """What a case comes to: it is tried again where the machine was too slow."""
-    why = ''
-    for _ in range(TRIES):
-        try:
-            case()
-            return f'ok: {case.__name__}'
-        except LeftOut as left_out:
-            return f'skipped: {case.__name__}: {left_out}'
-        except TooSlow as slow:
-            why = f'{slow}, {TRIES} times'
-        except (Wrong, OSError, ValueError, subprocess.SubprocessError) as error:
-            return f'failed: {case.__name__}: {error!r}'
-    return f'failed: {case.__name__}: {why}'
-
-
 for each in CASES if not sys.argv[3:] else (*CASES, *station_system.WITHIN):
     if each.__name__ in (sys.argv[3:] or [each.__name__]):
-        print(result_of(each), flush=True)
+        try:
+            why = result_of(each)
+            check(not why, f'{each.__name__}: {why}')
+        except unittest.SkipTest as left_out:
+            leave_out(1, each.__name__, left_out)
+sys.exit(finish())

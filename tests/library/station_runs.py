@@ -11,7 +11,7 @@ import time
 
 sys.dont_write_bytecode = True
 from limits import MANY
-from wire import FRED, JOE, first_level
+from wire import CLIENT, JOE, datagram, first_level
 
 TOOL, PROGRAM = map(os.path.abspath, sys.argv[1:3])
 PATIENCE = 20
@@ -19,43 +19,35 @@ OWN = ('--bind', '127.0.0.1:0')
 ENDING = signal.SIGTERM, signal.SIGINT, signal.SIGHUP
 FRONT = re.compile(r'[0-9]{4}-[0-9]{2}-[0-9]{2}T[0-9]{2}:[0-9]{2}:[0-9]{2}\.[0-9]{6}Z ((127|10)(\.[0-9]{1,3}){3}:[0-9]{1,5}|-) ')
 ANN, NOBODY = first_level('ANN', 0x20), first_level('NOBODY', 0x20)
-SENDER = bytes([10, 0, 0, 5, 0, 138])
 UNIQUE, GROUP = 0x10, 0x11
-FIRST, MORE = 2, 1
 EMPTY = '4e42543200000000\n'
 # How often a case is tried whose keys may be dropped before it is done, where the machine is busy.
 TRIES = 5
-
-
-class Wrong(Exception):
-    """A case that didn't go as it has to."""
 
 
 class TooSlow(Exception):
     """Keys were dropped before the case was done: it is tried again."""
 
 
-class LeftOut(Exception):
-    """A case that this machine doesn't allow."""
-
-
 def expect(wanted, found):
-    if wanted != found:
-        raise Wrong(f'{str(found)[:300]!r}, not {str(wanted)[:300]!r}')
+    assert wanted == found, f'{str(found)[:300]!r}, not {str(wanted)[:300]!r}'
 
 
-def packet(kind, identifier, destination, data, offset=0, flags=FIRST, source=JOE):
-    """A packet of a datagram."""
-    length = len(source) + len(destination) + len(data)
-    head = bytes([kind, flags]) + identifier.to_bytes(2, 'big') + SENDER
-    return head + length.to_bytes(2, 'big') + offset.to_bytes(2, 'big') + source + destination + data
+def packet(kind, identifier, destination, data, source=JOE, sender=CLIENT):
+    """A datagram in one packet."""
+    return datagram(identifier, data, sender, kind, names=source + destination)
 
 
-def pieces(identifier, data, most=7):
-    """The packets of a group datagram to FRED<20>, with at most so many bytes of data each."""
-    starts = range(0, len(data), most)
-    return [packet(GROUP, identifier, FRED, data[it:it + most], it, FIRST * (it == 0) | MORE * (it != starts[-1]))
-            for it in starts]
+def result_of(case):
+    """Why a case fails, if it does: it is tried again where the machine was too slow."""
+    for _ in range(TRIES):
+        try:
+            return case()
+        except TooSlow as slow:
+            why = f'{slow}, {TRIES} times'
+        except (AssertionError, OSError, ValueError, subprocess.SubprocessError) as error:
+            return repr(error)
+    return why
 
 
 class Station:
@@ -72,7 +64,7 @@ class Station:
         first = self.process.stderr.readline().decode()
         if 'listens at' not in first:
             self.process.kill()
-            raise Wrong(f'it said {first!r}')
+            raise AssertionError(f'it said {first!r}')
         self.broadcasts = '' if bind.startswith('0.0.0.0') else self.process.stderr.readline().decode()
         self.last = 0x10000
         host, self.port = first.split()[-1].split(':')[0], int(first.split(':')[-1])
@@ -133,7 +125,7 @@ def without_sender(line):
     """What a line says of a datagram."""
     match = FRONT.match(line)
     if not match:
-        raise Wrong(f'no time, or no sender: {line[:100]}')
+        raise AssertionError(f'no time, or no sender: {line[:100]}')
     return line[match.end():]
 
 
@@ -165,7 +157,7 @@ def until(held, what):
     last = time.monotonic() + PATIENCE
     while not (found := held()):
         if time.monotonic() > last:
-            raise Wrong(what)
+            raise AssertionError(what)
         time.sleep(0.01)
     return found
 

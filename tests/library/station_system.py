@@ -7,10 +7,11 @@ import subprocess
 import sys
 import tempfile
 import time
+import unittest
 
-from station_runs import (EMPTY, ENDING, GROUP, NOBODY, OWN, PATIENCE, PROGRAM, TOOL, UNIQUE, LeftOut, Station, Wrong, expect, packet, pieces, read,
-                          refused, station, until)
-from wire import FRED
+from station_runs import (EMPTY, ENDING, GROUP, NOBODY, OWN, PATIENCE, PROGRAM, TOOL, UNIQUE, Station, expect, packet, read, refused, station,
+                          until)
+from wire import FRED, pieces
 
 # More lines than a pipe and the station's own room take: each has some 120,000 bytes.
 MANY, LONG = 110, bytes(60_000)
@@ -37,7 +38,7 @@ def within_a_second(each, number):
     began = time.monotonic()
     ended = each.ended(number)
     if time.monotonic() - began > 1:
-        raise Wrong('it took more than a second')
+        raise AssertionError('it took more than a second')
     return ended
 
 
@@ -270,7 +271,7 @@ def broadcasts_heard():
                 each.reached()
             sock.settimeout(0.2)
             try:
-                raise Wrong(f'a broadcast was answered: {sock.recv(100)!r}')
+                raise AssertionError(f'a broadcast was answered: {sock.recv(100)!r}')
             except TimeoutError:
                 pass
     with station(bind='0.0.0.0:0') as each, broadcast('127.255.255.255', each.port, *pieces(1, b'hi')):
@@ -283,12 +284,12 @@ def broadcasts_of_a_network():
     try:
         allowed = subprocess.run([*unshare, 'sh', '-c', NETWORK], capture_output=True, text=True, check=False)
     except FileNotFoundError as error:
-        raise LeftOut(error) from error
+        raise unittest.SkipTest(error) from error
     if allowed.returncode:
-        raise LeftOut(allowed.stderr.strip())
+        raise unittest.SkipTest(allowed.stderr.strip())
     done = subprocess.run([*unshare, 'sh', '-c', NETWORK + ' && exec "$@"', '-', sys.argv[0], TOOL, PROGRAM, 'within_a_network'],
                           capture_output=True, text=True, timeout=PATIENCE, check=False)
-    expect(('ok: within_a_network\n', ''), (done.stdout, done.stderr))
+    expect(('1 passed, 0 failed, 0 skipped\n', ''), (done.stdout, done.stderr))
 
 
 def within_a_network():

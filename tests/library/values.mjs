@@ -1,4 +1,7 @@
-// What tests/model/values.py says of payloads, by nbt.mjs: targets.mjs prints it, and cases.mjs asks for it.
+// What tests/model/values.py says of payloads, by nbt.mjs; cases.mjs asks for it. Usage: node values.mjs FOLDER <LINES, of which each is a port
+// and digits.
+import { readFileSync, writeFileSync } from 'node:fs';
+import { fileURLToPath, pathToFileURL } from 'node:url';
 
 const SECTIONS = ['question', 'answer', 'authority', 'additional'];
 const hex = (bytes) => Buffer.from(bytes).toString('hex'), digits = (bytes) => hex(bytes) || 'empty';
@@ -80,3 +83,12 @@ export function outcomeOf({ outcome, delivery, error, ...key }, refusal) {
 
 /** The lines of a payload that came to a port. */
 export const linesOf = (nbt, port, payload) => ({ 137: service, 138: datagram, 139: session })[port](nbt, payload);
+
+if (process.argv[1] === fileURLToPath(import.meta.url)) {
+    const nbt = await (await import(pathToFileURL(`${process.argv[2]}/nbt.mjs`))).load();
+    const told = readFileSync(0, 'latin1').trimEnd().split('\n').map((line, index) => {
+        const [port, digits] = line.split(' ');
+        return `${index + 1} ${port} ${linesOf(nbt, port, Buffer.from(digits.replace('empty', ''), 'hex')).join('\n  ')}\n`;
+    });
+    writeFileSync(1, told.join(''));
+}

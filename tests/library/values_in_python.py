@@ -12,23 +12,29 @@ def digits(data):
     return data.hex() or 'empty'
 
 
-def fault(error):
-    """The number of a status, and its place."""
-    return f'refused {error.number} {"-" if error.at is None else error.at}'
+def first_line(kind, payload, told):
+    """What stands at the front of a payload, and the line of the packet, or of its fault, by which both readers have to agree."""
+    front, refused = kind.read_front(payload)
+    try:
+        line = told(kind.read(payload), front)
+        assert refused is None
+    except nbt.NbtError as error:
+        assert error == refused
+        place = '-' if error.at is None else error.at
+        line = f'more {error.missing}' if isinstance(error, nbt.MoreNeeded) else f'refused {error.number} {place}'
+    return front, line
 
 
 def service(payload):
-    """The lines of a payload of port 137: its packet, and what stands of it, which have to agree."""
-    front, refused = nbt.ServicePacket.read_front(payload)
-    try:
-        packet = nbt.ServicePacket.read(payload)
-        assert (packet, None) == (front, refused)
-        assert list(map(len, (packet.questions, packet.answers, packet.authorities, packet.additional))) == list(packet.counts)
-        lines = ['whole']
-    except nbt.NbtError as error:
-        assert error == refused
-        lines = [fault(error)]
-    return [*lines, *(standing(front) if front else [])]
+    """The lines of a payload of port 137: its packet, and what stands of it."""
+    front, line = first_line(nbt.ServicePacket, payload, whole)
+    return [line, *(standing(front) if front else [])]
+
+
+def whole(packet, front):
+    assert packet == front
+    assert list(map(len, (packet.questions, packet.answers, packet.authorities, packet.additional))) == list(packet.counts)
+    return 'whole'
 
 
 def standing(packet):
@@ -69,24 +75,10 @@ def rdata(value):
     return f'domain {value}' if isinstance(value, nbt.DomainName) else f'bytes {digits(value)}'
 
 
-def datagram_lines(payload):
-    """The lines of a payload of port 138: its packet, and what stands at its front, which have to agree."""
-    it, refused = nbt.Datagram.read_front(payload)
-    try:
-        lines = [datagram(payload)]
-        assert refused is None
-    except nbt.NbtError as error:
-        assert error == refused
-        lines = [fault(error)]
-    if it:
-        lines.append(f'front {header(it)}')
-    return lines
-
-
 def datagram(payload):
-    """The line of a packet of port 138."""
-    it = nbt.Datagram.read(payload)
-    return f'{header(it)} {digits(it.data)} used {it.used}'
+    """The lines of a payload of port 138: its packet, and what stands at its front."""
+    front, line = first_line(nbt.Datagram, payload, lambda it, _: f'{header(it)} {digits(it.data)} used {it.used}')
+    return [line, *([f'front {header(front)}'] if front else [])]
 
 
 def header(it):
@@ -95,24 +87,14 @@ def header(it):
     return f'{it.type:02x} {it.flags:02x} {key(it)} {it.offset} {source} {destination}'
 
 
-def session_lines(payload):
-    """The lines of a payload of port 139: its packet, and the header at its front, which have to agree."""
-    it, refused = nbt.SessionPacket.read_front(payload)
-    try:
-        lines = [session(payload)]
-        assert refused is None
-    except nbt.NbtError as error:
-        assert error == refused
-        lines = [f'more {error.missing}' if isinstance(error, nbt.MoreNeeded) else fault(error)]
-    return [*lines, f'front {it.type:02x} {it.flags:02x} {it.length}'] if it else lines
-
-
 def session(payload):
-    """The line of a packet of port 139."""
-    it = nbt.SessionPacket.read(payload)
-    said = ''
-    if it.type == SessionType.REQUEST:
-        said = f' called {it.called} calling {it.calling}'
+    """The lines of a payload of port 139: its packet, and the header at its front."""
+    front, line = first_line(nbt.SessionPacket, payload, session_line)
+    return [line, *([f'front {front.type:02x} {front.flags:02x} {front.length}'] if front else [])]
+
+
+def session_line(it, _):
+    said = f' called {it.called} calling {it.calling}' if it.type == SessionType.REQUEST else ''
     if it.retarget:
         said = ' retarget {}:{}'.format(*it.retarget)
     return f'{it.type:02x} {digits(it.body)}{said} used {it.used}'
@@ -120,7 +102,7 @@ def session(payload):
 
 def lines_of(port, payload):
     """The lines of a payload that came to a port."""
-    return {137: service, 138: datagram_lines, 139: session_lines}[port](payload)
+    return {137: service, 138: datagram, 139: session}[port](payload)
 
 
 def key(of):

@@ -20,9 +20,9 @@ import sys
 
 sys.dont_write_bytecode = True
 sys.path[1:1] = [f'{sys.path[0]}/../{it}' for it in ('captures', 'lib')]
+from parts import tally
 from random_pcap import pcap_of
 from seeds import compared
-from tally import tally
 
 TOOLS = f'{sys.path[0]}/../../tools'
 PAYLOAD = re.compile(r'^(# frame .* > .*)\n(13[789]) ', re.MULTILINE)

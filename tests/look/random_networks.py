@@ -16,8 +16,8 @@ import tempfile
 
 sys.dont_write_bytecode = True
 sys.path[1:1] = [f'{sys.path[0]}/../{it}' for it in ('captures', 'lib')]
+from parts import tally
 import summary
-from tally import tally
 from wire import ACK, NB, NBSTAT, NS, NULL, SYN, Frames, datagram, first_level, pcap, record, service, session
 
 AT_ONCE, PART = 2, 20

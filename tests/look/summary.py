@@ -18,10 +18,10 @@ sys.dont_write_bytecode = True
 HERE = os.path.dirname(os.path.abspath(__file__))
 TOOLS = f'{HERE}/../../tools'
 sys.path[1:1] = [*(f'{HERE}/../{it}' for it in ('captures', 'lib')), TOOLS]
-import summary_cases
 from bundled import bundled
 from nbt_look import looking, page  # noqa: F401: what the tool would import anew for each capture
-from tally import tally
+from parts import tally
+import summary_cases
 from wire import pcap
 
 TOOL = f'{TOOLS}/nbt-look'

@@ -16,8 +16,8 @@ import sys
 
 sys.dont_write_bytecode = True
 sys.path.insert(1, f'{sys.path[0]}/../lib')
+from parts import tally
 from plugin_pcap import fields_of
-from tally import tally
 
 CHANCES = ('0.002', '0.01', '0.05')
 SNAPS = (20, 43, 50, 60, 90, 150)

@@ -17,8 +17,8 @@ sys.path[1:1] = [f'{sys.path[0]}/../{it}' for it in ('.', 'captures', 'lib')] + 
 import nbt
 from fuzz_inputs import capture_lines, example_bytes
 from object_inputs import LONGEST_PAYLOAD, Inputs
+from parts import tally
 from plugin_pcap import datagram_frame, fields_of, segment_frame, write_pcap
-from tally import tally
 
 REFUSED = re.compile(r'refused: (.*?)(?:, at byte (\d+)(?: of the name)?)?')
 

@@ -12,9 +12,9 @@ import sys
 
 sys.dont_write_bytecode = True
 sys.path.insert(1, f'{sys.path[0]}/../lib')
+from parts import tally
 from plugin_pcap import fields_of
 from plugin_states import Sharkd
-from tally import tally
 
 FILTERS = ('nbt.state', 'nbt.state != "kept"', 'nbt.state == "kept"', 'nbt.datagram', 'nbt.says', 'frame.number > 20')
 LINKS = ['nbt.fragment', 'nbt.whole_in', 'nbt.spoilt_in']

@@ -19,9 +19,9 @@ import sys
 sys.dont_write_bytecode = True
 sys.path.insert(1, f'{sys.path[0]}/../lib')
 from limits import MANY
+from parts import tally
 from plugin_captures import Made
 from plugin_pcap import fields_of, write_pcap
-from tally import tally
 
 COLUMNS = ('nbt.state', 'nbt.key', 'nbt.datagram', 'nbt.whole_in', 'nbt.spoilt_in', 'nbt.missing', 'nbt.fragment')
 # How sharkd shows no bytes, and of how many digits it shows the front.

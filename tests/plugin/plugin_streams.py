@@ -16,9 +16,9 @@ sys.dont_write_bytecode = True
 sys.path.insert(1, os.path.join(sys.path[0], '..', '..', 'bindings', 'python'))
 import nbt
 sys.path.insert(1, f'{sys.path[0]}/../lib')
+from parts import tally
 from plugin_files import message, segment
 from plugin_pcap import fields_of, write_pcap
-from tally import tally
 from wire import KEEPALIVE, REQUEST, SYN
 
 NO_PACKETS = (b'\x81\x01\xff\xff' + bytes(30), b'\x00\xfe\xff\xff' + bytes(50), b'GET / HTTP/1.0\r\n\r\n', b'\x85\0\0\1x',

@@ -13,9 +13,9 @@ import sys
 
 sys.path[1:1] = [f'{sys.path[0]}/../{it}' for it in ('.', 'examples', 'lib')]
 from model.packets import MORE
+from parts import tally
 from served import Program, Served
 from tables_examples import LONGEST, drawn, table_of
-from tally import tally
 
 TRIPLES = 556
 MOST_FRAGMENTS = 5

@@ -12,8 +12,8 @@ import sys
 
 sys.dont_write_bytecode = True
 sys.path.insert(1, f'{sys.path[0]}/../lib')
+from parts import tally
 from samples import parts_in
-from tally import tally
 
 LABEL = 'L' * 63
 WORDS = {'LABEL': LABEL, 'LONGEST': '.'.join((LABEL, LABEL, LABEL, LABEL[:28]))}

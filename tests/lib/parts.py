@@ -56,7 +56,9 @@ def finish():
 
 
 def tally(cases):
-    """Counts cases, pairs of what each is and of what is wrong with it, if anything is; prints the last line, and answers whether any failed."""
+    """Counts cases, pairs of what each is and of what is wrong with it, if anything is; prints 'N passed, M failed', and answers whether any
+    failed."""
     for what, wrong in cases:
         check(not wrong, what if wrong is True else f'{what}: {wrong}')
-    return finish()
+    print(f'{counts["passed"]} passed, {counts["failed"]} failed')
+    return counts['failed'] > 0

@@ -4,17 +4,28 @@ import sys
 import types
 
 TESTS = os.path.join(os.path.dirname(os.path.abspath(__file__)), '..')
-sys.path[1:1] = [TESTS, os.path.join(TESTS, '..', 'tools')]
-from model.names import Refused
-from model.packets import FIRST, MORE, read_fragment
+sys.path[1:1] = [TESTS, os.path.join(TESTS, 'captures'), os.path.join(TESTS, '..', 'tools')]
+from fuzz_traffic import Traffic
+from model.names import Refused, text_of
+from model.packets import MORE, read_fragment
 from nbt_pcap.capture import Capture, Output
 from plugin_pcap import datagram_frame, segment_frame
-from wire import FRED, JOE, KEEPALIVE, QUERY, datagram as packet, first_level
+from wire import FRED, KEEPALIVE, QUERY
 
-ANN = first_level('ANN', 0x03)[:-1] + b'\x01A\0'
-BOB = first_level('BOB', 0x20)
-NAMES = (FRED, JOE, ANN, BOB)
 KEPT_MILLISECONDS = 2_000
+# What a frame may have: an IP packet isn't longer. Wireshark hands no empty payloads on.
+LONGEST = 60_000
+OTHERS = ((137, QUERY), (137, QUERY[:7]), (139, KEEPALIVE), (138, b'\x13\x02\0\x01\x0a\0\0\5\0\x8a\x82'),
+          (138, b'\x14\x02\0\x02\x0a\0\0\5\0\x8a' + FRED), (138, b'\x10\x02'), (138, b'\x77' * 20))
+
+
+def is_empty(payload):
+    """Whether a piece has none of its datagram's bytes: the plugin counts apart what is missing before it and after it."""
+    try:
+        part = read_fragment(payload)
+    except Refused:
+        return False
+    return part is not None and not part.data and bool(part.offset or part.flags & MORE)
 
 
 class Made:
@@ -24,14 +35,14 @@ class Made:
         self.rng = rng
         self.frames = []            # time in microseconds, bytes, and how many of them the file has
         self.datagrams = {}         # of frames of port 138 that aren't cut, the line's number
-        self.pieces = {}            # of those frames the key, where the data begins and ends, and whether more was promised
+        self.pieces = {}            # of those frames where the data begins and ends, and whether more was promised
         self.drops = []             # the frames before which the clock was looked at, and the moment that it showed
+        self.names = set()          # to whom datagrams go
         output = Output(quiet=True)
         self.lines = output.lines
         self.capture = Capture(output, types.SimpleNamespace(bare=True, no_ticks=not ticks))
         self.now = 0
-        payloads = list(self.payloads())
-        for each in payloads:
+        for each in self.payloads():
             self.add(*each)
 
     @property
@@ -39,52 +50,13 @@ class Made:
         return len(self.frames)
 
     def payloads(self):
-        """Ports and payloads, in the order of their frames."""
+        """Ports and payloads, in the order of their frames: what is left of some datagrams, and packets of other kinds and ports."""
         rng = self.rng
         found = []
-        for _ in range(rng.randrange(3, 25)):
-            found += self.datagram() if rng.random() < 0.8 else [self.another()]
-        for _ in range(rng.randrange(0, len(found))):
-            one, other = rng.randrange(len(found)), rng.randrange(len(found))
-            if abs(one - other) < 8:
-                found[one], found[other] = found[other], found[one]
-        return found
-
-    def datagram(self):
-        """The pieces of a datagram, of which some are lost, changed or repeated."""
-        rng = self.rng
-        data = rng.randbytes(rng.choice((0, 1, 5, 30, 200, 700)))
-        size = max(1, rng.choice((1, 7, 60, 300, 1_000)), len(data) // 12)
-        head = (rng.choice((0x10, 0x11, 0x12)), rng.randrange(6), rng.choice((5, 5, 7)), rng.choice(NAMES), rng.choice(NAMES))
-        pieces = [self.piece(head, data, at, min(at + size, len(data))) for at in range(0, max(1, len(data)), size)]
-        for _ in range(rng.choice((0, 0, 0, 1, 2))):
-            how = rng.randrange(5)
-            at = rng.randrange(len(pieces))
-            if how == 0 and len(pieces) > 1:
-                del pieces[at]
-            elif how == 1:
-                pieces.insert(at, pieces[rng.randrange(len(pieces))])
-            else:
-                pieces[at] = self.changed(pieces[at])
-        return [(138, each) for each in pieces]
-
-    @staticmethod
-    def piece(head, data, start, end):
-        kind, identifier, host, source, destination = head
-        flags = (FIRST if start == 0 else 0) | (MORE if end < len(data) else 0)
-        return packet(identifier, data[start:end], bytes([10, 0, 0, host]), kind, flags, start, source + destination)
-
-    def changed(self, payload):
-        """A byte of a fragment changed: of its data, its header, or any."""
-        payload = bytearray(payload)
-        at = self.rng.choice((len(payload) - 1, len(payload) - 1, 1, 11, 12, 13, self.rng.randrange(len(payload))))
-        payload[at] ^= 1 << self.rng.randrange(8)
-        return bytes(payload)
-
-    def another(self):
-        """A packet of another kind or port."""
-        return self.rng.choice(((137, QUERY), (137, QUERY[:7]), (139, KEEPALIVE), (138, b'\x13\x02\0\x01\x0a\0\0\5\0\x8a\x82'),
-                                (138, b'\x14\x02\0\x02\x0a\0\0\5\0\x8a' + FRED), (138, b'\x10\x02'), (138, b'\x77' * 20)))
+        for _ in range(rng.randrange(1, 9)):
+            found += [(138, each) for each in Traffic(rng).payloads() if 0 < len(each) < LONGEST and not is_empty(each)]
+            found += rng.sample(OTHERS, rng.choice((0, 0, 1, 2)))
+        return found or [OTHERS[0]]
 
     def add(self, port, payload):
         """A frame of this payload, and its line."""
@@ -92,7 +64,7 @@ class Made:
         self.now = max(0, self.now + rng.choice((0, 1, 50, 300, 300, 700, 700, 2_600, -800)) * rng.randrange(1_000))
         number = self.count + 1
         source = bytes([10, 0, 0, rng.randrange(5, 9)])
-        frame = segment_frame(number, payload, source) if port == 139 else datagram_frame(port, payload, source)
+        frame = segment_frame(1_024 + number, 1, payload, source=source) if port == 139 else datagram_frame(port, payload, source)
         cut = rng.random() < 0.04 and number > 1 and port != 139 and len(payload) > 2
         self.frames.append((self.now, frame, 42 + rng.randrange(len(payload)) if cut else None))
         if cut:
@@ -112,6 +84,7 @@ class Made:
             return
         if part:
             self.pieces[number] = part.offset, part.offset + len(part.data), part.flags & MORE
+            self.names.add(text_of(part.destination))
 
     def moment(self, frame):
         return max(0, self.frames[frame - 1][0] - self.frames[0][0]) // 1_000

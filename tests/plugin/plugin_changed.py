@@ -3,10 +3,10 @@
 
 Usage: tests/plugin/plugin_changed.py TSHARK FOLDER COUNT FILE..
 
-Each file as it is, with snap lengths and in two interfaces, and so many changed ones by editcap. Each is read in two passes, with all of
-its tree, phrases in the Info column, what is told to experts and the statistics; one in four once more in one pass and in two for the fields.
-tshark may not crash nor name a fault of a dissector, no link leads to a frame that isn't there, and what both passes say is the same.
-A case is a capture; the last line is 'N passed, M failed'.
+The files one behind the other: as they are, in two interfaces, with snap lengths, and so many times changed by editcap. Each such capture
+is read in two passes, with all of its tree, phrases in the Info column, what is told to experts and the statistics; one in four once more
+in one pass and in two for the fields. tshark may not crash nor name a fault of a dissector, no link leads to a frame that isn't there,
+and what both passes say is the same. A case is a capture; the last line is 'N passed, M failed'.
 """
 import concurrent.futures
 import os
@@ -55,27 +55,31 @@ def difference(tshark, path):
     return ''
 
 
-def changed(source, path, words):
-    subprocess.run(['editcap', *words, source, path], check=True, capture_output=True)
+def joined(folder, name, files, *words):
+    """A file that mergecap makes of several."""
+    path = os.path.join(folder, f'changed-{name}')
+    subprocess.run(['mergecap', *(words or ['-a']), '-w', path, *files], check=True, capture_output=True)
     os.chmod(path, 0o644)
     return path
 
 
+def changed(folder, name, files, *words):
+    """What editcap makes of each file, one behind the other."""
+    parts = [os.path.join(folder, f'part-{name}-{number}') for number in range(len(files))]
+    for source, part in zip(files, parts):
+        subprocess.run(['editcap', *words, source, part], check=True, capture_output=True)
+    return joined(folder, name, parts)
+
+
 def captures(folder, count, files):
     """A name and a file for each capture."""
-    for source in files:
-        name = os.path.splitext(os.path.basename(source))[0]
-        yield name, source
-        for snap in SNAPS:
-            yield f'{name}, {snap} bytes', changed(source, os.path.join(folder, f'changed-{name}-{snap}'), ['-s', str(snap)])
-        both = os.path.join(folder, f'changed-{name}-both')
-        subprocess.run(['mergecap', '-I', 'none', '-w', both, source, source], check=True, capture_output=True)
-        os.chmod(both, 0o644)
-        yield f'{name}, twice', both
+    yield 'as they are', joined(folder, 'same', files)
+    yield 'twice', joined(folder, 'both', [*files, *files], '-I', 'none')
+    for snap in SNAPS:
+        yield f'{snap} bytes', changed(folder, snap, files, '-s', str(snap))
     for seed in range(1, count + 1):
-        source, chance = files[seed % len(files)], CHANCES[seed % len(CHANCES)]
-        path = os.path.join(folder, f'changed-{seed}')
-        yield f'editcap -E {chance} --seed {seed} {os.path.basename(source)}', changed(source, path, ['-E', chance, '--seed', str(seed)])
+        chance = CHANCES[seed % len(CHANCES)]
+        yield f'editcap -E {chance} --seed {seed}', changed(folder, f'seed-{seed}', files, '-E', chance, '--seed', str(seed))
 
 
 def main():

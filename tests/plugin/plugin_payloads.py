@@ -18,19 +18,19 @@ import nbt
 from fuzz_inputs import capture_lines, example_bytes
 from object_inputs import LONGEST_PAYLOAD, Inputs
 from parts import tally
-from plugin_pcap import datagram_frame, fields_of, segment_frame, write_pcap
+from plugin_pcap import datagram_frame, fields_of, segment_frame, spaced, write_pcap
 
 REFUSED = re.compile(r'refused: (.*?)(?:, at byte (\d+)(?: of the name)?)?')
 
 
-def payloads(rng, port, count):
-    """Payloads that came to this port. Wireshark hands no empty ones on."""
+def payloads(rng, count):
+    """So many payloads that came to each port. Wireshark hands no empty ones on."""
     inputs = Inputs(rng, [each for each in example_bytes() if len(each) <= LONGEST_PAYLOAD], list(capture_lines()))
-    found = []
-    while len(found) < count:
-        fits, payload = inputs.payload()
-        if fits == port and 0 < len(payload) < 60_000:
-            found.append(payload)
+    found = {137: [], 138: [], 139: []}
+    while any(len(each) < count for each in found.values()):
+        port, payload = inputs.payload()
+        if len(found[port]) < count and 0 < len(payload) < 60_000:
+            found[port].append(payload)
     return found
 
 
@@ -60,16 +60,14 @@ def expected(port, payload):
 
 def frame_of(port, number, payload):
     source = bytes([10, 2 + number // 60_000, number >> 8 & 255, number & 255])
-    return segment_frame(number, payload, source) if port == 139 else datagram_frame(port, payload, source)
+    return segment_frame(1_024 + number % 60_000, 1, payload, source=source) if port == 139 else datagram_frame(port, payload, source)
 
 
 def cases(tshark, folder, count, seed='1'):
     """Each payload, and what is wrong with what is said of it."""
-    rng = random.Random(int(seed))
-    for port in (137, 138, 139):
-        sent = payloads(rng, port, int(count))
+    for port, sent in payloads(random.Random(int(seed)), int(count)).items():
         path = os.path.join(folder, f'payloads-{port}.pcap')
-        write_pcap(path, [(number * 3_000, frame_of(port, number, each), None) for number, each in enumerate(sent)])
+        write_pcap(path, spaced((frame_of(port, *each) for each in enumerate(sent)), 3_000))
         rows = fields_of(tshark, path, ['nbt.says', 'nbt.refused', 'nbt.place'])
         if len(rows) != len(sent):
             yield f'port {port}', f'{len(rows)} rows of {len(sent)} frames'

@@ -2,26 +2,30 @@
 import os
 import subprocess
 
-from wire import TCP, UDP, ip, pcap, tcp, udp
+from wire import ACK, CLIENT, SERVER, TCP, UDP, ethernet, ip, pcap, tcp, udp
 
-ETHERNET = bytes(12) + b'\x08\0'
 # Between fields, and between the values of one.
 FIELDS, VALUES = '\x1f', '\x1e'
 
 
 def framed(packet):
     """A frame with its padding."""
-    frame = ETHERNET + packet
-    return frame + bytes(max(0, 60 - len(frame)))
+    return ethernet(packet).ljust(60, b'\0')
 
 
-def datagram_frame(port, payload, source):
+def datagram_frame(port, payload, source=CLIENT):
     return framed(ip(UDP, udp(port, port, payload), source))
 
 
-def segment_frame(number, payload, source, sequence=1):
-    """Bytes of a connection of their own, by its client."""
-    return framed(ip(TCP, tcp(1024 + number % 60_000, 139, sequence, payload, 0x18), source))
+def segment_frame(port, sequence, payload, flags=ACK, source=CLIENT, target=SERVER):
+    """Bytes of a connection by its client, which has this port, or by its server."""
+    ports = (139, port) if source == SERVER else (port, 139)
+    return framed(ip(TCP, tcp(*ports, sequence, payload, flags), source, target))
+
+
+def spaced(frames, between=1_000):
+    """Whole frames with their times, so many microseconds apart."""
+    return [(number * between, frame, None) for number, frame in enumerate(frames)]
 
 
 def write_pcap(path, frames):
@@ -33,8 +37,7 @@ def write_pcap(path, frames):
 def fields_of(tshark, path, fields, *words):
     """Of each frame the values of these fields, a list for each. tshark writes a backslash as two."""
     command = [tshark, '-n', '-r', path, *words, '-T', 'fields', '-E', 'separator=' + FIELDS, '-E', 'aggregator=' + VALUES]
-    for each in fields:
-        command += ['-e', each]
+    command += [f'-e{each}' for each in fields]
     done = subprocess.run(command, capture_output=True, text=True, check=True, timeout=300)
     rows = done.stdout.replace('\\\\', '\\').split('\n')[:-1]
     return [[value.split(VALUES) if value else [] for value in row.split(FIELDS)] for row in rows]

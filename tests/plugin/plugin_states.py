@@ -3,11 +3,11 @@
 
 Usage: tests/plugin/plugin_states.py SHARKD TSHARK PROGRAM FOLDER COUNT [SEED]
 
-So many captures of fragments that are shuffled, lost, repeated and changed, with pauses, times that go back, packets of other kinds
-and ports and frames that are cut. All are read by one sharkd, which has the plugin, one after the other, for a station with names or
-for all, with the timer or without it; the program replays the same with the ticks of nbt-pcap2cap or without. Of each payload of port 138 the state, the key and the data have
-to be those of the report, and the links and what is missing those of a plain model. sharkd shows the front of
-long data: of one capture in five tshark prints all of it. A case is a capture; the last line is 'N passed, M failed'.
+So many captures of fragments that are shuffled, lost, repeated and changed, with pauses, times that go back, packets of other kinds and
+ports and frames that are cut. All are read by one sharkd, which has the plugin, one after the other, for a station with names or for all,
+with the timer or without it; the program replays the same with the ticks of nbt-pcap2cap or without. Of each payload of port 138 the
+state, the key and the data have to be those of the report, and the links and what is missing those of a plain model. sharkd shows the
+front of long data: of one capture in ten tshark prints all of it. A case is a capture; the last line is 'N passed, M failed'.
 """
 import collections
 import json
@@ -28,7 +28,6 @@ COLUMNS = ('nbt.state', 'nbt.key', 'nbt.datagram', 'nbt.whole_in', 'nbt.spoilt_i
 NO_BYTES, DIGITS = '<MISSING>', 72
 WHOLE_OF, TIMER_OF = 10, 4
 BOOLEANS = ('FALSE', 'TRUE')
-SOME, ALL = ['FRED<20>', 'JOE<00>'], ['FRED<20>', 'JOE<00>', 'ANN<03>.A', 'BOB<20>']
 
 
 class Sharkd:
@@ -66,7 +65,7 @@ class Sharkd:
 
 def report_of(program, lines, names):
     """What is reported of each line, by its number."""
-    done = subprocess.run([program, 'replay', *MANY, *names], input='\n'.join([*lines, '']), capture_output=True, text=True, check=True)
+    done = subprocess.run([program, 'replay', *MANY, '--', *names], input='\n'.join([*lines, '']), capture_output=True, text=True, check=True)
     return {int(number): words for number, _, words in (line.partition(' ') for line in done.stdout.splitlines())}
 
 
@@ -109,16 +108,18 @@ def cases(command, tshark, program, folder, count, seed='states'):
     """Each capture, and what is wrong with what is said of it; what is reported is counted."""
     sharkd, seen = Sharkd(command), collections.Counter()
     for number in range(int(count)):
-        timer, asked = number % TIMER_OF != TIMER_OF - 1, SOME if number % 2 else []
-        made, path = Made(random.Random(f'{seed}-{number}'), timer), os.path.join(folder, 'states.pcap')
+        timer, path = number % TIMER_OF != TIMER_OF - 1, os.path.join(folder, 'states.pcap')
+        made = Made(random.Random(f'{seed}-{number}'), timer)
+        names = sorted(made.names) or ['FRED<20>']
+        asked = names[::2] if number % 2 else []
         write_pcap(path, made.frames)
         sharkd.ask('setconf', name='nbt.names', value=' '.join(asked))
         sharkd.ask('setconf', name='nbt.timer', value=BOOLEANS[timer])
-        report = report_of(program, made.lines, asked or ALL)
+        report = report_of(program, made.lines, asked or names)
         seen.update(words.split(' ')[0] for words in report.values())
         states = {frame: wanted_of(report[line]) for frame, line in made.datagrams.items()}
         difference = first_difference(made, sharkd.rows(path), states)
-        if number % WHOLE_OF < 2:
+        if number % WHOLE_OF == number // WHOLE_OF % 2:
             difference = difference or data_differ(tshark, path, asked, timer, states)
         if difference:
             os.rename(path, kept := os.path.join(folder, f'states-{seed}-{number}.pcap'))

@@ -17,12 +17,10 @@ sys.path.insert(1, os.path.join(sys.path[0], '..', '..', 'bindings', 'python'))
 import nbt
 sys.path.insert(1, f'{sys.path[0]}/../lib')
 from parts import tally
-from plugin_files import message, segment
-from plugin_pcap import fields_of, write_pcap
-from wire import KEEPALIVE, REQUEST, SYN
+from plugin_files import packets
+from plugin_pcap import fields_of, segment_frame, spaced, write_pcap
+from wire import SYN
 
-NO_PACKETS = (b'\x81\x01\xff\xff' + bytes(30), b'\x00\xfe\xff\xff' + bytes(50), b'GET / HTTP/1.0\r\n\r\n', b'\x85\0\0\1x',
-              b'\x81\0\0\x44' + b'\x20' + b'Z' * 67)
 ONE_BY_ONE = ['-o', 'tcp.desegment_tcp_streams:FALSE']
 # TCP then hands on also what it has seen before; where it joins segments too, it then loses some itself.
 REPEATED = ['-o', 'tcp.analyze_sequence_numbers:FALSE']
@@ -34,9 +32,7 @@ class Stream:
     """A direction's bytes, and what is said where the first of them are at hand."""
 
     def __init__(self, rng):
-        self.parts = [REQUEST, *(rng.choice((message(rng), KEEPALIVE)) for _ in range(rng.randrange(1, 9)))]
-        if rng.random() < 0.4:
-            self.parts.append(rng.choice(NO_PACKETS))
+        self.parts = packets(rng, 70_000)
         self.data = b''.join(self.parts)
 
     def told(self, before, after):
@@ -57,14 +53,14 @@ class Stream:
 def frames_of(rng, port, stream):
     """The frames of a connection, and what each says."""
     first, length = rng.choice((1, 2**32 - 50, rng.randrange(2**32))), max(rng.choice(LENGTHS), len(stream.data) // 200)
-    found, at = [(segment(port, first - 1, b'', SYN), [])], 0
+    found, at = [(segment_frame(port, first - 1, b'', SYN), [])], 0
     while at < len(stream.data):
         if at and rng.random() < 0.2:
             start = rng.randrange(max(0, at - 3_000), at)
             end = rng.randrange(start, at) + 1
-            found.append((segment(port, first + start, stream.data[start:end][:1_400]), []))
+            found.append((segment_frame(port, first + start, stream.data[start:end][:1_400]), []))
         size = max(1, min(length * rng.randrange(1, 4), 1_400))
-        found.append((segment(port, first + at, stream.data[at:at + size]), stream.told(at, min(at + size, len(stream.data)))))
+        found.append((segment_frame(port, first + at, stream.data[at:at + size]), stream.told(at, min(at + size, len(stream.data)))))
         at += size
     return found
 
@@ -75,7 +71,7 @@ def cases(tshark, folder, count):
     path = os.path.join(folder, 'streams.pcap')
     rows = [frames_of(rng, 1_024 + number, Stream(rng)) for number in range(int(count))]
     frames = [(number, frame) for number, row in enumerate(rows) for frame in row]
-    write_pcap(path, [(number * 1_000, frame, None) for number, (_, (frame, _)) in enumerate(frames)])
+    write_pcap(path, spaced(frame for _, (frame, _) in frames))
     for words in WAYS:
         says = [row[0] for row in fields_of(tshark, path, ['nbt.says'], *words)]
         wrong = {}

@@ -21,10 +21,9 @@ module _ (late : ℕ → Bool) (Says : Result (List ℕ) Refusal → Type 0) (on
 pub has_one_value : (expected : Result (List ℕ) Refusal) → HasOne (λ answer. answer ≡ expected)
 has_one_value expected a b h k = h ∙ sym k
 
--- what alone is said is one
-pub has_one : (Says : Result (List ℕ) Refusal → Type 0) (answer : Result (List ℕ) Refusal) → Alone (List ℕ) Says answer
-    → HasOne Says
-has_one Says answer j a b h k = j.only a h ∙ sym (j.only b k)
+-- where one is said, what is said is said alone
+pub alone_of : {A : Type 0} (Says : Result A Refusal → Type 0) → HasOne Says → (answer : Result A Refusal) → Says answer → Alone A Says answer
+alone_of Says one answer said = record { said = said; only = λ other also. one other answer also said }
 
 -- any answer may lack memory where all come late
 pub all_lack : (answer : Result (List ℕ) Refusal) → MayLack all_late answer

@@ -9,7 +9,7 @@ use Rattle.nb_datagram.specs.Key.{key_cmp, key_cmp_total, key_cmp_exact}
 use Rattle.nb_entries.specs.Entry.{EntryValue}
 use Rattle.nb_entries.specs.Shared.MapsLemmas.{one_key}
 use Rattle.nb_table.specs.Shared.TableLemmas.{same_table}
-use Rattle.nb_c.specs.declared.differing.NbtDifference.{NbtDifference}
+use Rattle.nb_c.specs.declared.tables.NbtDifference.{NbtDifference}
 use Rattle.nb_c.specs.Tables.{AreSameAt, IsLeastDifference, Differs, difference_of, lower_by, lower_of, Narrows, same, differs, NarrowsBy, at_none, at_one, follow_the_first}
 
 -- the key isn't below the least so far, of which there is one

@@ -3,9 +3,9 @@ use Rattle.nb_c.proofs.Common.{◌≡◌, ◌∙◌, ℕ, ◌+◌, ◌<◌, ◌�
 use Rattle.nb_c.specs.declared.service_entries.NbtServiceEntry.{NbtServiceEntry}
 use Rattle.nb_c.specs.declared.service_entries.TheConstants.{MOST_ITEMS}
 use Rattle.nb_c.specs.declared.service_reading.NbtServiceItem.{NbtServiceItem}
-use Rattle.nb_c.specs.Entries.{Ends, FilledFront, FillsFront, Fronted, IsEntry, room_of, ReadsEntries, ReadsEntry, Run, begins, goes_on, entry_numbers}
+use Rattle.nb_c.specs.ServiceParts.{Ends, FilledFront, FillsFront, Fronted, IsEntry, room_of, ReadsEntries, ReadsEntry, Run, begins, goes_on, entry_numbers}
 use Rattle.nb_c.specs.Services.{ReadsItem}
-use Rattle.nb_c.proofs.ServiceLemmas.{HeaderLaws, ItemLaws, item_read}
+use Rattle.nb_c.proofs.AnswerLemmas.{alone_of}
 
 -- ---- one item
 
@@ -15,29 +15,14 @@ same_entry : (payload : List ℕ) (item : NbtServiceItem) (entry other : NbtServ
 same_entry payload item entry other (answer, read, is) (found, also, exact) =
     is ∙ ap (λ (a : Result (List ℕ) Refusal). entry_numbers item a) (also.only answer read.said) ∙ sym exact
 
--- what is answered of an item is answered of it with its RDATA
-pub entry_read : (payload : List ℕ) (number at : ℕ) (item : NbtServiceItem) (entry : NbtServiceEntry)
-    → Alone NbtServiceItem (ReadsItem payload number at) (Ok item) → IsEntry payload item entry
-    → Alone NbtServiceEntry (ReadsEntry payload number at) (Ok entry)
-entry_read payload number at item entry read is = record { said = (item, read.said, is); only = others } where
-  others : (other : Result NbtServiceEntry Refusal) → ReadsEntry payload number at other → other ≡ Ok entry
-  others (Ok found) (seen, there, also) =
-      let same : seen ≡ item = cc (read.only (Ok seen) there) in
-      ap (λ (e : NbtServiceEntry). Ok e)
-      (same_entry payload item found entry (subst (λ (i : NbtServiceItem). IsEntry payload i found) same also) is)
-  others (Err refusal) there = absurd (cc (read.only (Err refusal) there))
-
 -- of an item one thing is answered, its RDATA included
-pub entry_one : (payload : List ℕ) → HeaderLaws payload → ItemLaws payload → (k at : ℕ) → HasOne (ReadsEntry payload k at)
-entry_one payload headers laws k at (Ok e) (Ok f) (item, there, is) (other, also, exact) =
-    let same : other ≡ item = cc ((item_read payload headers laws k at (Ok item) there).only (Ok other) also) in
+pub entry_one : (payload : List ℕ) → ((k at : ℕ) → HasOne (ReadsItem payload k at)) → (k at : ℕ) → HasOne (ReadsEntry payload k at)
+entry_one payload one k at (Ok e) (Ok f) (item, there, is) (other, also, exact) =
+    let same : other ≡ item = cc (one k at (Ok other) (Ok item) also there) in
     ap (λ (x : NbtServiceEntry). Ok x) (same_entry payload item e f is (subst (λ (i : NbtServiceItem). IsEntry payload i f) same exact))
-entry_one payload headers laws k at (Ok e) (Err r) (item, there, is) bad =
-    absurd (cc ((item_read payload headers laws k at (Ok item) there).only (Err r) bad))
-entry_one payload headers laws k at (Err r) (Ok e) bad (item, there, is) =
-    absurd (cc ((item_read payload headers laws k at (Ok item) there).only (Err r) bad))
-entry_one payload headers laws k at (Err r) (Err q) bad worse =
-    cc ((item_read payload headers laws k at (Err r) bad).only (Err q) worse)
+entry_one payload one k at (Ok e) (Err r) (item, there, is) bad = absurd (cc (one k at (Ok item) (Err r) there bad))
+entry_one payload one k at (Err r) (Ok e) bad (item, there, is) = absurd (cc (one k at (Ok item) (Err r) there bad))
+entry_one payload one k at (Err r) (Err q) bad worse = cc (one k at (Err q) (Err r) worse bad)
 
 -- ---- many
 
@@ -141,9 +126,9 @@ module _ (payload : List ℕ) (number place room : ℕ) (one : (k at : ℕ) → 
   one_entries (Err r) (Ok xs) (some, bad) (at, here, ends) = absurd (none_at_first xs at r here ends some bad)
   one_entries (Err r) (Err q) (some, bad) (also, worse) = cc (one number place (Err r) (Err q) bad worse)
 
-  pub alone : (answer : Result (List NbtServiceEntry) Refusal) → ReadsEntries payload number place room answer
+  alone : (answer : Result (List NbtServiceEntry) Refusal) → ReadsEntries payload number place room answer
       → Alone (List NbtServiceEntry) (ReadsEntries payload number place room) answer
-  alone answer said = record { said = said; only = λ other also. one_entries other answer also said }
+  alone = alone_of (ReadsEntries payload number place room) one_entries
 
   module _ (old new : List NbtServiceEntry) (count at : ℕ) (f : Filling payload number place old count at new) where
     front : count ≤ length old → length (take count new) ≡ count

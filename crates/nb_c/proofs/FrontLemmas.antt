@@ -4,8 +4,8 @@ use Rattle.nb_names.proofs.LabelsLemmas.{next_within, spelled_there}
 use Rattle.nb_datagram.specs.declared.front.FragmentFront.{FragmentFront}
 use Rattle.nb_datagram.specs.declared.front.Front.{Front}
 use Rattle.nb_datagram.specs.Fronts.{FragmentStands, HasFront, LacksHeader, NamesStand, RestStands, of_fragment, of_another, no_name, source_alone, both_names}
-use Rattle.nb_c.specs.declared.fronts.NbtDatagramFront.{NbtDatagramFront}
-use Rattle.nb_c.specs.Fronts.{ReadsFront, front_places, places_after, numbers}
+use Rattle.nb_c.specs.declared.datagrams.NbtDatagramFront.{NbtDatagramFront}
+use Rattle.nb_c.specs.Datagrams.{ReadsFront, front_places, places_after, numbers}
 
 -- a payload has one front, and none where its header isn't there whole
 pub record FrontLaws (payload : List ℕ) : Type 0 where

@@ -9,9 +9,6 @@ pub mod FrameLemmas
 pub mod FrontLemmas
 pub mod HandleValues
 pub mod LengthLemmas
-pub mod ListLemmas
-pub mod LoadLemmas
-pub mod MergeLemmas
 pub mod NameLemmas
 pub mod ObjectLemmas
 pub mod PlaceLemmas
@@ -21,6 +18,6 @@ pub mod ServiceLemmas
 pub mod SessionFrontLemmas
 pub mod StationNameLemmas
 pub mod Steps
+pub mod TableLemmas
 pub mod TextLemmas
-pub mod TwoLemmas
 pub mod WordLemmas

@@ -1,5 +1,6 @@
--- What is answered by the texts of names is one.
-use Rattle.nb_c.proofs.Common.{◌≡◌, ◌∙◌, ℕ, List, Result, Ok, Err, IfOk, IfErr, ap, sym, TextFault, NetbiosName, IsText, IsFaultOf, Refusal, HasOne}
+-- What is answered by the texts of names is one, and done.
+use Rattle.nb_c.proofs.Common.{◌≡◌, ◌∙◌, ℕ, List, Result, Ok, Err, IfOk, IfErr, refl, ap, sym, TextFault, NetbiosName, IsText, IsFaultOf, Refusal, Answers, Does, HasOne, Lent, OrMemory, none_late}
+use Rattle.nb_c.proofs.AnswerLemmas.{does, or_said}
 use Rattle.nb_c.specs.Names.{IsRead}
 
 -- a text has one name or one fault
@@ -20,14 +21,32 @@ pub read_of : (text : List ℕ) (read : Result NetbiosName TextFault) → IfOk r
 read_of text (Ok name) found fault = found
 read_of text (Err fault) found fails = fails
 
--- an answer by what a text is read as is one
-pub read_one : (text : List ℕ) → TextLaws text → (answer : Result NetbiosName TextFault → Result (List ℕ) Refusal)
-    → HasOne (λ other. (found : Result NetbiosName TextFault) × IsRead text found × (other ≡ answer found))
-read_one text laws answer a b (f, p, e) (g, q, d) = e ∙ ap answer (one_read text laws f g p q) ∙ sym d
+-- what is answered by what a text is read as is done
+pub does_read : (text : List ℕ) → TextLaws text → (answer_of : Result NetbiosName TextFault → Result (List ℕ) Refusal)
+    → (read : Result NetbiosName TextFault) → IsRead text read → (answer : Result (List ℕ) Refusal)
+    → OrMemory none_late (λ (other : Result (List ℕ) Refusal). other ≡ answer_of read) answer → (old new : Lent) (status : ℕ)
+    → Answers answer old new status
+    → Does none_late (λ (other : Result (List ℕ) Refusal). (found : Result NetbiosName TextFault) × IsRead text found × (other ≡ answer_of found)) old new status
+does_read text laws answer_of read is answer j old new status h =
+    does none_late Says one old new status answer (or_said none_late Says (answer_of read) one (read, is, refl) answer j) h where
+      Says : Result (List ℕ) Refusal → Type 0
+      Says other = (found : Result NetbiosName TextFault) × IsRead text found × (other ≡ answer_of found)
 
--- so is an answer by what two texts are read as
-pub reads_one : (first second : List ℕ) → TextLaws first → TextLaws second
-    → (answer : Result NetbiosName TextFault → Result NetbiosName TextFault → Result (List ℕ) Refusal)
-    → HasOne (λ other. (from to : Result NetbiosName TextFault) × IsRead first from × IsRead second to × (other ≡ answer from to))
-reads_one first second laws more answer a b (f, t, p, q, e) (g, u, h, k, d) =
-    cc (e, d, one_read first laws f g p h, one_read second more t u q k)
+      one : HasOne Says
+      one a b (f, p, e) (g, q, d) = e ∙ ap answer_of (one_read text laws f g p q) ∙ sym d
+
+-- so is what is answered by what two texts are read as
+pub does_read_two : (first second : List ℕ) → TextLaws first → TextLaws second
+    → (answer_of : Result NetbiosName TextFault → Result NetbiosName TextFault → Result (List ℕ) Refusal)
+    → (from to : Result NetbiosName TextFault) → IsRead first from → IsRead second to → (answer : Result (List ℕ) Refusal)
+    → OrMemory none_late (λ (other : Result (List ℕ) Refusal). other ≡ answer_of from to) answer → (old new : Lent) (status : ℕ)
+    → Answers answer old new status
+    → Does none_late (λ (other : Result (List ℕ) Refusal).
+    (one two : Result NetbiosName TextFault) × IsRead first one × IsRead second two × (other ≡ answer_of one two)) old new status
+does_read_two first second laws more answer_of from to is also answer j old new status h =
+    does none_late Says one old new status answer (or_said none_late Says (answer_of from to) one (from, to, is, also, refl) answer j) h where
+      Says : Result (List ℕ) Refusal → Type 0
+      Says other = (one two : Result NetbiosName TextFault) × IsRead first one × IsRead second two × (other ≡ answer_of one two)
+
+      one : HasOne Says
+      one a b (f, t, p, q, e) (g, u, r, k, d) = cc (e, d, one_read first laws f g p r, one_read second more t u q k)

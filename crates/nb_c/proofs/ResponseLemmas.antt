@@ -6,7 +6,7 @@ use Rattle.nb_names.specs.declared.text_fault.TextFault.TheVariants as texts
 use Rattle.nb_names.specs.NameFaults.{FaultAt as NameFaultAt}
 use Rattle.nb_c.proofs.AnswerLemmas.{bytes_said, has_one_value}
 use Rattle.nb_c.proofs.NameLemmas.{TextLaws}
-use Rattle.nb_c.specs.declared.responses.Answered.{Answered}
+use Rattle.nb_c.specs.declared.service.Answered.{Answered}
 use Rattle.nb_c.specs.Responses.{IsDomain, whole, no_name, bytes_trail, IsRdata, plain, too_long, domain, domain_data, Responds, no_name_text, named, answer_of, response_of, response_answer}
 use Rattle.nb_c.specs.Statuses.{name_refusal, text_refusal}
 

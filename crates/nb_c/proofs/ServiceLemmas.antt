@@ -1,5 +1,5 @@
 -- A payload of port 137 has one answer for its header, for its packet, and for each item.
-use Rattle.nb_c.proofs.Common.{◌≡◌, ◌∙◌, ℕ, ◌<◌, ◌≤◌, List, length, Option, Some, None, Result, Ok, Err, refl, ap, sym, subst, arith, MatchOption, PacketHeader, HasHeader, seen_extent, ServicePacket, HasOutline, PacketFails, item_count, Refusal, Alone}
+use Rattle.nb_c.proofs.Common.{◌≡◌, ◌∙◌, ℕ, ◌<◌, ◌≤◌, List, length, Option, Some, None, Result, Ok, Err, refl, ap, sym, subst, arith, MatchOption, PacketHeader, HasHeader, seen_extent, ServicePacket, HasOutline, PacketFails, item_count, Refusal, Alone, HasOne}
 use Rattle.nb_service.specs.declared.extent.Extent.{Extent}
 use Rattle.nb_service.specs.declared.fault.ServiceFault.{ServiceFault}
 use Rattle.nb_service.specs.declared.fault.ServiceFault.TheVariants.{Truncated}
@@ -11,7 +11,6 @@ use Rattle.nb_service.specs.Items.{PacketItem, asked, told, ItemAt, ItemFails, I
 use Rattle.nb_service.proofs.WalkedLemmas.{fails_counted}
 use Rattle.nb_service.specs.Packet.{IsPacket}
 use Rattle.nb_c.specs.declared.service_reading.NbtServiceHeader.{NbtServiceHeader}
-use Rattle.nb_c.specs.declared.service_reading.NbtServiceItem.{NbtServiceItem}
 use Rattle.nb_c.specs.Services.{ReadsHeader, ReadsPacket, ReadsItem, headless, uncounted, fails, stands, header_numbers, section_number, numbers, item_numbers, cut_header}
 use Rattle.nb_c.specs.Statuses.{service_refusal}
 
@@ -101,17 +100,9 @@ same_numbers s t f g number labels is section fields =
     λ i. numbers (found i) (fields i) labels
 
 -- where no header stands, no item does
-pub item_cut : (payload : List ℕ) → HeaderLaws payload → (k at : ℕ) (fault : ServiceFault) → IsCut payload fault
-    → Alone NbtServiceItem (ReadsItem payload k at) (Err (service_refusal fault))
-item_cut payload headers k at fault cut = record { said = said; only = others } where
-  said : ReadsItem payload k at (Err (service_refusal fault))
-  said = subst (λ (r : Refusal). ReadsItem payload k at (Err r)) (sym (cut_refusal payload fault cut)) (headless cut.1)
-
-  others : (other : Result NbtServiceItem Refusal) → ReadsItem payload k at other → other ≡ Err (service_refusal fault)
-  others _ (headless low) = ap Err (sym (cut_refusal payload fault cut))
-  others _ (uncounted g t past) = absurd (omega (arith, cut.1, headers.whole g t))
-  others _ (fails g f t i) = absurd (omega (arith, cut.1, headers.whole g t))
-  others _ (stands g x e t i r) = absurd (omega (arith, cut.1, headers.whole g t))
+pub item_cut : (payload : List ℕ) (k at : ℕ) (fault : ServiceFault) → IsCut payload fault → ReadsItem payload k at (Err (service_refusal fault))
+item_cut payload k at fault cut =
+    subst (λ (r : Refusal). ReadsItem payload k at (Err r)) (sym (cut_refusal payload fault cut)) (headless cut.1)
 
 module _ (payload : List ℕ) (headers : HeaderLaws payload) (laws : ItemLaws payload) (k at : ℕ) where
   same_count : (h g : PacketHeader) → HasHeader payload h → HasHeader payload g → item_count h ≡ item_count g
@@ -130,23 +121,20 @@ module _ (payload : List ℕ) (headers : HeaderLaws payload) (laws : ItemLaws pa
       let reach = laws.extent at b d e (subst (λ (c : PacketItem). IsExtent payload at c d) same.0 x) y same.1 in
       cc (same.0, reach)
 
-  one_answer : (a b : Result NbtServiceItem Refusal) → ReadsItem payload k at a → ReadsItem payload k at b → a ≡ b
-  one_answer a b (headless low) (headless less) = refl
-  one_answer a b (headless low) (uncounted g t past) = absurd (omega (arith, low, headers.whole g t))
-  one_answer a b (headless low) (fails g f t i) = absurd (omega (arith, low, headers.whole g t))
-  one_answer a b (headless low) (stands g x e t i r) = absurd (omega (arith, low, headers.whole g t))
-  one_answer a b (uncounted h s past) (headless low) = absurd (omega (arith, low, headers.whole h s))
-  one_answer a b (uncounted h s past) (uncounted g t high) = refl
-  one_answer a b (uncounted h s past) (fails g f t i) = absurd (omega (arith, past, same_count h g s t, fails_counted payload g k at f i))
-  one_answer a b (uncounted h s past) (stands g x e t i r) = absurd (omega (arith, past, same_count h g s t, laws.counted g k at x e.next i))
-  one_answer a b (fails h f s i) (headless low) = absurd (omega (arith, low, headers.whole h s))
-  one_answer a b (fails h f s i) (uncounted g t past) = absurd (omega (arith, past, same_count h g s t, fails_counted payload h k at f i))
-  one_answer a b (fails h f s i) (fails g e t j) = ap (λ (c : ServiceFault). Err (service_refusal c)) (laws.one_fault g k at f e (fails_moved h g f s t i) j)
-  one_answer a b (fails h f s i) (stands g x e t j r) = absurd (laws.apart g k at f x e.next (fails_moved h g f s t i) j)
-  one_answer a b (stands h x e s i r) (headless low) = absurd (omega (arith, low, headers.whole h s))
-  one_answer a b (stands h x e s i r) (uncounted g t past) = absurd (omega (arith, past, same_count h g s t, laws.counted h k at x e.next i))
-  one_answer a b (stands h x e s i r) (fails g f t j) = absurd (laws.apart g k at f x e.next j (moved h g x e.next s t i))
-  one_answer a b (stands h x e s i r) (stands g y d t j q) = ap Ok (same_item g x y e d (moved h g x e.next s t i) r j q)
-
-  pub item_read : (answer : Result NbtServiceItem Refusal) → ReadsItem payload k at answer → Alone NbtServiceItem (ReadsItem payload k at) answer
-  item_read answer said = record { said = said; only = λ other also. one_answer other answer also said }
+  pub item_one : HasOne (ReadsItem payload k at)
+  item_one a b (headless low) (headless less) = refl
+  item_one a b (headless low) (uncounted g t past) = absurd (omega (arith, low, headers.whole g t))
+  item_one a b (headless low) (fails g f t i) = absurd (omega (arith, low, headers.whole g t))
+  item_one a b (headless low) (stands g x e t i r) = absurd (omega (arith, low, headers.whole g t))
+  item_one a b (uncounted h s past) (headless low) = absurd (omega (arith, low, headers.whole h s))
+  item_one a b (uncounted h s past) (uncounted g t high) = refl
+  item_one a b (uncounted h s past) (fails g f t i) = absurd (omega (arith, past, same_count h g s t, fails_counted payload g k at f i))
+  item_one a b (uncounted h s past) (stands g x e t i r) = absurd (omega (arith, past, same_count h g s t, laws.counted g k at x e.next i))
+  item_one a b (fails h f s i) (headless low) = absurd (omega (arith, low, headers.whole h s))
+  item_one a b (fails h f s i) (uncounted g t past) = absurd (omega (arith, past, same_count h g s t, fails_counted payload h k at f i))
+  item_one a b (fails h f s i) (fails g e t j) = ap (λ (c : ServiceFault). Err (service_refusal c)) (laws.one_fault g k at f e (fails_moved h g f s t i) j)
+  item_one a b (fails h f s i) (stands g x e t j r) = absurd (laws.apart g k at f x e.next (fails_moved h g f s t i) j)
+  item_one a b (stands h x e s i r) (headless low) = absurd (omega (arith, low, headers.whole h s))
+  item_one a b (stands h x e s i r) (uncounted g t past) = absurd (omega (arith, past, same_count h g s t, laws.counted h k at x e.next i))
+  item_one a b (stands h x e s i r) (fails g f t j) = absurd (laws.apart g k at f x e.next j (moved h g x e.next s t i))
+  item_one a b (stands h x e s i r) (stands g y d t j q) = ap Ok (same_item g x y e d (moved h g x e.next s t i) r j q)

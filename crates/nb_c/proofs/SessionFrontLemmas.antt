@@ -3,7 +3,7 @@ use Rattle.nb_c.proofs.Common.{◌≡◌, ℕ, ◌-◌, ◌≤◌, ◌<◌, List
 use Rattle.nb_session.specs.declared.header.Header.{Header}
 use Rattle.nb_session.specs.declared.limits.TheConstants.{HEADER_LENGTH}
 use Rattle.nb_session.specs.Header.{HasHeader}
-use Rattle.nb_c.specs.declared.session_fronts.NbtSessionFront.{NbtSessionFront}
+use Rattle.nb_c.specs.declared.sessions.NbtSessionFront.{NbtSessionFront}
 use Rattle.nb_c.specs.Sessions.{ReadsFront, numbers}
 
 -- bytes begin with one header, and with none where there are fewer than four

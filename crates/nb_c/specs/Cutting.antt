@@ -1,4 +1,4 @@
--- What the call that writes the packets of a datagram answers (RFC 1002 section 4.4.2).
+-- What the calls that write packets of port 138 answer (RFC 1002 sections 4.4.2 to 4.4.4).
 use Rattle.std.specs.Prelude.{◌≡◌, ◌==◌, ◌+◌, ◌%◌, ℕ, Bool, nat_lt, min, List, ◌++◌, length, Option, Some, None, Result, Ok, Err, if◌then◌else◌}
 use Rattle.std.specs.Int.{w16, w32, to_be_bytes}
 use Rattle.std.specs.List.{flat_map}
@@ -8,14 +8,16 @@ use Rattle.nb_datagram.specs.declared.key.Key.{Key}
 use Rattle.nb_datagram.specs.declared.kind.Kind.{Kind}
 use Rattle.nb_datagram.specs.declared.kind.Kind.TheVariants.{Unique, Group, Broadcast}
 use Rattle.nb_datagram.specs.declared.limits.TheConstants.{MAX_LENGTH, DIRECT_HEADER_LENGTH}
-use Rattle.nb_datagram.specs.declared.packet.Packet.TheVariants.{Direct}
+use Rattle.nb_datagram.specs.declared.packet.Packet.TheVariants.{Direct, Error, Query}
 use Rattle.nb_datagram.specs.Fragment.{DatagramParts, FragmentParts}
 use Rattle.nb_datagram.specs.Packet.{name_bytes, packet_bytes}
 use Rattle.nb_datagram.specs.Pieces.{pieces}
 use Rattle.nb_c.specs.declared.cutting.Sent.{Sent}
-use Rattle.nb_c.specs.declared.statuses.TheConstants.{UNKNOWN_TYPE, LONG_DATA, ZERO_PIECE, SOURCE_TEXT, DESTINATION_TEXT}
+use Rattle.nb_c.specs.declared.statuses.TheConstants.{UNKNOWN_TYPE, LONG_DATA, ZERO_PIECE, SOURCE_TEXT, DESTINATION_TEXT, NO_ROLE}
 use Rattle.nb_c.specs.Names.{IsRead}
 use Rattle.nb_c.specs.Statuses.{Refusal, Fault, text_refusal}
+use Rattle.nb_datagram.specs.declared.packet.QueryKind.{QueryKind}
+use Rattle.nb_datagram.specs.declared.packet.QueryKind.TheVariants.{Request, Positive, Negative}
 
 -- the kind of datagram with this MSG_TYPE: hexadecimal 10, 11 and 12
 abbrev pub kind_with : ℕ → Option Kind
@@ -74,3 +76,31 @@ abbrev pub Cuts : Sent → List ℕ → List ℕ → List ℕ → Result (List �
 Cuts sent source destination contents answer =
     (from to : Result NetbiosName TextFault) × IsRead source from × IsRead destination to
     × (answer ≡ cut_names sent from to contents)
+
+-- ---- packets without data
+-- Their FLAGS are 02, the first fragment and no more of them (our choice).
+
+-- the bytes of an error packet of this key, with this code
+abbrev pub error_packet : Key → ℕ → List ℕ
+error_packet key code = packet_bytes (Error (record { flags = 2; key = key; code = code }))
+
+-- the kind of query with this MSG_TYPE: hexadecimal 14, 15 and 16
+abbrev pub query_with : ℕ → Option QueryKind
+query_with type =
+    if type == 20 then Some Request else if type == 21 then Some Positive else if type == 22 then Some Negative else None
+
+-- query_kind kind key read: what is answered where the type is of this kind, or of none, and where the name's text is read so
+abbrev pub query_kind : Option QueryKind → Key → Result NetbiosName TextFault → Result (List ℕ) Refusal
+query_kind None key read = Err (Fault UNKNOWN_TYPE)
+query_kind (Some kind) key (Err fault) = Err (text_refusal NO_ROLE fault)
+query_kind (Some kind) key (Ok name) =
+    Ok (packet_bytes (Query (record { kind = kind; flags = 2; key = key; destination = name })))
+
+-- the same, by the type's number
+abbrev pub query_answer : ℕ → Key → Result NetbiosName TextFault → Result (List ℕ) Refusal
+query_answer type = query_kind (query_with type)
+
+-- Queries type key text answer: this is answered where the name has this text
+abbrev pub Queries : ℕ → Key → List ℕ → Result (List ℕ) Refusal → Type 0
+Queries type key text answer =
+    (read : Result NetbiosName TextFault) × IsRead text read × (answer ≡ query_answer type key read)

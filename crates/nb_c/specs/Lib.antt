@@ -2,8 +2,6 @@ pub mod Absorbing
 pub mod Captures
 pub mod Cutting
 pub mod Datagrams
-pub mod Entries
-pub mod Fronts
 pub mod Handles
 pub mod Names
 pub mod Outputs
@@ -15,4 +13,3 @@ pub mod Showing
 pub mod Stations
 pub mod Statuses
 pub mod Tables
-pub mod Words

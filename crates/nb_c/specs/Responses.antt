@@ -15,7 +15,7 @@ use Rattle.nb_service.specs.declared.limits.TheConstants.{MAX_RDATA}
 use Rattle.nb_service.specs.Encoding.{packet_bytes}
 use Rattle.nb_service.specs.Record.{ResourceData, ResourceRecord, of_bytes, of_domain, record_of}
 use Rattle.nb_service.specs.Requests.{one_answer, query_packet, status_packet, registration_packet, refresh_packet, release_packet}
-use Rattle.nb_c.specs.declared.responses.Answered.{Answered}
+use Rattle.nb_c.specs.declared.service.Answered.{Answered}
 use Rattle.nb_c.specs.declared.statuses.TheConstants.{LONG_DATA, NAME_TRAILING_BYTES, NO_ROLE, UNKNOWN_REQUEST}
 use Rattle.nb_c.specs.Statuses.{Refusal, Fault, FaultAt, text_refusal, name_refusal}
 use Rattle.std.specs.Int.{w32, to_be_bytes}

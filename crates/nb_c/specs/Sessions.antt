@@ -9,14 +9,14 @@ use Rattle.nb_session.specs.declared.parsing.Parsed.TheVariants.{Whole, More, Re
 use Rattle.nb_session.specs.Header.{type_of, HasHeader, body_length, header_bytes}
 use Rattle.nb_session.specs.Packet.{Packet, kind_of}
 use Rattle.nb_session.specs.Parsing.{Parsed, Parses}
-use Rattle.nb_c.specs.declared.session_parts.NbtSessionNames.{NbtSessionNames}
-use Rattle.nb_c.specs.declared.session_parts.NbtSessionRetarget.{NbtSessionRetarget}
+use Rattle.nb_c.specs.declared.sessions.NbtSessionNames.{NbtSessionNames}
+use Rattle.nb_c.specs.declared.sessions.NbtSessionRetarget.{NbtSessionRetarget}
 use Rattle.nb_c.specs.declared.sessions.NbtSession.{NbtSession}
 use Rattle.nb_c.specs.declared.statuses.TheConstants as statuses
 use Rattle.nb_c.specs.Names.{spelled_in_place}
 use Rattle.nb_c.specs.Statuses.{Refusal, Fault, FaultAt, session_refusal}
 use Rattle.nb_session.specs.declared.header.Header.{Header}
-use Rattle.nb_c.specs.declared.session_fronts.NbtSessionFront.{NbtSessionFront}
+use Rattle.nb_c.specs.declared.sessions.NbtSessionFront.{NbtSessionFront}
 use Rattle.nb_c.specs.declared.statuses.TheConstants.{MORE}
 use Rattle.nb_session.specs.declared.kind.Kind.{Kind}
 

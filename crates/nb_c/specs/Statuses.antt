@@ -1,5 +1,5 @@
--- The status of each fault, and the place that goes with it (our choice).
-use Rattle.std.specs.Prelude.{ℕ, ◌+◌}
+-- The status of each fault, the place that goes with it, and its words (our choice).
+use Rattle.std.specs.Prelude.{ℕ, ◌+◌, ◌==◌, List, [], ◌∷◌, ◌++◌, map, Option, Some, None, Result, Ok, Err, codes, option_map}
 use Rattle.nb_names.specs.declared.fault.NameFault.{NameFault}
 use Rattle.nb_names.specs.declared.fault.NameFault.TheVariants as names
 use Rattle.nb_names.specs.declared.text_fault.TextFault.{TextFault}
@@ -17,6 +17,7 @@ use Rattle.nb_member.specs.declared.line_fault.LineFault.TheVariants as lines
 pub use Rattle.nb_c.specs.declared.refusal.Refusal.{Refusal}
 pub use Rattle.nb_c.specs.declared.refusal.Refusal.TheVariants.{Memory, Fault, FaultAt}
 use Rattle.nb_c.specs.declared.statuses.TheConstants as statuses
+use Rattle.std.specs.List.{find}
 
 -- text_refusal role fault: why a text of this role is of no name
 abbrev pub text_refusal : ℕ → TextFault → Refusal
@@ -73,3 +74,95 @@ service_refusal services.NoMemory = Memory
 abbrev pub line_refusal : LineFault → Refusal
 line_refusal lines.BadLine = Fault statuses.BAD_LINE
 line_refusal lines.NoMemory = Memory
+
+-- ---- the words of statuses
+
+-- the statuses of what isn't about an input
+abbrev pub outcomes : List (ℕ × List ℕ)
+outcomes =
+    (statuses.DONE, codes "done") ∷ (statuses.NO_ROOM, codes "no room") ∷ (statuses.NO_MEMORY, codes "memory") ∷ []
+
+-- the faults of a text
+abbrev pub text_faults : List (ℕ × List ℕ)
+text_faults = (statuses.BAD_TEXT, codes "bad text") ∷ (statuses.LONG_TEXT, codes "text too long") ∷ []
+
+-- the faults of a name that is read
+abbrev pub name_faults : List (ℕ × List ℕ)
+name_faults =
+    (statuses.NAME_TRUNCATED, codes "truncated") ∷ (statuses.NAME_RESERVED_LABEL, codes "reserved label")
+    ∷ (statuses.NAME_POINTER, codes "pointer not allowed") ∷ (statuses.NAME_LONG, codes "too long")
+    ∷ (statuses.NAME_NOT_NETBIOS, codes "not netbios") ∷ (statuses.NAME_BAD_POINTER, codes "bad pointer") ∷ []
+
+-- the faults of a saved table
+abbrev pub table_faults : List (ℕ × List ℕ)
+table_faults =
+    (statuses.TABLE_BAD_MAGIC, codes "bad magic") ∷ (statuses.TABLE_TRUNCATED, codes "truncated")
+    ∷ (statuses.TABLE_NOT_CANONICAL, codes "not canonical") ∷ (statuses.TABLE_LONG, codes "too long")
+    ∷ (statuses.TABLE_FULL_SOURCE, codes "full source") ∷ (statuses.TABLE_FULL, codes "full") ∷ []
+
+-- the statuses of a packet
+abbrev pub packet_faults : List (ℕ × List ℕ)
+packet_faults =
+    (statuses.TRUNCATED, codes "truncated") ∷ (statuses.UNKNOWN_TYPE, codes "unknown type")
+    ∷ (statuses.MORE, codes "more bytes needed") ∷ (statuses.RESERVED_FLAGS, codes "reserved flags")
+    ∷ (statuses.BAD_LENGTH, codes "bad length") ∷ (statuses.TRAILING_BYTES, codes "trailing bytes")
+    ∷ (statuses.NAME_RDATA, codes "name rdata") ∷ (statuses.NO_ITEM, codes "no item")
+    ∷ (statuses.OTHER_RDATA, codes "other rdata") ∷ (statuses.NO_PART, codes "no part") ∷ []
+
+-- the statuses of what is asked to be written
+abbrev pub request_faults : List (ℕ × List ℕ)
+request_faults =
+    (statuses.UNKNOWN_REQUEST, codes "unknown request") ∷ (statuses.ZERO_PIECE, codes "zero piece")
+    ∷ (statuses.LONG_DATA, codes "data too long") ∷ []
+
+-- the statuses of a table that takes in no more
+abbrev pub joining_faults : List (ℕ × List ℕ)
+joining_faults =
+    (statuses.MISPLACED_FIRST, codes "misplaced first") ∷ (statuses.LONG, codes "too long")
+    ∷ (statuses.FULL_SOURCE, codes "full source") ∷ (statuses.FULL, codes "full") ∷ []
+
+-- the statuses of a station and its names, of a part of a packet, of a line of a capture and of a number that is no status
+abbrev pub other_faults : List (ℕ × List ℕ)
+other_faults =
+    (statuses.NAME_PRESENT, codes "name: present") ∷ (statuses.TOO_MANY_NAMES, codes "too many names")
+    ∷ (statuses.NO_STATION, codes "no station") ∷ (statuses.OTHER_TYPE, codes "other type")
+    ∷ (statuses.BAD_LINE, codes "bad line") ∷ (statuses.UNKNOWN_STATUS, codes "unknown status") ∷ []
+
+-- in_role role words faults: the faults in this role, its number added to theirs, and its words before theirs
+abbrev pub in_role : ℕ → List ℕ → List (ℕ × List ℕ) → List (ℕ × List ℕ)
+in_role role words faults = map (λ fault. (role + fault.0, words ++ fault.1)) faults
+
+-- each status and its words
+abbrev pub status_words : List (ℕ × List ℕ)
+status_words =
+    outcomes
+    ++ text_faults
+    ++ in_role statuses.SOURCE_TEXT (codes "source: ") text_faults
+    ++ in_role statuses.DESTINATION_TEXT (codes "destination: ") text_faults
+    ++ in_role statuses.NO_ROLE (codes "name: ") name_faults
+    ++ (statuses.NAME_TRAILING_BYTES, codes "name: trailing bytes") ∷ []
+    ++ in_role statuses.SOURCE (codes "source name: ") name_faults
+    ++ in_role statuses.DESTINATION (codes "destination name: ") name_faults
+    ++ packet_faults
+    ++ request_faults
+    ++ in_role statuses.NO_ROLE (codes "table: ") table_faults
+    ++ in_role statuses.SECOND (codes "second table: ") table_faults
+    ++ joining_faults
+    ++ other_faults
+
+-- the words beside a number, in the first row that has it
+abbrev pub word_beside : List (ℕ × List ℕ) → ℕ → Option (List ℕ)
+word_beside rows number = option_map (λ row. row.1) (find (λ row. row.0 == number) rows)
+
+-- the words of a status, if it is one
+unfoldable pub status_word : ℕ → Option (List ℕ)
+status_word = word_beside status_words
+
+-- what is answered of a status
+abbrev pub status_answer_of : Option (List ℕ) → Result (List ℕ) Refusal
+status_answer_of (Some words) = Ok words
+status_answer_of None = Err (Fault statuses.UNKNOWN_STATUS)
+
+-- what is answered to a question for its words
+abbrev pub status_answer : ℕ → Result (List ℕ) Refusal
+status_answer status = status_answer_of (status_word status)

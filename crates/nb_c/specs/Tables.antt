@@ -20,7 +20,7 @@ use Rattle.std.specs.declared.cmp.Ordering.{Ordering}
 use Rattle.std.specs.declared.cmp.Ordering.TheVariants.{Less, Equal, Greater}
 use Rattle.nb_datagram.specs.declared.key.Key.{Key}
 use Rattle.nb_datagram.specs.Key.{key_cmp}
-use Rattle.nb_c.specs.declared.differing.NbtDifference.{NbtDifference}
+use Rattle.nb_c.specs.declared.tables.NbtDifference.{NbtDifference}
 
 -- IsLoaded input limits t: the table t stands in the input, and has and keeps these limits
 pub record IsLoaded (input : List ℕ) (limits : Limits) (t : TableValue) : Type 0 where

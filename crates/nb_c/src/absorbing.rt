@@ -8,10 +8,10 @@ ghost use Rattle.nb_c.specs.declared.statuses.TheConstants.{NO_STATION};
 ghost use Rattle.nb_table.specs.Saved.{key_bytes};
 
 use crate::handle::{NbtStation, put_back, taken};
-use crate::loading::loaded;
 use crate::output::{answer_of, write_answer};
 use crate::refusal::{Refusal, load_refusal, table_refusal};
 use crate::statuses::{NO_ROLE, NO_STATION};
+use crate::tables::loaded;
 use nb_datagram::{Datagram, Datagrams, Key};
 use nb_member::Member;
 use nb_member::laws::a_preview_is_what_is_handed_over;
@@ -42,28 +42,11 @@ pub extern "C" fn nbt_station_absorb(
     match taken(alloc, station) {
         None => NO_STATION,
         Some(mut kept) => {
-            let status = absorb(alloc, &mut kept.member, moment, table, into, used, at);
+            let answer = absorb_saved(alloc, &mut kept.member, moment, table, into.len());
             put_back(station, kept);
-            status
+            write_answer(answer, into, used, at)
         }
     }
-}
-
-/// Joins a saved table to a member's, and writes what it hands over.
-fn absorb(
-    alloc: Global,
-    member: &mut Member,
-    moment: u64,
-    table: &[u8],
-    into: &mut [u8],
-    used: &mut usize,
-    at: &mut usize,
-) -> u32
-    ensures { AbsorbsInto member.old moment table.now member.new (lent into.old used.old at.old)
-        (lent into.new used.new at.new) result }
-{
-    let answer = absorb_saved(alloc, member, moment, table, into.len());
-    write_answer(answer, into, used, at)
 }
 
 /// Joins a saved table to a member's, where there is room for the bytes of what it hands over.

@@ -60,29 +60,23 @@ fn tell_line(
 {
     match read {
         Ok(None) => put_line(numbers(BLANK, 0, 0), &[], said, into, used),
-        Ok(Some(line)) => tell_value(line, said, into, used),
-        Err(fault) => status_of(line_refusal(*fault)),
-    }
-}
-
-/// Tells what a line says.
-fn tell_value(line: &Line, said: &mut NbtLine, into: &mut [u8], used: &mut usize) -> u32
-    ensures { WritesLine (Ok (line_told (Some line.now))) (line_lent said.old into.old used.old)
-        (line_lent said.new into.new used.new) result }
-{
-    match line {
-        Line::Packet {
-            port,
-            moment,
-            payload,
-        } => put_line(
+        Ok(
+            Some(
+                Line::Packet {
+                    port,
+                    moment,
+                    payload,
+                },
+            ),
+        ) => put_line(
             numbers(PACKET, *port, *moment),
             payload.as_slice(),
             said,
             into,
             used,
         ),
-        Line::Tick { now } => put_line(numbers(TICK, 0, *now), &[], said, into, used),
+        Ok(Some(Line::Tick { now })) => put_line(numbers(TICK, 0, *now), &[], said, into, used),
+        Err(fault) => status_of(line_refusal(*fault)),
     }
 }
 

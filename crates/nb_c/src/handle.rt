@@ -73,21 +73,6 @@ fn told(station: NbtStation) -> (NbtStation, bool)
     (NbtStation { at }, is_none)
 }
 
-/// The box of a station.
-fn opened(alloc: Global, station: NbtStation) -> Box<Kept>
-    requires { IsHere station.at }
-    ensures { result.value ≡ station.value }
-{
-    show(alloc, station).into_box()
-}
-
-/// The station of a box.
-fn shut(kept: Box<Kept>) -> NbtStation
-    ensures { (result.value ≡ kept.value) × IsHere result.at }
-{
-    hide(Parts::of(kept))
-}
-
 /// The box of a station, in whose place none is left; nothing where there is none.
 pub(crate) fn taken(alloc: Global, station: &mut NbtStation) -> Option<Box<Kept>>
     ensures left { IsNone station.new.at }
@@ -99,7 +84,7 @@ pub(crate) fn taken(alloc: Global, station: &mut NbtStation) -> Option<Box<Kept>
         let_go(was);
         return None;
     }
-    Some(opened(alloc, was))
+    Some(show(alloc, was).into_box())
 }
 
 /// Puts the box of a station to where none is left.
@@ -107,5 +92,5 @@ pub(crate) fn put_back(station: &mut NbtStation, kept: Box<Kept>)
     requires { IsNone station.old.at }
     ensures { (station.new.value ≡ kept.value) × IsHere station.new.at }
 {
-    let_go(mem::replace(station, shut(kept)));
+    let_go(mem::replace(station, hide(Parts::of(kept))));
 }

@@ -1,16 +1,25 @@
-//! Names, as texts and as spellings.
-ghost use Rattle.std.specs.Prelude.{◌≡◌, IfOk};
-ghost use Rattle.nb_names.specs.NameText.{written};
-ghost use Rattle.nb_c.specs.Names.{Spells, Tells, spelling_answer};
+//! Names: as texts, as spellings, and spelled out in place.
+ghost use Rattle.std.specs.Prelude.{◌≡◌, IfOk, ◌≤◌, ℕ, List, length};
+ghost use Rattle.nb_names.specs.NameText.{written, IsBad};
+ghost use Rattle.nb_c.specs.Names.{Spells, Tells, spelling_answer, IsRead, in_place, spelled_in_place};
 ghost use Rattle.nb_c.specs.Outputs.{Does, HasOne, OrMemory, none_late, lent};
+ghost use Rattle.std.specs.Str.{IsValidUpTo};
+ghost use Rattle.nb_c.specs.Statuses.{place_of};
+ghost use Rattle.nb_names.specs.declared.limits.TheConstants.{MAX_SPELLING};
+ghost use Rattle.nb_names.specs.declared.pointers.Pointers.TheVariants.{Followed};
+ghost use Rattle.nb_names.specs.Labels.{NameAt};
+ghost use Rattle.nb_names.specs.Skipped.{IsSkipped};
 
 use crate::output::{answer_of, write_answer};
 use crate::refusal::{Refusal, name_refusal, text_refusal};
 use crate::statuses::{NAME_TRAILING_BYTES, NO_ROLE};
-use crate::texts::name_of_text;
 use nb_names::laws::{labels_tell_the_name, one_netbios_fault, one_reading};
+use nb_names::limits::{LETTERS, MAX_SPELLING};
 use nb_names::text_laws::{one_name, one_text_fault};
-use nb_names::{Bytes, Name, NoMemory, Pointers, TextFault, name_text, read_name, write_domain};
+use nb_names::{
+    Bytes, DomainName, Name, NameReader, NoMemory, Pointers, Skipped, TextFault, name_from_text,
+    name_text, read_name, write_domain,
+};
 use std::alloc::Global;
 
 /// Writes the spelling of the name with this text.
@@ -27,7 +36,10 @@ pub extern "C" fn nbt_name_spell(
     ensures { Does none_late (Spells text.now) (lent into.old used.old at.old)
         (lent into.new used.new at.new) result }
 {
-    write_answer(spelling_of(alloc, text), into, used, at)
+    // For the clause: a text has one name or one fault. The calls do nothing.
+    one_name();
+    one_text_fault();
+    write_answer(spelling_of(alloc, name_of_text(text)), into, used, at)
 }
 
 /// Writes the text of the name with this spelling, which has no byte after it.
@@ -47,19 +59,8 @@ pub extern "C" fn nbt_name_text(
     write_answer(text_of(alloc, spelling), into, used, at)
 }
 
-/// The spelling of the name with this text.
-fn spelling_of(alloc: Global, text: &[u8]) -> Result<Bytes, Refusal>
-    ensures answer { OrMemory none_late (Spells text.now) result }
-    ensures one { HasOne (Spells text.now) }
-{
-    // For the clause: a text has one name or one fault. The calls do nothing.
-    one_name();
-    one_text_fault();
-    spelling_read(alloc, name_of_text(text))
-}
-
 /// The spelling of a name, if one was read.
-fn spelling_read(alloc: Global, read: Result<Name, TextFault>) -> Result<Bytes, Refusal>
+fn spelling_of(alloc: Global, read: Result<Name, TextFault>) -> Result<Bytes, Refusal>
     ensures { OrMemory none_late (λ answer. answer ≡ spelling_answer read) result }
 {
     match read {
@@ -93,4 +94,102 @@ fn text_bytes(alloc: Global, name: &Name) -> Result<Bytes, NoMemory>
     ensures { IfOk result (λ bytes. bytes ≡ written name.now) }
 {
     Ok(Bytes::from_vec(name_text(alloc, name)?.into_bytes()))
+}
+
+/// The name that the bytes of a text stand for.
+///
+/// # Errors
+///
+/// As [`name_from_text`]. A byte that isn't ASCII is of no text of the form.
+pub(crate) fn name_of_text(text: &[u8]) -> Result<Name, TextFault>
+    ensures { IsRead text.now result }
+{
+    match str::from_utf8(text) {
+        Ok(whole) => name_from_text(whole),
+        Err(fault) => Err(TextFault::BadText(bad_place(text, fault.valid_up_to()))),
+    }
+}
+
+/// Where a text leaves the form that is UTF-8 up to a place alone.
+fn bad_place(text: &[u8], valid: usize) -> usize
+    requires { IsValidUpTo text.now valid }
+    ensures { IsBad text.now result }
+{
+    match str::from_utf8(&text[..valid]) {
+        Ok(front) => match name_from_text(front) {
+            Ok(_) => valid,
+            Err(fault) => place_of(fault, valid),
+        },
+        Err(_) => 0,
+    }
+}
+
+/// The place of a fault, if it has one, else the other.
+fn place_of(fault: TextFault, other: usize) -> usize
+    ensures { result ≡ place_of fault other }
+{
+    match fault {
+        TextFault::BadText(place) => place,
+        TextFault::TooLong => other,
+    }
+}
+
+/// The spelling of labels, and bytes of zero after it.
+pub(crate) fn spelled_in_place(domain: &DomainName) -> [u8; MAX_SPELLING]
+    ensures { result ≡ spelled_in_place domain.now }
+{
+    let mut bytes = [0; MAX_SPELLING];
+    fill_spelling(domain.spelling(), &mut bytes);
+    bytes
+}
+
+/// Fills in the spelling of the domain name at an offset of a packet that was judged so, and bytes
+/// of zero after it. Where it stands in the packet whole, it is copied from there.
+pub(crate) fn spell_domain(
+    names: &NameReader<'_, '_>,
+    at: usize,
+    name: &Skipped,
+    into: &mut [u8; MAX_SPELLING],
+)
+    requires { (labels : List (List ℕ)) × IsSkipped names.now Followed at labels name.now }
+    ensures { (labels : List (List ℕ)) → IsSkipped names.now Followed at labels name.now →
+        into.new ≡ spelled_in_place labels }
+{
+    match names.lent_at(at, Pointers::Followed, name) {
+        Some(lent) => fill_spelling(lent.spelling(), into),
+        None => spell_along(names, at, into),
+    }
+}
+
+/// Fills in the spelling of the domain name at an offset of a packet, along the runs in which its
+/// labels stand. It is out of line, so that others don't pay for the room of a name, and given no
+/// more than it needs, so that nothing is kept for it.
+#[inline(never)]
+fn spell_along(names: &NameReader<'_, '_>, at: usize, into: &mut [u8; MAX_SPELLING])
+    requires { (labels : List (List ℕ)) × (next : ℕ) × NameAt names.now Followed at labels next }
+    ensures { (labels : List (List ℕ)) (next : ℕ) → NameAt names.now Followed at labels next →
+        into.new ≡ spelled_in_place labels }
+{
+    let (domain, _) = names.read_domain(at, Pointers::Followed).unwrap();
+    fill_spelling(domain.spelling(), into);
+}
+
+/// How many bytes the spelling of a NetBIOS name has whose scope has no label.
+const WITHOUT_SCOPE: usize = 1 + LETTERS + 1;
+
+/// Fills in a spelling, and bytes of zero after it. Of the length that nearly all have it is copied
+/// without a call of the C library, and by way of an array, which overlaps nothing.
+#[inline(always)]
+fn fill_spelling(spelling: &[u8], into: &mut [u8; MAX_SPELLING])
+    requires { length spelling.now ≤ MAX_SPELLING }
+    ensures { into.new ≡ in_place spelling.now }
+{
+    *into = [0; MAX_SPELLING];
+    if spelling.len() == WITHOUT_SCOPE {
+        let mut front = [0; WITHOUT_SCOPE];
+        front.copy_from_slice(spelling);
+        into[..WITHOUT_SCOPE].copy_from_slice(&front);
+    } else {
+        into[..spelling.len()].copy_from_slice(spelling);
+    }
 }

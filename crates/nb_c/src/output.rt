@@ -2,7 +2,7 @@
 ghost use Rattle.std.specs.Prelude.{◌≡◌, length};
 ghost use Rattle.nb_c.specs.Outputs.{put_into, put_status, at_refused, refused_status, of_memory, Answers, Ends, Filled, lent};
 
-use crate::refusal::Refusal;
+use crate::refusal::{Refusal, status_of};
 use crate::statuses::{DONE, NO_MEMORY, NO_ROOM};
 use nb_names::{Bytes, NoMemory};
 
@@ -25,14 +25,10 @@ pub(crate) fn refuse(refusal: Refusal, at: &mut usize) -> u32
     ensures at { at.new ≡ at_refused refusal at.old }
     ensures status { result ≡ refused_status refusal }
 {
-    match refusal {
-        Refusal::Memory => NO_MEMORY,
-        Refusal::Fault(status) => status,
-        Refusal::FaultAt(status, place) => {
-            *at = place;
-            status
-        }
+    if let Refusal::FaultAt(_, place) = refusal {
+        *at = place;
     }
+    status_of(refusal)
 }
 
 /// Writes what a call answers: the bytes, or where the fault stands.

@@ -1,21 +1,19 @@
 //! Questions and records of the name service, many by one call, with the names in their RDATA.
 ghost use Rattle.std.specs.Prelude.{◌≡◌, ◌<◌, ◌^◌, ℕ, List, length};
 ghost use Rattle.nb_c.specs.declared.service_entries.NbtServiceEntry.{NbtServiceEntry};
-ghost use Rattle.nb_c.specs.Entries.{FilledFront, FillsFront, ReadsEntries, ReadsEntry, ReadsServer, IsEntry, room_of};
+ghost use Rattle.nb_c.specs.ServiceParts.{FilledFront, FillsFront, ReadsEntries, ReadsEntry, ReadsServer, IsEntry, room_of, spelled_answer};
 ghost use Rattle.nb_c.specs.Outputs.{Alone};
-ghost use Rattle.nb_c.specs.ServiceParts.{spelled_answer};
 ghost use Rattle.nb_service.specs.Header.{HasHeader, header_value};
 
+use crate::names::spelled_in_place;
 use crate::output::refuse;
 use crate::refusal::{Refusal, service_refusal};
 use crate::service_parts::domain_by;
-use crate::service_reading::{NbtServiceItem, fill_item_of};
-use crate::spellings::spelled_in_place;
+use crate::service_reading::{NbtServiceItem, fill_item_of, one_item_answer};
 use crate::statuses::{DONE, OTHER_RDATA};
 use nb_names::limits::{MAX_SPELLING, POINTED_OFFSETS};
 use nb_names::{DomainName, NameReader};
 use nb_service::kinds::NS;
-use nb_service::laws::{one_header, one_item};
 use nb_service::limits::SHORT_PACKET;
 use nb_service::{Header, read_header};
 
@@ -106,9 +104,8 @@ fn fill_entries_by(
     ensures { FilledFront NbtServiceEntry (ReadsEntries names.now number place (room_of into.old))
         into.old into.new result }
 {
-    // For the clause: a payload has one header at most, and one item there. The calls do nothing.
-    one_header();
-    one_item();
+    // For the clause; the call does nothing.
+    one_item_answer();
     if into.is_empty() {
         return Ok(0);
     }
@@ -132,9 +129,8 @@ fn fill_each(
     ensures { FilledFront NbtServiceEntry (ReadsEntries names.now number place (room_of into.old))
         into.old into.new result }
 {
-    // For the clause: a payload has one header at most, and one item there. The calls do nothing.
-    one_header();
-    one_item();
+    // For the clause; the call does nothing.
+    one_item_answer();
     let room = into.len().min(MOST_ITEMS);
     let mut count = 0;
     let mut at = place;

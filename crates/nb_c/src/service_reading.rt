@@ -2,7 +2,7 @@
 ghost use Rattle.std.specs.Prelude.{◌≡◌, ◌≤◌, ◌++◌, ℕ, List};
 ghost use Rattle.nb_c.specs.declared.service_reading.NbtServiceHeader.{NbtServiceHeader};
 ghost use Rattle.nb_c.specs.declared.service_reading.NbtServiceItem.{NbtServiceItem};
-ghost use Rattle.nb_c.specs.Outputs.{Alone, FilledAlone, Fills};
+ghost use Rattle.nb_c.specs.Outputs.{Alone, FilledAlone, Fills, HasOne};
 ghost use Rattle.nb_c.specs.Services.{ReadsHeader, ReadsItem, ReadsPacket, header_numbers, netbios_number, numbers, section_number};
 ghost use Rattle.nb_names.specs.declared.pointers.Pointers.TheVariants.{Followed};
 ghost use Rattle.nb_names.specs.DomainName.{spelling};
@@ -10,9 +10,9 @@ ghost use Rattle.nb_names.specs.NameText.{are_letters};
 ghost use Rattle.nb_names.specs.Skipped.{IsSkipped};
 ghost use Rattle.nb_service.specs.Header.{HasHeader, header_value};
 
+use crate::names::spell_domain;
 use crate::output::{fill, finish};
 use crate::refusal::{Refusal, service_refusal};
-use crate::spellings::spell_domain;
 use crate::statuses::NO_ITEM;
 use nb_names::NameReader;
 use nb_names::laws::one_reading;
@@ -196,8 +196,8 @@ fn fill_item(
     ensures { FilledAlone NbtServiceItem (ReadsItem payload.now number place)
         into.old into.new result }
 {
-    // For the clause: a payload has one header at most. The call does nothing.
-    one_header();
+    // For the clause; the call does nothing.
+    one_item_answer();
     match read_header(payload) {
         Ok(header) => fill_item_of(
             &NameReader::of(payload, &mut []),
@@ -225,9 +225,8 @@ pub(crate) fn fill_item_of(
     ensures { FilledAlone NbtServiceItem (ReadsItem names.now number place)
         into.old into.new result }
 {
-    // For the clause: a payload has one header at most, and one item there. The calls do nothing.
-    one_header();
-    one_item();
+    // For the clause; the call does nothing.
+    one_item_answer();
     match see_item(names, header, number, place) {
         Ok(Some((section, seen))) => {
             fill_numbers(section_number(section), &seen, names, into);
@@ -236,6 +235,14 @@ pub(crate) fn fill_item_of(
         Ok(None) => Err(Refusal::Fault(NO_ITEM)),
         Err(fault) => Err(service_refusal(fault)),
     }
+}
+
+/// Of an item one thing is answered.
+pub(crate) fn one_item_answer()
+    ensures { (payload : List ℕ) (number at : ℕ) → HasOne (ReadsItem payload number at) }
+{
+    one_header();
+    one_item();
 }
 
 /// The number of a section; that of questions, which are in none, is 0.

@@ -1,22 +1,27 @@
-//! Stations: made, shown the clock, saved, listed and given back.
-ghost use Rattle.std.specs.Prelude.{◌≡◌, ◌≢◌, ◌⊎◌, Err};
+//! Stations: made of names, shown the clock, saved, listed and given back.
+ghost use Rattle.std.specs.Prelude.{◌≡◌, ◌≢◌, ◌⊎◌, Err, ◌+◌, ◌<◌, ◌++◌, ◌∷◌, Contains, MatchOption, length};
 ghost use denote.RawPtr.{null_ptr};
 ghost use Rattle.nb_c.specs.Outputs.{Answers, lent};
-ghost use Rattle.nb_c.specs.Stations.{Creates, OnStation, Ticks, Writes};
+ghost use Rattle.nb_c.specs.Stations.{Creates, OnStation, Ticks, Writes, Names, NamesText, is_space, texts_in};
 ghost use Rattle.nb_c.specs.declared.refusal.Refusal.TheVariants.{Fault};
 ghost use Rattle.nb_c.specs.declared.statuses.TheConstants.{DONE, NO_MEMORY, NO_STATION};
 ghost use Rattle.nb_table.specs.Saved.{saved as saved_bytes};
 ghost use Rattle.nb_member.specs.Listing.{listing};
 ghost use Rattle.nb_member.specs.Member.{contents, new_member};
 ghost use Rattle.std.specs.Int.{w32, to_be_bytes};
+ghost use Rattle.std.specs.List.{slice_split};
 
 use crate::handle::{NbtStation, let_go, put_back, taken};
 use crate::kept::Kept;
-use crate::naming::names_of;
+use crate::names::name_of_text;
 use crate::output::{refuse, write_bytes};
-use crate::statuses::{DONE, NO_MEMORY, NO_STATION};
+use crate::refusal::Refusal;
+use crate::statuses::{
+    BAD_TEXT, DONE, LONG_TEXT, NAME_PRESENT, NO_MEMORY, NO_STATION, TOO_MANY_NAMES,
+};
 use crate::tables::lines_of;
-use nb_member::{LocalNames, Member, Settings};
+use nb_member::{AddFault, LocalNames, Member, Settings};
+use nb_names::TextFault;
 use std::alloc::Global;
 use std::ptr;
 
@@ -110,19 +115,11 @@ pub extern "C" fn nbt_station_tick(
     match taken(alloc, station) {
         None => NO_STATION,
         Some(mut kept) => {
-            let status = tick(&mut kept.member, now, dropped);
+            *dropped = kept.member.tick(now).keys;
             put_back(station, kept);
-            status
+            DONE
         }
     }
-}
-
-/// Shows a member the clock.
-fn tick(member: &mut Member, now: u64, dropped: &mut u32) -> u32
-    ensures { Ticks member.old now member.new dropped.old dropped.new result }
-{
-    *dropped = member.tick(now).keys;
-    DONE
 }
 
 /// Writes the station's table, saved.
@@ -144,19 +141,11 @@ pub extern "C" fn nbt_station_save(
     match taken(alloc, station) {
         None => NO_STATION,
         Some(kept) => {
-            let status = save(&kept.member, into, used);
+            let status = write_bytes(kept.member.table().save(), into, used);
             put_back(station, kept);
             status
         }
     }
-}
-
-/// Writes a member's table, saved.
-fn save(member: &Member, into: &mut [u8], used: &mut usize) -> u32
-    ensures { Writes (saved_bytes (contents member.now)) member.now member.now
-        (lent into.old used.old 0) (lent into.new used.new 0) result }
-{
-    write_bytes(member.table().save(), into, used)
 }
 
 /// Writes the lines of the station's keys, as `nbt list` prints them of its table.
@@ -178,19 +167,11 @@ pub extern "C" fn nbt_station_list(
     match taken(alloc, station) {
         None => NO_STATION,
         Some(kept) => {
-            let status = list(alloc, &kept.member, into, used);
+            let status = write_bytes(lines_of(alloc, kept.member.table()), into, used);
             put_back(station, kept);
             status
         }
     }
-}
-
-/// Writes the lines of a member's keys.
-fn list(alloc: Global, member: &Member, into: &mut [u8], used: &mut usize) -> u32
-    ensures { Writes (listing (contents member.now)) member.now member.now
-        (lent into.old used.old 0) (lent into.new used.new 0) result }
-{
-    write_bytes(lines_of(alloc, member.table()), into, used)
 }
 
 /// Gives a station back. Of none it does nothing.
@@ -199,4 +180,60 @@ pub extern "C" fn nbt_station_free(alloc: Global, station: NbtStation) {
     let mut station = station;
     let _kept = taken(alloc, &mut station);
     let_go(station);
+}
+
+/// The names whose texts these are, with one space between two; none where there are no bytes.
+pub(crate) fn names_of(alloc: Global, texts: &[u8]) -> Result<LocalNames, Refusal>
+    ensures { Names (texts_in texts.now) result }
+{
+    if texts.is_empty() {
+        return Ok(LocalNames::new(alloc));
+    }
+    names_between(alloc, texts)
+}
+
+/// The names whose texts stand between spaces.
+fn names_between(alloc: Global, texts: &[u8]) -> Result<LocalNames, Refusal>
+    ensures { Names (slice_split is_space texts.now) result }
+{
+    let mut names = LocalNames::new(alloc);
+    let mut rest = texts;
+    let mut place = 0;
+    while let Some((text, others)) = at_space(rest) {
+        if let Err(refusal) = add(text, place, &mut names) {
+            return Err(refusal);
+        }
+        place += text.len() + 1;
+        rest = others;
+    }
+    match add(rest, place, &mut names) {
+        Ok(()) => Ok(names),
+        Err(refusal) => Err(refusal),
+    }
+}
+
+/// What stands before the first space, and what after it; `None` where there is none.
+fn at_space(texts: &[u8]) -> Option<(&[u8], &[u8])>
+    ensures { MatchOption result (¬ Contains texts.now 32)
+        (λ parts. (texts.now ≡ parts.0.now ++ 32 ∷ parts.1.now) × (¬ Contains parts.0.now 32)) }
+{
+    let at = texts.iter().position(|byte| *byte == b' ')?;
+    Some((&texts[..at], &texts[at + 1..]))
+}
+
+/// Adds the name with this text, which begins at a place.
+fn add(text: &[u8], place: usize, names: &mut LocalNames) -> Result<(), Refusal>
+    requires { place + length text.now < 18446744073709551616 }
+    ensures { NamesText place names.old text.now names.new result }
+{
+    match name_of_text(text) {
+        Ok(name) => match names.add(name) {
+            Ok(()) => Ok(()),
+            Err(AddFault::Present) => Err(Refusal::FaultAt(NAME_PRESENT, place)),
+            Err(AddFault::TooMany) => Err(Refusal::FaultAt(TOO_MANY_NAMES, place)),
+            Err(AddFault::NoMemory) => Err(Refusal::Memory),
+        },
+        Err(TextFault::BadText(at)) => Err(Refusal::FaultAt(BAD_TEXT, place.saturating_add(at))),
+        Err(TextFault::TooLong) => Err(Refusal::Fault(LONG_TEXT)),
+    }
 }

@@ -1,20 +1,25 @@
-//! Saved tables, joined and listed, in lines and in objects.
-ghost use Rattle.std.specs.Prelude.{◌≡◌, IfOk};
-ghost use Rattle.nb_c.specs.Tables.{Joins, Lists, ListsObjects, Merges, OfOne, follow_the_first, listed_as};
-ghost use Rattle.nb_c.specs.Outputs.{Does, OrMemory, none_late, lent};
+//! Saved tables: joined, listed and compared.
+ghost use Rattle.std.specs.Prelude.{◌≡◌, IfOk, IfErr};
+ghost use Rattle.nb_c.specs.Tables.{Joins, Lists, ListsObjects, Merges, OfOne, follow_the_first, listed_as, Compares, IsLeastDifference, Narrows, NarrowsBy, difference_of, lower_of, IsLoaded};
+ghost use Rattle.nb_c.specs.Outputs.{Does, OrMemory, none_late, lent, FillsOrLacks};
 ghost use Rattle.nb_member.specs.Listing.{listing};
+ghost use Rattle.std.specs.FinMap as maps;
+ghost use Rattle.nb_c.specs.declared.tables.NbtDifference.{NbtDifference};
+ghost use Rattle.nb_table.specs.Limits.{KeepsLimits};
+ghost use Rattle.nb_table.specs.Saved.{LoadFails};
 
-use crate::laws::{a_merge_has_one_answer, a_table_has_one_list};
-use crate::loading::loaded;
-use crate::output::{answer_of, write_answer};
+use crate::laws::{a_comparison_has_one_answer, a_merge_has_one_answer, a_table_has_one_list};
+use crate::output::{answer_of, fill, write_answer};
 use crate::refusal::{Refusal, load_refusal, table_refusal};
 use crate::stations::LONGEST;
 use crate::statuses::{NO_ROLE, SECOND};
+use nb_datagram::Key;
 use nb_member::{list_keys, list_objects};
 use nb_names::{Bytes, NoMemory};
-use nb_table::Table;
 use nb_table::laws::{an_input_is_read_as_one_table, saved_bytes_have_one_reading};
+use nb_table::{LoadFault, Table, load};
 use std::alloc::Global;
+use std::cmp::Ordering;
 
 /// Writes the join of two saved tables, saved, where each of the three has room for so many keys,
 /// and for so many of one address.
@@ -147,4 +152,157 @@ pub extern "C" fn nbt_table_json(
     // For the clause; the call does nothing.
     a_table_has_one_list();
     write_answer(listed(alloc, table, true), into, used, at)
+}
+
+/// Whether two tables differ, and the least key at which they do.
+#[repr(C)]
+#[derive(Clone, Copy)]
+pub struct NbtDifference {
+    /// SOURCE_IP.
+    pub address: u32,
+    /// SOURCE_PORT.
+    pub port: u16,
+    /// DGM_ID.
+    pub identifier: u16,
+    /// 1 where the tables differ, else 0.
+    pub differ: u8,
+}
+
+/// Finds the least key at which two saved tables differ, if they do.
+///
+/// The form is our choice.
+#[unsafe(no_mangle)]
+pub extern "C" fn nbt_table_differ(
+    alloc: Global,
+    first: &[u8],
+    second: &[u8],
+    difference: &mut NbtDifference,
+    at: &mut usize,
+) -> u32
+    ensures { FillsOrLacks NbtDifference follow_the_first (Compares first.now second.now)
+        difference.old difference.new at.old at.new result }
+{
+    // For the clause; the call does nothing.
+    a_comparison_has_one_answer();
+    fill(compared(alloc, first, second), difference, at)
+}
+
+/// The least key at which two saved tables differ.
+fn compared(alloc: Global, first: &[u8], second: &[u8]) -> Result<NbtDifference, Refusal>
+    ensures { OrMemory follow_the_first (Compares first.now second.now) result }
+{
+    // For the clause; the calls do nothing.
+    an_input_is_read_as_one_table();
+    saved_bytes_have_one_reading();
+    match loaded(alloc, first, u32::MAX, u32::MAX, LONGEST) {
+        Err(fault) => Err(load_refusal(NO_ROLE, fault)),
+        Ok(one) => match loaded(alloc, second, u32::MAX, u32::MAX, LONGEST) {
+            Err(fault) => Err(load_refusal(SECOND, fault)),
+            Ok(other) => Ok(difference_of(least_difference(&one, &other))),
+        },
+    }
+}
+
+/// The numbers of the key at which tables differ.
+fn difference_of(least: Option<Key>) -> NbtDifference
+    ensures { result ≡ difference_of least }
+{
+    match least {
+        None => NbtDifference {
+            address: 0,
+            port: 0,
+            identifier: 0,
+            differ: 0,
+        },
+        Some(key) => NbtDifference {
+            address: u32::from_be_bytes(key.ip),
+            port: key.port,
+            identifier: key.id,
+            differ: 1,
+        },
+    }
+}
+
+/// The least key at which two tables differ, if they do.
+fn least_difference(one: &Table, other: &Table) -> Option<Key>
+    ensures { IsLeastDifference one.now.contents other.now.contents result }
+{
+    let least = least_of(one, one, other, None);
+    least_of(other, one, other, least)
+}
+
+/// The least of a key, if there is one, and of those of a table's keys at which two tables differ.
+fn least_of(held: &Table, one: &Table, other: &Table, so_far: Option<Key>) -> Option<Key>
+    ensures { NarrowsBy one.now.contents other.now.contents (maps.keys held.now.contents)
+        so_far result }
+{
+    let mut least = so_far;
+    for key in held.keys() {
+        least = narrowed(one, other, key, least);
+    }
+    least
+}
+
+/// The lower of a key, if two tables differ at it, and of the least one so far.
+fn narrowed(one: &Table, other: &Table, key: Key, least: Option<Key>) -> Option<Key>
+    ensures { Narrows one.now.contents other.now.contents key least result }
+{
+    if one.same_at(other, &key) {
+        return least;
+    }
+    Some(lower_of(key, least))
+}
+
+/// The lower of a key and of the least one so far, if there is one.
+fn lower_of(key: Key, least: Option<Key>) -> Key
+    ensures { result ≡ lower_of key least }
+{
+    match least {
+        None => key,
+        Some(held) => match key.cmp(&held) {
+            Ordering::Less => key,
+            Ordering::Equal => held,
+            Ordering::Greater => held,
+        },
+    }
+}
+
+/// The table whose saved bytes these are, with these limits, which it keeps.
+///
+/// # Errors
+///
+/// As [`load`].
+pub(crate) fn loaded(
+    alloc: Global,
+    input: &[u8],
+    keys: u32,
+    per_source: u32,
+    longest: u16,
+) -> Result<Table, LoadFault>
+    ensures found { IfOk result (IsLoaded input.now (record {
+      keys = keys;
+      per_source = per_source;
+      longest = longest;
+    })) }
+    ensures fault { IfErr result (LoadFails input.now (record {
+      keys = keys;
+      per_source = per_source;
+      longest = longest;
+    })) }
+{
+    match load(alloc, input, keys, per_source, longest) {
+        Err(fault) => Err(fault),
+        Ok(table) => {
+            // For the clause; the call does nothing.
+            keeps_its_limits(&table);
+            Ok(table)
+        }
+    }
+}
+
+/// A table keeps its limits.
+fn keeps_its_limits(table: &Table)
+    ensures { KeepsLimits table.now }
+{
+    let _count = table.len();
 }

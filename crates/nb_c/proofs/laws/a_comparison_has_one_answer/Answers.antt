@@ -1,7 +1,6 @@
 use Rattle.nb_c.proofs.Common.{ℕ, List}
 use Rattle.nb_c.proofs.DifferLemmas.{one_difference}
-use Rattle.nb_c.proofs.LoadLemmas.{InputLaws}
-use Rattle.nb_c.proofs.TwoLemmas.{one_of_two}
+use Rattle.nb_c.proofs.TableLemmas.{InputLaws, one_of_two}
 use Rattle.nb_c.specs.Tables.{Differs, widest}
 use Rattle.nb_c.proofs.laws.a_comparison_has_one_answer.Goals as goal
 

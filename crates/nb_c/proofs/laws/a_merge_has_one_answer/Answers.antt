@@ -1,7 +1,5 @@
 use Rattle.nb_c.proofs.Common.{ℕ, List}
-use Rattle.nb_c.proofs.LoadLemmas.{InputLaws}
-use Rattle.nb_c.proofs.MergeLemmas.{one_join}
-use Rattle.nb_c.proofs.TwoLemmas.{one_of_two}
+use Rattle.nb_c.proofs.TableLemmas.{InputLaws, one_join, one_of_two}
 use Rattle.nb_c.specs.Tables.{Joins}
 use Rattle.nb_c.proofs.laws.a_merge_has_one_answer.Goals as goal
 

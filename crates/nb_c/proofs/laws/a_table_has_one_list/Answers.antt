@@ -1,5 +1,4 @@
-use Rattle.nb_c.proofs.LoadLemmas.{InputLaws}
-use Rattle.nb_c.proofs.ListLemmas.{one_list}
+use Rattle.nb_c.proofs.TableLemmas.{InputLaws, one_list}
 use Rattle.nb_c.proofs.laws.a_table_has_one_list.Goals as goal
 
 pub returns : goal.returns

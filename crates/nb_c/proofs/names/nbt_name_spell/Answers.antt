@@ -1,5 +1,8 @@
-use Rattle.nb_c.proofs.AnswerLemmas.{does}
+use Rattle.nb_c.proofs.NameLemmas.{TextLaws, does_read}
+use Rattle.nb_c.specs.Names.{spelling_answer}
 use Rattle.nb_c.proofs.names.nbt_name_spell.Goals as goal
 
 pub returns : goal.returns
-returns c = does _ _ c.spelling_of.ensures.one _ _ _ _ c.spelling_of.ensures.answer c.write_answer.ensures
+returns c =
+    let laws : TextLaws c.args.text.now = record { one = c.one_name.ensures _; one_fault = c.one_text_fault.ensures.one _; apart = c.one_text_fault.ensures.none _ } in
+    does_read _ laws spelling_answer _ c.name_of_text.ensures _ c.spelling_of.ensures _ _ _ c.write_answer.ensures

@@ -1,8 +1,7 @@
 use Rattle.nb_c.proofs.Common.{ℕ, ◌<◌, length, Ok, Err, subst, arith}
 use Rattle.nb_c.specs.declared.service_entries.NbtServiceEntry.{NbtServiceEntry}
-use Rattle.nb_c.specs.Entries.{FilledFront, ReadsEntries}
+use Rattle.nb_c.specs.ServiceParts.{FilledFront, ReadsEntries}
 use Rattle.nb_c.proofs.EntryLemmas.{entry_one, filled_all, filled_none, filled_some, filling_begins, filling_more}
-use Rattle.nb_c.proofs.ServiceLemmas.{HeaderLaws, ItemLaws}
 use Rattle.nb_c.proofs.service_entries.fill_each.Goals as goal
 
 pub entries-init : goal.entries-init
@@ -19,31 +18,22 @@ entries-preserved c =
 
 pub returns-then-count-eq0 : goal.returns-then-count-eq0
 returns-then-count-eq0 c =
-    let headers : HeaderLaws c.args.names.now = record { one = c.one_header.ensures.one _; whole = c.one_header.ensures.whole _ } in
-    let laws : ItemLaws c.args.names.now =
-    record { one = c.one_item.ensures.one _; apart = c.one_item.ensures.alone _; one_fault = c.one_item.ensures.one_fault _; counted = c.one_item.ensures.counted _; extent = c.one_item.ensures.extent _ } in
     subst (λ (r : ℕ). FilledFront NbtServiceEntry (ReadsEntries c.args.names.now c.args.number c.args.place r) c.args.into.now c.entries.into (Err c.in-Err.refusal))
     c.min-room.ensures
-    (filled_none c.args.names.now c.args.number c.args.place c.min-room.result (entry_one c.args.names.now headers laws) c.args.into.now c.entries.into
+    (filled_none c.args.names.now c.args.number c.args.place c.min-room.result (entry_one c.args.names.now (c.one_item_answer.ensures c.args.names.now)) c.args.into.now c.entries.into
     c.entries.count c.entries.at c.entries.invariant.0 c.in-Err.refusal c.if-count-eq0.true (omega (arith, c.entries-test.true)) c.in-Err.ensures.said)
 
 pub returns-in-Err : goal.returns-in-Err
 returns-in-Err c =
-    let headers : HeaderLaws c.args.names.now = record { one = c.one_header.ensures.one _; whole = c.one_header.ensures.whole _ } in
-    let laws : ItemLaws c.args.names.now =
-    record { one = c.one_item.ensures.one _; apart = c.one_item.ensures.alone _; one_fault = c.one_item.ensures.one_fault _; counted = c.one_item.ensures.counted _; extent = c.one_item.ensures.extent _ } in
     subst (λ (r : ℕ). FilledFront NbtServiceEntry (ReadsEntries c.args.names.now c.args.number c.args.place r) c.args.into.now c.entries.into (Ok c.entries.count))
     c.min-room.ensures
-    (filled_some c.args.names.now c.args.number c.args.place c.min-room.result (entry_one c.args.names.now headers laws) c.args.into.now c.entries.into
+    (filled_some c.args.names.now c.args.number c.args.place c.min-room.result (entry_one c.args.names.now (c.one_item_answer.ensures c.args.names.now)) c.args.into.now c.entries.into
     c.entries.count c.entries.at c.entries.invariant.0 c.in-Err.refusal c.if-count-eq0.false c.entries-test.true (omega (arith, c.min-room.ensures))
     c.in-Err.ensures.said)
 
 pub returns : goal.returns
 returns c =
-    let headers : HeaderLaws c.args.names.now = record { one = c.one_header.ensures.one _; whole = c.one_header.ensures.whole _ } in
-    let laws : ItemLaws c.args.names.now =
-    record { one = c.one_item.ensures.one _; apart = c.one_item.ensures.alone _; one_fault = c.one_item.ensures.one_fault _; counted = c.one_item.ensures.counted _; extent = c.one_item.ensures.extent _ } in
     subst (λ (r : ℕ). FilledFront NbtServiceEntry (ReadsEntries c.args.names.now c.args.number c.args.place r) c.args.into.now c.entries.into (Ok c.entries.count))
     c.min-room.ensures
-    (filled_all c.args.names.now c.args.number c.args.place c.min-room.result (entry_one c.args.names.now headers laws) c.args.into.now c.entries.into
+    (filled_all c.args.names.now c.args.number c.args.place c.min-room.result (entry_one c.args.names.now (c.one_item_answer.ensures c.args.names.now)) c.args.into.now c.entries.into
     c.entries.count c.entries.at c.entries.invariant.0 c.entries.invariant.1 c.entries-test.false (omega (arith, c.min-room.ensures)))

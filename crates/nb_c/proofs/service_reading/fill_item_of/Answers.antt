@@ -1,5 +1,6 @@
 use Rattle.nb_c.proofs.Common.{◌∙◌, refl, header_value, seen_extent, seen_name, seen_fields}
-use Rattle.nb_c.proofs.ServiceLemmas.{HeaderLaws, ItemLaws, at_none, at_some, extent_fits, extent_there, same_numbers, item_read}
+use Rattle.nb_c.proofs.AnswerLemmas.{alone_of}
+use Rattle.nb_c.proofs.ServiceLemmas.{at_none, at_some, extent_fits, extent_there, same_numbers}
 use Rattle.nb_c.specs.Services.{uncounted, fails, stands}
 use Rattle.nb_c.proofs.service_reading.fill_item_of.Goals as goal
 
@@ -15,25 +16,16 @@ fill_numbers-requires-clause-fits c =
 
 pub returns-in-Ok-Some : goal.returns-in-Ok-Some
 returns-in-Ok-Some c =
-    let headers : HeaderLaws c.args.names.now = record { one = c.one_header.ensures.one _; whole = c.one_header.ensures.whole _ } in
-    let laws : ItemLaws c.args.names.now =
-    record { one = c.one_item.ensures.one _; apart = c.one_item.ensures.alone _; one_fault = c.one_item.ensures.one_fault _; counted = c.one_item.ensures.counted _; extent = c.one_item.ensures.extent _ } in
     let there = at_some _ _ _ _ c.in-Ok-Some.field-0-is c.in-Ok-Some.ensures.found in
     let filled = c.fill_numbers.ensures _ (seen_name _ there.1.0 _ there.1.2)
     ∙ same_numbers _ _ _ _ _ _ c.section_number.ensures there.1.3 (seen_fields _ there.1.0 _ there.1.2) in
-    rw filled (item_read _ headers laws _ _ _
+    rw filled (alone_of _ (c.one_item_answer.ensures _ _ _) _
     (stands (header_value c.args.header.now) there.1.0 _ c.requires there.1.1 (extent_there _ there.1.0 _ _ there.0 there.1.2)))
 
 pub returns-in-Ok-None : goal.returns-in-Ok-None
 returns-in-Ok-None c =
-    let headers : HeaderLaws c.args.names.now = record { one = c.one_header.ensures.one _; whole = c.one_header.ensures.whole _ } in
-    let laws : ItemLaws c.args.names.now =
-    record { one = c.one_item.ensures.one _; apart = c.one_item.ensures.alone _; one_fault = c.one_item.ensures.one_fault _; counted = c.one_item.ensures.counted _; extent = c.one_item.ensures.extent _ } in
-    (item_read _ headers laws _ _ _ (uncounted (header_value c.args.header.now) c.requires (at_none _ _ _ c.in-Ok-None.field-0-is c.in-Ok-None.ensures.found)), refl)
+    (alone_of _ (c.one_item_answer.ensures _ _ _) _ (uncounted (header_value c.args.header.now) c.requires (at_none _ _ _ c.in-Ok-None.field-0-is c.in-Ok-None.ensures.found)), refl)
 
 pub returns-in-Err : goal.returns-in-Err
 returns-in-Err c =
-    let headers : HeaderLaws c.args.names.now = record { one = c.one_header.ensures.one _; whole = c.one_header.ensures.whole _ } in
-    let laws : ItemLaws c.args.names.now =
-    record { one = c.one_item.ensures.one _; apart = c.one_item.ensures.alone _; one_fault = c.one_item.ensures.one_fault _; counted = c.one_item.ensures.counted _; extent = c.one_item.ensures.extent _ } in
-    rw c.service_refusal.ensures (item_read _ headers laws _ _ _ (fails (header_value c.args.header.now) _ c.requires c.in-Err.ensures.fault), refl)
+    rw c.service_refusal.ensures (alone_of _ (c.one_item_answer.ensures _ _ _) _ (fails (header_value c.args.header.now) _ c.requires c.in-Err.ensures.fault), refl)

@@ -1,4 +1,4 @@
-use Rattle.nb_c.proofs.MergeLemmas.{join_refused, join_done}
+use Rattle.nb_c.proofs.TableLemmas.{join_refused, join_done}
 use Rattle.nb_c.proofs.Common.{ℕ, List, subst, IfOk, ◌≡◌, TableValue, saved}
 use Rattle.nb_c.proofs.tables.joined.Goals as goal
 

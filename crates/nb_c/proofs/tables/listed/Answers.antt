@@ -1,5 +1,4 @@
-use Rattle.nb_c.proofs.LoadLemmas.{InputLaws}
-use Rattle.nb_c.proofs.ListLemmas.{list_failed, lists}
+use Rattle.nb_c.proofs.TableLemmas.{InputLaws, list_failed, lists}
 use Rattle.nb_c.proofs.tables.listed.Goals as goal
 
 pub returns-in-Err : goal.returns-in-Err

@@ -1,6 +1,4 @@
-use Rattle.nb_c.proofs.LoadLemmas.{InputLaws}
-use Rattle.nb_c.proofs.MergeLemmas.{late_join, merges}
-use Rattle.nb_c.proofs.TwoLemmas.{first_failed, second_failed}
+use Rattle.nb_c.proofs.TableLemmas.{InputLaws, late_join, merges, first_failed, second_failed}
 use Rattle.nb_c.proofs.tables.merged.Goals as goal
 
 pub returns-in-Err : goal.returns-in-Err

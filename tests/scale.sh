@@ -1,5 +1,5 @@
 #!/usr/bin/env bash
-# tools/nbt-parallel and tools/nbt-dask over a capture of 40 MiB, on two workers: killed workers, killed clients, and
+# tools/nbt-parallel and tools/nbt-dask over a capture of 12 MiB, on two workers: killed workers, killed clients, and
 # inputs and devices that are refused. What isn't installed is left out. Usage: tests/scale.sh [PROGRAM]; its last line is
 # 'N passed, M failed, K skipped'.
 set -uo pipefail
@@ -18,24 +18,31 @@ merge() { ended "$program" merge --keys "$many"; }
 # engine NAME WORD..: $room/NAME, a tool by these words; its first word is the program.
 engine() { printf '#!/bin/sh\nexec %s--program "$@"\n' "$(printf '%q ' "${@:2}")" >"$1" && chmod +x "$1"; }
 
-# refuses STATUS TEXT WORD..: the command ends with the status, and these words alone on standard error, TEXT being a
-# pattern, and leaves no OUT.
-refuses() {
-    local status=$1 text=$2
-    shift 2
-    ended "$@" out >output 2>errors </dev/null
-    [ $? -eq "$status" ] && [ "$(wc -l <errors)" -eq 1 ] && [[ $(cat errors) == $text ]] && [ ! -s output ] && [ ! -e out ]
-    count $? "$*: $(cat errors)"
+# told STATUS TEXT TABLE WORD..: the command ends with the status, and at most a line on standard error, TEXT being a pattern; OUT is the
+# table, byte for byte, or isn't there where none is named. Nothing else is left of a command that ends well.
+told() {
+    local status=$1 text=$2 table=$3
+    ended "${@:4}" out >output 2>errors </dev/null
+    [ $? -eq "$status" ] && [ "$(wc -l <errors)" -le 1 ] && [[ $(cat errors) == $text ]] && [ ! -s output ] &&
+        [[ $status -ne 0 || ! -e out.work ]] && if [ -n "$table" ]; then cmp -s "$table" out; else [ ! -e out ]; fi
+    count $? "${*:4}: $(cat errors)"
     rm -rf out out.work
 }
 
-# gives TABLE WORD..: the command ends well, and OUT is the table, byte for byte; nothing else is left beside it.
-gives() {
-    local table=$1
-    shift
-    ended "$@" out >output 2>errors </dev/null && cmp -s "$table" out && [ ! -e out.work ] && [ ! -s errors ]
-    count $? "$*: $(cat errors)"
-    rm -rf out out.work
+# refuses STATUS TEXT WORD.. leaves no OUT, keeps STATUS TEXT WORD.. one that is a saved table; gives TABLE WORD.. makes one.
+refuses() { told "$1" "$2" '' "${@:3}"; }
+keeps() {
+    cp flow.table out
+    told "$1" "$2" flow.table "${@:3}"
+}
+gives() { told 0 '' "$@"; }
+
+# grouped NUMBER TABLE WORD..: OUT has so many lines, which join to the table, where one is named; the file `lines` keeps them.
+grouped() {
+    ended ./nbt-parallel "$program" --by-source "$1" "${@:3}" out && [ "$(wc -l <out)" -eq "$1" ] &&
+        { [ -z "$2" ] || merge <out | cmp -s - "$2"; }
+    count $? "nbt-parallel --by-source $1 ${*:3}"
+    mv out lines
 }
 
 # variant NAME CASES: $room/NAME, the program but for some commands, of which CASES says what is done first or instead.
@@ -57,52 +64,70 @@ printf '#!/bin/sh\necho "$@"\n' >echoing && chmod +x echoing
 variant lying 'save | merge) echo 4e42543200; exit ;;'
 variant unjoining 'merge) exit 3 ;;'
 
-# await NUMBER: waits for the start of so many runs of the slowed program, the last of which goes on once the file held is gone.
-await() {
+# awaits COMMAND..: waits until a command goes well, for some minutes at most.
+awaits() {
     for ((i = 0; i < 1000; i++)); do
-        [ "$(wc -l <started)" -ge "$1" ] && return
+        "$@" 2>/dev/null && return
         sleep 0.1
     done
 }
 
+# has_started NUMBER: whether so many runs of the slowed program began, the last of which goes on once the file held is gone.
+has_started() { [ "$(wc -l <started)" -ge "$1" ]; }
+
+# begins NUMBER WORD..: begins over `many`, and waits for its run of the program with this number.
+begins() {
+    : >started
+    echo "$1" >held
+    "${@:2}" many --shard-bytes 1048576 out >output 2>errors </dev/null &
+    awaits has_started "$1"
+}
+
 # loses_worker WORD..: a worker is killed while it works.
 loses_worker() {
-    : >started
-    echo 4 >held
-    ended "$@" many --shard-bytes 4194304 out >output 2>errors </dev/null &
-    await 4
+    begins 4 ended "$@"
     kill -9 "$(sed -n '4s/.* //p' started)" && rm held && wait $! && cmp -s table out && [ ! -e out.work ]
     count $? "$*, a worker killed: $(cat errors)"
     rm -rf held out out.work
 }
 
-# kills NAME COUNT: the client is killed at random moments, and run again.
-kills() {
-    "$here/scale/scale_kills.py" "$1" --count "$2" --program "$program" >output 2>&1
-    count $? "$1, killed at $2 moments: $(tail -n 1 output)"
-}
-
 # loses_client WORD..: the client is killed while it works, and run again.
 loses_client() {
-    : >started
-    echo 6 >held
-    "$@" many --shard-bytes 4194304 out >output 2>errors </dev/null &
-    await 6
+    begins 6 "$@"
     kill -9 $! && rm held && ! wait $! 2>/dev/null && [ ! -e out ]
     count $? "$*, the client killed: nothing is there"
     rm -f held
     : >started
-    ended "$@" many --shard-bytes 4194304 out >output 2>errors </dev/null && cmp -s table out && [ ! -e out.work ]
-    count $? "$*, the client killed, and run again: $(cat errors)"
-    rm -rf out out.work
+    gives table "$@" many --shard-bytes 1048576
+}
+
+# kills COUNT WORD..: the client is killed at random moments of a run, with all that it began, and run again.
+kills() {
+    local begin=$EPOCHREALTIME longest moment
+    gives gaps.table "${@:2}"
+    longest=$(awk "BEGIN { print $EPOCHREALTIME - $begin }")
+    for ((i = 0; i < $1; i++)); do
+        moment=$(awk "BEGIN { print $longest * $RANDOM / 32768 }")
+        setsid "${@:2}" out >output 2>errors </dev/null &
+        sleep "$moment"
+        kill -9 $! 2>/dev/null
+        wait $! 2>/dev/null
+        [ ! -e out ] || cmp -s gaps.table out
+        count $? "${*:2}, killed after $moment s: OUT"
+        [ -e out ] && [ ! -e out.work ] || ended "${@:2}" out >output 2>errors </dev/null
+        cmp -s gaps.table out && [ ! -s errors ] && [ ! -e out.work ]
+        count $? "${*:2}, killed after $moment s, and run again: $(cat errors)"
+        kill -9 -- -$! 2>/dev/null
+        rm -rf out out.work
+    done
 }
 
 # refusals ENGINE WORKING: inputs that are refused, devices that fail, and words that make no sense. What isn't refused before work
 # begins is asked of the second engine.
 refusals() {
     local name=${1#./}
-    refuses 1 "$name: bad: line 54321 is malformed (shard g0000-00000?)" "$2" "$program" bad
-    refuses 1 "$name: bad: line 54321 is malformed (shard g0000-00000?)" "$2" "$program" --by-source 2 bad
+    refuses 1 "$name: bad: line 12345 is malformed (shard g0000-00000?)" "$2" "$program" bad
+    refuses 1 "$name: bad: line 12345 is malformed (shard g0000-00000?)" "$2" "$program" --by-source 2 bad
     refuses 1 "$name: ever: lines 1 to * has * bytes, *: keys live across *(--by-source 3)*(nbt-pcap2cap --no-ticks)*" "$1" "$program" ever
     refuses 1 "$name: $here/../examples/office.pcap is a pcap file, and a capture is wanted: nbt-pcap2cap --no-ticks makes one of it" \
         "$1" "$program" "$here/../examples/office.pcap"
@@ -116,17 +141,6 @@ refusals() {
     keeps_table "$2" "$program" --tables gaps.table
     keeps 2 "$name: out is there, and is a saved table: --force replaces it" "$1" "$program" gaps
     wrong_programs "$2"
-}
-
-# keeps STATUS TEXT WORD..: the command ends with the status and the text, and OUT, a saved table, stays.
-keeps() {
-    local status=$1 text=$2
-    shift 2
-    cp flow.table out
-    ended "$@" out >output 2>errors </dev/null
-    [ $? -eq "$status" ] && cmp -s flow.table out && [[ $(cat errors) == $text ]]
-    count $? "$*, over a table: $(cat errors)"
-    rm -rf out out.work
 }
 
 # keeps_table WORD..: an OUT that is a saved table, the result itself too, is replaced by --force alone.
@@ -176,15 +190,16 @@ inputs() {
     for each in many keys gaps flow ever wide rubbish; do
         python3 "$here/scale/scale_capture.py" $each "$room"
     done
-    cp many bad && sed -i '54321s/.*/138 0 xyz/' bad
+    cp many bad && sed -i '12345s/.*/138 0 xyz/' bad
 
-    # One table over all: a program reads 16 MiB at once, so parts are saved and merged in order.
-    split -C 8m many part.
-    for each in part.*; do
-        save <"$each" >table.next
-        if [ -e table ]; then cat table table.next | merge >table.both && mv table.both table; else mv table.next table; fi
-    done
-    cp table copy
+    # Its parts, saved and merged in order, are what a program makes of all of it.
+    save <many >table
+    split -C 3m many part.
+    for each in part.*; do save <"$each" >"$each.table"; done
+    cat part.*.table | merge | cmp -s - table
+    count $? 'nbt merge: the parts of a capture'
+    head -n 12000 wide | save >large
+    cp large copy
     ended "$program" list --keys "$many" <table | cmp -s - many.list
     count $? 'nbt list: the datagrams of the table'
 
@@ -198,26 +213,27 @@ inputs() {
 
 # folders: a folder, or a link, of the name OUT.work that isn't of an earlier run is left as it is.
 folders() {
-    local text="nbt-parallel: $room/out.work is there, and isn't of an earlier run: it is left as it is" files
+    local files
     for files in monday 'lock monday' 'lock plan'; do
         mkdir out.work && cp gaps "out.work/${files##* }"
         [ "$files" = monday ] || : >out.work/lock
-        ended ./nbt-parallel "$program" "out.work/${files##* }" out >output 2>errors
-        [ $? -eq 2 ] && [ "$(cat errors)" = "$text" ] && [ ! -e out ] && cmp -s gaps "out.work/${files##* }" && [ "$(ls out.work | wc -l)" -eq "$(wc -w <<<"$files")" ]
-        count $? "nbt-parallel: OUT.work has $files: $(cat errors)"
-        rm -rf out.work
+        left_alone "$files" "${files##* }" "out.work/${files##* }"
     done
     mkdir theirs && cp gaps theirs/monday && ln -s theirs out.work
-    ended ./nbt-parallel "$program" gaps out >output 2>errors
-    [ $? -eq 2 ] && [ "$(cat errors)" = "$text" ] && [ -L out.work ] && [ "$(ls theirs)" = monday ]
-    count $? "nbt-parallel: OUT.work is a link: $(cat errors)"
-    rm out.work
+    left_alone monday monday gaps
     ended ./nbt-parallel "$room/unjoining" --shard-bytes $((line + 1)) gaps out >output 2>errors
     mv theirs/monday out.work
-    ended ./nbt-parallel "$program" --shard-bytes $((line + 1)) gaps out >output 2>errors
-    [ $? -eq 2 ] && [ "$(cat errors)" = "$text" ] && cmp -s gaps out.work/monday
-    count $? "nbt-parallel: OUT.work of an earlier run has another file: $(cat errors)"
-    rm -rf out.work theirs
+    left_alone "$(ls out.work | xargs)" monday gaps --shard-bytes $((line + 1))
+    rm -r theirs
+}
+
+# left_alone FILES NAME WORD..: OUT.work has these files after the run too, and the one of this name is a capture as before.
+left_alone() {
+    ended ./nbt-parallel "$program" "${@:3}" out >output 2>errors
+    [ $? -eq 2 ] && [ "$(cat errors)" = "nbt-parallel: $room/out.work is there, and isn't of an earlier run: it is left as it is" ] &&
+        [ ! -e out ] && [ "$(ls out.work | xargs)" = "$1" ] && cmp -s gaps "out.work/$2"
+    count $? "nbt-parallel: OUT.work has $1: $(cat errors)"
+    rm -rf out.work
 }
 
 # programs: a table that another program made isn't used; the program of these tools is found off PATH.
@@ -257,54 +273,46 @@ settings() {
         ./nbt-parallel "$program" gaps
 }
 
+# lists_nothing STATUS TEXT FILE: what can't be listed.
+lists_nothing() {
+    "$tools/nbt-parallel" --program "$program" --list "$3" >output 2>errors
+    [ $? -eq "$1" ] && [ "$(cat errors)" = "$2" ]
+    count $? "nbt-parallel --list: $(cat errors)"
+}
+
 with_parallel() {
-    local each
     loses_worker ./nbt-parallel "$room/slow"
     loses_client ./nbt-parallel "$room/slow"
     [ "$(wc -l <started)" -lt 12 ]
     count $? "./nbt-parallel, run again: it goes on where it was, $(wc -l <started) runs of the program"
     refusals ./nbt-parallel ./nbt-parallel
-    kills nbt-parallel 5
+    kills 5 ./nbt-parallel "$program" --shard-bytes $((line + 1)) gaps
     folders
     programs
     settings
     gives gaps.table ./nbt-parallel "$program" --shard-bytes $((line + 1)) gaps
     PATH=$room/installed/bin:$PATH gives gaps.table nbt-parallel gaps
     gives flow.table ./nbt-parallel "$program" --shard-bytes $((line + 1)) flow
-    ended ./nbt-parallel "$program" --by-source 3 --shard-bytes $((line + 1)) flow out && [ "$(wc -l <out)" -eq 3 ] &&
-        merge <out | cmp -s flow.table
-    count $? './nbt-parallel --by-source 3, with ticks'
-    rm out
-    for each in part.*; do save <"$each" >"$each.table"; done
+    grouped 3 flow.table --shard-bytes $((line + 1)) flow
     gives table ./nbt-parallel "$program" --tables part.*.table
-    refuses 1 'nbt-parallel: 2 tables are left, of which no two can be merged:*' ./nbt-parallel "$program" --tables table copy
+    refuses 1 'nbt-parallel: 2 tables are left, of which no two can be merged:*' ./nbt-parallel "$program" --tables large copy
     too_large ./nbt-parallel ./nbt-parallel
-    ended ./nbt-parallel "$program" --by-source 2 keys out && [ "$(wc -l <out)" -eq 2 ]
-    count $? './nbt-parallel --by-source 2, of 66,000 keys'
-    rm out
-    ended ./nbt-parallel "$program" --by-source 7 wide out && [ "$(wc -l <out)" -eq 7 ]
-    count $? './nbt-parallel --by-source 7, of a table of 39 MB'
-    rm out
-
+    grouped 2 '' keys
+    grouped 7 '' wide
     # Comments make no difference, and go to all groups.
     sed '1~2i # a comment' flow >said
-    ended ./nbt-parallel "$program" --by-source 3 --shard-bytes $((line + 1)) said out && merge <out | cmp -s flow.table
-    count $? './nbt-parallel --by-source 3, with comments'
+    grouped 3 flow.table --shard-bytes $((line + 1)) said
 
     # An OUT of several lines.
-    "$tools/nbt-parallel" --program "$program" --list out >output 2>errors && [ ! -s errors ] &&
+    "$tools/nbt-parallel" --program "$program" --list lines >output 2>errors && [ ! -s errors ] &&
         sort output | cmp -s - <("$program" list --keys "$many" <flow.table | sort)
     count $? "nbt-parallel --list: $(cat errors)"
-    "$tools/nbt-parallel" --list out --program "$program" 2>errors | head -c 1 >output
+    "$tools/nbt-parallel" --list lines --program "$program" 2>errors | head -c 1 >output
     [ "${PIPESTATUS[0]}" -eq 3 ] && [ "$(cat errors)" = 'nbt-parallel: the program that reads this ended' ]
     count $? "nbt-parallel --list, its reader ends: $(cat errors)"
-    { cat flow.table; echo 4e425432; } >faulty && "$tools/nbt-parallel" --program "$program" --list faulty >output 2>errors
-    [ $? -eq 1 ] && [ "$(cat errors)" = 'nbt-parallel: faulty: line 2: nbt: truncated' ]
-    count $? "nbt-parallel --list: $(cat errors)"
-    "$tools/nbt-parallel" --program "$program" --list nowhere >output 2>errors
-    [ $? -eq 3 ] && [ "$(cat errors)" = 'nbt-parallel: nowhere: No such file or directory' ]
-    count $? "nbt-parallel --list: $(cat errors)"
-    rm out
+    { cat flow.table; echo 4e425432; } >faulty
+    lists_nothing 1 'nbt-parallel: faulty: line 2: nbt: truncated' faulty
+    lists_nothing 3 'nbt-parallel: nowhere: No such file or directory' nowhere
     shows_progress ./nbt-parallel
 }
 
@@ -339,8 +347,8 @@ with_dask() {
     on_cluster shared
     lonely
     taken_port
-    kills nbt-dask 2
-    refuses 1 "nbt-dask: bad: line 54321 is malformed (shard g0000-00000?)" ./nbt-dask "$program" bad
+    kills 2 ./nbt-dask "$program" --shard-bytes $((line + 1)) gaps
+    refuses 1 "nbt-dask: bad: line 12345 is malformed (shard g0000-00000?)" ./nbt-dask "$program" bad
     shows_progress ./nbt-dask
     PATH=$room/installed/bin:$PATH gives gaps.table nbt-dask --workers 2 gaps
 }

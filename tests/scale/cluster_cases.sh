@@ -7,10 +7,7 @@ scheduler() {
     rm -f cluster
     mkdir -p elsewhere
     background "$python" -m distributed.cli.dask_scheduler --host 127.0.0.1 --port 0 --no-dashboard --scheduler-file "$room/cluster"
-    for ((i = 0; i < 1000; i++)); do
-        [ -s cluster ] && break
-        sleep 0.1
-    done
+    awaits test -s cluster
     address=$("$python" -c 'import json; print(json.load(open("cluster"))["address"])')
 }
 
@@ -32,13 +29,12 @@ unclustered() {
     local each
     for each in "${cluster[@]}"; do
         kill "$each" 2>/dev/null
-        for ((i = 0; i < 300; i++)); do
-            kill -0 "$each" 2>/dev/null || break
-            sleep 0.1
-        done
+        awaits has_ended "$each"
         kill -9 "$each" 2>/dev/null
     done
 }
+
+has_ended() { ! kill -0 "$1"; }
 
 # on_cluster WORD..: the words, and behind them the address of a scheduler with two workers, which have no nanny.
 on_cluster() {
@@ -66,12 +62,13 @@ same_files() {
     rm elsewhere/gaps
 }
 
-# awaited LINE: waits until the client says this.
-awaited() {
-    for ((i = 0; i < 1000; i++)); do
-        grep -q "$1" errors && break
-        sleep 0.1
-    done
+# asks_in_vain CAPTURE: begins nbt-dask at a scheduler without workers, and waits until it says that it waits for one.
+asks_in_vain() {
+    scheduler
+    : >errors
+    ended "$tools/nbt-dask" "$1" out --program "$program" --scheduler "$address" >output 2>errors &
+    client=$!
+    awaits grep -q 'has no workers' errors
 }
 
 # lonely: a cluster without workers is waited for; what a worker reads then has to be what the client read.
@@ -81,12 +78,10 @@ lonely() {
     ended "$tools/nbt-dask" gaps out --wait 2 --program "$program" --scheduler "$address" >output 2>errors
     [ $? -eq 3 ] && [[ $(cat errors) == $wait\ 2\ seconds\ for\ one$'\n'"nbt-dask: the scheduler $address has no workers, 2 seconds long" ]] && [ ! -e out ]
     count $? "nbt-dask without workers: $(cat errors)"
+    unclustered
 
     cp gaps changing
-    : >errors
-    ended "$tools/nbt-dask" changing out --program "$program" --scheduler "$address" >output 2>errors &
-    client=$!
-    awaited 'has no workers'
+    asks_in_vain changing
     sed -i '4000s/.$/x/' changing
     worker one
     wait $client
@@ -94,11 +89,7 @@ lonely() {
     count $? "nbt-dask, another file of that name at a worker: $(cat errors)"
     unclustered
 
-    scheduler
-    : >errors
-    ended "$tools/nbt-dask" gaps out --program "$program" --scheduler "$address" >output 2>errors &
-    client=$!
-    awaited 'has no workers'
+    asks_in_vain gaps
     kill -9 "${cluster[0]}"
     wait $client
     [ $? -eq 3 ] && [[ $(cat errors) == $wait*"nbt-dask: the scheduler $address has ended, or can't be reached any more" ]] && [ ! -e out ] &&
@@ -111,10 +102,7 @@ lonely() {
 taken_port() {
     : >bound
     "$python" -c 'import socket, time; it = socket.socket(); it.bind(("", 8787)); it.listen(); print(flush=True); time.sleep(500)' >bound 2>/dev/null &
-    for ((i = 0; i < 1000 && $(wc -c <bound) == 0; i++)); do
-        kill -0 $! 2>/dev/null || break
-        sleep 0.1
-    done
+    awaits eval "[ -s bound ] || has_ended $!"
     gives gaps.table ./nbt-dask "$program" gaps
     kill $!
 }

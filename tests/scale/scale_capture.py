@@ -1,7 +1,7 @@
 #!/usr/bin/env python3
 """Captures for tests/scale.sh, always the same.  Usage: tests/scale/scale_capture.py KIND FOLDER
 
-many   FOLDER/many, 40 MiB: 1,000 datagrams of 50 senders in pieces of 64 bytes, shuffled, with repeats and one liar;
+many   FOLDER/many, 12 MiB: 400 datagrams of 50 senders in pieces of 64 bytes, shuffled, with repeats and one liar;
        FOLDER/many.list has a line of `nbt list` for each
 few    FOLDER/few, 40 MiB: the same of 250 datagrams of 50 senders
 keys   FOLDER/keys: 66,000 datagrams, each in one packet
@@ -31,10 +31,10 @@ def pieces(sender, identifier, data, most):
 
 
 def few(rng, folder):
-    return many(rng, folder, 5, 'few')
+    return many(rng, folder, 5, 'few', 40)
 
 
-def many(rng, folder, of_each=20, name='many'):
+def many(rng, folder, of_each=8, name='many', size=12):
     lines, listed = [], []
     for sender in range(1, 51):
         for identifier in range(of_each):
@@ -45,7 +45,7 @@ def many(rng, folder, of_each=20, name='many'):
             if (sender, identifier) == (7, 7):
                 lines += pieces(sender, identifier, data[:640][::-1] + data[640:], 64)
                 listed[-1] = key + ' spoilt\n'
-    missing = 40 * 1_048_576 - sum(map(len, lines))
+    missing = size * 1_048_576 - sum(map(len, lines))
     while missing > 0:
         lines.append(rng.choice(lines))
         missing -= len(lines[-1])

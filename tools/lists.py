@@ -2,7 +2,7 @@
 """What the bindings, the tools and the page list alike, made of one source each: of include/nbt.h its numbers, its limits and, for Rust and
 Python, its structures and calls; of modules of the tools those of the page.
 
-The refusals of man/nbt.1 are made too, of crates/nbt/src/refusals.rt, and the options of a law of crates/nbt, of their definitions.
+The refusals of man/nbt.1 and docs/FORMATS.md are made too, of crates/nbt/src/refusals.rt, and the options of a law of crates/nbt, of their definitions.
 
 Usage: tools/lists.py --made writes what isn't kept in the repository: what makes the library or the page begins with it. --write writes that, and
 anew the file that is kept, and what stands within others, as limits in manual pages. --check says which of the
@@ -52,7 +52,7 @@ def kept():
     yield laws, options.with_options(laws.read_text(encoding='utf-8'))
     for name, patterns in WITHIN.items():
         text = with_limits(TOP / name, patterns, header)
-        yield TOP / name, refusals.with_refusals(text) if name == refusals.MANUAL else text
+        yield TOP / name, refusals.MAKERS.get(name, str)(text)
 
 
 def check():

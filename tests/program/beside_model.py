@@ -6,7 +6,8 @@ before says what was compared. A case is a command with an input: those of tests
 examples of crates/nb_examples, the captures of examples/, the examples cut at each length, and captures and saved tables made by chance, until so
 many payloads (10,000) were shown. It prints what the model has, byte for byte, and ends as that says, with `--json` too, where the command takes
 it. A case is also each kind of front and each phrase of docs/FORMATS.md: there were some; and the two longest phrases are as long as that page has
-it, and none is longer. With --files there are the commands of these files of tests/cases alone.
+it, and none is longer; and each line by which a command of tests/cases was refused: `nbt help` has it. With --files there are the commands of
+these files of tests/cases alone.
 """
 import argparse
 import collections
@@ -31,6 +32,7 @@ from seeds import first_unlike
 
 TESTS = os.path.join(ROOT, 'tests')
 SECONDS, LONGEST_PRINTED = 600, 1_000
+NUMBER = re.compile('[0-9]+')
 COMMAND = re.compile(rf'(?=.*\bnbt\b).*\b(?:{"|".join(COMMANDS)})\b')
 STATION = ['FRED<20>', 'JOE<00>', 'ANN<03>.A']
 LONGEST_PAYLOAD, LONGEST_EXAMPLE, IN_CAPTURE, FRONTS = 2_000, 400, 500, 10_000
@@ -68,7 +70,7 @@ class Cases:
 
     def __init__(self, program, rng):
         self.program, self.rng = os.path.abspath(program), rng
-        self.compared, self.said = collections.Counter(), []
+        self.compared, self.said, self.refused = collections.Counter(), [], set()
 
     def check(self, words, given):
         """A command with an input, and with `--json` where it takes that. Where the model knows no such command, clap answers."""
@@ -79,6 +81,7 @@ class Cases:
             try:
                 model = found['model'] = found.get('model') or wanted([command, *rest], given)
                 why = unlike(made, model, bool(form))
+                self.refused.add(NUMBER.sub('4', model.errors.decode()))
             except Unknown:
                 is_well = is_of_clap(made.returncode, made.stdout, made.stderr)
                 why = '' if is_well else f'clap ends with {made.returncode}, {made.stdout[:100]}, {made.stderr[:100]}'
@@ -234,6 +237,14 @@ def phrases(cases):
         well('' if any(map(pattern.fullmatch, cases.said)) else f'nothing is said as {phrase}')
 
 
+def advised(cases):
+    """`nbt help` has each line by which a command was refused."""
+    for line in sorted(filter(None, cases.refused)):
+        words = line.removeprefix('nbt: ').rstrip('4 \n')
+        made = subprocess.run([cases.program, 'help', line.rstrip('\n')], capture_output=True, text=True, timeout=SECONDS, check=False)
+        well('' if made.stdout.startswith(words) else f'nbt help has nothing of {line!r}: {made.stdout}')
+
+
 def main():
     """Runs all cases."""
     parser = argparse.ArgumentParser()
@@ -248,6 +259,7 @@ def main():
     for words, capture in recorded(cases, given.files):
         for each in (words, *alike(words)):
             cases.check(each, capture)
+    advised(cases)
     if given.files:
         return cases.end()
     payloads = list(example_bytes())

@@ -104,11 +104,10 @@ def at_terminals():
                f'nbt {words[0]}, its terminal gone')
 
 
-# (words, input, the reason on standard error) of each refusal of a command but `arguments`.
+# (words, input, the reason on standard error) of refusals: by words, by the input, of any command, with a number and without.
 REFUSED = [
     *((words, b'', 'bad text 4') for words in (['name', 'FRED'], ['replay', 'FRED'], ['build', 'query', '0001', 'FRED'])),
     (['name', 'A' * 16 + '<20>'], b'', 'too long'), (['build', 'unique', *KEYED, '00' * 65_500, '65535'], b'', 'too long'),
-    (['build', 'unique', *KEYED, '616263', '0'], b'', 'zero piece'),
     *((['name', '--bytes', digits], b'', reason) for digits, reason in (
         ('0', 'bad hex'), (FRED + '00', 'trailing bytes 34'), ('20', 'truncated 1'), ('40', 'reserved label 0'),
         ('c00c', 'pointer not allowed 0'), ('0000', 'not netbios 0'))),

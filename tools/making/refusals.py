@@ -1,16 +1,16 @@
-"""What man/nbt.1 lists of refusals, of crates/nbt/src/refusals.rt and of the advice in limits.rt beside it."""
+"""What man/nbt.1 and docs/FORMATS.md list of refusals, of crates/nbt/src/refusals.rt and of the advice in limits.rt beside it."""
 import re
 import textwrap
 
 from .header import TOP
 
 SOURCES = TOP / 'crates/nbt/src'
-MANUAL = 'man/nbt.1'
 TEXT = r'"((?:[^"\\]|\\.)*)"'
 ADVICE = re.compile(rf'pub const (\w+): &str =\s*{TEXT};', re.DOTALL)
 REFUSAL = re.compile(rf'words: {TEXT},\s*number: {TEXT},\s*by: &(?:EACH|\[(.*?)\]),\s*advice: (?:{TEXT}|(\w+)),', re.DOTALL)
-# In the page what stands between.
+# In the manual page, and in docs/FORMATS.md, what stands between.
 LIST = re.compile(r'(?<=prints such a line\.\n\.Bl -tag -width Ds\n).*?(?=\.El\n)', re.DOTALL)
+OF_BUILD = re.compile(r'(?<=^`nbt build` may say )[^;]*(?=;)', re.MULTILINE)
 WIDTH = 79
 
 
@@ -37,10 +37,23 @@ def item(words, by, advice):
     return '\n'.join([f'.It Li "{words}" Pq {by}', *shown]) + '\n'
 
 
-def with_refusals(text):
-    """The page with its list anew."""
-    made = ''.join(item(*each) for each in refusals())
-    text, count = LIST.subn(lambda _: made, text)
+def anew(pattern, made, text):
+    """A page with its list anew."""
+    text, count = pattern.subn(lambda _: made, text)
     if count != 1:
-        raise SystemExit(f'tools/lists.py: {MANUAL} has no list of refusals')
+        raise SystemExit(f'tools/lists.py: a page has {count} lists of refusals, not one')
     return text
+
+
+def of_all(text):
+    """The manual page with all refusals, and what to do then."""
+    return anew(LIST, ''.join(item(*each) for each in refusals()), text)
+
+
+def of_build(text):
+    """docs/FORMATS.md with the texts by which `nbt build` refuses."""
+    *texts, last = (f'`{words}`' for words, by, _ in refusals() if by == 'any command' or 'build' in by.split(', '))
+    return anew(OF_BUILD, f'{", ".join(texts)} or {last}', text)
+
+
+MAKERS = {'man/nbt.1': of_all, 'docs/FORMATS.md': of_build}

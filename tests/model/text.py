@@ -1,8 +1,8 @@
 """The lines of `nbt show` (docs/FORMATS.md): the text of the members that its objects have."""
 from .objects import SECTIONS, front_of, shown
+from .rdata import LINES
 
 LEADS = dict(zip(SECTIONS, ('question', 'answer', 'authority', 'additional')))
-PARTS = ('entries', 'names', 'unit')
 
 
 def lines_of(port, payload):
@@ -28,10 +28,13 @@ def parts_of(members):
 
 def item_lines(lead, item):
     """The line of a question or a record, and those of its parts."""
-    parts = [f'    entry {words_of(it)}' for it in item.get('entries', ())]
-    parts += [f'    name {words_of(it)}' for it in item.get('names', ())]
-    parts += [f'    unit={item["unit"]}'] if 'unit' in item else []
-    return [f'  {lead} {words_of(item)}', *parts]
+    parts = [(word, item[member]) for member, word in LINES.items() if member in item]
+    return [f'  {lead} {words_of(item)}', *(f'    {word}{line}' for word, part in parts for line in part_lines(part))]
+
+
+def part_lines(part):
+    """What stands behind the word of each line of a part: there are several, or it is one value."""
+    return [f' {words_of(it)}' for it in part] if isinstance(part, list) else [f'={part}']
 
 
 def words_of(members):
@@ -40,7 +43,7 @@ def words_of(members):
     for name, value in members.items():
         if name in ('kind', 'name'):
             words.append(value)
-        elif name not in SECTIONS + PARTS:
+        elif name not in (*SECTIONS, *LINES):
             words.append(f'{"port" if name == "to_port" else name}={text_in(value)}')
     return ' '.join(words)
 

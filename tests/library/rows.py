@@ -14,7 +14,6 @@ def bytes_of(word, names):
 
 
 CASES = (pathlib.Path(__file__).parent / 'cases.txt').read_text('ascii').splitlines()
-# What the packages ask within calls of their own, or otherwise.
 WITHIN = next(line.split()[2:] for line in CASES if line.startswith('# Within: '))
 
 

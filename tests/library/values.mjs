@@ -33,8 +33,7 @@ function domainText(nbt, spelling) {
 const nodeName = (nbt, name) => nbt.text(Uint8Array.of(32, ...Array.from(name).flatMap((byte) => [65 + (byte >> 4), 65 + (byte & 15)]), 0));
 
 function rdata(nbt, { spelling, isNetbios, type, classNumber, section, timeToLive, data, server, ...views }) {
-    if (server) return `domain ${domainText(nbt, server)}`;
-    return parts(nbt, views) || `bytes ${digits(data)}`;
+    return server ? domainText(nbt, server) : parts(nbt, views) || digits(data);
 }
 
 /** A view: the values that are there, in the order of their names, a list of such, or a value. */

@@ -126,8 +126,8 @@ fn rdata_words(rdata: &Rdata<'_>) -> String {
             let unit = status.unit.map_or(String::new(), |it| format!("/{}", digits_of(&it)));
             list_of(status.names.clone().map(|it| format!("{:04x}/{}", it.flags, it.name))) + &unit
         }
-        Rdata::NameServer(name) => format!("domain {name}"),
-        Rdata::Other(data) => format!("bytes {}", digits_of(data)),
+        Rdata::NameServer(name) => name.to_string(),
+        Rdata::Other(data) => digits_of(data),
     }
 }
 

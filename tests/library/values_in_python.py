@@ -66,19 +66,12 @@ def marked(name):
 
 
 def rdata(value):
-    """What RDATA says."""
-    if isinstance(value, nbt.DomainName):
-        return f'domain {value}'
-    return f'bytes {digits(value)}' if isinstance(value, bytes) else parts(value)
-
-
-def parts(value):
-    """A view: the values that are there, in the order of their names, a list of such, or a value."""
+    """What RDATA says: the values that are there, in the order of their names, a list of such, or a value."""
     if isinstance(value, tuple):
-        return f'[{" ".join(map(parts, value))}]'
-    if is_dataclass(value):
-        return '/'.join(parts(it) for _, it in sorted(vars(value).items()) if it is not None)
-    return f'{value:04x}' if isinstance(value, int) else value.hex() if isinstance(value, bytes) else str(value)
+        return f'[{" ".join(map(rdata, value))}]'
+    if is_dataclass(value) and not isinstance(value, nbt.DomainName):
+        return '/'.join(rdata(it) for _, it in sorted(vars(value).items()) if it is not None)
+    return f'{value:04x}' if isinstance(value, int) else digits(value) if isinstance(value, bytes) else str(value)
 
 
 def datagram(payload):

@@ -11,7 +11,7 @@ def addresses(data):
     """The addresses of a name; None where there are no entries."""
     if len(data) % ENTRY:
         return None
-    return {'entries': [flagged(number(it)) | {'address': address_text(it[2:])} for it in pieces(data, ENTRY)]}
+    return {'entries': [flagged(it[:2]) | {'address': address_text(it[2:])} for it in pieces(data, ENTRY)]}
 
 
 def nodes(data):
@@ -19,10 +19,13 @@ def nodes(data):
     end = 1 + NODE_NAME * data[0] if data else 1
     if len(data) < end:
         return None
-    names = [(text_of(Name(it[:16], ())), number(it[16:])) for it in pieces(data[1:end], NODE_NAME)]
-    found = {'names': [{'name': name} | flagged(flags) | {'set': set_of(NAME_FLAGS, flags)} for name, flags in names]}
-    unit = data[end:end + UNIT]
-    return found | ({'unit': unit.hex()} if len(unit) == UNIT else {})
+    names, unit = [node_name(it[:16], it[16:]) for it in pieces(data[1:end], NODE_NAME)], data[end:end + UNIT]
+    return {'names': names} | ({'unit': unit.hex()} if len(unit) == UNIT else {})
+
+
+def node_name(name, flags):
+    """One of the names of a node."""
+    return {'name': text_of(Name(name, ()))} | flagged(flags) | {'set': set_of(NAME_FLAGS, int.from_bytes(flags, 'big'))}
 
 
 # By its type a view, and what the object has where RDATA has another form; and the word of a line of each of their members.
@@ -40,14 +43,9 @@ def pieces(data, size):
     return [data[at:at + size] for at in range(0, len(data), size)]
 
 
-def number(data):
-    """The first two bytes as a number."""
-    return int.from_bytes(data[:2], 'big')
-
-
 def flagged(flags):
     """The flags of an entry or a name, and ONT, the two bits after the first."""
-    return {'flags': f'{flags:04x}', 'ont': flags >> 13 & 3}
+    return {'flags': flags.hex(), 'ont': flags[0] >> 5 & 3}
 
 
 def set_of(flags, word):

@@ -28,8 +28,7 @@ def parts_of(members):
 
 def item_lines(lead, item):
     """The line of a question or a record, and those of its parts."""
-    parts = [(word, item[member]) for member, word in LINES.items() if member in item]
-    return [f'  {lead} {words_of(item)}', *(f'    {word}{line}' for word, part in parts for line in part_lines(part))]
+    return [f'  {lead} {words_of(item)}', *(f'    {word}{line}' for part, word in LINES.items() for line in part_lines(item.get(part, [])))]
 
 
 def part_lines(part):

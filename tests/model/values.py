@@ -51,9 +51,9 @@ def marked(labels):
 def rdata(record):
     """What RDATA says, by its type."""
     if record.domain is not None:
-        return f'domain {domain_text(record.domain)}'
+        return domain_text(record.domain)
     found = view(record.type, record.data)
-    return f'bytes {digits(record.data)}' if found is None else parts(found)
+    return digits(record.data) if found is None else parts(found)
 
 
 def parts(value):

@@ -19,13 +19,10 @@ def nodes(data):
     end = 1 + NODE_NAME * data[0] if data else 1
     if len(data) < end:
         return None
-    names, unit = [node_name(it[:16], it[16:]) for it in pieces(data[1:end], NODE_NAME)], data[end:end + UNIT]
+    names = [{'name': text_of(Name(it[:16], ()))} | flagged(it[16:]) | {'set': set_of(NAME_FLAGS, int.from_bytes(it[16:], 'big'))}
+             for it in pieces(data[1:end], NODE_NAME)]
+    unit = data[end:end + UNIT]
     return {'names': names} | ({'unit': unit.hex()} if len(unit) == UNIT else {})
-
-
-def node_name(name, flags):
-    """One of the names of a node."""
-    return {'name': text_of(Name(name, ()))} | flagged(flags) | {'set': set_of(NAME_FLAGS, int.from_bytes(flags, 'big'))}
 
 
 # By its type a view, and what the object has where RDATA has another form; and the word of a line of each of their members.

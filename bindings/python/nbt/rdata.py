@@ -104,11 +104,13 @@ def read_entries(address: int, length: int) -> Optional[Tuple[NbEntry, ...]]:
 
 
 def read_status(address: int, length: int) -> Optional[NodeStatus]:
-    """The names of a node, and its unit; None where RDATA has another form."""
+    """The names of a node, and the unit that stands behind them, if it does; None where RDATA has another form."""
     found = parts(NODES, SERVICE_NODE, NBSTAT, address, length, length // NODE.size)
     if found is None:
         return None
-    return NodeStatus(tuple([NodeName(node_text(name), flags) for flags, name in found]), read_unit(address, length))
+    unit, at = ctypes.create_string_buffer(SERVICE_UNIT.size), ctypes.c_size_t()
+    status = UNIT(NBSTAT, address, length, ctypes.addressof(unit), ctypes.addressof(at))
+    return NodeStatus(tuple([NodeName(node_text(name), flags) for flags, name in found]), unit.raw if status == DONE else None)
 
 
 def parts(part_of: Any, layout: struct.Struct, kind: int, address: int, length: int, most: int) -> Optional[List[Tuple[Any, ...]]]:
@@ -128,13 +130,6 @@ def parts(part_of: Any, layout: struct.Struct, kind: int, address: int, length: 
 def node_text(name: bytes) -> str:
     """The text of a name of sixteen bytes."""
     return names.text(names.spelled(name))
-
-
-def read_unit(address: int, length: int) -> Optional[bytes]:
-    """The unit that stands behind the names, if it does."""
-    unit, at = ctypes.create_string_buffer(SERVICE_UNIT.size), ctypes.c_size_t()
-    status = UNIT(NBSTAT, address, length, ctypes.addressof(unit), ctypes.addressof(at))
-    return unit.raw if status == DONE else None
 
 
 def packed(rdata: Union[Rdata, Buffer]) -> Tuple[Optional[int], bytes]:

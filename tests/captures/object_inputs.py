@@ -9,7 +9,8 @@ from fuzz_traffic import LONGEST_LAST_LABEL, Traffic, capture_of, digits, sessio
 from model.captures import LONGEST_LINE, read_capture
 from model.limits import MOST_KEYS
 from model.names import Name, labels_of, spelling_of, text_of
-from model.packets import NB, NBSTAT, NS, SESSION_LENGTHS
+from model.packets import SESSION_LENGTHS
+from model.rdata import NB, NBSTAT, NS, VIEWS
 from model.reports import save
 from model.tables import Table
 from wire import session
@@ -78,12 +79,12 @@ class ServicePacket:
     def question(self):
         """A question."""
         self.name()
-        self.numbers(self.rng.choice((NB, NB, NBSTAT, NS, 1, 10, self.rng.randrange(65_536))))
+        self.numbers(self.rng.choice((NB, *VIEWS, NS, 1, 10, self.rng.randrange(65_536))))
 
     def record(self):
         """A record."""
         rng = self.rng
-        kind = rng.choice((NB, NB, NBSTAT, NBSTAT, NS, NS, 1, 10, rng.randrange(65_536)))
+        kind = rng.choice((*VIEWS, *VIEWS, NS, NS, 1, 10, rng.randrange(65_536)))
         self.name()
         self.numbers(kind)
         self.data += rng.choice((0, 300_000, 0xffffffff, rng.randrange(1 << 32))).to_bytes(4, 'big')

@@ -11,8 +11,6 @@ from nbt.sessions import NAMES, RETARGET
 import rows as written
 from values_in_python import handed, lines_of, outcome_of
 
-# What the package asks within calls of its own, or otherwise.
-WITHIN = ('version', 'service_item', 'service_items', 'service_address', 'service_node', 'service_unit', 'service_domain')
 names, rows = written.read_cases()
 stations = {}
 
@@ -160,5 +158,5 @@ class Rows(unittest.TestCase):
 
 
 for number, (call, words, answer) in enumerate(rows, 1):
-    if call not in WITHIN and answer != ['!', 'no', 'station']:
+    if call not in written.WITHIN and answer != ['!', 'no', 'station']:
         setattr(Rows, f'test_row_{number:03}_{call}', test_of(call, words, answer[0], answer[1:]))

@@ -22,6 +22,9 @@ from station_rows import Station, digits, table_rows, told_rows
 
 CALL = re.compile(r'^ROW\((\w+), \w+, \d+, \w+, \((.*)\)\)$', re.MULTILINE)
 GIVEN = re.compile(r'\b(IN|N|L|B)\(')
+# What each call is given, and those calls that read RDATA: they are given a type, its bytes, and some the number of a part.
+WORDS = {call: GIVEN.findall(words) for call, words in CALL.findall((Path(__file__).parent / 'calls.def').read_text('ascii'))}
+OF_RDATA = [(call, words) for call, words in WORDS.items() if call.startswith('service_') and words[:2] == ['N', 'IN']]
 # A word of a row that stands for many bytes.
 LONG = re.compile(r'\*\d{4}')
 TOGETHER, ENTRIES, MOST_ITEMS, LONGEST_CUT, MOST_PIECES, SPOILT_KEYS = 48, 3, 12, 4000, 50, 2000
@@ -49,7 +52,7 @@ def service_rows(payload):
         (record if section else question)(reader)
         entries.append(entry(section, it, reader.at))
         if section and len(places) <= MOST_ITEMS:
-            yield from (f'service_{part.format(it.type, digits(it.data))}' for part in ('address {} {} 0', 'node {} {} 1', 'unit {} {}'))
+            yield from (f'{call} {it.type} {digits(it.data)}{f" {len(places) % 2}" * (len(words) - 2)}' for call, words in OF_RDATA)
     end = f'! {packet.fault or "no item"}'
     for number, place in list(enumerate([*places, packet.used if packet.stands else 12]))[-MOST_ITEMS:]:
         item = f'~ {entries[number][:293].hex()}' if entries[number:] else end
@@ -173,10 +176,10 @@ def rdata_rows(payload):
 
 # ---- calls, whatever they are given
 
-def any_rows(number, given, words):
+def any_rows(number, given):
     """A row for each call with a payload for one of its inputs, and with other numbers; a port has more bits than count."""
     for call, rows in given.items():
-        kinds, row = words[call], list(rows[number % len(rows)])
+        kinds, row = WORDS[call], list(rows[number % len(rows)])
         inputs = [place for place, kind in enumerate(kinds) if kind == 'IN']
         if number % 2:
             row = [it if kind == 'IN' else (int(it, 0) + (number * 2654435761 >> 7 * place)) % (1 << 64) for place, (kind, it) in
@@ -186,14 +189,14 @@ def any_rows(number, given, words):
         yield ' '.join(map(str, (call, *row)))
 
 
-def rows_of(number, port, payload, given, words):
+def rows_of(number, port, payload, given):
     """The rows of a payload."""
     yield from ('line', f'let P = {digits(payload)}')
     if port != 'table':
         yield from (f'{call} {int(port) | 0xabcd0000} P' for call in SAID)
         yield from {'137': service_rows, '138': datagram_rows, '139': session_rows}[port](payload)
     yield from rdata_rows(payload)
-    yield from any_rows(number, given, words)
+    yield from any_rows(number, given)
 
 
 def together_rows(together, number):
@@ -227,13 +230,12 @@ def main():
     for call, words, _ in cases:
         if call not in SAID and not call.startswith('station_') and not LONG.search(' '.join(words)):
             given.setdefault(call, []).append(words)
-    words = {call: GIVEN.findall(words) for call, words in CALL.findall((Path(__file__).parent / 'calls.def').read_text('ascii'))}
     say(*(f'let {name} = {digits(data)}' for name, data in names.items()))
     together = []
     for number, line in enumerate(sys.stdin):
         port, payload = line.split()
         payload = bytes.fromhex(payload.replace('empty', ''))
-        say(*rows_of(number, port, payload, given, words))
+        say(*rows_of(number, port, payload, given))
         together.append((port, payload))
         if len(together) == TOGETHER:
             say(*together_rows(together, number))

@@ -13,10 +13,14 @@ def bytes_of(word, names):
                     for text, name, digits, times in found)
 
 
+CASES = (pathlib.Path(__file__).parent / 'cases.txt').read_text('ascii').splitlines()
+WITHIN = next(line.split()[2:] for line in CASES if line.startswith('# Within: '))
+
+
 def read_cases():
     """The names of cases.txt with their bytes, and its rows: a call, what it is given, and the words of its answer, the first of them its mark."""
     names, rows = {}, []
-    for line in (pathlib.Path(__file__).parent / 'cases.txt').read_text('ascii').splitlines():
+    for line in CASES:
         words = WORD.findall(line)
         if line.startswith('let '):
             names[words[1]] = bytes_of(words[3], names)

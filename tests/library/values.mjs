@@ -32,11 +32,16 @@ function domainText(nbt, spelling) {
 /** The text of a name of sixteen bytes, by its spelling. */
 const nodeName = (nbt, name) => nbt.text(Uint8Array.of(32, ...Array.from(name).flatMap((byte) => [65 + (byte >> 4), 65 + (byte & 15)]), 0));
 
-function rdata(nbt, { addresses, node, server, data }) {
-    if (server) return `domain ${domainText(nbt, server)}`;
-    if (addresses) return ['addresses', ...addresses.map(({ flags, address }) => `${four(flags)}/${address}`)].join(' ');
-    if (node) return ['nodes', node.unit ? hex(node.unit) : '-', ...node.names.map(({ flags, name }) => `${four(flags)}/${nodeName(nbt, name)}`)].join(' ');
-    return `bytes ${digits(data)}`;
+function rdata(nbt, { spelling, isNetbios, type, classNumber, section, timeToLive, data, server, ...views }) {
+    return server ? domainText(nbt, server) : parts(nbt, views) || digits(data);
+}
+
+/** A view: the values that are there, in the order of their names, a list of such, or a value. */
+function parts(nbt, value) {
+    if (Array.isArray(value)) return `[${value.map((it) => parts(nbt, it)).join(' ')}]`;
+    if (value instanceof Uint8Array) return value.length === 16 ? nodeName(nbt, value) : hex(value);
+    if (typeof value !== 'object') return typeof value === 'number' ? four(value) : value;
+    return Object.keys(value).sort().filter((name) => value[name] !== null).map((name) => parts(nbt, value[name])).join('/');
 }
 
 function service(nbt, payload) {

@@ -120,16 +120,20 @@ fn marked(name: Name) -> String {
 fn rdata_words(rdata: &Rdata<'_>) -> String {
     match rdata {
         Rdata::Addresses(addresses) => {
-            addresses.clone().fold("addresses".into(), |said, it| format!("{said} {:04x}/{}", it.nb_flags, it.address))
+            list_of(addresses.clone().map(|it| format!("{}/{:04x}", it.address, it.nb_flags)))
         }
         Rdata::NodeStatus(status) => {
-            let unit = status.unit.map_or("-".into(), |it| digits_of(&it));
-            let names = status.names.clone();
-            names.fold(format!("nodes {unit}"), |said, it| format!("{said} {:04x}/{}", it.flags, it.name))
+            let unit = status.unit.map_or(String::new(), |it| format!("/{}", digits_of(&it)));
+            list_of(status.names.clone().map(|it| format!("{:04x}/{}", it.flags, it.name))) + &unit
         }
-        Rdata::NameServer(name) => format!("domain {name}"),
-        Rdata::Other(data) => format!("bytes {}", digits_of(data)),
+        Rdata::NameServer(name) => name.to_string(),
+        Rdata::Other(data) => digits_of(data),
     }
+}
+
+/// The parts of a view.
+fn list_of(parts: impl Iterator<Item = String>) -> String {
+    format!("[{}]", parts.collect::<Vec<_>>().join(" "))
 }
 
 /// The lines of a payload of port 138: its packet, and what stands at its front.

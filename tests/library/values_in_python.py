@@ -1,7 +1,7 @@
 #!/usr/bin/env python3
 """Prints what tests/model/values.py does, by the package for Python. cases_in_python.py asks for it, too."""
 import sys
-from dataclasses import replace
+from dataclasses import is_dataclass, replace
 
 import nbt
 from nbt import SessionType
@@ -66,13 +66,12 @@ def marked(name):
 
 
 def rdata(value):
-    """What RDATA says."""
+    """What RDATA says: the values that are there, in the order of their names, a list of such, or a value."""
     if isinstance(value, tuple):
-        return ' '.join(['addresses', *(f'{it.flags:04x}/{it.address}' for it in value)])
-    if isinstance(value, nbt.NodeStatus):
-        unit = '-' if value.unit is None else value.unit.hex()
-        return ' '.join(['nodes', unit, *(f'{it.flags:04x}/{it.name}' for it in value.names)])
-    return f'domain {value}' if isinstance(value, nbt.DomainName) else f'bytes {digits(value)}'
+        return f'[{" ".join(map(rdata, value))}]'
+    if is_dataclass(value) and not isinstance(value, nbt.DomainName):
+        return '/'.join(rdata(it) for _, it in sorted(vars(value).items()) if it is not None)
+    return f'{value:04x}' if isinstance(value, int) else digits(value) if isinstance(value, bytes) else str(value)
 
 
 def datagram(payload):

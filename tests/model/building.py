@@ -7,7 +7,8 @@ from wire import datagram, record, service, session
 from .limits import MOST_BODY, MOST_DATAGRAM
 from .names import Refused, name_of_text, read_labels, spelling_of
 from .objects import DATAGRAMS, SESSIONS
-from .packets import FIRST, KINDS, MORE, NB, NBSTAT, NS
+from .packets import FIRST, KINDS, MORE
+from .rdata import NB, NBSTAT, NS
 
 LONGEST_RDATA = LONGEST_PACKET = 65_535
 B = 0x0010

@@ -1,13 +1,13 @@
 """The objects of `nbt show --json` (docs/FORMATS.md, "JSON" and "Packets in part"): dictionaries whose keys stand in the order of the
 page's tables."""
 from .names import domain_text, text_of
-from .packets import ERROR, KEEPALIVE, KINDS, MESSAGE, NB, NBSTAT, NEGATIVE, POSITIVE, QUERIES, REQUEST, RETARGET, Service, Session, read
+from .packets import ERROR, KEEPALIVE, KINDS, MESSAGE, NEGATIVE, POSITIVE, QUERIES, REQUEST, RETARGET, Service, Session, read
+from .rdata import VIEWS, address_text, set_of, view
 
 SECTIONS = ('questions', 'answers', 'authorities', 'additional')
 OPERATIONS = {0: 'query', 5: 'registration', 6: 'release', 7: 'wack', 8: 'refresh', 9: 'refresh'}
 RESULTS = dict(enumerate(('ok', 'FMT_ERR', 'SRV_ERR', 'NAM_ERR', 'IMP_ERR', 'RFS_ERR', 'ACT_ERR', 'CFT_ERR')))
 PACKET_FLAGS = {'AA': 0x0400, 'TC': 0x0200, 'RD': 0x0100, 'RA': 0x0080, 'B': 0x0010}
-NAME_FLAGS = {'G': 0x8000, 'DRG': 0x1000, 'CNF': 0x0800, 'ACT': 0x0400, 'PRM': 0x0200}
 DATAGRAMS = {**KINDS, ERROR: 'error', **QUERIES}
 SESSIONS = {MESSAGE: 'message', REQUEST: 'request', POSITIVE: 'positive', NEGATIVE: 'negative', RETARGET: 'retarget', KEEPALIVE: 'keepalive'}
 
@@ -60,11 +60,6 @@ def service(packet):
     }
 
 
-def set_of(flags, word):
-    """The names of the flags that are set in a word."""
-    return [name for name, bit in flags.items() if word & bit]
-
-
 def item(of):
     """A question or a record."""
     found = {'name': domain_text(of.labels), 'type': f'{of.type:04x}', 'class': f'{of.group:04x}'}
@@ -73,23 +68,8 @@ def item(of):
     found['ttl'] = of.ttl
     if of.domain is not None:
         return found | {'domain': domain_text(of.domain)}
-    return found | {'data': of.data.hex()} | views(of)
-
-
-def views(record):
-    """What an RDATA says besides its bytes, by the kind of its record."""
-    if record.type == NB:
-        return {'entries': [flagged(flags) | {'address': address_text(address)} for flags, address in record.addresses() or ()]}
-    if record.type != NBSTAT:
-        return {}
-    names, unit = record.nodes() or ((), None)
-    found = [{'name': text_of(name)} | flagged(flags) | {'set': set_of(NAME_FLAGS, flags)} for name, flags in names]
-    return {'names': found} | ({} if unit is None else {'unit': unit.hex()})
-
-
-def flagged(flags):
-    """The flags of an entry or a name, and ONT, the two bits after the first."""
-    return {'flags': f'{flags:04x}', 'ont': flags >> 13 & 3}
+    _, otherwise = VIEWS.get(of.type, (None, {}))
+    return found | {'data': of.data.hex()} | (view(of.type, of.data) or otherwise)
 
 
 def called(number, words):
@@ -117,11 +97,6 @@ def session(packet):
         RETARGET: lambda: {'address': address_text(packet.address), 'to_port': packet.port},
     }
     return {'kind': SESSIONS[packet.kind]} | parts.get(packet.kind, dict)() | {'used': packet.used}
-
-
-def address_text(address):
-    """The text of an address of four bytes."""
-    return '.'.join(map(str, address))
 
 
 def key_text(key):

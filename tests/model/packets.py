@@ -3,9 +3,9 @@ docs/DECISIONS.md has which one that is. What was read before it still stands.""
 import collections
 
 from .limits import MOST_BODY
-from .names import Name, Refused, read_labels, read_name
+from .names import Refused, read_labels, read_name
+from .rdata import NS
 
-NB, NBSTAT, NS = 0x0020, 0x0021, 0x0002
 KINDS = {0x10: 'unique', 0x11: 'group', 0x12: 'broadcast'}
 ERROR = 0x13
 # Flags of a fragment: more of the datagram follows, and it is the first one.
@@ -18,31 +18,7 @@ SERVICE_HEADER, DATAGRAM_HEADER, FRAGMENT_HEADER, SESSION_HEADER = 12, 10, 14, 4
 
 Question = collections.namedtuple('Question', 'labels type group')
 Fragment = collections.namedtuple('Fragment', 'kind flags key offset source destination data')
-ENTRY, NODE_NAME, UNIT = 6, 18, 6
-
-
-class Record(collections.namedtuple('Record', 'labels type group ttl data domain')):
-    """A record, whose RDATA has parts where it is of the type NB or NBSTAT and as long as they are."""
-
-    def addresses(self):
-        """The flags and the address of each entry; None where there are no entries."""
-        if self.type != NB or len(self.data) % ENTRY:
-            return None
-        return [(int.from_bytes(it[:2], 'big'), it[2:]) for it in pieces(self.data, ENTRY)]
-
-    def nodes(self):
-        """The names of a node status, with their flags, and its unit or None; None where it isn't all there."""
-        end = 1 + NODE_NAME * self.data[0] if self.data else 1
-        if self.type != NBSTAT or len(self.data) < end:
-            return None
-        unit = self.data[end:end + UNIT]
-        names = [(Name(it[:16], ()), int.from_bytes(it[16:], 'big')) for it in pieces(self.data[1:end], NODE_NAME)]
-        return names, unit if len(unit) == UNIT else None
-
-
-def pieces(data, size):
-    """Bytes in pieces of a size."""
-    return [data[at:at + size] for at in range(0, len(data), size)]
+Record = collections.namedtuple('Record', 'labels type group ttl data domain')
 
 
 class Reader:

@@ -1,8 +1,8 @@
 """The lines of `nbt show` (docs/FORMATS.md): the text of the members that its objects have."""
 from .objects import SECTIONS, front_of, shown
+from .rdata import LINES
 
 LEADS = dict(zip(SECTIONS, ('question', 'answer', 'authority', 'additional')))
-PARTS = ('entries', 'names', 'unit')
 
 
 def lines_of(port, payload):
@@ -28,10 +28,12 @@ def parts_of(members):
 
 def item_lines(lead, item):
     """The line of a question or a record, and those of its parts."""
-    parts = [f'    entry {words_of(it)}' for it in item.get('entries', ())]
-    parts += [f'    name {words_of(it)}' for it in item.get('names', ())]
-    parts += [f'    unit={item["unit"]}'] if 'unit' in item else []
-    return [f'  {lead} {words_of(item)}', *parts]
+    return [f'  {lead} {words_of(item)}', *(f'    {word}{line}' for part, word in LINES.items() for line in part_lines(item.get(part, [])))]
+
+
+def part_lines(part):
+    """What stands behind the word of each line of a part: there are several, or it is one value."""
+    return [f' {words_of(it)}' for it in part] if isinstance(part, list) else [f'={part}']
 
 
 def words_of(members):
@@ -40,7 +42,7 @@ def words_of(members):
     for name, value in members.items():
         if name in ('kind', 'name'):
             words.append(value)
-        elif name not in SECTIONS + PARTS:
+        elif name not in (*SECTIONS, *LINES):
             words.append(f'{"port" if name == "to_port" else name}={text_in(value)}')
     return ' '.join(words)
 

@@ -7,8 +7,9 @@ import sys
 
 from .captures import digits
 from .names import Refused, domain_text, name_of, text_of
-from .objects import address_text, key_text
+from .objects import key_text
 from .packets import KINDS, read
+from .rdata import address_text, view
 
 NAME_FAULTS = {'truncated': 20, 'reserved label': 21, 'pointer not allowed': 22, 'too long': 23, 'not netbios': 24, 'bad pointer': 26}
 # What is added to them in a name of a datagram.
@@ -50,14 +51,18 @@ def marked(labels):
 def rdata(record):
     """What RDATA says, by its type."""
     if record.domain is not None:
-        return f'domain {domain_text(record.domain)}'
-    addresses, nodes = record.addresses(), record.nodes()
-    if addresses is not None:
-        return ' '.join(['addresses', *(f'{flags:04x}/{address_text(address)}' for flags, address in addresses)])
-    if nodes is not None:
-        names, unit = nodes
-        return ' '.join(['nodes', unit.hex() if unit else '-', *(f'{flags:04x}/{text_of(name)}' for name, flags in names)])
-    return f'bytes {digits(record.data)}'
+        return domain_text(record.domain)
+    found = view(record.type, record.data)
+    return digits(record.data) if found is None else parts(found)
+
+
+def parts(value):
+    """A view: values in the order of their names, a list of such, or a text. What flags say is no value of its own."""
+    if isinstance(value, list):
+        return f'[{" ".join(map(parts, value))}]'
+    if isinstance(value, dict):
+        return '/'.join(parts(it) for name, it in sorted(value.items()) if name not in ('ont', 'set'))
+    return value
 
 
 def datagram(packet):

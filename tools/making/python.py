@@ -4,7 +4,7 @@ from .header import CONSTANTS, MADE, camel, in_lines
 IN_PYTHON = {'status': 'Status', 'line_kind': 'LineKind', 'operation': 'Operation', 'result_code': 'ResultCode', 'node_type': 'NodeType',
              'datagram_type': 'DatagramType', 'session_type': 'SessionType', 'request': 'Request', 'outcome': 'Outcome'}
 PYTHON_SAYS = {'status': 'Why a call did nothing; include/nbt.h says when each comes.', 'request': 'What a request asks for.'}
-PACKED = {'service_header', 'service_entry', 'service_address', 'service_node'}
+PACKED = 'service_header', 'service_entry'
 # The numbers of packets that the tools read.
 READ = {'record_type': ('NBSTAT',), 'name_flag': ('G',), 'datagram_flag': ('MORE', 'FIRST')}
 WORDS, QUERIES = ('UNIQUE', 'GROUP', 'BROADCAST'), ('FIND', 'FOUND', 'MISSING')
@@ -49,11 +49,13 @@ def python_file(header):
     limits = [f'{name} = {number:_}' for name, number in header.limits.items()]
     parts.append('\n'.join(['# The statuses that say where the fault stands.', f'PLACED = frozenset(Status(it) for it in (\n{numbers}\n))',
                             '# Numbers of packets.', *constants, '# Limits.', *limits]))
+    # Calls that are given a type fill in parts of RDATA.
+    packed = {*PACKED, *(name.removeprefix('nbt_') for _, name, given in header.calls if given.startswith('uint16_t type, '))}
     for name, fields in header.structures.items():
-        if name not in PACKED | {'service_item', 'service_unit'}:
+        if name not in packed | {'service_item'}:
             parts.append(python_structure(name, fields))
     parts.append('# Structures that are many, as they lie.\n'
-                 + '\n'.join(f"{name.upper()} = struct.Struct('@{layout(header, name)}')" for name in header.structures if name in PACKED))
+                 + '\n'.join(f"{name.upper()} = struct.Struct('@{layout(header, name)}')" for name in header.structures if name in packed))
     return '\n\n\n'.join(parts) + '\n'
 
 

@@ -23,6 +23,7 @@ library     the shared library, found and loaded
 The calls may be made from any thread, and let other threads run meanwhile, but for those that read one packet. On one
 station a call waits for another to end.
 """
+from . import rdata
 from .buffers import Buffer
 from .captures import Line, capture_line
 from .datagrams import Datagram, DatagramFront, datagram_error, datagram_query
@@ -30,7 +31,7 @@ from .header import DatagramType, LineKind, NodeType, Operation, Outcome, Result
 from .library import VERSION
 from .names import spell, text
 from .packets import brief, json, show
-from .rdata import DomainName, NbEntry, NodeName, NodeStatus, Rdata
+from .rdata import *
 from .responses import negative_query_response, node_status_response, query_response, response
 from .service import node_status, query, refresh, registration, release
 from .service_packets import Question, Record, ServicePacket
@@ -41,10 +42,10 @@ from .tables import Key, differ, list_table, merge, table_json
 from .turns import ReentryError
 
 __version__ = VERSION().decode()
-__all__ = ['Buffer', 'Datagram', 'DatagramFront', 'DatagramType', 'Delivery', 'DomainName', 'Key', 'Line', 'LineKind',
-           'MoreNeeded', 'NbEntry', 'NbtError', 'NodeName', 'NodeStatus', 'NodeType', 'Operation', 'Outcome',
-           'Question', 'Rdata', 'Record', 'ReentryError', 'ResultCode', 'ServicePacket', 'SessionFront',
-           'SessionPacket', 'SessionStream', 'SessionType', 'Station', 'Status', 'Taken', 'brief', 'capture_line',
-           'datagram_error', 'datagram_query', 'differ', 'json', 'list_table', 'merge', 'negative_query_response',
-           'node_status', 'node_status_response', 'query', 'query_response', 'refresh', 'registration', 'release',
-           'response', 'show', 'spell', 'table_json', 'text']
+__all__ = ['Buffer', 'Datagram', 'DatagramFront', 'DatagramType', 'Delivery', 'Key', 'Line', 'LineKind', 'MoreNeeded',
+           'NbtError', 'NodeType', 'Operation', 'Outcome', 'Question', 'Record', 'ReentryError', 'ResultCode',
+           'ServicePacket', 'SessionFront', 'SessionPacket', 'SessionStream', 'SessionType', 'Station', 'Status',
+           'Taken', 'brief', 'capture_line', 'datagram_error', 'datagram_query', 'differ', 'json', 'list_table', 'merge',
+           'negative_query_response', 'node_status', 'node_status_response', 'query', 'query_response', 'refresh',
+           'registration', 'release', 'response', 'show', 'spell', 'table_json', 'text']
+__all__ += rdata.__all__

@@ -9,10 +9,13 @@ from functools import lru_cache
 from typing import Any, List, Optional, Tuple, Union
 
 from . import names
-from .header import ACT, CNF, DRG, G, NB, NBSTAT, NS, PRM, SERVICE_ADDRESS, SERVICE_NODE, NodeType, Status
+from .buffers import Buffer, given
+from .header import ACT, CNF, DRG, G, NB, NBSTAT, NS, PRM, SERVICE_ADDRESS, SERVICE_NODE, SERVICE_UNIT, NodeType, Status
 from .library import ADDRESS, ALONE, DONE, LENGTH, call
-from .numbers import Flag
+from .numbers import Flag, address_number, number
 from .statuses import NbtError
+
+__all__ = ['DomainName', 'NbEntry', 'NodeName', 'NodeStatus', 'Rdata']
 
 
 class Flagged:
@@ -71,9 +74,10 @@ class DomainName:
 Rdata = Union[Tuple[NbEntry, ...], NodeStatus, DomainName, bytes]
 
 
-# How many bytes an address of a name has with its flags, and one of the names of a node.
-ENTRY_LENGTH, NODE_LENGTH = 6, 18
-# Room for one of either.
+# An address of a name with its flags, and one of the names of a node; what follows UNIT_ID in STATISTICS.
+ENTRY, NODE = struct.Struct('>HL'), struct.Struct('>16sH')
+REST_OF_STATISTICS = bytes(40)
+# Room for what a call fills in of either.
 PART_ROOM = ctypes.c_char * 32
 
 PART = ctypes.c_uint16, ADDRESS, LENGTH, LENGTH, ADDRESS, ADDRESS
@@ -95,16 +99,18 @@ def read_rdata(kind: int, address: int, length: int, server: bytes) -> Rdata:
 
 def read_entries(address: int, length: int) -> Optional[Tuple[NbEntry, ...]]:
     """The addresses of a name; None where RDATA has another form."""
-    found = parts(ADDRESSES, SERVICE_ADDRESS, NB, address, length, length // ENTRY_LENGTH)
-    return None if found is None else tuple([NbEntry(flags, ipaddress.IPv4Address(number)) for number, flags in found])
+    found = parts(ADDRESSES, SERVICE_ADDRESS, NB, address, length, length // ENTRY.size)
+    return None if found is None else tuple([NbEntry(flags, ipaddress.IPv4Address(at)) for at, flags in found])
 
 
 def read_status(address: int, length: int) -> Optional[NodeStatus]:
-    """The names of a node, and its unit; None where RDATA has another form."""
-    found = parts(NODES, SERVICE_NODE, NBSTAT, address, length, length // NODE_LENGTH)
+    """The names of a node, and the unit that stands behind them, if it does; None where RDATA has another form."""
+    found = parts(NODES, SERVICE_NODE, NBSTAT, address, length, length // NODE.size)
     if found is None:
         return None
-    return NodeStatus(tuple([NodeName(node_text(name), flags) for flags, name in found]), read_unit(address, length))
+    unit, at = ctypes.create_string_buffer(SERVICE_UNIT.size), ctypes.c_size_t()
+    status = UNIT(NBSTAT, address, length, ctypes.addressof(unit), ctypes.addressof(at))
+    return NodeStatus(tuple([NodeName(node_text(name), flags) for flags, name in found]), unit.raw if status == DONE else None)
 
 
 def parts(part_of: Any, layout: struct.Struct, kind: int, address: int, length: int, most: int) -> Optional[List[Tuple[Any, ...]]]:
@@ -112,8 +118,8 @@ def parts(part_of: Any, layout: struct.Struct, kind: int, address: int, length: 
     found: List[Tuple[Any, ...]] = []
     room, at = PART_ROOM(), ctypes.c_size_t()
     into, fault = ctypes.addressof(room), ctypes.addressof(at)
-    for number in range(most or 1):
-        status = part_of(kind, address, length, number, into, fault)
+    for place in range(most or 1):
+        status = part_of(kind, address, length, place, into, fault)
         if status != DONE:
             return found if status == Status.NO_PART else None
         found.append(layout.unpack_from(room))
@@ -126,8 +132,32 @@ def node_text(name: bytes) -> str:
     return names.text(names.spelled(name))
 
 
-def read_unit(address: int, length: int) -> Optional[bytes]:
-    """The unit that stands behind the names, if it does."""
-    unit, at = ctypes.create_string_buffer(6), ctypes.c_size_t()
-    status = UNIT(NBSTAT, address, length, ctypes.addressof(unit), ctypes.addressof(at))
-    return unit.raw if status == DONE else None
+def packed(rdata: Union[Rdata, Buffer]) -> Tuple[Optional[int], bytes]:
+    """The type of RDATA, if it has one of its own, and its bytes."""
+    if isinstance(rdata, tuple):
+        return NB, b''.join(map(packed_entry, rdata))
+    if isinstance(rdata, NodeStatus):
+        return NBSTAT, packed_status(rdata)
+    if isinstance(rdata, DomainName):
+        for label in rdata.labels:
+            number(len(label), 6, 'the length of a label')
+        return NS, names.spelling_of(rdata.labels)
+    return None, given(rdata)
+
+
+def packed_entry(entry: NbEntry) -> bytes:
+    """An address of a name: section 4.2.13."""
+    if not isinstance(entry, NbEntry):
+        raise TypeError(f'{entry!r} is no NbEntry')
+    return ENTRY.pack(number(entry.flags, 16, 'NB_FLAGS'), address_number(entry.address))
+
+
+def packed_status(status: NodeStatus) -> bytes:
+    """The names of a node, behind how many they are, and its statistics: section 4.2.18."""
+    count = number(len(status.names), 8, 'how many names a node has')
+    nodes = [NODE.pack(names.sixteen(it.name), number(it.flags, 16, 'NAME_FLAGS')) for it in status.names]
+    if status.unit is None:
+        return bytes([count]) + b''.join(nodes)
+    if len(status.unit) != SERVICE_UNIT.size:
+        raise ValueError(f'unit: {len(status.unit)} bytes are given, and it has {SERVICE_UNIT.size}')
+    return bytes([count]) + b''.join(nodes) + status.unit + REST_OF_STATISTICS

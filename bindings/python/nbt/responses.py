@@ -7,21 +7,15 @@ NbtError: BAD_TEXT and LONG_TEXT of a name, LONG_DATA where RDATA has more than 
 from __future__ import annotations
 
 import ctypes
-import struct
-from typing import Iterable, Optional, Tuple, Union
+from typing import Iterable, Optional, Union
 
-from . import names
-from .buffers import Buffer, given
-from .header import AA, NB, NBSTAT, NM_FLAGS, NS, NULL, R, RD, Operation, ResultCode
+from .buffers import Buffer
+from .header import AA, NM_FLAGS, NULL, R, RD, Operation, ResultCode
 from .library import BYTES, writer
-from .numbers import address_number, encoded, number
-from .rdata import DomainName, NbEntry, NodeStatus, Rdata
+from .numbers import encoded, number
+from .rdata import NbEntry, NodeStatus, Rdata, packed
 
 RESPONSE = writer('nbt_service_response', ctypes.c_uint16, ctypes.c_uint16, *BYTES, ctypes.c_uint16, ctypes.c_uint32, *BYTES)
-# An address of a name, and one of the names of a node.
-ENTRY, NODE = struct.Struct('>HL'), struct.Struct('>16sH')
-# STATISTICS: UNIT_ID, and what follows it.
-UNIT_LENGTH, REST_OF_STATISTICS = 6, bytes(40)
 
 
 def response(identifier: int, name: str, rdata: Union[Rdata, Buffer], time_to_live: int = 0, *, op: int = Operation.QUERY,
@@ -65,34 +59,3 @@ def type_of(own: Optional[int], wanted: Optional[int]) -> int:
     if wanted is not None and wanted != own:
         raise ValueError(f'type: {wanted:#06x} is given with RDATA of type {own:#06x}')
     return own
-
-
-def packed(rdata: Union[Rdata, Buffer]) -> Tuple[Optional[int], bytes]:
-    """The type of RDATA, if it has one of its own, and its bytes."""
-    if isinstance(rdata, tuple):
-        return NB, b''.join(map(packed_entry, rdata))
-    if isinstance(rdata, NodeStatus):
-        return NBSTAT, packed_status(rdata)
-    if isinstance(rdata, DomainName):
-        for label in rdata.labels:
-            number(len(label), 6, 'the length of a label')
-        return NS, names.spelling_of(rdata.labels)
-    return None, given(rdata)
-
-
-def packed_entry(entry: NbEntry) -> bytes:
-    """An address of a name: section 4.2.13."""
-    if not isinstance(entry, NbEntry):
-        raise TypeError(f'{entry!r} is no NbEntry')
-    return ENTRY.pack(number(entry.flags, 16, 'NB_FLAGS'), address_number(entry.address))
-
-
-def packed_status(status: NodeStatus) -> bytes:
-    """The names of a node, behind how many they are, and its statistics: section 4.2.18."""
-    count = number(len(status.names), 8, 'how many names a node has')
-    nodes = [NODE.pack(names.sixteen(it.name), number(it.flags, 16, 'NAME_FLAGS')) for it in status.names]
-    if status.unit is None:
-        return bytes([count]) + b''.join(nodes)
-    if len(status.unit) != UNIT_LENGTH:
-        raise ValueError(f'unit: {len(status.unit)} bytes are given, and it has {UNIT_LENGTH}')
-    return bytes([count]) + b''.join(nodes) + status.unit + REST_OF_STATISTICS

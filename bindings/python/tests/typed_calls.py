@@ -41,7 +41,7 @@ def said(packet: nbt.ServicePacket) -> List[str]:
             words += [node.name for node in it.names if node.active] + [(it.unit or b'').hex()]
         elif isinstance(it, nbt.DomainName):
             words.append(str(it))
-        else:
+        elif isinstance(it, bytes):
             words.append(it.hex())
     return words
 

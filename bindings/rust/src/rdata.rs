@@ -85,6 +85,9 @@ macro_rules! parts {
         }
 
         impl ExactSizeIterator for $name<'_> {}
+
+        #[cfg(feature = "serde")]
+        crate::serialized::sequences!($name);
     };
 }
 

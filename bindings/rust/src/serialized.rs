@@ -21,7 +21,6 @@ use std::fmt::Write;
 use serde::de::{Deserialize, Deserializer, Error as _, Unexpected};
 use serde::ser::{Error as _, Serialize, SerializeStruct, Serializer};
 
-use crate::rdata::{Addresses, NodeNames};
 use crate::service_packets::{Packet, Questions, Record, Records};
 use crate::{session, Name, Spelling};
 
@@ -90,15 +89,16 @@ impl<'de> Deserialize<'de> for Name {
 /// What hasn't been handed out yet, in order.
 macro_rules! sequences {
     ($($each:ident),*) => {$(
-        impl Serialize for $each<'_> {
-            fn serialize<S: Serializer>(&self, out: S) -> Result<S::Ok, S::Error> {
+        impl serde::Serialize for $each<'_> {
+            fn serialize<S: serde::Serializer>(&self, out: S) -> Result<S::Ok, S::Error> {
                 out.collect_seq(self.clone())
             }
         }
     )*};
 }
 
-sequences!(Questions, Records, Addresses, NodeNames);
+pub(crate) use sequences;
+sequences!(Questions, Records);
 
 /// Structures of which some fields are what a call answers.
 macro_rules! fields {

@@ -123,7 +123,7 @@ fn lists_are_as_long_as_they_say() {
                 assert_eq!(found.names.count(), 1);
             }
             Rdata::Other(data) => assert!(data.is_empty() && record.data().is_empty()),
-            Rdata::NameServer(name) => panic!("{name}"),
+            other => panic!("{other:?}"),
         }
     }
 }

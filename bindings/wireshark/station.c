@@ -78,6 +78,7 @@ static GPtrArray *sorted(const struct datagram *datagram)
     return fragments;
 }
 
+/* A fragment without data splits no gap: it says something where it is the end alone. */
 static const char *words_of_gaps(const struct datagram *datagram)
 {
     wmem_strbuf_t *words = wmem_strbuf_new(wmem_file_scope(), "");
@@ -86,6 +87,7 @@ static const char *words_of_gaps(const struct datagram *datagram)
     bool ends = false;
     for (i = 0; i < fragments->len; i++) {
         const struct fragment *each = g_ptr_array_index(fragments, i);
+        if (each->length == 0 && each->more) continue;
         if (each->offset > due && gaps++ < MOST_RUNS) append_run(words, due, each->offset - due);
         due = MAX(due, end_of(each));
         ends = ends || !each->more;

@@ -2,7 +2,7 @@ import assert from 'node:assert/strict';
 import test from 'node:test';
 
 import { PayloadReader, framesOf } from '../src/containers/payloads.js';
-import { CUT, FRAGMENTS, FRAGMENTS_MISSING, FRAGMENTS_UNKNOWN } from '../src/made/reasons.js';
+import { CUT, FRAGMENTS, FRAGMENTS_CUT, FRAGMENTS_MISSING, FRAGMENTS_UNKNOWN } from '../src/made/reasons.js';
 import { slicesOf } from '../src/containers/slices.js';
 import { bytesOf, block, enhanced, ethernet, face, ipv4, ipv6, number, pcap, section, udp } from './building.mjs';
 
@@ -82,6 +82,7 @@ test('fragments of IP come together in any order, and one that is missing is lef
     const late = [{ ...parts[0], seconds: 0 }, { ...parts[1], seconds: 61 }, { ...parts[2], seconds: 61 }];
     assert.deepEqual(leftOut(pcap(late)), [[3, FRAGMENTS]]);
     const cut = { ...parts[1], bytes: parts[1].bytes.slice(0, -1), size: parts[1].bytes.length };
+    assert.deepEqual(leftOut(pcap([parts[0], cut])), [[1, FRAGMENTS_MISSING], [2, FRAGMENTS_CUT]]);
     assert.deepEqual(payloads(pcap([cut, ...parts.map((part) => ({ ...part, seconds: 61 }))])), [hex(whole.subarray(8))]);
     const other = whole.slice();
     other[20] ^= 1;

@@ -6,7 +6,7 @@ single one is sent again. FROM and TO are addresses, with a port where it isn't 
 
   bytes PORT HEX  a payload
   syn, ack        a SYN, or a SYN with ACK, of the session service
-  skip N          N bytes of a stream that aren't in the capture
+  skip N          N bytes of a stream that aren't in the capture; below 0 it goes back, by 100,000 more before a SYN that comes again
   ad86 ..         a response with this flag word to the line's first packet: the kind of its record where it isn't 0020, its TTL and its RDATA
   others          those of `nbt build`: a packet each of what it prints
 

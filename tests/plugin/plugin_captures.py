@@ -19,15 +19,6 @@ OTHERS = ((137, QUERY), (137, QUERY[:7]), (139, KEEPALIVE), (138, b'\x13\x02\0\x
           (138, b'\x14\x02\0\x02\x0a\0\0\5\0\x8a' + FRED), (138, b'\x10\x02'), (138, b'\x77' * 20))
 
 
-def is_empty(payload):
-    """Whether a piece has none of its datagram's bytes: the plugin counts apart what is missing before it and after it."""
-    try:
-        part = read_fragment(payload)
-    except Refused:
-        return False
-    return part is not None and not part.data and bool(part.offset or part.flags & MORE)
-
-
 class Made:
     """One capture."""
 
@@ -54,7 +45,7 @@ class Made:
         rng = self.rng
         found = []
         for _ in range(rng.randrange(1, 9)):
-            found += [(138, each) for each in Traffic(rng).payloads() if 0 < len(each) < LONGEST and not is_empty(each)]
+            found += [(138, each) for each in Traffic(rng).payloads() if 0 < len(each) < LONGEST]
             found += rng.sample(OTHERS, rng.choice((0, 0, 1, 2)))
         return found or [OTHERS[0]]
 
@@ -123,7 +114,7 @@ class Made:
         for start, end, more in (self.pieces[each] for each in group):
             covered.update(range(start, end))
             ends += [] if more else [end]
-        size = max(ends) if ends else max(end for _, end, _ in (self.pieces[each] for each in group))
+        size = max(ends) if ends else max(covered, default=-1) + 1
         runs = []
         for at in range(size):
             if at in covered:

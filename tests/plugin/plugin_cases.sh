@@ -93,6 +93,8 @@ part_shown() {
     with tshark -n -r "$room/states/overlaps.pcap" -o tcp.desegment_tcp_streams:FALSE -o tcp.analyze_sequence_numbers:FALSE -T fields \
         -e nbt.says 2>/dev/null | same $'begins a packet that lacks 42 bytes\n\n\ncalls FRED<20> as JOE<00>\nkeeps the session alive' \
         'of bytes that come again the first ones count'
+    with tshark -n -2 -r "$room/states/gaps.pcap" -T fields -e nbt.missing 2>/dev/null | uniq | same \
+        $'4 bytes from byte 0 on\nall from byte 2 on\n3 bytes from byte 2 on' 'pieces of no bytes split no gap'
     with tshark -n -r "$room/states/untimed.pcap" -T fields -e nbt.state 2>/dev/null | xargs | same 'kept kept delivered' 'frames without a time'
     with tshark -n -r "$file" -Y smb -T fields -e frame.number -e smb.cmd -e nbt.fragment 2>/dev/null | same $'5\t0x2b\t4,5' 'SMB in a datagram of two fragments'
     with tshark -n -q -r "$file" -z nbt,tree 2>/dev/null | awk -F '  +' '$2 ~ /^[0-9]+$/ { print $1 ": " $2 }' | sort >"$room/counts"

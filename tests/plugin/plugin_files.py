@@ -4,7 +4,7 @@
 pieces.pcap has datagrams in many pieces, some lost, changed and repeated; sessions.pcap connections to port 139 in segments of all sizes,
 in order and not, with bytes of no packet, headers that ask for more than a packet has, and starts that the file lacks. marked.pcap has refused
 packets, one of which comes in two segments, and an SMB echo in a datagram of two fragments; overlaps.pcap segments that come again with
-other bytes; untimed.pcap frames without a time.
+other bytes; gaps.pcap pieces of no bytes; untimed.pcap frames without a time.
 """
 import os
 import random
@@ -73,6 +73,12 @@ def overlaps():
     return spaced(segment_frame(1_024, 1 + start, data) for start, data in sent)
 
 
+def gaps():
+    """Datagrams with pieces of no bytes: between two runs, past the last one, and as the end."""
+    sent = ((1, 3, 0, b''), (1, 1, 2, b''), (1, 0, 4, b'ef'), (2, 3, 0, b'ab'), (2, 1, 5, b''), (3, 3, 0, b'ab'), (3, 1, 4, b''), (3, 0, 5, b''))
+    return spaced(datagram_frame(138, datagram(number, data, flags=flags, offset=offset)) for number, flags, offset, data in sent)
+
+
 def untimed():
     """A pcapng file of a datagram in three fragments, of which the first and the last have no time."""
     first, second, third = parts(bytes(60), 20, 40)
@@ -83,7 +89,7 @@ def untimed():
 
 
 def main():
-    for each in (pieces, sessions, marked, overlaps):
+    for each in (pieces, sessions, marked, overlaps, gaps):
         write_pcap(os.path.join(sys.argv[1], f'{each.__name__}.pcap'), each())
     with open(os.path.join(sys.argv[1], 'untimed.pcap'), 'wb') as file:
         file.write(untimed())

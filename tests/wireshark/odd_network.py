@@ -63,7 +63,7 @@ def aggregates(network):
 
 
 def ports_again(network):
-    """After the end of a stream its bytes again, and then a stream of the same ports whose start isn't captured."""
+    """After the end of a stream its bytes again, and then a stream of the same ports whose start isn't captured; and one whose SYN has bytes."""
     client = Side(network, 1025, 139, 10_000)
     client.sends(0, -1, b'', flags=SYN)
     client.sends(1, 0, SHORT, SHORT)
@@ -72,7 +72,10 @@ def ports_again(network):
     client.sends(4, -1, b'', flags=SYN)
     client.sends(5, -1_000, OTHER, '# stream 0 from 10.0.0.5 port 1025: frame 6 is taken for its start, which the file lacks', OTHER)
     client.sends(6, -1_000 + len(OTHER), SHORT, SHORT)
-    print('7 frames, 7 of these ports, 0 left out')
+    quick = Side(network, 1026, 139, 0)
+    quick.sends(7, -1, SHORT, SHORT, flags=SYN)
+    quick.sends(8, len(SHORT), OTHER, OTHER)
+    print('9 frames, 9 of these ports, 0 left out')
 
 
 def fragments(network):
@@ -109,8 +112,9 @@ def fragments(network):
 
 def counts(network):
     """Frames of which bytes are in no line, each counted once: a segment around an early one, one that is cut past missing
-    bytes, one that came otherwise; and what has no bytes: a bare SYN that the file cuts, a byte that keeps alive."""
-    client, other = Side(network, 1025, 139, 0), Side(network, 1026, 139, 0)
+    bytes, one that came otherwise, one of the side that a RST is sent to; and what has no bytes: a bare SYN that the file cuts, a byte that keeps
+    alive."""
+    client, server, other = Side(network, 1025, 139, 0), Side(network, 139, 1025, 0), Side(network, 1026, 139, 0)
     sent = SHORT + OTHER + KEEPALIVE + SHORT
     otherwise = ': %d bytes of stream 0 from 10.0.0.5 port 1025 came before with other values, which are kept'
     client.sends(0, -1, b'', flags=SYN, captured=14 + 20 + 8)
@@ -121,14 +125,17 @@ def counts(network):
     client.sends(0, 35, b'\xff')
     client.sends(0, 18, b'\xff', otherwise % 1)
     client.sends(0, 18, b'\xff\xff', otherwise % 2)
-    client.sends(0, 0, b'', '# stream 0 from 10.0.0.5 port 1025: bytes left over: 0, then missing: 16, then captured: 16', flags=RST)
+    server.sends(0, -1, b'', flags=SYN | ACK)
+    server.sends(0, 0, SHORT[:6])
+    client.sends(0, 0, b'', '# stream 0 from 10.0.0.5 port 1025: bytes left over: 0, then missing: 16, then captured: 16',
+                 f'# stream 0 from 10.0.0.6 port 139: bytes left over: 6 ({SHORT[:6].hex()})', flags=RST)
     other.sends(0, -1, b'', flags=SYN)
     other.sends(0, 0, b'\x86\0\0\0' + FOREIGN[:4], b'\x86\0\0\0')
     other.sends(0, 8, FOREIGN[4:])
     other.sends(0, 4, FOREIGN)
     other.sends(0, 0, b'\x86\0\0\0', f'# stream 1 from 10.0.0.5 port 1026: bytes left over: 16 ({FOREIGN.hex()})')
-    print('14 frames, 14 of these ports, 7 left out: 2 sent again with other bytes, 2 after a gap in TCP, '
-          '2 where no session packet begins, 1 cut by the snap length')
+    print('16 frames, 16 of these ports, 8 left out: 2 sent again with other bytes, 2 after a gap in TCP, '
+          '2 where no session packet begins, 1 cut by the snap length, 1 a session packet whose rest is missing')
 
 
 PARTS = {each.__name__: (each, WIFI if each is aggregates else 1) for each in (tunnels, aggregates, ports_again, fragments, counts)}

@@ -199,6 +199,7 @@ inputs() {
     cat part.*.table | merge | cmp -s - table
     count $? 'nbt merge: the parts of a capture'
     head -n 12000 wide | save >large
+    head -n 10000 wide | save >middle
     cp large copy
     ended "$program" list --keys "$many" <table | cmp -s - many.list
     count $? 'nbt list: the datagrams of the table'
@@ -245,6 +246,9 @@ programs() {
         [[ $(cat errors) == *'out.work is of other captures, of another program, or of other words: begun anew' ]]
     count $? "nbt-parallel, after another program: $(cat errors)"
     rm -f out
+    # An OUT of other words, of a run that was killed before it took OUT.work away.
+    mkdir out.work && printf 'nbt-parallel\n%016d %s\n' 0 "$(sha256sum <flow.table | cut -d ' ' -f 1)" >out.work/lock
+    keeps 2 'nbt-parallel: out is there, and is a saved table: --force replaces it' ./nbt-parallel "$program" gaps
     PATH=/usr/bin:/bin gives gaps.table "$room/installed/bin/nbt-parallel" gaps
 }
 
@@ -296,6 +300,8 @@ with_parallel() {
     grouped 3 flow.table --shard-bytes $((line + 1)) flow
     gives table ./nbt-parallel "$program" --tables part.*.table
     refuses 1 'nbt-parallel: 2 tables are left, of which no two can be merged:*' ./nbt-parallel "$program" --tables large copy
+    refuses 1 'nbt-parallel: 2 tables are left, of which no two can be merged:*' ./nbt-parallel "$program" --tables middle large middle
+    after_ticks
     too_large ./nbt-parallel ./nbt-parallel
     grouped 2 '' keys
     grouped 7 '' wide
@@ -314,6 +320,14 @@ with_parallel() {
     lists_nothing 1 'nbt-parallel: faulty: line 2: nbt: truncated' faulty
     lists_nothing 3 'nbt-parallel: nowhere: No such file or directory' nowhere
     shows_progress ./nbt-parallel
+}
+
+# after_ticks: a malformed line in a group's shard that has ticks; and what ticks dropped is no part of an estimate.
+after_ticks() {
+    sed '3990s/.*/138 0 xyz/' flow >torn
+    refuses 1 'nbt-parallel: torn: line 3990 is malformed (shard g0000-00000?)' ./nbt-parallel "$program" --by-source 2 torn
+    { head -n 15000 wide; echo tick 2000; sed -n '15001,30000s/^138 0 /138 3000 /p' wide; echo tick 5000; tail -n 2000 gaps; } >past
+    gives gaps.table ./nbt-parallel "$program" past
 }
 
 # too_large ENGINE WORKING: captures whose table is too large are refused before anything is done, with a number that is enough.

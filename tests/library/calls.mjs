@@ -17,10 +17,10 @@ for (const row of rows.values()) {
     row.isField = Array.from({ length: row.size }, (_, place) => own.every(({ from, to }) => place < from || place >= to));
 }
 
-// Where things lie, in one piece of memory.
-const SPACE = 1 << 21, big = BigInt;
-const base = Number(nbt.heap_take(big(5 * SPACE)));
-const [numbers, into, ...inputs] = [0, 1, 2, 3, 4].map((which) => base + which * SPACE);
+// Where things lie, in one piece of memory, of which what is written has as much as in harness.c.
+const SPACE = 1 << 21, WRITTEN_SPACE = 6144 * 4096, big = BigInt;
+const base = Number(nbt.heap_take(big(4 * SPACE + WRITTEN_SPACE)));
+const [numbers, ...inputs] = [0, 1, 2, 3].map((which) => base + which * SPACE), into = base + 4 * SPACE;
 const [used, at, filled] = [numbers, numbers + 8, numbers + 1024], stationAt = (which) => numbers + 64 + 8 * which;
 const names = new Map(), stations = new Map();
 let memory, view, out, number, refusals = 0;
@@ -112,6 +112,7 @@ function answer(name, asked, isRefused) {
     let { status, count } = made(name, row, asked, 0, isRefused);
     if (status === NO_ROOM) {
         const room = Number(size(used));
+        expect(room + 11 <= WRITTEN_SPACE, 'a room in the space for it');
         expect(made(name, row, asked, room - 1, isRefused).status === NO_ROOM && size(used) === big(room), `${name}: a byte too few`);
         ({ status, count } = made(name, row, asked, room + 3, isRefused));
     }

@@ -2,7 +2,7 @@
 """What the bindings, the tools and the page list alike, made of one source each: of include/nbt.h its numbers, its limits and, for Rust and
 Python, its structures and calls; of modules of the tools those of the page.
 
-The refusals of man/nbt.1 and docs/FORMATS.md are made too, of crates/nbt/src/refusals.rt, and the options of a law of crates/nbt, of their definitions.
+The refusals of man/nbt.1 and docs/FORMATS.md are made too, of crates/nbt/src/refusals.rt.
 
 Usage: tools/lists.py --made writes what isn't kept in the repository: what makes the library or the page begins with it. --write writes that, and
 anew the file that is kept, and what stands within others, as limits in manual pages. --check says which of the
@@ -13,7 +13,7 @@ import re
 import sys
 
 sys.dont_write_bytecode = True
-from making import crates, javascript, options, python, refusals, rust, scripts
+from making import crates, javascript, python, refusals, rust, scripts
 from making.header import HEADER, TOP, Header
 from making.within import OF_HEADER, WITHIN
 
@@ -48,8 +48,6 @@ def kept():
     yield HEADER, with_limits(HEADER, OF_HEADER, Header())
     header = Header()
     yield TOP / 'tools/nbt_pcap/header.py', python.tools_file(header)
-    laws = TOP / options.LAWS
-    yield laws, options.with_options(laws.read_text(encoding='utf-8'))
     for name, patterns in WITHIN.items():
         text = with_limits(TOP / name, patterns, header)
         yield TOP / name, refusals.MAKERS.get(name, str)(text)

@@ -4,5 +4,4 @@ pub mod PacketLemmas
 pub mod EncodingLemmas
 pub mod ViewLemmas
 pub mod NumberedLemmas
-pub mod TotalityLemmas
 pub mod WalkedLemmas

@@ -12,7 +12,7 @@ use Rattle.nb_service.proofs.SectionLemmas.{one_row, no_row, one_row_fault}
 use Rattle.nb_service.proofs.ItemLemmas.{NameLaws, single_question, single_record}
 use Rattle.nb_service.specs.declared.fault.ServiceFault.TheVariants.{NoMemory}
 use Rattle.nb_service.specs.Record.{ResourceRecord}
-use Rattle.nb_service.specs.Code.Steps.{RowOf, HasRow, HasPacket}
+use Rattle.nb_service.specs.Code.Steps.{RowOf, HasRow}
 
 pub one_header : (packet : List ℕ) (h g : PacketHeader) → HasHeader packet h → HasHeader packet g → h ≡ g
 one_header packet h g a b = λ i. record {
@@ -164,10 +164,6 @@ rows_packet b h qs rs after used x q r =
         records = rw whole r.row;
       },
     )
-
-pub packet_there : (b : List ℕ) (h : PacketHeader) (after used : ℕ) → HasHeader b h → HasRow (QuestionAt b) HEADER_LENGTH h.questions after → HasRow (RecordAt b) after (record_count h) used → HasPacket b
-packet_there b h after used x q r =
-    let p = rows_packet b h q.0 r.0 after used x q.1 r.1 in (p.0, used, p.1)
 
 -- ---- the end of a packet is within the bytes
 

@@ -1,8 +1,7 @@
 //! Laws of the definitions that the contracts cite. Each is proved; a call does nothing.
-ghost use Rattle.std.specs.Prelude.{◌≡◌, ◌≢◌, ◌⊎◌, ◌↔◌, IsTrue, ℕ, ◌+◌, ◌*◌, ◌/◌, ◌%◌, ◌<◌, ◌≤◌, List, [], ◌∷◌, ◌++◌, length};
+ghost use Rattle.std.specs.Prelude.{◌≡◌, ◌≢◌, ◌↔◌, IsTrue, ℕ, ◌+◌, ◌*◌, ◌/◌, ◌%◌, ◌<◌, ◌≤◌, List, [], ◌∷◌, ◌++◌, length};
 ghost use Rattle.std.specs.List.{AllByRecursion, flat_map};
 ghost use Rattle.nb_names.specs.declared.pointers.Pointers.TheVariants.{Followed};
-ghost use Rattle.nb_names.specs.DomainName.{AreBytes};
 ghost use Rattle.nb_names.specs.Labels.{NameAt};
 ghost use Rattle.nb_service.specs.declared.address_entry.AddressEntry.{AddressEntry};
 ghost use Rattle.nb_service.specs.declared.classes.TheConstants.{IN};
@@ -23,7 +22,7 @@ ghost use Rattle.nb_service.specs.Record.{ResourceRecord, of_bytes, of_domain};
 ghost use Rattle.nb_service.specs.ServiceFaults.{item_count, QuestionFails, RecordFails, PacketFails};
 ghost use Rattle.nb_service.specs.Views.{StatusParts, entries_in, entry_bytes, node_name_bytes, status_in};
 
-use nb_names::laws::{name_or_fault, one_fault, one_reading, spelling_is_read};
+use nb_names::laws::{one_fault, one_reading, spelling_is_read};
 
 /// The numbers that the definitions cite, those of flags by their bits in a packet's flag word (RFC
 /// 1002 section 4.2.1.1) and in the word of one of a node's names (section 4.2.18).
@@ -117,15 +116,6 @@ pub fn sections_in_order()
     ensures { (bytes : List ℕ) (packet : ServicePacket) (used : ℕ) →
         IsPacket bytes packet used → HasSections bytes packet used }
 {}
-
-/// Bytes begin with a packet, or have a fault. By [`one_service_fault`] it is never both.
-pub fn packet_or_fault()
-    ensures { (bytes : List ℕ) → AreBytes bytes →
-        ((packet : ServicePacket) × (used : ℕ) × IsPacket bytes packet used)
-        ⊎ ((fault : ServiceFault) × PacketFails bytes fault) }
-{
-    name_or_fault();
-}
 
 /// Bytes begin with one packet at most, which has one length.
 pub fn one_packet()

@@ -195,33 +195,3 @@ pub one_said : (payload : List ℕ) (port : ℕ) (text other : List ℕ) → One
     → text ≡ other
 one_said payload port text other laws a b =
     one_made (phrases payload) payload port text other laws (phrase_by_port payload port text a) (phrase_by_port payload port other b)
-
--- ---- some text
-
--- something for each port
-some_for : {B : Type 0} (Is : ℕ → B → Type 0) (port : ℕ) → ((b : B) × Is 137 b) → ((b : B) × Is 138 b)
-    → (port ≢ 137 → port ≢ 138 → ((b : B) × Is port b)) → ((b : B) × Is port b)
-some_for {B} Is port of_names of_datagram of_session = elim (cases_eq port 137) [
-  | inl e ↦ subst (λ (q : ℕ). ((b : B) × Is q b)) (sym e) of_names
-  | inr other ↦ elim (cases_eq port 138) [
-    | inl e ↦ subst (λ (q : ℕ). ((b : B) × Is q b)) (sym e) of_datagram
-    | inr another ↦ of_session other another
-  ]
-]
-
-pub some_shown : (payload : List ℕ) (port : ℕ)
-    → ((packet : service.ServicePacket) × (used : ℕ) × service.IsPacket payload packet used) ⊎ ((fault : ServiceFault) × service_faults.PacketFails payload fault)
-    → ((packet : Packet) × (used : ℕ) × datagrams.IsPacket payload packet used) ⊎ ((fault : DatagramFault) × datagram_faults.PacketFails payload fault)
-    → (parsed : Parsed) × Parses payload parsed
-    → (text : List ℕ) × Shown payload port text
-some_shown payload port n d s =
-    some_for (Shown payload) port
-    (elim n [
-      | inl p ↦ (service_text p.0 p.1, names p.0 p.1 p.2)
-      | inr f ↦ (refused_text (service_fault_text f.0), no_names f.0 f.1)
-    ])
-    (elim d [
-      | inl p ↦ (datagram_text p.0 p.1, datagram p.0 p.1 p.2)
-      | inr f ↦ (refused_text (datagram_fault_text f.0), no_datagram f.0 f.1)
-    ])
-    (λ a b. (session_text s.0, session port s.0 a b s.1))

@@ -72,16 +72,6 @@ pub fn one_telling()
     sessions::one_answer();
 }
 
-/// Each payload has a text, whatever the port.
-pub fn some_text()
-    ensures { (payload : List ℕ) (port : ℕ) → AreBytes payload →
-        (text : List ℕ) × Shown payload port text }
-{
-    names::packet_or_fault();
-    datagrams::packet_or_fault();
-    sessions::some_answer();
-}
-
 /// A text is lines of printable ASCII: a line of words with one space between them, and then the
 /// lines of its parts, each of which two or four spaces begin.
 pub fn a_text_is_lines()

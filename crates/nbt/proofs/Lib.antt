@@ -2,14 +2,9 @@ pub mod CapacityGiven
 pub mod CommandRows
 pub mod Common
 pub mod DifferenceLemmas
-pub mod FlagRows
-pub mod FlagTests
-pub mod FlagValues
-pub mod FlagWalks
 pub mod JoinedLemmas
 pub mod MisusedWords
 pub mod ObjectLemmas
-pub mod OptionLaws
 pub mod PrintedLemmas
 pub mod ReplayingTurns
 pub mod RunningLemmas

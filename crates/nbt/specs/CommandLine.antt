@@ -1,17 +1,14 @@
 -- The program's command line, as clap reads it (our choice).
-use Rattle.std.specs.Prelude.{◌≡◌, ◌⊎◌, ℕ, List, [], ◌∷◌, ◌++◌, Option, Some, true, false, codes, Bool, filter, map, ◌≢◌}
+use Rattle.std.specs.Prelude.{◌≡◌, ◌⊎◌, ℕ, List, [], ◌∷◌, ◌++◌, Option, Some, true, codes, ◌≢◌}
 use Rattle.std.specs.Fmt.{decimal}
 use Rattle.nbt.specs.declared.limits.TheConstants.{KEYS, MOST_INPUT, MOST_KEYS}
 use Rattle.nbt.specs.declared.subcommand.Subcommand.{Subcommand}
 use Rattle.nbt.specs.declared.subcommand.Subcommand.TheVariants as commands
-use Rattle.clap.specs.Words.{App, Rule, Text, new_app, new_rule, with_rule, with_subcommand, found_of, rows_of, subcommand_of}
-use Rattle.clap.specs.Simple.{on_top, Shape, built}
+use Rattle.clap.specs.Words.{App, Rule, Text, new_app, new_rule, with_rule, with_subcommand}
+use Rattle.clap.specs.Simple.{on_top}
 use Rattle.clap.specs.declared.builder.action.ArgAction.TheVariants.{Set, SetTrue, Append}
 use Rattle.clap.specs.declared.builder.value_parser.ValueParser.TheVariants.{Unsigned}
-use Rattle.std.specs.List.{flat_map, fold}
-use Rattle.clap.specs.Walk.{action_of}
-use Rattle.clap.specs.declared.builder.action.ArgAction.{ArgAction}
-use Rattle.clap.specs.declared.parser.matches.ArgMatches.{ArgMatches}
+use Rattle.std.specs.List.{fold}
 use Rattle.std.specs.Io.KnownBytes.{Keeps}
 use Rattle.clap.specs.Faults.{fault_of}
 use Rattle.clap.specs.Kinds.{IsAmong}
@@ -166,30 +163,6 @@ word_of commands.Agree = codes "agree"
 -- the program's name and one word more, which is a subcommand that may stand alone
 abbrev pub AreAlone : List Text → Type 0
 AreAlone words = (program : Text) × (word : Text) × (words ≡ program ∷ word ∷ []) × IsAlone word
-
--- ---- the program's options that have no value, and what the matches of words that name a command hold of them (our
--- choice)
-
--- what an option that has no value does
-abbrev pub is_set : ArgAction → Bool
-is_set SetTrue = true
-is_set _ = false
-
--- the options of a command that have no value, each after the command's name
-abbrev pub options_of : Shape → List (Text × Text)
-options_of s = map (λ a. (s.name, a.id)) (filter (λ a. is_set (action_of a)) s.rules)
-
--- those of all commands
-abbrev pub options : List (Text × Text)
-options = flat_map options_of (built nbt_app).subs
-
--- Enters words name matches: the words name this subcommand, and these are its own matches of them
-abbrev pub Enters : List Text → Text → ArgMatches → Type 0
-Enters words name matches = subcommand_of nbt_app words ≡ Some (name, rows_of (found_of matches))
-
--- OneOf A B: one of the two holds, and not both
-abbrev pub OneOf : Type 0 → Type 0 → Type 0
-OneOf A B = (A × ¬ B) ⊎ (¬ A × B)
 
 -- ---- what the program makes of clap's answer, where it has no matches of the words (our choice)
 

@@ -1,15 +1,11 @@
 //! Laws of the definitions that the contracts cite. Each is proved; a call does nothing.
-ghost use Rattle.std.specs.Prelude.{◌≡◌, ◌∷◌, [], ℕ, List, Contains, codes, true, false};
-ghost use Rattle.clap.specs.Words.{Text};
-ghost use Rattle.clap.specs.declared.parser.matches.ArgMatches.{ArgMatches};
-ghost use Rattle.nb_member.specs.declared.comments.Comments.TheVariants.{LeftOut, Printed};
+ghost use Rattle.std.specs.Prelude.{◌≡◌, ◌∷◌, [], ℕ, List, codes};
 ghost use Rattle.nb_member.specs.declared.line.Line.TheVariants.{Packet, Tick};
 ghost use Rattle.nb_telling.specs.Telling.{Number, Text as Said};
-ghost use Rattle.nbt.specs.CommandLine.{keys_rule, Enters, OneOf, options};
+ghost use Rattle.nbt.specs.CommandLine.{keys_rule};
 ghost use Rattle.nbt.specs.declared.limits.TheConstants.{KEYS, MOST_INPUT, MOST_KEYS};
 ghost use Rattle.nbt.specs.declared.status.Status.TheVariants.{Done, Refused, BadUsage, Failed};
 ghost use Rattle.nbt.specs.Objects.{bare_key, head_fields};
-ghost use Rattle.nbt.specs.Settings.{AreComments, IsGiven};
 ghost use Rattle.nbt.specs.Status.{code_of};
 
 /// The exit statuses, as numbers.
@@ -39,26 +35,4 @@ pub fn objects_begin()
         ∷ Said (bare_key (codes "comment")) (first ∷ rest) ∷ [] }
     ensures ticks { (n now : ℕ) → head_fields n (Tick now) []
         ≡ Number (bare_key (codes "line")) n ∷ Number (bare_key (codes "moment")) now ∷ [] }
-{}
-
-/// Words that name a command give each of its options that have no value, or don't, and never both.
-pub fn each_option_is_given_or_not()
-    ensures these { options ≡ (codes "name", codes "bytes") ∷ (codes "show", codes "comments")
-        ∷ (codes "show", codes "brief") ∷ (codes "show", codes "partial")
-        ∷ (codes "show", codes "json") ∷ (codes "build", codes "broadcast")
-        ∷ (codes "replay", codes "comments") ∷ (codes "replay", codes "json")
-        ∷ (codes "list", codes "json") ∷ (codes "agree", codes "list") ∷ [] }
-    ensures given { (words : List Text) (command option : Text) (matches : ArgMatches) →
-        Contains options (command, option) → Enters words command matches
-        → OneOf (IsGiven matches option true) (IsGiven matches option false) }
-{}
-
-/// Words that name `show` or `replay` ask that comments be printed, or that they be left out.
-pub fn comments_or_none()
-    ensures show { (words : List Text) (matches : ArgMatches) →
-        Enters words (codes "show") matches
-        → OneOf (AreComments matches Printed) (AreComments matches LeftOut) }
-    ensures replay { (words : List Text) (matches : ArgMatches) →
-        Enters words (codes "replay") matches
-        → OneOf (AreComments matches Printed) (AreComments matches LeftOut) }
 {}

@@ -1,8 +1,18 @@
+use Rattle.std.proofs.Common.{◌≡◌, ◌≢◌, ℕ, ◌+◌, ◌≤◌, List, length, take, drop, refl, sym, subst, arith, length-drop}
+use Rattle.std.proofs.lemmas.List.{length-take-le}
 use Rattle.std.proofs.lemmas.Result.{err_from_is_err_and}
-use Rattle.nb_service.specs.Packet.{domain_there}
+use Rattle.nb_service.specs.declared.kinds.TheConstants.{NS}
+use Rattle.nb_service.specs.Packet.{RdataAt, bytes_there, domain_there}
+use Rattle.nb_service.specs.Record.{ResourceData, of_bytes}
 use Rattle.nb_service.specs.ServiceFaults.{domain_name, domain_end}
-use Rattle.nb_service.proofs.TotalityLemmas.{bytes_stand}
 use Rattle.nb_service.proofs.seeing.check_rdata.Goals as goal
+
+-- bytes stand wherever there are as many
+bytes_stand : (b : List ℕ) (at size kind : ℕ) → kind ≢ NS → at + size ≤ length b → (d : ResourceData) × RdataAt b at size kind d
+bytes_stand b at size kind other fits =
+    let bytes : List ℕ = take size (drop at b) in
+    let long : length bytes ≡ size = length-take-le size (drop at b) (omega (arith, length-drop at b)) in
+    (of_bytes bytes, bytes_there bytes other long (subst (λ (n : ℕ). take n (drop at b) ≡ bytes) (sym long) refl))
 
 pub returns-then-kind-ne-NS-clause-found : goal.returns-then-kind-ne-NS-clause-found
 returns-then-kind-ne-NS-clause-found c = bytes_stand c.args.names.now c.args.begin c.args.size c.args.kind c.if-kind-ne-NS.true c.requires.there

@@ -1,4 +1,3 @@
-mod StandsLemmas
 mod ReadingLemmas
 mod PacketLemmas
 mod FrontLemmas

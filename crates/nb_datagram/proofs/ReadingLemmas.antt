@@ -1,11 +1,13 @@
 -- What a reading has found makes a packet.
-use Rattle.std.proofs.Common.{◌≡◌, ℕ, ◌+◌, ◌≤◌, List, [], ◌∷◌, ◌++◌, length, take, drop, get_or, sym, subst, arith, length-append, length-drop}
-use Rattle.std.proofs.lemmas.List.{length-take-le, take_all}
+use Rattle.std.proofs.Common.{◌≡◌, ℕ, ◌+◌, ◌≤◌, List, [], ◌∷◌, ◌++◌, length, take, drop, get_or, ap, sym, subst, ◌∙◌, arith, length-append, length-drop}
+use Rattle.std.proofs.lemmas.List.{length-take-le, take_all, take-append-drop}
 use Rattle.std.specs.Int.{w16, to_be_bytes}
 use Rattle.nb_names.specs.declared.pointers.Pointers.TheVariants.{Refused}
 use Rattle.nb_names.specs.Labels.{StandsAt, NameAt, NumberAt}
 use Rattle.nb_names.specs.Name.{NetbiosName, IsName, labels_of_name}
 use Rattle.nb_names.specs.NameFaults.{NetbiosFaultAt}
+use Rattle.nb_names.specs.PacketFacts.{stands_in_all}
+use Rattle.nb_names.proofs.LabelsLemmas.{stands_joined, stands_before, stands_one, spelled_there}
 use Rattle.nb_names.specs.declared.fault.NameFault.{NameFault}
 use Rattle.nb_datagram.specs.declared.header.Header.{Header}
 use Rattle.nb_datagram.specs.declared.key.Key.{Key}
@@ -21,13 +23,16 @@ use Rattle.nb_datagram.specs.declared.kind.Kind.TheVariants.{Unique, Group, Broa
 use Rattle.nb_datagram.specs.declared.packet.QueryKind.TheVariants.{Request, Positive, Negative}
 use Rattle.nb_datagram.specs.DatagramFaults.{HasType, DirectFails, PacketFails, direct_fails, query_fails}
 use Rattle.nb_datagram.specs.Code.Reading.{HasHeader}
-use Rattle.nb_datagram.proofs.StandsLemmas.{stands_then, stands_front, stands_whole, stands_one, stands_in_all, spelled_at}
+
+-- what stands in front, and the rest
+stands_whole : (bytes xs : List ℕ) → StandsAt bytes 0 xs → bytes ≡ xs ++ drop (length xs) bytes
+stands_whole bytes xs h = sym (take-append-drop (length xs) bytes) ∙ ap (λ (r : List ℕ). r ++ drop (length xs) bytes) h
 
 -- a header has its type
 pub header_type : (bytes : List ℕ) (h : Header) → HasHeader bytes h → HasType bytes h.message_type
 header_type bytes h there = record {
   whole = there.whole;
-  first = stands_front bytes 0 (h.message_type ∷ []) (h.flags ∷ (to_be_bytes w16 h.key.id ++ (h.key.ip ++ to_be_bytes w16 h.key.port))) there.stands;
+  first = stands_before bytes 0 (h.message_type ∷ []) (h.flags ∷ (to_be_bytes w16 h.key.id ++ (h.key.ip ++ to_be_bytes w16 h.key.port))) there.stands;
 }
 
 -- the bytes of a header are ten
@@ -41,7 +46,7 @@ behind_header bytes h type more there is g =
     let long = header_long h.message_type h.flags h.key there.key.ip in
     let place : 10 ≡ 0 + length (header_bytes h.message_type h.flags h.key) = omega (arith, long) in
     subst (λ (t : ℕ). StandsAt bytes 0 (header_bytes t h.flags h.key ++ more)) is
-    (stands_then bytes 0 (header_bytes h.message_type h.flags h.key) more there.stands
+    (stands_joined bytes 0 (header_bytes h.message_type h.flags h.key) more there.stands
     (subst (λ (n : ℕ). StandsAt bytes n more) place g))
 
 -- an error packet
@@ -61,7 +66,7 @@ error_there bytes h there is fits =
 pub query_there : (bytes : List ℕ) (h : Header) (kind : QueryKind) (name : NetbiosName) (used : ℕ) → HasHeader bytes h → h.message_type ≡ query_type kind → IsName name → NameAt bytes Refused 10 (labels_of_name name) used →
     IsPacket bytes (packets.Query (record { kind = kind; flags = h.flags; key = h.key; destination = name })) used
 query_there bytes h kind name used there is formed named =
-    let spelled = spelled_at bytes 10 10 (labels_of_name name) used named in
+    let spelled = spelled_there bytes 10 10 (labels_of_name name) used named in
     let all : List ℕ = header_bytes (query_type kind) h.flags h.key ++ name_bytes name in
     let stands : StandsAt bytes 0 all = behind_header bytes h (query_type kind) (name_bytes name) there is spelled.0 in
     record {
@@ -95,8 +100,8 @@ data_long bytes size offset source destination behind start f =
 pub named_there : (bytes : List ℕ) (size offset : ℕ) (source destination : NetbiosName) (behind start : ℕ) → HasFragment bytes size offset source destination behind start →
     named_length source destination (data_of bytes size start) ≡ size
 named_there bytes size offset source destination behind start f =
-    let first = spelled_at _ 14 14 (labels_of_name source) behind f.source_there in
-    let second = spelled_at _ behind behind (labels_of_name destination) start f.destination_there in
+    let first = spelled_there _ 14 14 (labels_of_name source) behind f.source_there in
+    let second = spelled_there _ behind behind (labels_of_name destination) start f.destination_there in
     omega (arith, first.1, second.1, data_long bytes size offset source destination behind start f)
 
 -- the bytes after the header
@@ -104,19 +109,19 @@ direct_there : (bytes : List ℕ) (size offset : ℕ) (source destination : Netb
     StandsAt bytes 10 (to_be_bytes w16 size ++ (to_be_bytes w16 offset ++ (name_bytes source ++ (name_bytes destination ++ data_of bytes size start))))
 direct_there bytes size offset source destination behind start f =
     let carried : List ℕ = data_of bytes size start in
-    let first = spelled_at _ 14 14 (labels_of_name source) behind f.source_there in
-    let second = spelled_at _ behind behind (labels_of_name destination) start f.destination_there in
+    let first = spelled_there _ 14 14 (labels_of_name source) behind f.source_there in
+    let second = spelled_there _ behind behind (labels_of_name destination) start f.destination_there in
     let long = data_long bytes size offset source destination behind start f in
     let whole : StandsAt (take (14 + size) bytes) start carried = take_length carried in
     let rest : StandsAt bytes start carried = stands_in_all bytes (14 + size) start carried (omega (arith, long)) whole in
     let to : StandsAt bytes behind (name_bytes destination) = stands_in_all bytes (14 + size) behind (name_bytes destination) (omega (arith, second.1, long)) second.0 in
     let from : StandsAt bytes 14 (name_bytes source) = stands_in_all bytes (14 + size) 14 (name_bytes source) (omega (arith, first.1, second.1, long)) first.0 in
     let tail : StandsAt bytes behind (name_bytes destination ++ carried) =
-    stands_then bytes behind (name_bytes destination) carried to (subst (λ (n : ℕ). StandsAt bytes n carried) second.1 rest) in
+    stands_joined bytes behind (name_bytes destination) carried to (subst (λ (n : ℕ). StandsAt bytes n carried) second.1 rest) in
     let names : StandsAt bytes 14 (name_bytes source ++ (name_bytes destination ++ carried)) =
-    stands_then bytes 14 (name_bytes source) (name_bytes destination ++ carried) from (subst (λ (n : ℕ). StandsAt bytes n (name_bytes destination ++ carried)) first.1 tail) in
-    stands_then bytes 10 (to_be_bytes w16 size) _ f.size_there.bytes
-    (stands_then bytes 12 (to_be_bytes w16 offset) _ f.offset_there.bytes names)
+    stands_joined bytes 14 (name_bytes source) (name_bytes destination ++ carried) from (subst (λ (n : ℕ). StandsAt bytes n (name_bytes destination ++ carried)) first.1 tail) in
+    stands_joined bytes 10 (to_be_bytes w16 size) _ f.size_there.bytes
+    (stands_joined bytes 12 (to_be_bytes w16 offset) _ f.offset_there.bytes names)
   where
     take_length : (xs : List ℕ) → take (length xs) xs ≡ xs
     take_length xs = take_all (length xs) xs (omega arith)

@@ -1,16 +1,15 @@
 -- Each row of bytes begins with a packet or has a fault.
-use Rattle.std.proofs.Common.{◌≡◌, ◌⊎◌, ℕ, zero, suc, ◌+◌, ◌<◌, ◌≤◌, inl, inr, List, [], ◌∷◌, ◌++◌, length, take, drop, get_or, refl, sym, subst, ◌∙◌, arith, length-drop}
+use Rattle.std.proofs.Common.{◌≡◌, ◌==◌, cond, ◌⊎◌, ℕ, ◌+◌, ◌<◌, ◌≤◌, inl, inr, List, [], ◌∷◌, ◌++◌, length, take, drop, get_or, refl, sym, subst, ◌∙◌, arith}
 use Rattle.std.proofs.lemmas.Bool.{cases_lt}
-use Rattle.std.proofs.lemmas.List.{length-take-le}
-use Rattle.std.proofs.lemmas.Nat.{be_bytes_2}
-use Rattle.std.specs.Int.{w16, to_be_bytes, from_be_bytes}
-use Rattle.nb_names.specs.declared.fault.NameFault.{NameFault}
+use Rattle.std.proofs.lemmas.Bool.Decides.{nat_tests}
+use Rattle.std.specs.Int.{w16, to_be_bytes}
 use Rattle.nb_names.specs.declared.pointers.Pointers.TheVariants.{Refused}
 use Rattle.nb_names.specs.DomainName.{spelling, AreBytes}
-use Rattle.nb_names.specs.Labels.{StandsAt, NameAt, NumberAt}
-use Rattle.nb_names.specs.Name.{NetbiosName, IsName, labels_of_name}
-use Rattle.nb_names.specs.NameFaults.{NetbiosFaultAt}
-use Rattle.nb_names.specs.PacketFacts.{stands_fits, range_stands}
+use Rattle.nb_names.specs.Labels.{StandsAt, NumberAt}
+use Rattle.nb_names.specs.Name.{labels_of_name}
+use Rattle.nb_names.specs.PacketFacts.{stands_fits, range_stands, All-take, number_there}
+use Rattle.nb_names.proofs.LabelsLemmas.{stands_joined, stands_one, spelled_there}
+use Rattle.nb_names.proofs.TotalityLemmas.{named_or_fault}
 use Rattle.nb_datagram.specs.declared.fault.DatagramFault.{DatagramFault}
 use Rattle.nb_datagram.specs.declared.fault.DatagramFault.TheVariants.{Truncated, UnknownType, SourceName, DestinationName}
 use Rattle.nb_datagram.specs.declared.form.Form.{Form}
@@ -23,69 +22,21 @@ use Rattle.nb_datagram.specs.declared.packet.QueryKind.TheVariants.{Request, Pos
 use Rattle.nb_datagram.specs.Packet.{type_of, Packet, IsPacket}
 use Rattle.nb_datagram.specs.DatagramFaults.{HasType, in_source, in_destination, no_fields, no_data, in_names, PacketFails, no_header, no_type, no_code}
 use Rattle.nb_datagram.specs.Code.Reading.{number_of, HasHeader}
-use Rattle.nb_datagram.proofs.StandsLemmas.{stands_first, stands_one, stands_then, spelled_at}
 use Rattle.nb_datagram.proofs.ReadingLemmas.{header_type, error_there, query_there, fragment_there, query_named, direct_failed}
 
 -- these bytes begin with a packet, or have a fault
 abbrev pub Outcome : List ℕ → Type 0
 Outcome bytes = ((packet : Packet) × (used : ℕ) × IsPacket bytes packet used) ⊎ ((fault : DatagramFault) × PacketFails bytes fault)
 
--- at each offset of bytes a name stands, or there is a fault
-abbrev pub NameOrFault : Type 0
-NameOrFault =
-    (packet : List ℕ) (at : ℕ) → AreBytes packet
-    → ((name : NetbiosName) × (next : ℕ) × IsName name × NameAt packet Refused at (labels_of_name name) next)
-    ⊎ ((fault : NameFault) × NetbiosFaultAt packet Refused at fault)
-
--- ---- bytes
-
-byte_at : (bytes : List ℕ) (i : ℕ) → AreBytes bytes → get_or bytes i 0 < 256
-byte_at [] i each = omega arith
-byte_at (b ∷ bs) zero each = each.0
-byte_at (b ∷ bs) (suc i) each = byte_at bs i each.1
-
-AreBytes-take : (n : ℕ) (bytes : List ℕ) → AreBytes bytes → AreBytes (take n bytes)
-AreBytes-take zero bytes each = tt
-AreBytes-take (suc n) [] each = tt
-AreBytes-take (suc n) (b ∷ bs) each = (each.0, AreBytes-take n bs each.1)
-
-AreBytes-drop : (n : ℕ) (bytes : List ℕ) → AreBytes bytes → AreBytes (drop n bytes)
-AreBytes-drop zero bytes each = each
-AreBytes-drop (suc n) [] each = tt
-AreBytes-drop (suc n) (b ∷ bs) each = AreBytes-drop n bs each.1
-
--- two bytes are a number
-number_there : (bytes : List ℕ) (at : ℕ) → AreBytes bytes → at + 2 ≤ length bytes → (n : ℕ) × NumberAt bytes at w16 n
-number_there bytes at each fits =
-    let two : List ℕ = take 2 (drop at bytes) in
-    let long : length two ≡ 2 = length-take-le 2 (drop at bytes) (omega (arith, length-drop at bytes)) in
-    let small : AreBytes two = AreBytes-take 2 (drop at bytes) (AreBytes-drop at bytes each) in
-    let first = byte_at two 0 small in
-    let second = byte_at two 1 small in
-    (from_be_bytes w16 two, record { fits = omega (arith, first, second); bytes = sym (be_bytes_2 two (from_be_bytes w16 two) long (λ i. byte_at two i small) refl) })
-
 -- ---- the header
 
-form_there : (type : ℕ) → 16 ≤ type → type ≤ 22 → (form : Form) × (number_of form ≡ type)
-form_there type low high = elim (cases_lt type 17) [
-  | inl a ↦ (Direct Unique, omega arith)
-  | inr a ↦ elim (cases_lt type 18) [
-    | inl b ↦ (Direct Group, omega arith)
-    | inr b ↦ elim (cases_lt type 19) [
-      | inl c ↦ (Direct Broadcast, omega arith)
-      | inr c ↦ elim (cases_lt type 20) [
-        | inl d ↦ (Error, omega arith)
-        | inr d ↦ elim (cases_lt type 21) [
-          | inl e ↦ (Query Request, omega arith)
-          | inr e ↦ elim (cases_lt type 22) [
-            | inl f ↦ (Query Positive, omega arith)
-            | inr f ↦ (Query Negative, omega arith)
-          ]
-        ]
-      ]
-    ]
-  ]
-]
+abbrev form_from : ℕ → Form
+form_from n =
+    cond (n == 16) (Direct Unique) (cond (n == 17) (Direct Group) (cond (n == 18) (Direct Broadcast)
+    (cond (n == 19) Error (cond (n == 20) (Query Request) (cond (n == 21) (Query Positive) (Query Negative))))))
+
+form_there : (type : ℕ) → 16 ≤ type → type ≤ 22 → number_of (form_from type) ≡ type
+form_there type low high = grind (arith, nat_tests)
 
 -- ten bytes are a header
 header_there : (bytes : List ℕ) → AreBytes bytes → 10 ≤ length bytes →
@@ -100,9 +51,9 @@ header_there bytes each fits =
     let key : Key = record { ip = ip; port = port.0; id = id.0 } in
     let place : 8 ≡ 4 + length ip = omega (arith, address.0) in
     let last : StandsAt bytes (4 + length ip) (to_be_bytes w16 port.0) = subst (λ (n : ℕ). StandsAt bytes n (to_be_bytes w16 port.0)) place port.1.bytes in
-    let tail = stands_then bytes 2 (to_be_bytes w16 id.0) (ip ++ to_be_bytes w16 port.0) id.1.bytes (stands_then bytes 4 ip (to_be_bytes w16 port.0) address.1 last) in
-    let whole = stands_then bytes 0 (type ∷ []) (flags ∷ (to_be_bytes w16 id.0 ++ (ip ++ to_be_bytes w16 port.0))) (stands_one bytes 0 (omega arith))
-    (stands_then bytes 1 (flags ∷ []) (to_be_bytes w16 id.0 ++ (ip ++ to_be_bytes w16 port.0)) (stands_one bytes 1 (omega arith)) tail) in (
+    let tail = stands_joined bytes 2 (to_be_bytes w16 id.0) (ip ++ to_be_bytes w16 port.0) id.1.bytes (stands_joined bytes 4 ip (to_be_bytes w16 port.0) address.1 last) in
+    let whole = stands_joined bytes 0 (type ∷ []) (flags ∷ (to_be_bytes w16 id.0 ++ (ip ++ to_be_bytes w16 port.0))) (stands_one bytes 0 (omega arith))
+    (stands_joined bytes 1 (flags ∷ []) (to_be_bytes w16 id.0 ++ (ip ++ to_be_bytes w16 port.0)) (stands_one bytes 1 (omega arith)) tail) in (
       record { message_type = type; flags = flags; key = key },
       record {
         key = record { ip = address.0; port = port.1.fits; id = id.1.fits };
@@ -114,17 +65,17 @@ header_there bytes each fits =
 
 -- ---- what stands after it
 
-names_or_fault : NameOrFault → (bytes : List ℕ) (header : Header) (kind : Kind) (size : ℕ) → AreBytes bytes → HasHeader bytes header → header.message_type ≡ type_of kind →
+names_or_fault : (bytes : List ℕ) (header : Header) (kind : Kind) (size : ℕ) → AreBytes bytes → HasHeader bytes header → header.message_type ≡ type_of kind →
     NumberAt bytes 10 w16 size → 14 + size ≤ length bytes → Outcome bytes
-names_or_fault total bytes header kind size each there is number fits =
+names_or_fault bytes header kind size each there is number fits =
     let packet : List ℕ = take (14 + size) bytes in
-    let all : AreBytes packet = AreBytes-take (14 + size) bytes each in
+    let all : AreBytes packet = All-take _ (14 + size) bytes each in
     let offset = number_there bytes 12 each (omega arith) in
-    elim (total packet 14 all) [
+    elim (named_or_fault packet Refused 14 all) [
       | inr f ↦ inr (SourceName f.0, direct_failed bytes header kind (SourceName f.0) there is (in_names size number fits (in_source f.0 f.1)))
-      | inl a ↦ elim (total packet a.1 all) [
+      | inl a ↦ elim (named_or_fault packet Refused a.1 all) [
         | inr f ↦ inr (DestinationName f.0, direct_failed bytes header kind (DestinationName f.0) there is (in_names size number fits (in_destination a.0 a.1 f.0 a.2 a.3 f.1)))
-        | inl b ↦ (let spelled = spelled_at packet a.1 a.1 (labels_of_name b.0) b.1 b.3 in
+        | inl b ↦ (let spelled = spelled_there packet a.1 a.1 (labels_of_name b.0) b.1 b.3 in
             let within = stands_fits packet a.1 (spelling (labels_of_name b.0)) spelled.0 (omega arith) in
             inl (
               _,
@@ -143,42 +94,41 @@ names_or_fault total bytes header kind size each there is number fits =
       ]
     ]
 
-behind_header : NameOrFault → (bytes : List ℕ) (header : Header) (form : Form) → AreBytes bytes → HasHeader bytes header → header.message_type ≡ number_of form → Outcome bytes
-behind_header total bytes header (Direct kind) each there is = elim (cases_lt (length bytes) 14) [
+behind_header : (bytes : List ℕ) (header : Header) (form : Form) → AreBytes bytes → HasHeader bytes header → header.message_type ≡ number_of form → Outcome bytes
+behind_header bytes header (Direct kind) each there is = elim (cases_lt (length bytes) 14) [
   | inl low ↦ inr (Truncated (length bytes), direct_failed bytes header kind (Truncated (length bytes)) there is (no_fields low))
   | inr enough ↦ (let size = number_there bytes 10 each (omega arith) in
       elim (cases_lt (length bytes) (14 + size.0)) [
         | inl low ↦ inr (Truncated (length bytes), direct_failed bytes header kind (Truncated (length bytes)) there is (no_data size.0 size.1 enough low))
-        | inr fits ↦ names_or_fault total bytes header kind size.0 each there is size.1 fits
+        | inr fits ↦ names_or_fault bytes header kind size.0 each there is size.1 fits
       ])
 ]
-behind_header total bytes header Error each there is = elim (cases_lt (length bytes) 11) [
+behind_header bytes header Error each there is = elim (cases_lt (length bytes) 11) [
   | inl low ↦ inr (Truncated (length bytes), no_code (subst (HasType bytes) is (header_type bytes header there)) low)
   | inr fits ↦ inl (_, 11, error_there bytes header there is fits)
 ]
-behind_header total bytes header (Query kind) each there is = elim (total bytes 10 each) [
+behind_header bytes header (Query kind) each there is = elim (named_or_fault bytes Refused 10 each) [
   | inl a ↦ inl (_, a.1, query_there bytes header kind a.0 a.1 there is a.2 a.3)
   | inr f ↦ inr (DestinationName f.0, query_named bytes header kind f.0 there is f.1)
 ]
 
-known_type : NameOrFault → (bytes : List ℕ) → AreBytes bytes → 10 ≤ length bytes → 16 ≤ get_or bytes 0 0 → get_or bytes 0 0 ≤ 22 → Outcome bytes
-known_type total bytes each fits low high =
-    let form = form_there (get_or bytes 0 0) low high in
+known_type : (bytes : List ℕ) → AreBytes bytes → 10 ≤ length bytes → 16 ≤ get_or bytes 0 0 → get_or bytes 0 0 ≤ 22 → Outcome bytes
+known_type bytes each fits low high =
     let header = header_there bytes each fits in
-    behind_header total bytes header.0 form.0 each header.1 (header.2 ∙ sym form.1)
+    behind_header bytes header.0 (form_from (get_or bytes 0 0)) each header.1 (header.2 ∙ sym (form_there (get_or bytes 0 0) low high))
 
 unknown_type : (bytes : List ℕ) → 10 ≤ length bytes → (get_or bytes 0 0 < 16) ⊎ (22 < get_or bytes 0 0) → Outcome bytes
 unknown_type bytes fits unknown =
-    inr (UnknownType, no_type (get_or bytes 0 0) (record { whole = fits; first = stands_first bytes (omega arith) }) unknown)
+    inr (UnknownType, no_type (get_or bytes 0 0) (record { whole = fits; first = stands_one bytes 0 (omega arith) }) unknown)
 
-pub packet_or_fault : NameOrFault → (bytes : List ℕ) → AreBytes bytes → Outcome bytes
-packet_or_fault total bytes each = elim (cases_lt (length bytes) 10) [
+pub packet_or_fault : (bytes : List ℕ) → AreBytes bytes → Outcome bytes
+packet_or_fault bytes each = elim (cases_lt (length bytes) 10) [
   | inl low ↦ inr (Truncated (length bytes), no_header low)
   | inr fits ↦ elim (cases_lt (get_or bytes 0 0) 16) [
     | inl below ↦ unknown_type bytes fits (inl below)
     | inr from ↦ elim (cases_lt 22 (get_or bytes 0 0)) [
       | inl above ↦ unknown_type bytes fits (inr above)
-      | inr to ↦ known_type total bytes each fits from to
+      | inr to ↦ known_type bytes each fits from to
     ]
   ]
 ]

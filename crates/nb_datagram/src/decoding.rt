@@ -11,7 +11,6 @@ use crate::form::{Form, form_of};
 use crate::fragment::LentFragment;
 use crate::header::{Header, read_header};
 use crate::kind::Kind;
-use crate::laws::{one_datagram_fault, one_packet};
 use crate::limits::{DIRECT_HEADER_LENGTH, ERROR_LENGTH, HEADER_LENGTH};
 use crate::packet::{ErrorPacket, LentPacket, LentQuery, Packet, QueryKind};
 use nb_names::numbers::number_16;
@@ -136,9 +135,6 @@ pub fn decode_lent<'a>(bytes: &'a [u8]) -> Result<(LentPacket<'a>, usize), Datag
     // Which fault it is, and where.
     ensures fault { IfErr result (PacketFails bytes.now) }
 {
-    // The laws on which the clause `only` stands; the calls do nothing.
-    one_packet();
-    one_datagram_fault();
     read_packet(bytes)
 }
 

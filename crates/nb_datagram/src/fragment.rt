@@ -87,15 +87,7 @@ impl<'a, N: NameForm> Fragment<'a, N> {
         if source.spelled_len() + destination.spelled_len() + bytes.len() > MAX_LENGTH {
             return Err(TooLong);
         }
-        Ok(Fragment {
-            kind,
-            flags,
-            key,
-            offset,
-            source,
-            destination,
-            bytes,
-        })
+        Ok(Fragment::with_parts(kind, flags, key, offset, source, destination, bytes))
     }
 
     /// A fragment of these parts, which are known to fit.

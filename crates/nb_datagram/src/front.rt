@@ -7,7 +7,6 @@ ghost use Rattle.nb_datagram.specs.Header.{IsDirectType};
 
 use crate::header::read_header;
 use crate::key::Key;
-use crate::laws::one_front;
 use crate::limits::{BROADCAST, DIRECT_HEADER_LENGTH, DIRECT_UNIQUE, HEADER_LENGTH};
 use nb_names::numbers::number_16;
 use nb_names::{LentName, read_lent_name};
@@ -50,8 +49,6 @@ pub fn read_front<'a>(bytes: &'a [u8]) -> Option<Front<'a>>
     ensures only { (front : FrontValue) → HasFront bytes.now front →
         IsSomeAnd result (λ read. read ≡ front) }
 {
-    // The law on which the clause `only` stands; the call does nothing.
-    one_front();
     let header = read_header(bytes)?;
     let fragment = if is_fragment(header.message_type) {
         Some(read_fragment(bytes)?)

@@ -20,10 +20,6 @@ ghost use Rattle.nb_datagram.specs.Fronts.{HasFront, LacksHeader};
 ghost use Rattle.nb_datagram.specs.Key.{key_cmp, same_key};
 ghost use Rattle.nb_datagram.specs.Pieces.{IsPart, pieces};
 
-use nb_names::laws::{
-    labels_tell_the_name, name_or_fault, one_netbios_fault, one_reading, spelling_is_read,
-};
-
 /// The numbers that the definitions cite.
 pub fn numbers()
     ensures lengths { (MAX_LENGTH ≡ 65535) × (HEADER_LENGTH ≡ 10) × (ERROR_LENGTH ≡ 11)
@@ -55,12 +51,7 @@ pub fn one_packet()
     ensures { (bytes : List ℕ) (packet other : Packet) (used behind : ℕ) →
         IsPacket bytes packet used → IsPacket bytes other behind →
         (packet ≡ other) × (used ≡ behind) }
-{
-    one_reading();
-    one_netbios_fault();
-    spelling_is_read();
-    labels_tell_the_name();
-}
+{}
 
 /// Where bytes have a fault, they begin with no packet, and have no other fault.
 pub fn one_datagram_fault()
@@ -68,12 +59,7 @@ pub fn one_datagram_fault()
         PacketFails bytes fault → ¬ IsPacket bytes packet used }
     ensures one { (bytes : List ℕ) (fault other : DatagramFault) →
         PacketFails bytes fault → PacketFails bytes other → fault ≡ other }
-{
-    one_reading();
-    one_netbios_fault();
-    spelling_is_read();
-    labels_tell_the_name();
-}
+{}
 
 /// Each row of bytes begins with a packet or has a fault. By [`one_datagram_fault`] it is never
 /// both.
@@ -81,9 +67,7 @@ pub fn packet_or_fault()
     ensures { (bytes : List ℕ) → AreBytes bytes →
         ((packet : Packet) × (used : ℕ) × IsPacket bytes packet used)
         ⊎ ((fault : DatagramFault) × PacketFails bytes fault) }
-{
-    name_or_fault();
-}
+{}
 
 /// At the front of bytes stands one thing at most, and nothing where the header isn't whole.
 pub fn one_front()
@@ -91,11 +75,7 @@ pub fn one_front()
         HasFront bytes front → HasFront bytes other → front ≡ other }
     ensures whole { (bytes : List ℕ) (front : Front) →
         LacksHeader bytes → ¬ HasFront bytes front }
-{
-    one_reading();
-    one_netbios_fault();
-    labels_tell_the_name();
-}
+{}
 
 /// The pieces of a datagram are parts of it, each of its places is covered by one, and one of them
 /// ends.

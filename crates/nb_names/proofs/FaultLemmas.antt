@@ -14,6 +14,7 @@ use Rattle.nb_names.specs.Name.{NetbiosName, IsName, IsNoName, no_label, wrong_l
 use Rattle.std.proofs.lemmas.Bool.{cases_lt}
 use Rattle.nb_names.proofs.NameLemmas.{name_length, name_letters}
 use Rattle.nb_names.proofs.SpellingLemmas.{length-spelling-snoc}
+use Rattle.nb_names.specs.NameFacts.{spelling-some}
 use Rattle.nb_names.specs.PacketFacts.{stands_same, stands_fits}
 use Rattle.nb_names.proofs.LabelsLemmas.{stands_first, one_target, pointer_first, IsDomain-read, one_reading}
 
@@ -165,10 +166,6 @@ one_fault packet q at f g a b = one_failure packet q at at at [] f g (fails_at p
 pub length-spelling-append : (ls ms : List (List ℕ)) → length (spelling (ls ++ ms)) + 1 ≡ length (spelling ls) + length (spelling ms)
 length-spelling-append [] ms = omega arith
 length-spelling-append (l ∷ ls) ms = omega (arith, length-append l (spelling (ls ++ ms)), length-append l (spelling ls), length-spelling-append ls ms)
-
-pub spelling-some : (ls : List (List ℕ)) → 0 < length (spelling ls)
-spelling-some [] = omega arith
-spelling-some (l ∷ ls) = omega arith
 
 pub fails_none : (packet : List ℕ) (q : Pointers) (at start here : ℕ) (ls more : List (List ℕ)) (f : NameFault) (n : ℕ) → Fails packet q at start here ls f →
     LabelsAt packet q start here more n → length (spelling (ls ++ more)) ≤ 255 → ⊥

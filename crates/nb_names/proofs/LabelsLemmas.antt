@@ -129,6 +129,12 @@ spelled_stands packet q start at (l ∷ ls) d h =
     goes_on l ls d.each.0 (stands_before packet at (length l ∷ l) (spelling ls) h) d.short
     (subst (λ (n : ℕ). LabelsAt packet q start (at + 1 + length l) ls n) next rest)
 
+-- so a spelling is read after whatever bytes, and before others
+pub spelling_read : (front rest : List ℕ) (pointers : Pointers) (labels : List (List ℕ)) → IsDomain labels →
+    LabelsAt (front ++ (spelling labels ++ rest)) pointers (length front) (length front) labels (length front + length (spelling labels))
+spelling_read front rest pointers labels domain =
+    spelled_stands _ pointers (length front) (length front) labels domain (stands_at_seam front (spelling labels) rest)
+
 -- ---- labels without pointers
 
 -- what stands after what stands at an offset

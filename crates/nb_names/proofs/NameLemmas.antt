@@ -53,6 +53,17 @@ name_letters name first rest place formed is strange =
     let within : place < length (letters name.bytes) = rw same strange.within in
     strange.non_letter (rw (← same) (letters_are name.bytes place formed.each within))
 
+-- a name's labels make a domain name
+pub name_domain : (name : NetbiosName) → IsName name → IsDomain (labels_of_name name)
+name_domain name formed =
+    let long = length-letters name.bytes in
+    let sixteen = formed.sixteen in
+    let short = formed.scope.short in
+    record {
+      each = ((omega arith, omega arith), formed.scope.domain.each);
+      short = omega (arith, length-append (letters name.bytes) (spelling name.scope));
+    }
+
 -- labels are those of one name
 pub one_name : (m n : NetbiosName) → labels_of_name m ≡ labels_of_name n → m ≡ n
 one_name m n e =

@@ -10,8 +10,9 @@ use Rattle.nb_names.specs.DomainName.{spelling, IsLabel, IsRefused}
 use Rattle.nb_names.specs.Code.Kept.{HasLabel}
 use Rattle.nb_names.specs.Labels.{StandsAt, IsPointer, LabelsAt, ends, goes_on, leads_to, NameAt}
 use Rattle.nb_names.specs.NameFaults.{OnWay, begins, behind_label, along_pointer, FaultHere, too_long, FaultAt}
+use Rattle.nb_names.specs.NameFacts.{spelling-some}
 use Rattle.nb_names.proofs.LabelsLemmas.{stands_label}
-use Rattle.nb_names.proofs.FaultLemmas.{length-spelling-append, spelling-some}
+use Rattle.nb_names.proofs.FaultLemmas.{length-spelling-append}
 
 pub record IsReading (packet : List ℕ) (pointers : Pointers) (at : ℕ) (labels : List (List ℕ)) (start here : ℕ) (next : Option ℕ) : Type 0 where
   pub way : OnWay packet pointers at start here labels

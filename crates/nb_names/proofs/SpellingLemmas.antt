@@ -20,11 +20,6 @@ some_left [] (suc n) y ys e = absurd (cc)
 some_left (x ∷ xs) zero y ys e = (cc, cc, omega arith)
 some_left (x ∷ xs) (suc n) y ys e = let h = some_left xs n y ys e in (h.0, h.1, omega (arith, h.2))
 
-pub All-drop : (ls : List (List ℕ)) (n : ℕ) → AllByRecursion IsLabel ls → AllByRecursion IsLabel (drop n ls)
-All-drop ls zero a = a
-All-drop [] (suc n) a = tt
-All-drop (l ∷ ls) (suc n) a = All-drop ls n a.1
-
 -- with fuel for them all, the labels that a spelling has
 pub labels_within-spelling : (n : ℕ) (ls : List (List ℕ)) → AllByRecursion IsLabel ls → length (spelling ls) ≤ n → labels_within n (spelling ls) ≡ ls
 labels_within-spelling zero [] a h = refl

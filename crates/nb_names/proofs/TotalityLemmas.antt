@@ -1,6 +1,6 @@
 -- At each offset of a packet a name stands, or there is a fault.
 use Rattle.std.proofs.Common.{◌≡◌, ℕ, ◌+◌, ◌-◌, ◌*◌, ◌/◌, ◌%◌, ◌<◌, ◌≤◌, List, [], ◌∷◌, ◌++◌, length, take, drop, zero, suc, Option, None, Some, unwrap_or, refl, sym, ap, subst, arith, get_or, ◌⊎◌, inl, inr, max}
-use Rattle.std.proofs.lemmas.Bool.{cases_lt}
+use Rattle.std.proofs.lemmas.Bool.{cases_lt, cases_eq}
 use Rattle.nb_names.specs.declared.pointers.Pointers.{Pointers}
 use Rattle.nb_names.specs.declared.pointers.Pointers.TheVariants.{Followed, Refused}
 use Rattle.nb_names.specs.declared.fault.NameFault.{NameFault}
@@ -14,17 +14,13 @@ use Rattle.nb_names.specs.Name.{NetbiosName, IsName, IsNoName, no_label, wrong_l
 use Rattle.nb_names.specs.Labels.{StandsAt, NameAt}
 use Rattle.nb_names.specs.Code.Kept.{HasLabel, Begins}
 use Rattle.nb_names.specs.NameFaults.{short_label, half_pointer, no_length_byte, cut, reserved, not_allowed, not_below, too_long, FaultAt, NetbiosFaultAt, on_way, not_netbios}
+use Rattle.nb_names.specs.PacketFacts.{byte_below}
 use Rattle.nb_names.proofs.SpellingLemmas.{length-spelling-snoc}
 use Rattle.nb_names.proofs.LabelsLemmas.{stands_one, pointer_made, IsDomain-read}
 use Rattle.nb_names.proofs.NameLemmas.{IsScope-rest}
 use Rattle.nb_names.proofs.ReadingLemmas.{IsReading, reading_begun, reading_ended, reading_fails, label_there, label_turn, pointer_turn}
 
 -- ---- what a length byte begins
-
-byte_small : (bytes : List ℕ) (k : ℕ) → AreBytes bytes → k < length bytes → get_or bytes k 0 < 256
-byte_small [] k each within = absurd (omega arith)
-byte_small (b ∷ bs) zero each within = omega (arith, each.0)
-byte_small (b ∷ bs) (suc k) each within = byte_small bs k each.1 (omega arith)
 
 abbrev BeginsSome : List ℕ → ℕ → Type 0
 BeginsSome packet here = (read : LengthByte) × Begins packet here read
@@ -36,7 +32,7 @@ begins_pointer : (packet : List ℕ) (here : ℕ) → AreBytes packet → here <
 begins_pointer packet here bytes fits high = elim (cases_lt (here + 1) (length packet)) [
   | inl more ↦ (
     Pointer ((get_or packet here 0 - 192) * 256 + get_or packet (here + 1) 0),
-    pointer_made packet here _ _ more refl refl high (byte_small packet here bytes fits) (byte_small packet (here + 1) bytes more),
+    pointer_made packet here _ _ more refl refl high (byte_below packet bytes here) (byte_below packet bytes (here + 1)),
   )
   | inr less ↦ (Cut, half_pointer _ (stands_one packet here fits) high (omega arith))
 ]
@@ -180,18 +176,9 @@ halves_or_place (suc n) (a ∷ b ∷ ls) e = elim (letter_or_not a) [
 abbrev Named : List (List ℕ) → Type 0
 Named labels = ((name : NetbiosName) × IsName name × (labels_of_name name ≡ labels)) ⊎ ((place : ℕ) × IsNoName labels place)
 
-size_or_not : (n m : ℕ) → (n ≡ m) ⊎ (n ≡ m → ⊥)
-size_or_not n m = elim (cases_lt n m) [
-  | inl less ↦ inr (λ e. omega arith)
-  | inr more ↦ elim (cases_lt m n) [
-    | inl above ↦ inr (λ e. omega arith)
-    | inr same ↦ inl (omega arith)
-  ]
-]
-
 named : (labels : List (List ℕ)) → IsDomain labels → Named labels
 named [] domain = inr (0, no_label)
-named (first ∷ rest) domain = elim (size_or_not (length first) 32) [
+named (first ∷ rest) domain = elim (cases_eq (length first) 32) [
   | inr wrong ↦ inr (0, wrong_length first rest wrong)
   | inl size ↦ elim (halves_or_place 16 first (omega arith)) [
     | inr strange ↦ inr (1 + strange.0, non_letter first rest strange.0 size strange.1)

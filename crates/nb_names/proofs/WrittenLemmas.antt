@@ -7,6 +7,7 @@ use Rattle.std.proofs.lemmas.Bool.Decides.{nat_tests}
 use Rattle.std.proofs.lemmas.List.{take_more, take_all, length-take, length-append, length-replicate}
 use Rattle.nb_names.specs.DomainName.{IsLabel, AreByteLabels}
 use Rattle.nb_names.specs.Name.{NetbiosName, IsName, IsByteName}
+use Rattle.nb_names.specs.PacketFacts.{All-take, byte_below}
 use Rattle.nb_names.specs.NameText.{is_plain, byte_of, Item, plain, escaped, Items, no_item, more_items, ScopeText, no_label, more_labels, Parts, filled, IsText, digits_of, item_of, items_of, scope_text_of, kept_before, trimmed, written}
 
 -- ---- spaces at the end
@@ -103,16 +104,6 @@ scope_text_of-scope (l ∷ ls) a b = more_labels l ls (items_of l) (scope_text_o
 
 -- ---- the whole text
 
-take-all : (P : ℕ → Type 0) (n : ℕ) (xs : List ℕ) → AllByRecursion P xs → AllByRecursion P (take n xs)
-take-all P zero xs a = tt
-take-all P (suc n) [] a = tt
-take-all P (suc n) (x ∷ xs) a = (a.0, take-all P n xs a.1)
-
-at-all : (P : ℕ → Type 0) (n : ℕ) (xs : List ℕ) → n < length xs → AllByRecursion P xs → P (slice_index xs n)
-at-all P n [] h a = absurd (omega arith)
-at-all P zero (x ∷ xs) h a = a.0
-at-all P (suc n) (x ∷ xs) h a = at-all P n xs (omega arith) a.1
-
 pub written-text : (name : NetbiosName) → IsName name → AreByteLabels name.scope → IsText name (written name)
 written-text name is labels = record {
   parts = parts;
@@ -121,7 +112,7 @@ written-text name is labels = record {
     high = digit_char (last / 16);
     low = digit_char (last % 16);
     behind = scope_text_of name.scope;
-    front = items_of-items (trimmed (take 15 name.bytes)) (trimmed-all _ (take 15 name.bytes) (take-all _ 15 name.bytes is.each));
+    front = items_of-items (trimmed (take 15 name.bytes)) (trimmed-all _ (take 15 name.bytes) (All-take _ 15 name.bytes is.each));
     high_digit = omega (arith, high, small);
     low_digit = omega (arith, low);
     last = omega (arith, high, low);
@@ -140,7 +131,7 @@ written-text name is labels = record {
   parts = record { front = trimmed (take 15 name.bytes); last = last; scope = name.scope }
 
   small : last < 256
-  small = at-all (λ b. b < 2 ^ 8) 15 name.bytes (omega (arith, is.sixteen)) is.each
+  small = byte_below name.bytes is.each 15
 
   high : digit_value (digit_char (last / 16)) ≡ last / 16
   high = digit_value-digit_char (last / 16) (omega (arith, small))

@@ -2,6 +2,7 @@ pub mod Ascii
 pub mod DomainName
 pub mod FirstLevel
 pub mod Name
+pub mod DecidedFacts
 pub mod NameFacts
 pub mod Labels
 pub mod NameFaults

@@ -1,18 +1,18 @@
 -- Lemmas on names, for the laws of traits and for proofs in the crates above: when two are equal.
-use Rattle.std.proofs.Common.{◌≡◌, ◌==◌, ◌&&◌, ℕ, ◌<◌, Bool, true, false, List, [], ◌∷◌, ◌++◌, length, refl, ap, arith, length-append}
+use Rattle.std.proofs.Common.{◌≡◌, ℕ, ◌<◌, List, [], ◌∷◌, ◌++◌, length, refl, ap, arith, length-append}
 use Rattle.std.specs.Bool.{Decides}
-use Rattle.std.specs.Cmp.{unsigned_Decides}
-use Rattle.std.specs.Cmp.Lexicographic.{pointwise, pointwise_decides}
+use Rattle.nb_names.specs.DecidedFacts.{bytes_decide, decided_both, decided_by_view}
 use Rattle.nb_names.specs.DomainName.{spelling, domain_eq}
 use Rattle.nb_names.specs.Name.{NetbiosName, name_eq}
 
 -- ---- labels
 
-spelling-some : (labels : List (List ℕ)) → 0 < length (spelling labels)
+pub spelling-some : (labels : List (List ℕ)) → 0 < length (spelling labels)
 spelling-some [] = omega arith
 spelling-some (l ∷ ls) = omega arith
 
-fronts_same : (xs ys more others : List ℕ) → length xs ≡ length ys → xs ++ more ≡ ys ++ others → (xs ≡ ys) × (more ≡ others)
+-- rows of bytes that are equal, and have fronts of one length
+pub fronts_same : (xs ys more others : List ℕ) → length xs ≡ length ys → xs ++ more ≡ ys ++ others → (xs ≡ ys) × (more ≡ others)
 fronts_same [] [] more others size e = (refl, e)
 fronts_same [] (y ∷ ys) more others size e = absurd (omega arith)
 fronts_same (x ∷ xs) [] more others size e = absurd (omega arith)
@@ -30,9 +30,6 @@ spelling-injective (l ∷ ls) (k ∷ ks) e =
     let parts = fronts_same l k (spelling ls) (spelling ks) size behind in
     cc (parts.0, spelling-injective ls ks parts.1)
 
-bytes_decide : (xs ys : List ℕ) → Decides (pointwise ◌==◌ xs ys) (xs ≡ ys)
-bytes_decide = pointwise_decides unsigned_Decides
-
 pub domain_eq_decides : (labels others : List (List ℕ)) → Decides (domain_eq labels others) (labels ≡ others)
 domain_eq_decides labels others = (
   λ h. spelling-injective labels others ((bytes_decide (spelling labels) (spelling others)).0 h),
@@ -41,23 +38,8 @@ domain_eq_decides labels others = (
 
 -- ---- names
 
-both_true : (a b : Bool) → a ≡ true → b ≡ true → (a && b) ≡ true
-both_true a b p q = rw (p, q) refl
-
-first_true : (a b : Bool) → (a && b) ≡ true → a ≡ true
-first_true true b h = refl
-first_true false b h = absurd (cc)
-
-second_true : (a b : Bool) → (a && b) ≡ true → b ≡ true
-second_true true b h = h
-second_true false b h = absurd (cc)
-
 -- names are equal where their bytes and their labels are
 pub name_eq_decides : (a b : NetbiosName) → Decides (name_eq a b) (a ≡ b)
-name_eq_decides a b = (
-  λ h. let bytes = (bytes_decide a.bytes b.bytes).0 (first_true _ _ h) in
-      let scope = (domain_eq_decides a.scope b.scope).0 (second_true _ _ h) in
-      λ i. record { bytes = bytes i; scope = scope i },
-  λ e. both_true _ _ ((bytes_decide a.bytes b.bytes).1 (ap (λ (n : NetbiosName). n.bytes) e))
-      ((domain_eq_decides a.scope b.scope).1 (ap (λ (n : NetbiosName). n.scope) e)),
-)
+name_eq_decides =
+    decided_by_view (λ (n : NetbiosName). (n.bytes, n.scope)) (λ p. record { bytes = p.0; scope = p.1 }) (λ _. refl)
+    (decided_both bytes_decide domain_eq_decides)

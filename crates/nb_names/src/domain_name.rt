@@ -22,7 +22,7 @@ use std::marker::Model;
 /// It is held in place, without memory. Names are equal, and ordered, by the bytes of their
 /// spellings, byte for byte. That is our choice, and a departure: RFC 1001 hands domain names over
 /// to RFC 883, which ignores the case of letters.
-#[derive(Clone, Debug, Drop)]
+#[derive(Clone, Debug, Drop, Eq)]
 pub struct DomainName {
     /// The spelling, its zero byte included.
     bytes: ArrayVec<u8, MAX_SPELLING>,
@@ -186,10 +186,6 @@ impl PartialEq for DomainName {
     {
         self.bytes == other.bytes
     }
-}
-
-impl Eq for DomainName {
-    ghost laws = { Prim.search (comparing, rules) };
 }
 
 impl Ord for DomainName {

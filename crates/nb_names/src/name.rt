@@ -21,7 +21,7 @@ use std::marker::Model;
 /// our choice, and for a scope a departure: [`DomainName`] says from what.
 ///
 /// RFC 1001 section 14.1.
-#[derive(Clone, Debug, Drop)]
+#[derive(Clone, Debug, Drop, Eq)]
 pub struct Name {
     bytes: [u8; NAME_LENGTH],
     scope: Scope,
@@ -152,10 +152,6 @@ impl PartialEq for Name {
     {
         self.bytes == other.bytes && self.scope == other.scope
     }
-}
-
-impl Eq for Name {
-    ghost laws = { Prim.search (comparing, rules) };
 }
 
 impl Ord for Name {

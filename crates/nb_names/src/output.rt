@@ -70,25 +70,9 @@ fn write_part<W: Write>(writer: &mut Counted<W>, part: &[u8]) -> Result<(), Devi
     ensures why { OnErr result (ShowsWriteFault writer.old.counts writer.new.counts) }
 {
     let mut room = [0; 2 * PART];
-    write_by(writer, part, &mut room[..2 * part.len()])
-}
-
-/// Writes the digits of a few bytes, which are made in this room.
-fn write_by<W: Write>(
-    writer: &mut Counted<W>,
-    part: &[u8],
-    room: &mut [u8],
-) -> Result<(), DeviceFault>
-    requires { length room.old ≡ 2 * length part.now }
-    ensures written { OnOk result (Appends (W.contents writer.old.inner)
-        (W.contents writer.new.inner) (digits_text part.now)) }
-    ensures grow { GrowTo writer.old.counts writer.new.counts }
-    ensures err { OnErr result (AppendsFront (W.contents writer.old.inner)
-        (W.contents writer.new.inner) (digits_text part.now)) }
-    ensures why { OnErr result (ShowsWriteFault writer.old.counts writer.new.counts) }
-{
-    put_digits(part, room);
-    write_whole(writer, room)
+    let digits = &mut room[..2 * part.len()];
+    put_digits(part, digits);
+    write_whole(writer, digits)
 }
 
 /// Writes some of the bytes, of which there is one at least, from their front on, and answers how

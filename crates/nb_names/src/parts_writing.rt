@@ -113,18 +113,9 @@ fn push_part(part: &[u8], text: &mut String) -> Result<(), NoMemory>
     ensures front { OnlyAdds (string_bytes text.old) (string_bytes text.new) }
 {
     let mut room = [0; 2 * PART];
-    push_by(part, &mut room[..2 * part.len()], text)
-}
-
-/// Adds the digits of a few bytes, which are made in this room.
-fn push_by(part: &[u8], room: &mut [u8], text: &mut String) -> Result<(), NoMemory>
-    requires { length room.old ≡ 2 * length part.now }
-    ensures added { OnOk result
-        (string_bytes text.new ≡ string_bytes text.old ++ digits_text part.now) }
-    ensures front { OnlyAdds (string_bytes text.old) (string_bytes text.new) }
-{
-    put_digits(part, room);
-    push_ascii(room, text)
+    let digits = &mut room[..2 * part.len()];
+    put_digits(part, digits);
+    push_ascii(digits, text)
 }
 
 /// Puts the digits of a few bytes into the room, which they fill.

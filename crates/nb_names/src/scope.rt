@@ -18,7 +18,7 @@ use std::marker::Model;
 /// room after a name's first label of 32 letters.
 ///
 /// Scopes are equal, and ordered, as the domain names that they are.
-#[derive(Clone, Debug, Drop)]
+#[derive(Clone, Debug, Drop, Eq)]
 pub struct Scope {
     domain: DomainName,
 }
@@ -100,10 +100,6 @@ impl PartialEq for Scope {
     {
         self.domain == other.domain
     }
-}
-
-impl Eq for Scope {
-    ghost laws = { Prim.search (comparing, rules) };
 }
 
 impl Ord for Scope {

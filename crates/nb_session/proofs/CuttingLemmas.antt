@@ -6,12 +6,9 @@ use Rattle.nb_session.specs.declared.stream.FeedFault.TheVariants.{Failed as fai
 use Rattle.nb_session.specs.declared.stream.Next.TheVariants.{Packet as taken_packet, More, Failed}
 use Rattle.nb_session.specs.Cutting.{ArePackets, no_packet, one_more, BeginsWithNone, IsCut, History, begun, fed_on, asked}
 use Rattle.nb_session.specs.Packet.{Packet, IsPacket}
-use Rattle.nb_session.specs.Parsing.{Parsed, Parses}
+use Rattle.nb_session.specs.Parsing.{Parses}
 use Rattle.nb_session.specs.Stream.{StreamValue}
-use Rattle.nb_session.proofs.ParsingLemmas.{packet_parses}
-
-abbrev pub OneAnswer : Type 0
-OneAnswer = (bytes : List ℕ) (p q : Parsed) → Parses bytes p → Parses bytes q → p ≡ q
+use Rattle.nb_session.proofs.ParsingLemmas.{packet_parses, one_answer}
 
 -- ---- one cut
 
@@ -19,25 +16,25 @@ OneAnswer = (bytes : List ℕ) (p q : Parsed) → Parses bytes p → Parses byte
 stands_first : (p : Packet) (b r rest : List ℕ) → IsPacket p b → Parses ((b ++ r) ++ rest) (Whole p (length b))
 stands_first p b r rest is = subst (λ (x : List ℕ). Parses x (Whole p (length b))) (sym (append_assoc b r rest)) (packet_parses p b (r ++ rest) is)
 
-same_cut : (one : OneAnswer) (ps qs : List Packet) (f g rest other : List ℕ) → ArePackets ps f → ArePackets qs g → f ++ rest ≡ g ++ other → BeginsWithNone rest → BeginsWithNone other →
+same_cut : (ps qs : List Packet) (f g rest other : List ℕ) → ArePackets ps f → ArePackets qs g → f ++ rest ≡ g ++ other → BeginsWithNone rest → BeginsWithNone other →
     (ps ≡ qs) × (rest ≡ other)
-same_cut one ps qs f g rest other no_packet no_packet e none never = (refl, e)
-same_cut one ps qs f g rest other no_packet (one_more q qs' c s is more) e none never =
+same_cut ps qs f g rest other no_packet no_packet e none never = (refl, e)
+same_cut ps qs f g rest other no_packet (one_more q qs' c s is more) e none never =
     absurd (none q (length c) (subst (λ (x : List ℕ). Parses x (Whole q (length c))) (sym e) (stands_first q c s other is)))
-same_cut one ps qs f g rest other (one_more p ps' b r is more) no_packet e none never =
+same_cut ps qs f g rest other (one_more p ps' b r is more) no_packet e none never =
     absurd (never p (length b) (subst (λ (x : List ℕ). Parses x (Whole p (length b))) e (stands_first p b r rest is)))
-same_cut one ps qs f g rest other (one_more p ps' b r is more) (one_more q qs' c s was others) e none never =
-    let answer : Whole p (length b) ≡ Whole q (length c) = one ((c ++ s) ++ other) (Whole p (length b)) (Whole q (length c)) (subst (λ (x : List ℕ). Parses x (Whole p (length b))) e (stands_first p b r rest is)) (stands_first q c s other was) in
+same_cut ps qs f g rest other (one_more p ps' b r is more) (one_more q qs' c s was others) e none never =
+    let answer : Whole p (length b) ≡ Whole q (length c) = one_answer ((c ++ s) ++ other) (Whole p (length b)) (Whole q (length c)) (subst (λ (x : List ℕ). Parses x (Whole p (length b))) e (stands_first p b r rest is)) (stands_first q c s other was) in
     let packet : p ≡ q = cc in
     let long : length b ≡ length c = cc in
     let front : b ++ (r ++ rest) ≡ c ++ (s ++ other) = sym (append_assoc b r rest) ∙ e ∙ append_assoc c s other in
     let behind : r ++ rest ≡ s ++ other =
     sym (drop_at b (r ++ rest) (length c) long) ∙ ap (λ (x : List ℕ). drop (length c) x) front ∙ drop_at c (s ++ other) (length c) refl in
-    let tail = same_cut one ps' qs' r s rest other more others behind none never in
+    let tail = same_cut ps' qs' r s rest other more others behind none never in
     (cc (packet, tail.0), tail.1)
 
-pub one_cut : (one : OneAnswer) (bytes : List ℕ) (ps qs : List Packet) (rest other : List ℕ) → IsCut bytes ps rest → IsCut bytes qs other → (ps ≡ qs) × (rest ≡ other)
-one_cut one bytes ps qs rest other a b = same_cut one ps qs a.front b.front rest other a.there b.there (sym a.exact ∙ b.exact) a.behind b.behind
+pub one_cut : (bytes : List ℕ) (ps qs : List Packet) (rest other : List ℕ) → IsCut bytes ps rest → IsCut bytes qs other → (ps ≡ qs) × (rest ≡ other)
+one_cut bytes ps qs rest other a b = same_cut ps qs a.front b.front rest other a.there b.there (sym a.exact ∙ b.exact) a.behind b.behind
 
 -- ---- what a stream hands out
 
@@ -68,11 +65,9 @@ kept fed packets s (fed_on was ps old new piece (Ok u) h feeds) =
       exact = ap (λ (x : List ℕ). x ++ piece) k.exact ∙ append_assoc k.front old.held piece ∙ ap (λ (x : List ℕ). k.front ++ x) (sym (held_of new _ feeds.1));
     }
 kept fed packets s (fed_on was ps old new piece (Err (failed_feed fault)) h feeds) =
-    let k = kept was ps old h in
-    record { front = k.front; there = k.there; exact = append-nil was ∙ k.exact ∙ ap (λ (x : List ℕ). k.front ++ x) (sym (held_of new _ feeds.1)) }
+    subst (λ (x : List ℕ). Kept x ps new.held) (sym (append-nil was)) (subst (Kept was ps) (sym (held_of new _ feeds.1)) (kept was ps old h))
 kept fed packets s (fed_on was ps old new piece (Err NoMemory) h feeds) =
-    let k = kept was ps old h in
-    record { front = k.front; there = k.there; exact = append-nil was ∙ k.exact ∙ ap (λ (x : List ℕ). k.front ++ x) (sym (held_of new _ feeds.1)) }
+    subst (λ (x : List ℕ). Kept x ps new.held) (sym (append-nil was)) (subst (Kept was ps) (sym (held_of new _ feeds.1)) (kept was ps old h))
 kept fed packets s (asked was ps more old new (taken_packet taken) h takes out) =
     let k = kept was ps old h in
     let one : ArePackets more taken.bytes.now = subst (λ (x : List Packet). ArePackets x taken.bytes.now) (sym out.1) (single out.0 taken.bytes.now out.2) in
@@ -82,23 +77,13 @@ kept fed packets s (asked was ps more old new (taken_packet taken) h takes out) 
       exact = k.exact ∙ ap (λ (x : List ℕ). k.front ++ x) takes.2 ∙ sym (append_assoc k.front taken.bytes.now new.held);
     }
 kept fed packets s (asked was ps more old new (More needed) h takes out) =
-    let k = kept was ps old h in
-    record {
-      front = k.front;
-      there = subst (λ (x : List Packet). ArePackets x k.front) (sym (ap (λ (x : List Packet). ps ++ x) out ∙ append-nil ps)) k.there;
-      exact = k.exact ∙ ap (λ (x : List ℕ). k.front ++ x) (sym (held_of new _ takes.2));
-    }
+    subst (λ (x : List Packet). Kept was x new.held) (sym (ap (λ (x : List Packet). ps ++ x) out ∙ append-nil ps)) (subst (Kept was ps) (sym (held_of new _ takes.2)) (kept was ps old h))
 kept fed packets s (asked was ps more old new (Failed fault) h takes out) =
-    let k = kept was ps old h in
-    record {
-      front = k.front;
-      there = subst (λ (x : List Packet). ArePackets x k.front) (sym (ap (λ (x : List Packet). ps ++ x) out ∙ append-nil ps)) k.there;
-      exact = k.exact ∙ ap (λ (x : List ℕ). k.front ++ x) (sym (held_of new _ takes.0));
-    }
+    subst (λ (x : List Packet). Kept was x new.held) (sym (ap (λ (x : List Packet). ps ++ x) out ∙ append-nil ps)) (subst (Kept was ps) (sym (held_of new _ takes.0)) (kept was ps old h))
 
 -- bytes that lack some, or have a fault, begin with no whole packet
-pub lacking_none : (one : OneAnswer) (bytes : List ℕ) (needed : ℕ) → Parses bytes (more_parsed needed) → BeginsWithNone bytes
-lacking_none one bytes needed stands packet used stood = let same = one bytes (more_parsed needed) (Whole packet used) stands stood in absurd (cc)
+pub lacking_none : (bytes : List ℕ) (needed : ℕ) → Parses bytes (more_parsed needed) → BeginsWithNone bytes
+lacking_none bytes needed stands packet used stood = let same = one_answer bytes (more_parsed needed) (Whole packet used) stands stood in absurd (cc)
 
-pub failing_none : (one : OneAnswer) (bytes : List ℕ) (fault : _) → Parses bytes (Refused fault) → BeginsWithNone bytes
-failing_none one bytes fault stands packet used stood = let same = one bytes (Refused fault) (Whole packet used) stands stood in absurd (cc)
+pub failing_none : (bytes : List ℕ) (fault : _) → Parses bytes (Refused fault) → BeginsWithNone bytes
+failing_none bytes fault stands packet used stood = let same = one_answer bytes (Refused fault) (Whole packet used) stands stood in absurd (cc)

@@ -2,39 +2,32 @@
 use Rattle.std.proofs.Common.{◌≡◌, ℕ, ◌+◌, ◌*◌, ◌/◌, ◌%◌, ◌<◌, ◌≤◌, List, [], ◌∷◌, ◌++◌, length, refl, ap, sym, subst, ◌∙◌, arith, length-append, take, drop, append_assoc, append-nil}
 use Rattle.std.specs.Int.{w16, to_be_bytes, from_be_bytes}
 use Rattle.nb_names.specs.declared.pointers.Pointers.TheVariants.{Refused}
-use Rattle.nb_names.specs.DomainName.{spelling, IsDomain}
+use Rattle.nb_names.specs.DomainName.{spelling}
 use Rattle.nb_names.specs.FirstLevel.{letters}
 use Rattle.nb_names.specs.Labels.{StandsAt, NameAt}
 use Rattle.nb_names.specs.Name.{NetbiosName, IsName, labels_of_name}
+use Rattle.nb_names.specs.NameFacts.{spelling-some, fronts_same}
+use Rattle.nb_names.proofs.FirstLevelLemmas.{length-letters}
+use Rattle.nb_names.proofs.LabelsLemmas.{one_reading, spelling_read, stands_joined, spelled_there}
+use Rattle.nb_names.proofs.NameLemmas.{name_domain, one_name}
 use Rattle.nb_session.specs.declared.header.Header.{Header}
 use Rattle.nb_session.specs.declared.kind.Kind.{Kind}
 use Rattle.nb_session.specs.declared.kind.Kind.TheVariants.{Request as request, Message as message, Positive as positive, Negative as negative, Retarget as retarget, Keepalive as keepalive}
 use Rattle.nb_session.specs.declared.packet.Packet.TheVariants.{Message, Request, Positive, Negative, Retarget, Keepalive}
 use Rattle.nb_session.specs.Header.{type_of, MayHave, header_bytes, HasHeader, body_length, packet_length, IsGood}
 use Rattle.nb_session.specs.Packet.{Packet, kind_of, body_of, IsFormed, IsPacket}
-use Rattle.nb_session.proofs.HeaderLemmas.{stands_joined, stands_whole, spelled_there, good_header_bytes, one_header, one_kind}
-use Rattle.std.proofs.lemmas.List.{drop_at, take_at}
+use Rattle.nb_session.proofs.HeaderLemmas.{stands_whole, good_header_bytes, one_header, one_kind}
+use Rattle.std.proofs.lemmas.List.{drop_at}
 use Rattle.std.proofs.lemmas.Nat.{from_be_bytes-to_be_bytes_2}
-use Rattle.nb_names.specs.declared.pointers.Pointers.{Pointers}
-use Rattle.nb_names.specs.declared.fault.NameFault.{NameFault}
-use Rattle.nb_names.specs.NameFaults.{NetbiosFaultAt}
 
 -- ---- names and their lengths
-
-pub letters_length : (bytes : List ℕ) → length (letters bytes) ≡ 2 * length bytes
-letters_length [] = refl
-letters_length (b ∷ bs) = omega (arith, letters_length bs)
-
-pub spelling_some : (labels : List (List ℕ)) → 1 ≤ length (spelling labels)
-spelling_some [] = omega arith
-spelling_some (l ∷ ls) = omega arith
 
 -- the spelling of a name has 34 to 255 bytes
 pub name_length : (name : NetbiosName) → IsName name → (34 ≤ length (spelling (labels_of_name name))) × (length (spelling (labels_of_name name)) ≤ 255)
 name_length name is =
-    let two = letters_length name.bytes in
+    let two = length-letters name.bytes in
     let rest = length-append (letters name.bytes) (spelling name.scope) in
-    (omega (arith, two, rest, is.sixteen, spelling_some name.scope), omega (arith, two, rest, is.sixteen, is.scope.short))
+    (omega (arith, two, rest, is.sixteen, spelling-some name.scope), (name_domain name is).short)
 
 -- ---- a packet's header
 
@@ -116,38 +109,18 @@ request_made bytes h called calling behind end has good long one two first secon
     packet_made bytes h (Request called calling) has good long (one, two) there
     (omega (arith, long, last, a.1, b.1, length-append (spelling (labels_of_name called)) (spelling (labels_of_name calling))))
 
--- ---- Bytes are one packet at most.
-
--- the laws of names, as nb_names has them
-pub record NameLaws : Type 0 where
-  pub one : (packet : List ℕ) (pointers : Pointers) (at : ℕ) (labels others : List (List ℕ)) (next other : ℕ) →
-      NameAt packet pointers at labels next → NameAt packet pointers at others other → (labels ≡ others) × (next ≡ other)
-  pub alone : (packet : List ℕ) (pointers : Pointers) (at : ℕ) (fault : NameFault) (name : NetbiosName) (next : ℕ) →
-      NetbiosFaultAt packet pointers at fault → IsName name → ¬ NameAt packet pointers at (labels_of_name name) next
-  pub fault : (packet : List ℕ) (pointers : Pointers) (at : ℕ) (fault other : NameFault) →
-      NetbiosFaultAt packet pointers at fault → NetbiosFaultAt packet pointers at other → fault ≡ other
-  pub name : (name other : NetbiosName) → labels_of_name name ≡ labels_of_name other → name ≡ other
-  pub read : (front rest : List ℕ) (pointers : Pointers) (labels : List (List ℕ)) → IsDomain labels →
-      NameAt (front ++ (spelling labels ++ rest)) pointers (length front) labels (length front + length (spelling labels))
-
 -- ---- the names of a request
 
-name_domain : (name : NetbiosName) → IsName name → IsDomain (labels_of_name name)
-name_domain name is = record {
-  each = ((omega (arith, letters_length name.bytes, is.sixteen), omega (arith, letters_length name.bytes, is.sixteen)), is.scope.domain.each);
-  short = (name_length name is).1;
-}
-
 -- the names of a request are read where they stand
-pub request_read : (laws : NameLaws) (called calling : NetbiosName) (bytes : List ℕ) → IsPacket (Request called calling) bytes →
+pub request_read : (called calling : NetbiosName) (bytes : List ℕ) → IsPacket (Request called calling) bytes →
     let behind : ℕ = 4 + length (spelling (labels_of_name called)) in
     NameAt bytes Refused 4 (labels_of_name called) behind × NameAt bytes Refused behind (labels_of_name calling) (length bytes)
-request_read laws called calling bytes p =
+request_read called calling bytes p =
     let one : List ℕ = spelling (labels_of_name called) in
     let two : List ℕ = spelling (labels_of_name calling) in
     let head : List ℕ = header_bytes request (length (one ++ two)) in
-    let first = laws.read head two Refused (labels_of_name called) (name_domain called p.formed.0) in
-    let second = laws.read (head ++ one) [] Refused (labels_of_name calling) (name_domain calling p.formed.1) in
+    let first = spelling_read head two Refused (labels_of_name called) (name_domain called p.formed.0) in
+    let second = spelling_read (head ++ one) [] Refused (labels_of_name calling) (name_domain calling p.formed.1) in
     let whole : (head ++ one) ++ (two ++ []) ≡ bytes = ap (λ (r : List ℕ). (head ++ one) ++ r) (append-nil two) ∙ append_assoc head one two ∙ sym p.exact in
     let place : length (head ++ one) ≡ 4 + length one = length-append head one in
     let last : length (head ++ one) + length two ≡ length bytes = omega (arith, ap length p.exact, length-append head (one ++ two), length-append one two, place) in (
@@ -158,12 +131,6 @@ request_read laws called calling bytes p =
     )
 
 -- ---- one packet
-
-fronts_same : (xs ys more others : List ℕ) → length xs ≡ length ys → xs ++ more ≡ ys ++ others → (xs ≡ ys) × (more ≡ others)
-fronts_same xs ys more others size e = (
-  sym (take_at xs more (length ys) size) ∙ ap (λ (r : List ℕ). take (length ys) r) e ∙ take_at ys others (length ys) refl,
-  sym (drop_at xs more (length ys) size) ∙ ap (λ (r : List ℕ). drop (length ys) r) e ∙ drop_at ys others (length ys) refl,
-)
 
 data View : Packet → Kind → Type 0 where
   a_message : (contents : List ℕ) → View (Message contents) message
@@ -181,25 +148,25 @@ view (Negative code) = a_negative code
 view (Retarget address port) = a_retarget address port
 view Keepalive = a_keepalive
 
-same_of_kind : (laws : NameLaws) (v w : Packet) (k : Kind) (bytes : List ℕ) → View v k → View w k → IsPacket v bytes → IsPacket w bytes → body_of v ≡ body_of w → v ≡ w
-same_of_kind laws v w k bytes (a_message a) (a_message b) p q e = cc
-same_of_kind laws v w k bytes (a_request a b) (a_request c d) p q e =
-    let one = request_read laws a b bytes p in
-    let two = request_read laws c d bytes q in
-    let first = laws.one bytes Refused 4 (labels_of_name a) (labels_of_name c) _ _ one.0 two.0 in
-    let second = laws.one bytes Refused (4 + length (spelling (labels_of_name c))) (labels_of_name b) (labels_of_name d) _ _
+same_of_kind : (v w : Packet) (k : Kind) (bytes : List ℕ) → View v k → View w k → IsPacket v bytes → IsPacket w bytes → body_of v ≡ body_of w → v ≡ w
+same_of_kind v w k bytes (a_message a) (a_message b) p q e = cc
+same_of_kind v w k bytes (a_request a b) (a_request c d) p q e =
+    let one = request_read a b bytes p in
+    let two = request_read c d bytes q in
+    let first = one_reading bytes Refused 4 4 (labels_of_name a) (labels_of_name c) _ _ one.0 two.0 in
+    let second = one_reading bytes Refused (4 + length (spelling (labels_of_name c))) (4 + length (spelling (labels_of_name c))) (labels_of_name b) (labels_of_name d) _ _
     (subst (λ (n : ℕ). NameAt bytes Refused n (labels_of_name b) (length bytes)) first.1 one.1) two.1 in
-    let called : a ≡ c = laws.name a c first.0 in
-    let calling : b ≡ d = laws.name b d second.0 in
+    let called : a ≡ c = one_name a c first.0 in
+    let calling : b ≡ d = one_name b d second.0 in
     cc
-same_of_kind laws v w k bytes a_positive a_positive p q e = refl
-same_of_kind laws v w k bytes (a_negative a) (a_negative b) p q e = cc
-same_of_kind laws v w k bytes (a_retarget a m) (a_retarget b n) p q e =
+same_of_kind v w k bytes a_positive a_positive p q e = refl
+same_of_kind v w k bytes (a_negative a) (a_negative b) p q e = cc
+same_of_kind v w k bytes (a_retarget a m) (a_retarget b n) p q e =
     let parts = fronts_same a b (to_be_bytes w16 m) (to_be_bytes w16 n) (p.formed.0 ∙ sym q.formed.0) e in
     let port : m ≡ n = sym (from_be_bytes-to_be_bytes_2 m p.formed.1) ∙ ap (λ (bytes : List ℕ). from_be_bytes w16 bytes) parts.1 ∙ from_be_bytes-to_be_bytes_2 n q.formed.1 in
     let address = parts.0 in
     cc
-same_of_kind laws v w k bytes a_keepalive a_keepalive p q e = refl
+same_of_kind v w k bytes a_keepalive a_keepalive p q e = refl
 
 -- the kind and the body of a packet are fixed by its bytes
 same_kind : (v w : Packet) (bytes : List ℕ) → IsPacket v bytes → IsPacket w bytes → kind_of v ≡ kind_of w
@@ -215,6 +182,6 @@ same_body v w bytes p q =
     ∙ ap (λ (b : List ℕ). drop 4 b) (sym p.exact ∙ q.exact)
     ∙ drop_at (header_bytes (kind_of w) (length (body_of w))) (body_of w) 4 refl
 
-pub one_value : (laws : NameLaws) (v w : Packet) (bytes : List ℕ) → IsPacket v bytes → IsPacket w bytes → v ≡ w
-one_value laws v w bytes p q =
-    same_of_kind laws v w (kind_of w) bytes (subst (View v) (same_kind v w bytes p q) (view v)) (view w) p q (same_body v w bytes p q)
+pub one_value : (v w : Packet) (bytes : List ℕ) → IsPacket v bytes → IsPacket w bytes → v ≡ w
+one_value v w bytes p q =
+    same_of_kind v w (kind_of w) bytes (subst (View v) (same_kind v w bytes p q) (view v)) (view w) p q (same_body v w bytes p q)

@@ -5,6 +5,8 @@ use Rattle.std.proofs.lemmas.Bool.{cases_lt}
 use Rattle.nb_names.specs.declared.pointers.Pointers.TheVariants.{Refused as refused}
 use Rattle.nb_names.specs.Labels.{NameAt}
 use Rattle.nb_names.specs.Name.{NetbiosName, labels_of_name}
+use Rattle.nb_names.proofs.FaultLemmas.{one_netbios, no_netbios}
+use Rattle.nb_names.proofs.LabelsLemmas.{one_reading}
 use Rattle.nb_session.specs.declared.fault.SessionFault.{SessionFault}
 use Rattle.nb_session.specs.declared.fault.SessionFault.TheVariants.{Name, TrailingBytes}
 use Rattle.nb_session.specs.declared.header.Header.{Header}
@@ -16,7 +18,7 @@ use Rattle.nb_session.specs.Header.{MayHave, HasHeader, body_length, packet_leng
 use Rattle.nb_session.specs.Packet.{Packet, kind_of, IsPacket}
 use Rattle.nb_session.specs.Parsing.{Parsed, Lacks, HeaderFails, unknown_type, reserved_flags, bad_length, RequestFails, called_fails, calling_fails, bytes_trail, Parses, header_lacks, header_fails, body_lacks, body_fails, whole}
 use Rattle.nb_session.proofs.HeaderLemmas.{header_within, one_header, one_kind, header_in_front, header_in_all}
-use Rattle.nb_session.proofs.PacketLemmas.{packet_headed, NameLaws, request_read, one_value}
+use Rattle.nb_session.proofs.PacketLemmas.{packet_headed, request_read, one_value}
 
 -- ---- faults
 
@@ -37,44 +39,44 @@ one_header_fault h f g (bad_length j is low may) (reserved_flags k was high) = a
 one_header_fault h f g (bad_length j is low may) (bad_length k was below not) = refl
 
 -- a called name that is read is where another one is
-moved : (laws : NameLaws) (p : List ℕ) (a b : NetbiosName) (m n : ℕ) → NameAt p refused 4 (labels_of_name a) m → NameAt p refused 4 (labels_of_name b) n → m ≡ n
-moved laws p a b m n x y = (laws.one p refused 4 (labels_of_name a) (labels_of_name b) m n x y).1
+moved : (p : List ℕ) (a b : NetbiosName) (m n : ℕ) → NameAt p refused 4 (labels_of_name a) m → NameAt p refused 4 (labels_of_name b) n → m ≡ n
+moved p a b m n x y = (one_reading p refused 4 4 (labels_of_name a) (labels_of_name b) m n x y).1
 
-one_request_fault : (laws : NameLaws) (p : List ℕ) (f g : SessionFault) → RequestFails p f → RequestFails p g → f ≡ g
-one_request_fault laws p f g (called_fails a x) (called_fails b y) = ap Name (laws.fault p refused 4 a b x y)
-one_request_fault laws p f g (called_fails a x) (calling_fails called m b is there y) = absurd (laws.alone p refused 4 a called m x is there)
-one_request_fault laws p f g (called_fails a x) (bytes_trail called calling m n is was there behind low) = absurd (laws.alone p refused 4 a called m x is there)
-one_request_fault laws p f g (calling_fails called m b is there y) (called_fails a x) = absurd (laws.alone p refused 4 a called m x is there)
-one_request_fault laws p f g (calling_fails one m a is there x) (calling_fails two n b was here y) =
-    ap Name (laws.fault p refused n a b (subst (λ (i : ℕ). Rattle.nb_names.specs.NameFaults.NetbiosFaultAt p refused i a) (moved laws p one two m n there here) x) y)
-one_request_fault laws p f g (calling_fails one m a is there x) (bytes_trail two calling n end was are here behind low) =
-    absurd (laws.alone p refused m a calling end x are (subst (λ (i : ℕ). NameAt p refused i (labels_of_name calling) end) (moved laws p two one n m here there) behind))
-one_request_fault laws p f g (bytes_trail called calling m n is was there behind low) (called_fails a x) = absurd (laws.alone p refused 4 a called m x is there)
-one_request_fault laws p f g (bytes_trail two calling n end was are here behind low) (calling_fails one m a is there x) =
-    absurd (laws.alone p refused m a calling end x are (subst (λ (i : ℕ). NameAt p refused i (labels_of_name calling) end) (moved laws p two one n m here there) behind))
-one_request_fault laws p f g (bytes_trail one calling m end is are there behind low) (bytes_trail two other n last was be here beyond few) =
-    ap TrailingBytes (laws.one p refused n (labels_of_name calling) (labels_of_name other) end last
-    (subst (λ (i : ℕ). NameAt p refused i (labels_of_name calling) end) (moved laws p one two m n there here) behind) beyond).1
+one_request_fault : (p : List ℕ) (f g : SessionFault) → RequestFails p f → RequestFails p g → f ≡ g
+one_request_fault p f g (called_fails a x) (called_fails b y) = ap Name (one_netbios p refused 4 a b x y)
+one_request_fault p f g (called_fails a x) (calling_fails called m b is there y) = absurd (no_netbios p refused 4 a called m x is there)
+one_request_fault p f g (called_fails a x) (bytes_trail called calling m n is was there behind low) = absurd (no_netbios p refused 4 a called m x is there)
+one_request_fault p f g (calling_fails called m b is there y) (called_fails a x) = absurd (no_netbios p refused 4 a called m x is there)
+one_request_fault p f g (calling_fails one m a is there x) (calling_fails two n b was here y) =
+    ap Name (one_netbios p refused n a b (subst (λ (i : ℕ). Rattle.nb_names.specs.NameFaults.NetbiosFaultAt p refused i a) (moved p one two m n there here) x) y)
+one_request_fault p f g (calling_fails one m a is there x) (bytes_trail two calling n end was are here behind low) =
+    absurd (no_netbios p refused m a calling end x are (subst (λ (i : ℕ). NameAt p refused i (labels_of_name calling) end) (moved p two one n m here there) behind))
+one_request_fault p f g (bytes_trail called calling m n is was there behind low) (called_fails a x) = absurd (no_netbios p refused 4 a called m x is there)
+one_request_fault p f g (bytes_trail two calling n end was are here behind low) (calling_fails one m a is there x) =
+    absurd (no_netbios p refused m a calling end x are (subst (λ (i : ℕ). NameAt p refused i (labels_of_name calling) end) (moved p two one n m here there) behind))
+one_request_fault p f g (bytes_trail one calling m end is are there behind low) (bytes_trail two other n last was be here beyond few) =
+    ap TrailingBytes (one_reading p refused n n (labels_of_name calling) (labels_of_name other) end last
+    (subst (λ (i : ℕ). NameAt p refused i (labels_of_name calling) end) (moved p one two m n there here) behind) beyond).1
 
-request_alone : (laws : NameLaws) (called calling : NetbiosName) (p : List ℕ) (f : SessionFault) → IsPacket (Request called calling) p → RequestFails p f → ⊥
-request_alone laws called calling p f is (called_fails a x) = laws.alone p refused 4 a called _ x is.formed.0 (request_read laws called calling p is).0
-request_alone laws called calling p f is (calling_fails one m a was there x) =
-    let read = request_read laws called calling p is in
-    laws.alone p refused m a calling (length p) x is.formed.1
-    (subst (λ (i : ℕ). NameAt p refused i (labels_of_name calling) (length p)) (moved laws p called one _ m read.0 there) read.1)
-request_alone laws called calling p f is (bytes_trail one two m end was be there behind low) =
-    let read = request_read laws called calling p is in
-    let last = (laws.one p refused m (labels_of_name two) (labels_of_name calling) end (length p) behind
-    (subst (λ (i : ℕ). NameAt p refused i (labels_of_name calling) (length p)) (moved laws p called one _ m read.0 there) read.1)).1 in
+request_alone : (called calling : NetbiosName) (p : List ℕ) (f : SessionFault) → IsPacket (Request called calling) p → RequestFails p f → ⊥
+request_alone called calling p f is (called_fails a x) = no_netbios p refused 4 a called _ x is.formed.0 (request_read called calling p is).0
+request_alone called calling p f is (calling_fails one m a was there x) =
+    let read = request_read called calling p is in
+    no_netbios p refused m a calling (length p) x is.formed.1
+    (subst (λ (i : ℕ). NameAt p refused i (labels_of_name calling) (length p)) (moved p called one _ m read.0 there) read.1)
+request_alone called calling p f is (bytes_trail one two m end was be there behind low) =
+    let read = request_read called calling p is in
+    let last = (one_reading p refused m m (labels_of_name two) (labels_of_name calling) end (length p) behind
+    (subst (λ (i : ℕ). NameAt p refused i (labels_of_name calling) (length p)) (moved p called one _ m read.0 there) read.1)).1 in
     omega (arith, last, low)
 
-no_fault : (laws : NameLaws) (v : Packet) (p : List ℕ) (f : SessionFault) → IsPacket v p → request ≡ kind_of v → RequestFails p f → ⊥
-no_fault laws (Message contents) p f is kind fails = absurd (cc)
-no_fault laws (Request called calling) p f is kind fails = request_alone laws called calling p f is fails
-no_fault laws Positive p f is kind fails = absurd (cc)
-no_fault laws (Negative code) p f is kind fails = absurd (cc)
-no_fault laws (Retarget address port) p f is kind fails = absurd (cc)
-no_fault laws Keepalive p f is kind fails = absurd (cc)
+no_fault : (v : Packet) (p : List ℕ) (f : SessionFault) → IsPacket v p → request ≡ kind_of v → RequestFails p f → ⊥
+no_fault (Message contents) p f is kind fails = absurd (cc)
+no_fault (Request called calling) p f is kind fails = request_alone called calling p f is fails
+no_fault Positive p f is kind fails = absurd (cc)
+no_fault (Negative code) p f is kind fails = absurd (cc)
+no_fault (Retarget address port) p f is kind fails = absurd (cc)
+no_fault Keepalive p f is kind fails = absurd (cc)
 
 -- ---- one answer, step by step
 
@@ -113,32 +115,32 @@ answer_of bytes parsed (whole v used fits is) =
     subst (λ (n : ℕ). Answer bytes (Whole v n)) (sym long_is)
     (some _ x.0 x.1 (long _ (kind_of v) x.2 (omega (arith, fits, long_is)) (read v x.2 (subst (λ (n : ℕ). IsPacket v (take n bytes)) long_is is))))
 
-one_of_whole : (laws : NameLaws) (bytes : List ℕ) (h : Header) (p q : Parsed) → OfWhole bytes h p → OfWhole bytes h q → p ≡ q
-one_of_whole laws bytes h p q (fails f good x) (fails g well y) = ap Refused (one_request_fault laws (take (packet_length h) bytes) f g x y)
-one_of_whole laws bytes h p q (fails f good x) (read v well y) = absurd (no_fault laws v (take (packet_length h) bytes) f y (one_kind request (kind_of v) (good.type ∙ sym well.type)) x)
-one_of_whole laws bytes h p q (read v well y) (fails f good x) = absurd (no_fault laws v (take (packet_length h) bytes) f y (one_kind request (kind_of v) (good.type ∙ sym well.type)) x)
-one_of_whole laws bytes h p q (read v good x) (read w well y) = ap (λ (u : Packet). Whole u (packet_length h)) (one_value laws v w (take (packet_length h) bytes) x y)
+one_of_whole : (bytes : List ℕ) (h : Header) (p q : Parsed) → OfWhole bytes h p → OfWhole bytes h q → p ≡ q
+one_of_whole bytes h p q (fails f good x) (fails g well y) = ap Refused (one_request_fault (take (packet_length h) bytes) f g x y)
+one_of_whole bytes h p q (fails f good x) (read v well y) = absurd (no_fault v (take (packet_length h) bytes) f y (one_kind request (kind_of v) (good.type ∙ sym well.type)) x)
+one_of_whole bytes h p q (read v well y) (fails f good x) = absurd (no_fault v (take (packet_length h) bytes) f y (one_kind request (kind_of v) (good.type ∙ sym well.type)) x)
+one_of_whole bytes h p q (read v good x) (read w well y) = ap (λ (u : Packet). Whole u (packet_length h)) (one_value v w (take (packet_length h) bytes) x y)
 
-one_of_header : (laws : NameLaws) (bytes : List ℕ) (h : Header) (p q : Parsed) → OfHeader bytes h p → OfHeader bytes h q → p ≡ q
-one_of_header laws bytes h p q (bad f x) (bad g y) = ap Refused (one_header_fault h f g x y)
-one_of_header laws bytes h p q (bad f x) (short k good few) = absurd (good_alone h k f good x)
-one_of_header laws bytes h p q (bad f x) (long s k good fits y) = absurd (good_alone h k f good x)
-one_of_header laws bytes h p q (short k good few) (bad f x) = absurd (good_alone h k f good x)
-one_of_header laws bytes h p q (short k good few) (short j well less) = refl
-one_of_header laws bytes h p q (short k good few) (long s j well fits y) = absurd (omega (arith, few, fits))
-one_of_header laws bytes h p q (long s k good fits y) (bad f x) = absurd (good_alone h k f good x)
-one_of_header laws bytes h p q (long s j well fits y) (short k good few) = absurd (omega (arith, few, fits))
-one_of_header laws bytes h p q (long s k good fits x) (long t j well suits y) = one_of_whole laws bytes h p q x y
+one_of_header : (bytes : List ℕ) (h : Header) (p q : Parsed) → OfHeader bytes h p → OfHeader bytes h q → p ≡ q
+one_of_header bytes h p q (bad f x) (bad g y) = ap Refused (one_header_fault h f g x y)
+one_of_header bytes h p q (bad f x) (short k good few) = absurd (good_alone h k f good x)
+one_of_header bytes h p q (bad f x) (long s k good fits y) = absurd (good_alone h k f good x)
+one_of_header bytes h p q (short k good few) (bad f x) = absurd (good_alone h k f good x)
+one_of_header bytes h p q (short k good few) (short j well less) = refl
+one_of_header bytes h p q (short k good few) (long s j well fits y) = absurd (omega (arith, few, fits))
+one_of_header bytes h p q (long s k good fits y) (bad f x) = absurd (good_alone h k f good x)
+one_of_header bytes h p q (long s j well fits y) (short k good few) = absurd (omega (arith, few, fits))
+one_of_header bytes h p q (long s k good fits x) (long t j well suits y) = one_of_whole bytes h p q x y
 
-one_answer_of : (laws : NameLaws) (bytes : List ℕ) (p q : Parsed) → Answer bytes p → Answer bytes q → p ≡ q
-one_answer_of laws bytes p q (none few) (none less) = refl
-one_answer_of laws bytes p q (none few) (some s h has x) = absurd (omega (arith, few, header_within bytes h has))
-one_answer_of laws bytes p q (some s h has x) (none few) = absurd (omega (arith, few, header_within bytes h has))
-one_answer_of laws bytes p q (some s h has x) (some t k had y) =
-    one_of_header laws bytes k p q (subst (λ (i : Header). OfHeader bytes i p) (one_header bytes h k has had) x) y
+one_answer_of : (bytes : List ℕ) (p q : Parsed) → Answer bytes p → Answer bytes q → p ≡ q
+one_answer_of bytes p q (none few) (none less) = refl
+one_answer_of bytes p q (none few) (some s h has x) = absurd (omega (arith, few, header_within bytes h has))
+one_answer_of bytes p q (some s h has x) (none few) = absurd (omega (arith, few, header_within bytes h has))
+one_answer_of bytes p q (some s h has x) (some t k had y) =
+    one_of_header bytes k p q (subst (λ (i : Header). OfHeader bytes i p) (one_header bytes h k has had) x) y
 
-pub one_answer : (laws : NameLaws) (bytes : List ℕ) (p q : Parsed) → Parses bytes p → Parses bytes q → p ≡ q
-one_answer laws bytes p q x y = one_answer_of laws bytes p q (answer_of bytes p x) (answer_of bytes q y)
+pub one_answer : (bytes : List ℕ) (p q : Parsed) → Parses bytes p → Parses bytes q → p ≡ q
+one_answer bytes p q x y = one_answer_of bytes p q (answer_of bytes p x) (answer_of bytes q y)
 
 -- ---- a packet and its fronts
 

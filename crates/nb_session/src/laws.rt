@@ -12,10 +12,6 @@ ghost use Rattle.nb_session.specs.Packet.{Packet, IsPacket};
 ghost use Rattle.nb_session.specs.Parsing.{Parsed, Parses};
 ghost use Rattle.nb_session.specs.Stream.{StreamValue};
 
-use nb_names::laws::{
-    labels_tell_the_name, name_or_fault, one_netbios_fault, one_reading, spelling_is_read,
-};
-
 /// At the front of bytes stands one thing: a packet of one length, the front of one that lacks one
 /// number of bytes, or one fault. So bytes are one packet at most.
 pub fn one_answer()
@@ -23,12 +19,7 @@ pub fn one_answer()
         Parses bytes parsed → Parses bytes other → parsed ≡ other }
     ensures packet { (bytes : List ℕ) (packet other : Packet) →
         IsPacket packet bytes → IsPacket other bytes → packet ≡ other }
-{
-    one_reading();
-    one_netbios_fault();
-    spelling_is_read();
-    labels_tell_the_name();
-}
+{}
 
 /// Bytes begin with one header at most, and with one only where there are four of them.
 pub fn one_header()
@@ -53,9 +44,7 @@ pub fn packet_is_parsed()
 /// At the front of any bytes something stands: a packet, the front of one, or a fault.
 pub fn some_answer()
     ensures { (bytes : List ℕ) → AreBytes bytes → (parsed : Parsed) × Parses bytes parsed }
-{
-    name_or_fault();
-}
+{}
 
 /// Any bytes are in one way only whole packets and a rest that begins with none.
 pub fn one_cut()
@@ -64,10 +53,7 @@ pub fn one_cut()
     ensures one { (bytes : List ℕ) (packets others : List Packet) (rest other : List ℕ) →
         IsCut bytes packets rest → IsCut bytes others other →
         (packets ≡ others) × (rest ≡ other) }
-{
-    one_answer();
-    name_or_fault();
-}
+{}
 
 /// The packets that a stream handed out, followed by the bytes that it holds, are all that was fed
 /// to it, in whatever pieces; and where it asks for more or fails, it has cut what was fed in that
@@ -83,9 +69,7 @@ pub fn stream_keeps_all()
         (fault : SessionFault) →
         History fed packets stream → Parses stream.held (Refused fault) →
         IsCut fed packets stream.held }
-{
-    one_answer();
-}
+{}
 
 /// The numbers that the definitions cite.
 pub fn numbers()

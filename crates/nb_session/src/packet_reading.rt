@@ -1,18 +1,13 @@
 //! One packet, read from a reader.
-ghost use Rattle.std.specs.Prelude.{◌≡◌, ◌<◌, ◌≤◌, ◌+◌, ◌-◌, ℕ, List, length, IfOk, IfErr, [], take, OnOk};
+ghost use Rattle.std.specs.Prelude.{◌≡◌, ◌<◌, ◌≤◌, ℕ, List, length, [], take, OnOk};
 ghost use Rattle.std.specs.Io.KnownBytes.{Consumes};
 ghost use Rattle.nb_names.specs.Counted.{between};
-ghost use Rattle.nb_session.specs.declared.parsing.Parsed.TheVariants.{Refused as refused};
-ghost use Rattle.nb_session.specs.Header.{HasHeader, IsGood, packet_length};
-ghost use Rattle.nb_session.specs.Packet.{IsPacket};
-ghost use Rattle.nb_session.specs.PacketReading.{IsEarliest, Reads, Tells};
-ghost use Rattle.nb_session.specs.Parsing.{Parses};
+ghost use Rattle.nb_session.specs.PacketReading.{Reads, Tells};
 ghost use Rattle.nb_session.specs.Code.{Fills, Shows};
 ghost use Rattle.nb_session.specs.declared.limits.TheConstants.{HEADER_LENGTH, MAX_PACKET};
 
 use crate::fault::SessionFault;
-use crate::header::{Header, read_header};
-use crate::kind::Kind;
+use crate::header::read_header;
 use crate::limits::{HEADER_LENGTH, MAX_INTERRUPTS};
 use crate::packet::{LentPacket, Packet};
 use crate::parsing::read_packet_of;
@@ -42,22 +37,6 @@ pub enum ReadFault {
     /// Memory ran out after the header.
     #[error("memory")]
     NoMemory,
-}
-
-/// The packet that these bytes are, up to the last of which they were read.
-fn read_whole<'a>(
-    kind: Kind,
-    header: Header,
-    bytes: &'a [u8],
-) -> Result<LentPacket<'a>, SessionFault>
-    requires header { HasHeader bytes.now header }
-    requires good { IsGood header kind }
-    requires whole { length bytes.now ≡ packet_length header }
-    ensures found { IfOk result (λ packet. IsPacket packet bytes.now) }
-    ensures fault { IfErr result (λ fault.
-        Parses bytes.now (refused fault) × IsEarliest bytes.now) }
-{
-    read_packet_of(kind, header, bytes)
 }
 
 /// Reads one packet, and no byte after it, as [`read_packet`] does. The names of a request are lent
@@ -104,7 +83,7 @@ pub fn read_lent_packet<'a, R: Read>(
         Fill::Device => return Err(ReadFault::Device),
         Fill::TooManyInterrupts => return Err(ReadFault::TooManyInterrupts),
     }
-    match read_whole(kind, judged, room.as_slice()) {
+    match read_packet_of(kind, judged, room.as_slice()) {
         Ok(packet) => Ok(Some(packet)),
         Err(fault) => Err(ReadFault::Refused(fault)),
     }

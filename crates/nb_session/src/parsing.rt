@@ -5,6 +5,7 @@ ghost use Rattle.nb_session.specs.declared.kind.Kind.TheVariants.{Request};
 ghost use Rattle.nb_session.specs.declared.limits.TheConstants.{HEADER_LENGTH};
 ghost use Rattle.nb_session.specs.Header.{HasHeader, IsGood, packet_length};
 ghost use Rattle.nb_session.specs.Packet.{IsPacket};
+ghost use Rattle.nb_session.specs.PacketReading.{IsEarliest};
 ghost use Rattle.nb_session.specs.Parsing.{RequestFails, Parses};
 
 use crate::fault::SessionFault;
@@ -71,6 +72,8 @@ pub(crate) fn read_packet_of<'a>(
     requires whole { length packet.now ≡ packet_length header }
     ensures found { IfOk result (λ read. IsPacket read packet.now) }
     ensures fault { IfErr result (λ fault. (kind ≡ Request) × RequestFails packet.now fault) }
+    ensures earliest { IfErr result (λ fault.
+        Parses packet.now (Parsed.Refused fault) × IsEarliest packet.now) }
 {
     match kind {
         Kind::Message => Ok(Packet::Message(MessageData::of(&packet[HEADER_LENGTH..]))),

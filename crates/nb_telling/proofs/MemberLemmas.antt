@@ -16,17 +16,17 @@ use Rattle.nb_telling.specs.Members as members
 use Rattle.nb_telling.specs.Members.{AreMembers, AreParts, IsMember, IsJson}
 use Rattle.nb_telling.specs.Tokens.{field_tokens, tokens_of}
 
--- what members add to those after them
-record Adds (fields : List Field) (deep : ℕ) : Type 0 where
-  pub to : Members → Members
-  pub same : (rest : Members) → tokens_of fields ++ members_tokens rest ≡ members_tokens (to rest)
-  pub shallow : (rest : Members) → members_depth (to rest) ≤ max deep (members_depth rest)
+-- what fields add to the members or the parts after them, of which these are the tokens and the depth
+record Adds {R : Type 0} (tokens_in : R → List Token) (depth_in : R → ℕ) (fields : List Field) (deep : ℕ) : Type 0 where
+  pub to : R → R
+  pub same : (rest : R) → tokens_of fields ++ tokens_in rest ≡ tokens_in (to rest)
+  pub shallow : (rest : R) → depth_in (to rest) ≤ max deep (depth_in rest)
 
--- what parts of a list add to those after them
-record AddsParts (fields : List Field) (deep : ℕ) : Type 0 where
-  pub to : Items → Items
-  pub same : (rest : Items) → tokens_of fields ++ items_tokens rest ≡ items_tokens (to rest)
-  pub shallow : (rest : Items) → items_depth (to rest) ≤ max deep (items_depth rest)
+abbrev AddsMembers : List Field → ℕ → Type 0
+AddsMembers = Adds members_tokens members_depth
+
+abbrev AddsParts : List Field → ℕ → Type 0
+AddsParts = Adds items_tokens items_depth
 
 -- the strings of a set
 abbrev strings : List (List ℕ) → Items
@@ -43,14 +43,14 @@ strings_shallow (name ∷ names) = omega (arith, strings_shallow names)
 
 -- a member that nests no value
 one_member : (k : List ℕ) (j : Json) (field : Field) (deep : ℕ) → field_tokens field ≡ Token.key k ∷ json_tokens j → depth j ≤ deep
-    → Adds (field ∷ []) deep
+    → AddsMembers (field ∷ []) deep
 one_member k j field deep is low = record {
   to = member k j;
   same = λ rest. ap (λ (ts : List Token). ts ++ members_tokens rest) (append-nil (field_tokens field) ∙ is);
   shallow = λ rest. omega (arith, low);
 }
 
-member_adds : (deep : ℕ) (field : Field) → IsMember field → Adds (field ∷ []) (suc deep)
+member_adds : (deep : ℕ) (field : Field) → IsMember field → AddsMembers (field ∷ []) (suc deep)
 member_adds deep (Text k text) h = one_member k.name (json.string text) (Text k text) (suc deep) refl (omega arith)
 member_adds deep (Number k n) h = one_member k.name (json.number (decimal n)) (Number k n) (suc deep) refl (omega arith)
 member_adds deep (Digits k bytes) h = one_member k.name (json.string (digits_text bytes)) (Digits k bytes) (suc deep) refl (omega arith)
@@ -69,29 +69,20 @@ member_adds deep (Part lead) h = absurd h
 member_adds deep PartEnds h = absurd h
 member_adds deep LineEnds h = record { to = λ rest. rest; same = λ rest. refl; shallow = λ rest. omega arith }
 
--- members, and then others
-members_both : (xs ys : List Field) (deep : ℕ) → Adds xs deep → Adds ys deep → Adds (xs ++ ys) deep
-members_both xs ys deep a b = record {
+-- some, and then others
+both : {R : Type 0} (tokens_in : R → List Token) (depth_in : R → ℕ) (xs ys : List Field) (deep : ℕ) → Adds tokens_in depth_in xs deep → Adds tokens_in depth_in ys deep
+    → Adds tokens_in depth_in (xs ++ ys) deep
+both tokens_in depth_in xs ys deep a b = record {
   to = λ rest. a.to (b.to rest);
   same = λ rest.
-      ap (λ (ts : List Token). ts ++ members_tokens rest) (flat_map-append field_tokens xs ys)
-      ∙ append_assoc (tokens_of xs) (tokens_of ys) (members_tokens rest)
-      ∙ ap (λ (ts : List Token). tokens_of xs ++ ts) (b.same rest) ∙ a.same (b.to rest);
-  shallow = λ rest. omega (arith, a.shallow (b.to rest), b.shallow rest);
-}
-
-parts_both : (xs ys : List Field) (deep : ℕ) → AddsParts xs deep → AddsParts ys deep → AddsParts (xs ++ ys) deep
-parts_both xs ys deep a b = record {
-  to = λ rest. a.to (b.to rest);
-  same = λ rest.
-      ap (λ (ts : List Token). ts ++ items_tokens rest) (flat_map-append field_tokens xs ys)
-      ∙ append_assoc (tokens_of xs) (tokens_of ys) (items_tokens rest)
+      ap (λ (ts : List Token). ts ++ tokens_in rest) (flat_map-append field_tokens xs ys)
+      ∙ append_assoc (tokens_of xs) (tokens_of ys) (tokens_in rest)
       ∙ ap (λ (ts : List Token). tokens_of xs ++ ts) (b.same rest) ∙ a.same (b.to rest);
   shallow = λ rest. omega (arith, a.shallow (b.to rest), b.shallow rest);
 }
 
 -- a list of parts is a member
-list_adds : (name : List ℕ) (parts : List Field) (deep : ℕ) → AddsParts parts deep → Adds (Begins name ∷ (parts ++ Ends ∷ [])) (suc deep)
+list_adds : (name : List ℕ) (parts : List Field) (deep : ℕ) → AddsParts parts deep → AddsMembers (Begins name ∷ (parts ++ Ends ∷ [])) (suc deep)
 list_adds name parts deep p = record {
   to = member name (json.array (p.to no_items));
   same = λ rest. ap (λ (ts : List Token). Token.key name ∷ Token.begin_array ∷ ts)
@@ -108,7 +99,7 @@ range_adds lead from to deep = record {
 }
 
 -- members that a part has are an item
-part_adds : (lead : List ℕ) (members : List Field) (deep : ℕ) → Adds members deep → AddsParts (Part lead ∷ (members ++ PartEnds ∷ [])) (suc deep)
+part_adds : (lead : List ℕ) (members : List Field) (deep : ℕ) → AddsMembers members deep → AddsParts (Part lead ∷ (members ++ PartEnds ∷ [])) (suc deep)
 part_adds lead members deep m = record {
   to = item (json.object (m.to no_members));
   same = λ rest. ap (λ (ts : List Token). begin_object ∷ ts)
@@ -117,15 +108,15 @@ part_adds lead members deep m = record {
 }
 
 mutual
-  members_add : (d : ℕ) (fields : List Field) → AreMembers d fields → Adds fields (1 + 2 * d)
+  members_add : (d : ℕ) (fields : List Field) → AreMembers d fields → AddsMembers fields (1 + 2 * d)
   members_add d _ members.nothing = record { to = λ rest. rest; same = λ rest. refl; shallow = λ rest. omega arith }
   members_add d _ (members.member field h) =
-      let deep : suc (2 * d) ≡ 1 + 2 * d = omega arith in subst (Adds (field ∷ [])) deep (member_adds (2 * d) field h)
+      let deep : suc (2 * d) ≡ 1 + 2 * d = omega arith in subst (AddsMembers (field ∷ [])) deep (member_adds (2 * d) field h)
   members_add _ _ (members.list {depth = d} name parts h) =
       let deep : suc (2 + 2 * d) ≡ 1 + 2 * suc d = omega arith in
-      subst (Adds (Begins name ∷ (parts ++ Ends ∷ []))) deep (list_adds name parts (2 + 2 * d) (parts_add d parts h))
+      subst (AddsMembers (Begins name ∷ (parts ++ Ends ∷ []))) deep (list_adds name parts (2 + 2 * d) (parts_add d parts h))
   members_add d _ (members.both fields others a b) =
-      members_both fields others (1 + 2 * d) (members_add d fields a) (members_add d others b)
+      both members_tokens members_depth fields others (1 + 2 * d) (members_add d fields a) (members_add d others b)
 
   parts_add : (d : ℕ) (fields : List Field) → AreParts d fields → AddsParts fields (2 + 2 * d)
   parts_add d _ members.no_part = record { to = λ rest. rest; same = λ rest. refl; shallow = λ rest. omega arith }
@@ -137,7 +128,7 @@ mutual
       subst (AddsParts (Range lead from to ∷ [])) deep (range_adds lead from to (1 + 2 * d))
   parts_add d _ (members.words text) = record { to = λ rest. rest; same = λ rest. refl; shallow = λ rest. omega arith }
   parts_add d _ (members.parts fields others a b) =
-      parts_both fields others (2 + 2 * d) (parts_add d fields a) (parts_add d others b)
+      both items_tokens items_depth fields others (2 + 2 * d) (parts_add d fields a) (parts_add d others b)
 
 -- the tokens of an object
 abbrev object_tokens : List Field → List Token

@@ -1,6 +1,6 @@
 use Rattle.std.proofs.Common.{refl}
 use Rattle.nb_datagram.specs.Fronts.{of_fragment, of_another, no_fields}
-use Rattle.nb_datagram.proofs.FrontLemmas.{front_there}
+use Rattle.nb_datagram.proofs.FrontLemmas.{front_there, one_front}
 use Rattle.nb_datagram.proofs.ReadingLemmas.{header_type}
 use Rattle.nb_datagram.proofs.front.read_front.Goals as goal
 use Rattle.nb_datagram.proofs.front.read_front.Goals.{then-is_fragment+in_ok-read_fragment, else-is_fragment}
@@ -19,7 +19,7 @@ returns-clause-found c =
 
 pub returns-clause-only : goal.returns-clause-only
 returns-clause-only c front there =
-    c.one_front.ensures.one _ _ front
+    one_front _ _ front
     (front_there _ c.in_ok-header.header c.if-is_fragment.fragment c.in_ok-header.ensures (elim c.if-is_fragment.branch [
       | then-is_fragment+in_ok-read_fragment w ↦ rw w.fragment-is (of_fragment _ (w.if-is_fragment.ensures.0 refl) w.in_ok-read_fragment.ensures)
       | else-is_fragment w ↦ rw w.fragment-is (of_another (λ is. let wrong = w.if-is_fragment.ensures.1 is in absurd (cc)))

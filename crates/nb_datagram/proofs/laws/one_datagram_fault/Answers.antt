@@ -1,25 +1,8 @@
-use Rattle.nb_names.specs.declared.pointers.Pointers.TheVariants.{Refused}
 use Rattle.nb_datagram.proofs.FaultLemmas.{no_packet, one_packet_fault}
 use Rattle.nb_datagram.proofs.laws.one_datagram_fault.Goals as goal
 
 pub returns-clause-alone : goal.returns-clause-alone
-returns-clause-alone c bytes fault packet used fails stands =
-    no_packet (record {
-      one = λ packet. c.one_reading.ensures.one packet Refused;
-      apart = λ packet at fault name next. c.one_netbios_fault.ensures.alone packet Refused at fault name next;
-      one_fault = λ packet. c.one_netbios_fault.ensures.one packet Refused;
-      read = λ front rest. c.spelling_is_read.ensures front rest Refused;
-      domain = c.labels_tell_the_name.ensures.domain;
-      one_name = c.labels_tell_the_name.ensures.one;
-    }) bytes packet used fault stands fails
+returns-clause-alone c bytes fault packet used fails stands = no_packet bytes packet used fault stands fails
 
 pub returns-clause-one : goal.returns-clause-one
-returns-clause-one c =
-    one_packet_fault (record {
-      one = λ packet. c.one_reading.ensures.one packet Refused;
-      apart = λ packet at fault name next. c.one_netbios_fault.ensures.alone packet Refused at fault name next;
-      one_fault = λ packet. c.one_netbios_fault.ensures.one packet Refused;
-      read = λ front rest. c.spelling_is_read.ensures front rest Refused;
-      domain = c.labels_tell_the_name.ensures.domain;
-      one_name = c.labels_tell_the_name.ensures.one;
-    })
+returns-clause-one c = one_packet_fault

@@ -1,6 +1,5 @@
-use Rattle.nb_names.specs.declared.pointers.Pointers.TheVariants.{Refused}
 use Rattle.nb_datagram.proofs.TotalLemmas.{packet_or_fault}
 use Rattle.nb_datagram.proofs.laws.packet_or_fault.Goals as goal
 
 pub returns : goal.returns
-returns c = packet_or_fault (λ packet. c.name_or_fault.ensures.netbios packet Refused)
+returns c = packet_or_fault

@@ -2,4 +2,4 @@ use Rattle.nb_session.proofs.TotalityLemmas.{some_answer}
 use Rattle.nb_session.proofs.laws.some_answer.Goals as goal
 
 pub returns : goal.returns
-returns c bytes each = some_answer c.name_or_fault.ensures.netbios bytes each
+returns c = some_answer

@@ -8,9 +8,9 @@ returns-clause-kept c fed packets stream history =
 pub returns-clause-waiting : goal.returns-clause-waiting
 returns-clause-waiting c fed packets stream needed history stands =
     let all = kept fed packets stream history in
-    record { front = all.front; there = all.there; exact = all.exact; behind = lacking_none c.one_answer.ensures.one stream.held needed stands }
+    record { front = all.front; there = all.there; exact = all.exact; behind = lacking_none stream.held needed stands }
 
 pub returns-clause-failed : goal.returns-clause-failed
 returns-clause-failed c fed packets stream fault history stands =
     let all = kept fed packets stream history in
-    record { front = all.front; there = all.there; exact = all.exact; behind = failing_none c.one_answer.ensures.one stream.held fault stands }
+    record { front = all.front; there = all.there; exact = all.exact; behind = failing_none stream.held fault stands }

@@ -1,6 +1,6 @@
 use Rattle.std.proofs.Common.{arith}
 use Rattle.nb_names.proofs.PushingLemmas.{digits_are_ascii}
-use Rattle.nb_names.proofs.parts_writing.push_by.Goals as goal
+use Rattle.nb_names.proofs.parts_writing.push_part.Goals as goal
 
 pub push_ascii-requires : goal.push_ascii-requires
 push_ascii-requires c =

@@ -2,7 +2,6 @@ pub mod SectionLemmas
 pub mod ItemLemmas
 pub mod PacketLemmas
 pub mod EncodingLemmas
-pub mod ViewLemmas
 pub mod NumberedLemmas
 pub mod TotalityLemmas
 pub mod WalkedLemmas

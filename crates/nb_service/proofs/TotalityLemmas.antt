@@ -19,7 +19,7 @@ use Rattle.nb_service.specs.Record.{ResourceData, of_bytes, of_domain, ResourceR
 use Rattle.nb_service.specs.Packet.{QuestionAt, RdataAt, bytes_there, domain_there, RecordAt, Row, none, more}
 use Rattle.nb_service.specs.ServiceFaults.{QuestionFails, question_name, question_cut, RdataBegins, DomainFails, domain_name, domain_end, RecordFails, record_name, record_cut, rdata_cut, rdata_fails, RowFails, record_count, PacketFails, cut_header, in_questions, in_records}
 use Rattle.nb_service.specs.Code.Steps.{HasPacket}
-use Rattle.nb_service.proofs.ViewLemmas.{AreSmall, small_take, small_drop}
+use Rattle.nb_service.specs.Pieces.{AreSmall, small_take, small_drop}
 use Rattle.nb_service.proofs.PacketLemmas.{packet_there}
 
 pub are_small : (bytes : List ℕ) → AreBytes bytes → AreSmall bytes

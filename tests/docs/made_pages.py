@@ -126,9 +126,9 @@ def comment(lines):
 
 
 def definitions_of(text):
-    """The name and the comment of each public definition of a file."""
+    """The name and the comment of each public definition of a file, which stand above its lemmas."""
     above = []
-    for line in text.splitlines():
+    for line in text.partition('\n-- ---- lemmas of ')[0].splitlines():
         if line.startswith('-- ----'):
             above = []
         elif line.startswith('--'):

@@ -2,6 +2,5 @@ pub mod SectionLemmas
 pub mod ItemLemmas
 pub mod PacketLemmas
 pub mod EncodingLemmas
-pub mod ViewLemmas
 pub mod NumberedLemmas
 pub mod WalkedLemmas

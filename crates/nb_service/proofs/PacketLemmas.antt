@@ -181,3 +181,5 @@ pub refused_memory : (b : List ℕ) (h : PacketHeader) (p : ServicePacket) (used
 refused_memory b h p used is some =
     let same : item_count (header_of p) ≡ item_count h = ap item_count is.1 in
     no_memory p used is.0 (omega (arith, same, some, length-records_of p))
+
+pub ruleset header_laws = (one_header, header_within)

@@ -93,3 +93,5 @@ packet_eq_decides a b =
         ),
       ),
     )
+
+pub ruleset decides = (question_eq_decides, record_eq_decides, packet_eq_decides)

@@ -2,11 +2,17 @@
 -- names of a node (RFC 1002 section 4.2.18). Numbers are big-endian, and lengths are in bytes.
 --
 -- Our choice: of what follows the names of a node, any length is taken for its statistics.
-use Rattle.std.specs.Prelude.{◌≡◌, ◌==◌, ℕ, zero, suc, ◌*◌, ◌/◌, ◌%◌, ◌≤◌, nat_le, List, [], ◌∷◌, ◌++◌, length, take, drop, if◌then◌else◌}
+use Rattle.std.proofs.Common.{◌≡◌, ◌==◌, ℕ, ◌*◌, ◌/◌, ◌%◌, ◌<◌, ◌≤◌, nat_le, List, [], ◌∷◌, ◌++◌, length, take, drop, if◌then◌else◌, refl, ap, ◌∙◌, arith, length-append, length-drop}
+use Rattle.std.proofs.lemmas.Bool.{le-leb}
+use Rattle.std.proofs.lemmas.List.{take-append-drop, length-take-le, take_at, drop_at}
+use Rattle.std.proofs.lemmas.Nat.{be_bytes_2}
 use Rattle.std.specs.Int.{w16, to_be_bytes, from_be_bytes}
-use Rattle.std.specs.List.{flat_map}
+use Rattle.std.specs.List.{flat_map, AllByRecursion}
+pub use Rattle.nb_service.specs.Pieces.{pieces}
+use Rattle.nb_service.specs.Pieces.{AreSmall, AreWritten, length-flat, pieces-flat, small_drop, small_take}
 use Rattle.nb_service.specs.declared.kinds.TheConstants.{NB, NBSTAT}
-use Rattle.nb_service.specs.declared.limits.TheConstants.{ENTRY_LENGTH, NODE_NAME_LENGTH}
+use Rattle.nb_service.specs.declared.address_entry.TheConstants.{ENTRY_LENGTH}
+use Rattle.nb_service.specs.declared.node_name.TheConstants.{NODE_NAME_LENGTH}
 use Rattle.nb_service.specs.declared.address_entry.AddressEntry.{AddressEntry}
 use Rattle.nb_service.specs.declared.node_name.NodeName.{NodeName}
 use Rattle.nb_service.specs.Record.{ResourceData, of_bytes, of_domain, ResourceRecord}
@@ -54,11 +60,6 @@ IsStatus kind bytes count rest =
 
 -- ---- the views as values
 
--- pieces size item count bytes: what so many pieces at the front stand for, each of this size
-abbrev pub pieces : {A : Type 0} → ℕ → (List ℕ → A) → ℕ → List ℕ → List A
-pieces size item zero bytes = []
-pieces size item (suc count) bytes = item (take size bytes) ∷ pieces size item count (drop size bytes)
-
 -- the entry of six bytes
 abbrev pub entry_of : List ℕ → AddressEntry
 entry_of bytes = record { flags = from_be_bytes w16 (take 2 bytes); address = drop 2 bytes }
@@ -102,3 +103,75 @@ status_of_data (of_domain labels) = no_status
 -- the node status of a record: without names and statistics where it isn't of kind NBSTAT
 abbrev pub status_in : ResourceRecord → StatusParts
 status_in entry = if entry.kind == NBSTAT then status_of_data entry.rdata else no_status
+
+-- ---- lemmas of entries
+
+pub entry_some : 0 < ENTRY_LENGTH
+entry_some = omega arith
+
+pub entry_given_back : (piece : List ℕ) → length piece ≡ 6 → AreSmall piece → entry_bytes (entry_of piece) ≡ piece
+entry_given_back piece long s =
+    let flags : to_be_bytes w16 (from_be_bytes w16 (take 2 piece)) ≡ take 2 piece = be_bytes_2 (take 2 piece) _ (length-take-le 2 piece (omega arith)) (small_take 2 piece s) refl in
+    ap (λ (xs : List ℕ). xs ++ drop 2 piece) flags ∙ take-append-drop 2 piece
+
+-- the flags have sixteen bits, and the address four bytes
+abbrev IsEntry : AddressEntry → Type 0
+IsEntry e = (e.flags < 65536) × (length e.address ≡ 4)
+
+abbrev six : AddressEntry → List ℕ
+six e = e.flags / 256 ∷ e.flags % 256 ∷ e.address
+
+entry_read : AreWritten 6 entry_of six IsEntry
+entry_read e is =
+    let fits = is.0 in
+    let long = is.1 in
+    let flags : from_be_bytes w16 (e.flags / 256 ∷ e.flags % 256 ∷ []) ≡ e.flags = omega (arith, fits) in
+    (omega (arith, long), λ i. record { flags = flags i; address = e.address })
+
+pub entries_read : (entry : ResourceRecord) (entries : List AddressEntry) → AllByRecursion IsEntry entries → entry.kind ≡ 32
+    → entry.rdata ≡ of_bytes (flat_map six entries) → entries_in entry ≡ entries
+entries_read entry entries each kind rdata =
+    let long = length-flat 6 entry_of six IsEntry entries entry_read each in
+    let whole : length (flat_map six entries) % 6 ≡ 0 = omega (arith, long) in
+    let count : length (flat_map six entries) / 6 ≡ length entries = omega (arith, long) in
+    rw (kind, rdata, whole, count) (pieces-flat 6 entry_of six IsEntry entries entry_read each)
+
+-- ---- lemmas of the names of a node
+
+pub node_name_some : 0 < NODE_NAME_LENGTH
+node_name_some = omega arith
+
+pub node_name_given_back : (piece : List ℕ) → length piece ≡ 18 → AreSmall piece → node_name_bytes (node_name_of piece) ≡ piece
+node_name_given_back piece long s =
+    let flags : to_be_bytes w16 (from_be_bytes w16 (drop 16 piece)) ≡ drop 16 piece = be_bytes_2 (drop 16 piece) _ (omega (arith, length-drop 16 piece)) (small_drop 16 piece s) refl in
+    ap (λ (xs : List ℕ). take 16 piece ++ xs) flags ∙ take-append-drop 16 piece
+
+-- sixteen bytes, and flags of sixteen bits
+abbrev IsNodeName : NodeName → Type 0
+IsNodeName name = (length name.bytes ≡ 16) × (name.flags < 65536)
+
+abbrev eighteen : NodeName → List ℕ
+eighteen name = name.bytes ++ name.flags / 256 ∷ name.flags % 256 ∷ []
+
+node_name_read : AreWritten 18 node_name_of eighteen IsNodeName
+node_name_read name is =
+    let long = is.0 in
+    let fits = is.1 in
+    let word : List ℕ = name.flags / 256 ∷ name.flags % 256 ∷ [] in
+    let flags : from_be_bytes w16 word ≡ name.flags = omega (arith, fits) in
+    let front = take_at name.bytes word 16 long in
+    let behind = ap (from_be_bytes w16) (drop_at name.bytes word 16 long) ∙ flags in
+    (omega (arith, long, length-append name.bytes word), λ i. record { bytes = front i; flags = behind i })
+
+pub status_read : (entry : ResourceRecord) (status : StatusParts) → AllByRecursion IsNodeName status.names → entry.kind ≡ 33
+    → entry.rdata ≡ of_bytes (length status.names ∷ (flat_map eighteen status.names ++ status.statistics)) → status_in entry ≡ status
+status_read entry status each kind rdata =
+    let names : List ℕ = flat_map eighteen status.names in
+    let long = length-flat 18 node_name_of eighteen IsNodeName status.names node_name_read each in
+    let room = le-leb (18 * length status.names) (length (names ++ status.statistics))
+    (omega (arith, long, length-append names status.statistics)) in
+    let front = take_at names status.statistics (18 * length status.names) long in
+    let behind = drop_at names status.statistics (18 * length status.names) long in
+    let count : length names / 18 ≡ length status.names = omega (arith, long) in
+    let read = pieces-flat 18 node_name_of eighteen IsNodeName status.names node_name_read each in
+    rw (kind, rdata, room, front, behind, count) (λ i. record { names = read i; statistics = status.statistics })

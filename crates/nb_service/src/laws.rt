@@ -4,14 +4,16 @@ ghost use Rattle.std.specs.List.{AllByRecursion, flat_map};
 ghost use Rattle.nb_names.specs.declared.pointers.Pointers.TheVariants.{Followed};
 ghost use Rattle.nb_names.specs.Labels.{NameAt};
 ghost use Rattle.nb_service.specs.declared.address_entry.AddressEntry.{AddressEntry};
+ghost use Rattle.nb_service.specs.declared.address_entry.TheConstants.{ENTRY_LENGTH};
 ghost use Rattle.nb_service.specs.declared.classes.TheConstants.{IN};
 ghost use Rattle.nb_service.specs.declared.kinds.TheConstants.{A, NS, NULL, NB, NBSTAT};
-ghost use Rattle.nb_service.specs.declared.limits.TheConstants.{HEADER_LENGTH, MAX_ENTRIES, MAX_RDATA, ENTRY_LENGTH, NODE_NAME_LENGTH, UNIT_ID_LENGTH};
+ghost use Rattle.nb_service.specs.declared.limits.TheConstants.{HEADER_LENGTH, MAX_ENTRIES, MAX_RDATA};
 ghost use Rattle.nb_service.specs.declared.extent.Extent.{Extent};
 ghost use Rattle.nb_service.specs.declared.fault.ServiceFault.{ServiceFault};
 ghost use Rattle.nb_service.specs.declared.flags.TheConstants.NmFlags.{AA, TC, RD, RA, B};
 ghost use Rattle.nb_service.specs.declared.flags.TheConstants.NodeFlags.{G, DRG, CNF, ACT, PRM};
 ghost use Rattle.nb_service.specs.declared.node_name.NodeName.{NodeName};
+ghost use Rattle.nb_service.specs.declared.node_name.TheConstants.{NODE_NAME_LENGTH, UNIT_ID_LENGTH};
 ghost use Rattle.nb_service.specs.Encoding.{packet_bytes, IsWritable};
 ghost use Rattle.nb_service.specs.declared.question.Question.{Question};
 ghost use Rattle.nb_service.specs.Equality.{question_eq, record_eq, packet_eq};
@@ -49,6 +51,7 @@ pub fn word_is_its_fields()
 {}
 
 /// Questions, records and packets are equal exactly where they are the same.
+#[tactic(auto, using(crate::specs::EqualityFacts::decides))]
 pub fn equal_is_same()
     ensures questions { (a b : Question) → IsTrue (question_eq a b) ↔ (a ≡ b) }
     ensures records { (a b : ResourceRecord) → IsTrue (record_eq a b) ↔ (a ≡ b) }
@@ -59,6 +62,7 @@ pub fn equal_is_same()
 /// flags, the high one first, and four of an address. Other records have none.
 ///
 /// RFC 1002 section 4.2.13.
+#[tactic(auto, using(crate::specs::Views::entries_read))]
 pub fn entries_of_a_record()
     ensures bytes { (entry : AddressEntry) → entry.flags < 65536 →
         entry_bytes entry ≡ entry.flags / 256 ∷ entry.flags % 256 ∷ entry.address }
@@ -79,6 +83,7 @@ pub fn entries_of_a_record()
 /// none, nor has RDATA with less than so many names.
 ///
 /// RFC 1002 section 4.2.18.
+#[tactic(auto, using(crate::specs::Views::status_read))]
 pub fn status_of_a_record()
     ensures bytes { (name : NodeName) → name.flags < 65536 →
         node_name_bytes name ≡ name.bytes ++ name.flags / 256 ∷ name.flags % 256 ∷ [] }
@@ -101,6 +106,7 @@ pub fn status_of_a_record()
 
 /// Where a record's RDATA is a domain name, its kind is 2, and that name is read ten bytes after
 /// the record's own, its pointers followed, up to where the record ends.
+#[tactic(auto, using(crate::proofs::SectionLemmas::named_rdata))]
 pub fn name_in_rdata()
     ensures { (bytes : List ℕ) (at next : ℕ) (entry : ResourceRecord) (labels : List (List ℕ)) →
         RecordAt bytes at entry next → entry.rdata ≡ of_domain labels →
@@ -112,6 +118,7 @@ pub fn name_in_rdata()
 /// from where its questions end.
 ///
 /// RFC 1002 section 4.2.1.
+#[tactic(auto, using(crate::proofs::SectionLemmas::sections))]
 pub fn sections_in_order()
     ensures { (bytes : List ℕ) (packet : ServicePacket) (used : ℕ) →
         IsPacket bytes packet used → HasSections bytes packet used }
@@ -163,6 +170,7 @@ pub fn one_record()
 }
 
 /// Bytes begin with one header at most, and with one only where there are twelve of them.
+#[tactic(auto, using(crate::proofs::PacketLemmas::header_laws))]
 pub fn one_header()
     ensures one { (bytes : List ℕ) (header other : PacketHeader) →
         HasHeader bytes header → HasHeader bytes other → header ≡ other }

@@ -1,7 +1,6 @@
 //! Name service packets: the packets of port 137, decoded, built and encoded.
 #![tactic(auto)]
 
-mod address_entries;
 mod address_entry;
 mod building;
 pub mod classes;
@@ -16,8 +15,8 @@ pub mod kinds;
 pub mod laws;
 pub mod limits;
 mod node_name;
-mod node_status;
 mod packet;
+mod pieces;
 mod plain_question;
 mod question;
 mod rdata;
@@ -27,8 +26,7 @@ mod seeing;
 mod seen;
 mod walking;
 
-pub use address_entries::AddressEntries;
-pub use address_entry::AddressEntry;
+pub use address_entry::{AddressEntries, AddressEntry};
 pub use building::{node_status_request, query, refresh, registration, release, response};
 pub use decoding::{decode, outline};
 pub use encoding::encode;
@@ -37,9 +35,9 @@ pub use fault::{PushFault, RecordFault, ServiceFault};
 pub use fields::Fields;
 pub use flags::{NmFlags, NodeFlags, ont, opcode, rcode};
 pub use header::{Header, read_header};
-pub use node_name::NodeName;
-pub use node_status::NodeStatus;
+pub use node_name::{NodeName, NodeStatus};
 pub use packet::{Packet, Questions, Records};
+pub use pieces::{Piece, Pieces};
 pub use question::Question;
 pub use rdata::Rdata;
 pub use record::Record;

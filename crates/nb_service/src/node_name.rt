@@ -1,11 +1,23 @@
-//! Names of a node.
-ghost use Rattle.std.specs.Prelude.{◌≡◌};
+//! The names of a node and its statistics, as they stand in RDATA of kind NBSTAT.
+ghost use Rattle.std.specs.Prelude.{◌≡◌, ◌<◌, ◌*◌, ◌%◌, ℕ, List, length, slice_get, take, drop, IfSome, MatchOption};
+ghost use Rattle.std.specs.List.{flat_map};
 ghost use Rattle.nb_service.specs.Header.{node_bits, node_bits_of};
-ghost use Rattle.nb_service.specs.Views.{node_name_of};
+ghost use Rattle.nb_service.specs.Record.{of_bytes};
+ghost use Rattle.nb_service.specs.Views.{HasStatus, IsStatus, after_count, node_name_bytes, node_names_of, no_status, status_in, status_of_data};
 
 use crate::flags::{NodeFlags, node_flags_of};
-use crate::limits::NODE_NAME_LENGTH;
+use crate::kinds::NBSTAT;
+use crate::pieces::{Piece, Pieces};
+use crate::rdata::Rdata;
+use crate::record::Record;
 use nb_names::limits::NAME_LENGTH;
+use std::marker::Model;
+
+/// One of a node's names with its flags, in bytes (RFC 1002 section 4.2.18).
+pub const NODE_NAME_LENGTH: usize = 18;
+
+/// UNIT_ID, in bytes (RFC 1002 section 4.2.18).
+pub const UNIT_ID_LENGTH: usize = 6;
 
 /// One of a node's names, and the flags that go with it (RFC 1002 section 4.2.18).
 #[derive(Clone, Copy, Debug, PartialEq, Eq)]
@@ -23,16 +35,135 @@ impl NodeName {
     {
         node_flags_of(self.flags)
     }
+}
 
-    /// The name of eighteen bytes.
-    pub(crate) fn of_bytes(bytes: &[u8; NODE_NAME_LENGTH]) -> NodeName
-        ensures { result ≡ node_name_of bytes.now }
-    {
+impl Piece for NodeName {
+    ghost use Rattle.nb_service.specs.declared.node_name.TheConstants.{NODE_NAME_LENGTH};
+    ghost use Rattle.nb_service.specs.Views.{node_name_of, node_name_bytes};
+    ghost use Rattle.nb_service.specs.Views.{node_name_some, node_name_given_back};
+
+    ghost LENGTH = { NODE_NAME_LENGTH };
+
+    const LENGTH: usize = NODE_NAME_LENGTH;
+
+    ghost read = { node_name_of };
+
+    ghost written = { node_name_bytes };
+
+    fn of_bytes(bytes: &[u8]) -> NodeName {
         let mut name = [0; NAME_LENGTH];
         name.copy_from_slice(&bytes[..NAME_LENGTH]);
         NodeName {
             bytes: name,
             flags: u16::from_be_bytes([bytes[16], bytes[17]]),
+        }
+    }
+
+    ghost some = { node_name_some };
+
+    ghost given_back = { node_name_given_back };
+}
+
+/// The names of a node and its statistics, which are read from RDATA where it stands.
+#[derive(Debug, Drop)]
+pub struct NodeStatus<'a> {
+    names: Pieces<'a, NodeName>,
+    statistics: &'a [u8],
+}
+
+impl<'a> Model for NodeStatus<'a> {
+    ghost use Rattle.nb_service.specs.Views.{StatusParts};
+
+    ghost Value = { StatusParts };
+
+    ghost view = { λ status. record {
+      names = status.names;
+      statistics = status.statistics.now;
+    } };
+}
+
+impl<'a> NodeStatus<'a> {
+    /// The status of RDATA of a kind, as these bytes.
+    ///
+    /// None where the kind isn't NBSTAT, and where there is less than NUM_NAMES promises.
+    /// RFC 1002 section 4.2.18.
+    pub fn of_rdata(kind: u16, bytes: &'a [u8]) -> Option<NodeStatus<'a>>
+        ensures found { MatchOption result
+            ((count : ℕ) (rest : List ℕ) → ¬ IsStatus kind bytes.now count rest)
+            (λ status. IsStatus kind bytes.entry.now (length status.names) (after_count status)
+            × (status.statistics
+            ≡ drop (NODE_NAME_LENGTH * length status.names) (after_count status))) }
+        ensures value { IfSome result
+            (λ status. status ≡ status_of_data (of_bytes bytes.entry.now)) }
+    {
+        if kind != NBSTAT {
+            return None;
+        }
+        let Some((count, rest)) = bytes.split_first() else {
+            return None;
+        };
+        let size = NODE_NAME_LENGTH * *count as usize;
+        if rest.len() < size {
+            return None;
+        }
+        Some(NodeStatus {
+            names: Pieces::of(&rest[..size]),
+            statistics: &rest[size..],
+        })
+    }
+
+    /// How many names there are.
+    pub fn len(&self) -> usize
+        ensures { result ≡ length self.now.names }
+    {
+        self.names.len()
+    }
+
+    /// The name at a place, counted from 0.
+    pub fn get(&self, place: usize) -> Option<NodeName>
+        ensures { result ≡ slice_get self.now.names place }
+    {
+        self.names.get(place)
+    }
+
+    /// The statistics, of any length (our choice).
+    pub fn statistics(&self) -> &'a [u8]
+        ensures { result.now ≡ self.now.statistics }
+    {
+        self.statistics
+    }
+
+    /// UNIT_ID, the first six bytes of the statistics, where there are as many.
+    pub fn unit_id(&self) -> Option<[u8; UNIT_ID_LENGTH]>
+        ensures { MatchOption result (length self.now.statistics < UNIT_ID_LENGTH)
+            (λ unit. unit ≡ take UNIT_ID_LENGTH self.now.statistics) }
+    {
+        if self.statistics.len() < UNIT_ID_LENGTH {
+            return None;
+        }
+        let mut unit = [0; UNIT_ID_LENGTH];
+        unit.copy_from_slice(&self.statistics[..UNIT_ID_LENGTH]);
+        Some(unit)
+    }
+}
+
+impl<'a> Record<'a> {
+    /// The names of a node, and its statistics.
+    ///
+    /// None where the kind isn't NBSTAT, and where the RDATA has less than NUM_NAMES promises.
+    /// RFC 1002 section 4.2.18.
+    pub fn node_status(&self) -> Option<NodeStatus<'a>>
+        ensures found { MatchOption result
+            ((count : ℕ) (rest : List ℕ) → ¬ HasStatus self.now count rest)
+            (λ status. HasStatus self.now (length status.names) (after_count status)
+            × (status.statistics
+            ≡ drop (NODE_NAME_LENGTH * length status.names) (after_count status))) }
+        ensures value { MatchOption result (status_in self.now ≡ no_status)
+            (λ status. status ≡ status_in self.now) }
+    {
+        match self.rdata() {
+            Rdata::Bytes(bytes) => NodeStatus::of_rdata(self.kind(), bytes),
+            Rdata::Domain(_) => None,
         }
     }
 }

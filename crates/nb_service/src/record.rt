@@ -1,15 +1,10 @@
 //! Resource records.
-ghost use Rattle.std.specs.Prelude.{◌≡◌, ◌≢◌, ◌<◌, ◌*◌, ◌↔◌, ℕ, List, [], length, drop, IfOk, IsErrOf, MatchOption};
-ghost use Rattle.std.specs.List.{flat_map};
+ghost use Rattle.std.specs.Prelude.{◌≡◌, ◌≢◌, ◌<◌, ◌↔◌, length, IfOk, IsErrOf};
 ghost use Rattle.nb_service.specs.Record.{of_bytes, of_domain, record_of, rdata_of, IsRdataOf};
-ghost use Rattle.nb_service.specs.declared.limits.TheConstants.{ENTRY_LENGTH, NODE_NAME_LENGTH};
-ghost use Rattle.nb_service.specs.Views.{HasEntries, HasStatus, entry_bytes, after_count, entries_in, status_in, no_status};
 
-use crate::address_entries::AddressEntries;
 use crate::fault::RecordFault;
 use crate::kinds::NS;
 use crate::limits::MAX_RDATA;
-use crate::node_status::NodeStatus;
 use crate::rdata::Rdata;
 use nb_names::DomainName;
 use std::marker::Model;
@@ -117,42 +112,6 @@ impl<'a> Record<'a> {
         ensures { result ≡ self.now.ttl }
     {
         self.ttl
-    }
-
-    /// The addresses of a NetBIOS name.
-    ///
-    /// None where the kind isn't NB, and where the RDATA isn't entries of six bytes alone.
-    /// RFC 1002 section 4.2.13.
-    pub fn address_entries(&self) -> Option<AddressEntries<'a>>
-        ensures found { MatchOption result ((bytes : List ℕ) → ¬ HasEntries self.now bytes)
-            (λ entries. HasEntries self.now (flat_map entry_bytes entries)
-            × (ENTRY_LENGTH * length entries ≡ length (flat_map entry_bytes entries))) }
-        ensures value { MatchOption result (entries_in self.now ≡ [])
-            (λ entries. entries ≡ entries_in self.now) }
-    {
-        match &self.rdata {
-            Rdata::Bytes(bytes) => AddressEntries::of_rdata(self.kind, bytes),
-            Rdata::Domain(_) => None,
-        }
-    }
-
-    /// The names of a node, and its statistics.
-    ///
-    /// None where the kind isn't NBSTAT, and where the RDATA has less than NUM_NAMES promises.
-    /// RFC 1002 section 4.2.18.
-    pub fn node_status(&self) -> Option<NodeStatus<'a>>
-        ensures found { MatchOption result
-            ((count : ℕ) (rest : List ℕ) → ¬ HasStatus self.now count rest)
-            (λ status. HasStatus self.now (length status.names) (after_count status)
-            × (status.statistics
-            ≡ drop (NODE_NAME_LENGTH * length status.names) (after_count status))) }
-        ensures value { MatchOption result (status_in self.now ≡ no_status)
-            (λ status. status ≡ status_in self.now) }
-    {
-        match &self.rdata {
-            Rdata::Bytes(bytes) => NodeStatus::of_rdata(self.kind, bytes),
-            Rdata::Domain(_) => None,
-        }
     }
 
     /// The RDATA, a domain name exactly where the kind is NS.

@@ -18,7 +18,8 @@ use Rattle.nb_datagram.specs.declared.key.Key.{Key}
 use Rattle.nb_datagram.specs.FaultTexts.{key_text}
 use Rattle.nb_text.specs.Fields.{IsVisible, IsWord}
 use Rattle.nb_telling.specs.Texts.{added_names, joined}
-use Rattle.nb_text.specs.Words.{Flag, is_set, names_set, packet_flags, name_flags, set_text}
+use Rattle.nb_text.specs.Views.{name_flags}
+use Rattle.nb_text.specs.Words.{Flag, is_set, names_set, packet_flags, set_text}
 
 -- a row of characters that can be seen
 abbrev pub IsSeen : List ℕ → Type 0

@@ -2,17 +2,11 @@
 -- here, whatever its fields are.
 use Rattle.std.proofs.Common.{◌≡◌, ℕ, nat_lt, ◌==◌, Bool, true, false, List, [], ◌∷◌, ◌++◌, length, take, drop, codes, Option, Some, None, if◌then◌else◌, refl, sym, subst, ◌∙◌, arith, append-nil}
 use Rattle.std.specs.List.{flat_map}
-use Rattle.std.proofs.lemmas.Bool.{eqb-true}
-use Rattle.nb_names.specs.Hexadecimal.{digits_text}
 use Rattle.nb_names.specs.Name.{NetbiosName}
-use Rattle.nb_service.specs.declared.address_entry.AddressEntry.{AddressEntry}
-use Rattle.nb_service.specs.declared.kinds.TheConstants.{NB, NBSTAT}
-use Rattle.nb_service.specs.declared.node_name.NodeName.{NodeName}
 use Rattle.nb_service.specs.declared.question.Question.{Question}
 use Rattle.nb_service.specs.Header.{opcode_of, rcode_of, PacketHeader}
 use Rattle.nb_service.specs.Packet.{ServicePacket, header_of}
 use Rattle.nb_service.specs.Record.{ResourceData, of_bytes, of_domain, ResourceRecord, record_of}
-use Rattle.nb_service.specs.Views.{StatusParts, no_status, entries_of_data, entries_in, status_of_data, status_in}
 use Rattle.nb_datagram.specs.declared.front.FragmentFront.{FragmentFront}
 use Rattle.nb_datagram.specs.FaultTexts.{key_text}
 use Rattle.nb_datagram.specs.Packet.{Packet}
@@ -27,9 +21,9 @@ use Rattle.nb_telling.specs.Members.{AreMembers, nothing, both}
 use Rattle.nb_telling.specs.Telling.{Field, FieldKey, Text, Number, Digits, Set, LineEnds}
 use Rattle.nb_text.specs.DatagramFields as datagrams
 use Rattle.nb_text.specs.DatagramText as datagram_texts
-use Rattle.nb_text.specs.Fields.{used_fields, refused_fields, list_fields}
+use Rattle.nb_text.specs.Fields.{used_fields, refused_fields, list_fields, word_field}
 use Rattle.nb_text.specs.FrontFields.{indent, names_header_fields, type_field, standing_name, fragment_front_fields}
-use Rattle.nb_text.specs.Keys.{key_named, id_key, unit_key}
+use Rattle.nb_text.specs.Keys.{key_named, id_key}
 use Rattle.nb_text.specs.Lines.{line_end, used_text, refused_text}
 use Rattle.nb_text.specs.ServiceFields as services
 use Rattle.nb_text.specs.ServiceText as service_texts
@@ -40,7 +34,8 @@ use Rattle.nb_text.specs.Tells.{Tells}
 use Rattle.nb_text.specs.TellsFront as fronts
 use Rattle.nb_text.specs.TellsFront.{FrontOf, TellsFront}
 use Rattle.nb_text.specs.Words.{datagram_word, named_text, names_set, operation_word, packet_flags, rcode_word, session_word}
-use Rattle.nb_text.proofs.SaysLemmas.{Says, SaysParts, singles, row, both_say, none_say, part_says, line_says, up_to_end, then_lines, list_says}
+use Rattle.nb_text.proofs.SaysLemmas.{Says, SaysParts, singles, row, both_say, part_says, line_says, up_to_end, then_lines, list_says}
+use Rattle.nb_text.proofs.ViewLemmas.{view_says}
 
 -- ---- lines
 
@@ -88,48 +83,11 @@ state_says word =
 
 header_says : {depth : ℕ} (header : PacketHeader) (used : ℕ) → Says depth (services.header_fields header used) (service_texts.header_line header used)
 header_says header used =
-    both_say (row (services.word_field id_key header.id ∷ services.word_field (key_named "word") header.word ∷ []) _)
+    both_say (row (word_field id_key header.id ∷ word_field (key_named "word") header.word ∷ []) _)
     (both_say (state_says header.word) (both_say (row (services.count_fields header) _) (used_says used)))
 
 question_says : {depth : ℕ} (question : Question) → SaysParts depth (services.question_fields question) (service_texts.question_line question)
 question_says question = line_says (codes "  question") (services.question_fields question) _
-
-entry_says : {depth : ℕ} (entry : AddressEntry) → SaysParts depth (services.entry_fields entry) (service_texts.entry_line entry)
-entry_says entry = line_says (codes "    entry") (services.entry_fields entry) _
-
-node_name_says : {depth : ℕ} (name : NodeName) → SaysParts depth (services.node_name_fields name) (service_texts.node_name_line name)
-node_name_says name = line_says (codes "    name") (services.node_name_fields name) _
-
-unit_says : {depth : ℕ} (statistics : List ℕ) → Says depth (services.unit_fields statistics) (service_texts.unit_line statistics)
-unit_says {depth} statistics = either (nat_lt (length statistics) 6) where
-  either : (short : Bool) → Says depth (if short then [] else Digits unit_key (take 6 statistics) ∷ LineEnds ∷ [])
-      (if short then [] else codes "    unit=" ++ (digits_text (take 6 statistics) ++ line_end))
-  either true = none_say
-  either false = row (Digits unit_key (take 6 statistics) ∷ LineEnds ∷ []) _
-
-status_says : (status : StatusParts) → Says 1 (services.status_fields status) (service_texts.status_lines status)
-status_says status =
-    both_say (list_says (codes "names") services.node_name_fields service_texts.node_name_line status.names node_name_says) (unit_says status.statistics)
-
--- what RDATA says, by whether its record is of kind NB or NBSTAT
-view_at : (nb nbstat : Bool) (entries : List AddressEntry) (status : StatusParts) → (nb ≡ true → nbstat ≡ true → ⊥)
-    → Says 1 (if nb then list_fields (codes "entries") (flat_map services.entry_fields (if nb then entries else []))
-    else if nbstat then services.status_fields (if nbstat then status else no_status) else [])
-    (flat_map service_texts.entry_line (if nb then entries else []) ++ service_texts.status_lines (if nbstat then status else no_status))
-view_at true true entries status one = absurd (one refl refl)
-view_at true false entries status one =
-    let said = list_says (codes "entries") services.entry_fields service_texts.entry_line entries entry_says in
-    record { members = said.members; same = said.same ∙ sym (append-nil (flat_map service_texts.entry_line entries)) }
-view_at false true entries status one = status_says status
-view_at false false entries status one = none_say
-
-one_kind : (kind : ℕ) → (kind == NB) ≡ true → (kind == NBSTAT) ≡ true → ⊥
-one_kind kind nb nbstat = omega (arith, eqb-true kind NB nb, eqb-true kind NBSTAT nbstat)
-
-view_says : (entry : ResourceRecord) → Says 1 (services.view_fields entry)
-    (flat_map service_texts.entry_line (entries_in entry) ++ service_texts.status_lines (status_in entry))
-view_says entry =
-    view_at (entry.kind == NB) (entry.kind == NBSTAT) (entries_of_data entry.rdata) (status_of_data entry.rdata) (one_kind entry.kind)
 
 record_says : (section : List ℕ) (entry : ResourceRecord)
     → SaysParts 1 (services.record_fields (codes "  " ++ section) entry) (service_texts.record_lines section entry)
@@ -148,10 +106,10 @@ record_says section entry = either entry.rdata where
       → SaysParts 1 (services.record_fields (codes "  " ++ section) (with_data rdata)) (service_texts.record_lines section (with_data rdata))
   either (of_bytes bytes) =
       then_lines section (line (of_bytes bytes)) _
-      (part_says (codes "  " ++ section) (both_say (row (own (of_bytes bytes)) _) (view_says (with_data (of_bytes bytes)))))
+      (part_says (codes "  " ++ section) (both_say (row (own (of_bytes bytes)) _) (view_says entry.kind (of_bytes bytes))))
   either (of_domain labels) =
       then_lines section (line (of_domain labels)) _
-      (part_says (codes "  " ++ section) (both_say (row (own (of_domain labels)) _) (view_says (with_data (of_domain labels)))))
+      (part_says (codes "  " ++ section) (both_say (row (own (of_domain labels)) _) (view_says entry.kind (of_domain labels))))
 
 section_says : (name section : List ℕ) (entries : List ResourceRecord)
     → Says 2 (list_fields name (flat_map (services.record_fields (codes "  " ++ section)) entries)) (flat_map (service_texts.record_lines section) entries)
@@ -189,7 +147,7 @@ fields_members payload _ _ (tells.session port parsed a b h) = (session_says par
 
 front_header : {depth : ℕ} (header : PacketHeader) → AreMembers depth (names_header_fields header)
 front_header header =
-    both _ _ (singles (indent ∷ services.word_field id_key header.id ∷ services.word_field (key_named "word") header.word ∷ []) _)
+    both _ _ (singles (indent ∷ word_field id_key header.id ∷ word_field (key_named "word") header.word ∷ []) _)
     (both _ _ (state_says header.word).members (singles (services.count_fields header ++ LineEnds ∷ []) _))
 
 type_member : {depth : ℕ} (word : Option (List ℕ)) (type : ℕ) → AreMembers depth (type_field word type ∷ [])

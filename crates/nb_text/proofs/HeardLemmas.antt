@@ -16,7 +16,8 @@ use Rattle.nb_text.specs.declared.brief.form.Ending.{Ending}
 use Rattle.nb_text.specs.declared.brief.told.Told.{Told}
 use Rattle.nb_text.specs.Forms.{PhraseForm, form_of, is_type, says}
 use Rattle.nb_text.specs.Said.{said_after}
-use Rattle.nb_text.specs.ServiceSaid.{About, IsAbout, about_first, ending_said, name_said, said_of, told_of, type_of, few, first, flags_by, listed_by, server_in, units_by}
+use Rattle.nb_text.specs.ServiceSaid.{About, IsAbout, about_first, ending_said, name_said, said_of, told_of, type_of, few, first, server_in}
+use Rattle.nb_text.specs.Views.{flags_by, listed_by, units_by}
 use Rattle.std.specs.List.{flat_map, slice_get}
 use Rattle.std.proofs.lemmas.Grind.{flat_map-append}
 use Rattle.nb_text.specs.declared.brief.told.Few.{Few}
@@ -174,10 +175,6 @@ told_bytes status before entry old new kind bytes is of same ttl flags listed un
     (unit ∙ ap₂ (λ (k : ℕ) (d : ResourceData). option_or old.unit (first (units_by k d))) of same)
     (server ∙ or_none old.server ∙ ap (λ (d : ResourceData). option_or old.server (first (server_in d))) same)
 
-none_listed : (status : Bool) (labels : List (List ℕ)) → listed_by status NS (of_domain labels) ≡ []
-none_listed true labels = refl
-none_listed false labels = refl
-
 -- a record whose RDATA is a name
 pub told_domain : (status : Bool) (before : List ResourceRecord) (entry : ResourceRecord) (old new : Told) (labels : List (List ℕ)) → old ≡ told_of status before
     → entry.kind ≡ NS → of_domain labels ≡ entry.rdata → new.ttl ≡ option_or old.ttl (Some entry.ttl) → new.flags ≡ old.flags → new.listed ≡ old.listed
@@ -185,7 +182,7 @@ pub told_domain : (status : Bool) (before : List ResourceRecord) (entry : Resour
 told_domain status before entry old new labels is of same ttl flags listed unit server =
     told_more status before entry old new is ttl
     (flags ∙ or_none old.flags ∙ ap₂ (λ (k : ℕ) (d : ResourceData). option_or old.flags (first (flags_by k d))) (sym of) same)
-    (λ items held. listed ∙ held ∙ ap few (sym (append-nil items) ∙ ap (λ (xs : List Listed). items ++ xs) (sym (none_listed status labels)))
+    (λ items held. listed ∙ held ∙ ap few (sym (append-nil items))
     ∙ ap₂ (λ (k : ℕ) (d : ResourceData). few (items ++ listed_by status k d)) (sym of) same)
     (unit ∙ or_none old.unit ∙ ap₂ (λ (k : ℕ) (d : ResourceData). option_or old.unit (first (units_by k d))) (sym of) same)
     (server ∙ ap (λ (d : ResourceData). option_or old.server (first (server_in d))) same)

@@ -10,7 +10,7 @@ use Rattle.nb_names.specs.Name.{NetbiosName, IsByteName, labels_of_name}
 use Rattle.nb_names.specs.NameText.{is_plain, digits_of, item_of, items_of, scope_text_of, domain_written, is_letter, are_letters, bytes_of_letters, either_written, labels_written, trimmed, written}
 use Rattle.nb_service.proofs.EncodingLemmas.{all_append}
 use Rattle.nb_text.proofs.FieldLemmas.{all-split, all_flat, some_items, labels_word, letters_name}
-use Rattle.nb_text.proofs.ServiceLines.{AreLabels}
+use Rattle.nb_text.proofs.ViewLemmas.{AreLabels}
 use Rattle.nb_text.proofs.TellLemmas.{amid, all_weaker, cut, EndsRow, Tells, seen_tells}
 use Rattle.nb_text.proofs.FieldTells.{byte_same, name_same}
 

@@ -7,6 +7,7 @@ pub mod PlaceLemmas
 pub mod FieldLemmas
 pub mod MidLemmas
 pub mod RowLemmas
+pub mod ViewLemmas
 pub mod ServiceLines
 pub mod ShownLines
 pub mod TellLemmas

@@ -1,31 +1,26 @@
 -- The text of a packet of port 137 is a line of words, and then lines of parts.
-use Rattle.std.proofs.Common.{◌≡◌, ◌==◌, ℕ, zero, suc, ◌+◌, ◌-◌, ◌*◌, ◌/◌, ◌<◌, ◌^◌, nat_lt, nat_le, Bool, true, false, if◌then◌else◌, List, [], ◌∷◌, ◌++◌, length, take, drop, Option, Some, None, refl, arith, codes}
+use Rattle.std.proofs.Common.{◌≡◌, ◌==◌, ℕ, ◌+◌, ◌<◌, ◌^◌, true, List, [], ◌∷◌, ◌++◌, length, Option, Some, None, refl, arith, codes}
 use Rattle.std.specs.List.{AllByRecursion, flat_map, list_all}
 use Rattle.std.proofs.lemmas.Bool.{and_parts}
-use Rattle.nb_names.specs.DomainName.{AreBytes, AreByteLabels, IsDomain}
-use Rattle.nb_names.specs.Hexadecimal.{data_text, digits_text, word_text}
+use Rattle.nb_names.specs.DomainName.{AreBytes}
+use Rattle.nb_names.specs.Hexadecimal.{data_text, word_text}
 use Rattle.nb_names.specs.Labels.{NameAt}
 use Rattle.nb_names.specs.NameText.{labels_written}
 use Rattle.nb_names.specs.declared.pointers.Pointers.TheVariants.{Followed}
 use Rattle.nb_names.proofs.LabelsLemmas.{IsDomain-read}
-use Rattle.nb_service.specs.declared.address_entry.AddressEntry.{AddressEntry}
-use Rattle.nb_service.specs.declared.kinds.TheConstants.{NBSTAT}
-use Rattle.nb_service.specs.declared.node_name.NodeName.{NodeName}
 use Rattle.nb_service.specs.declared.question.Question.{Question}
 use Rattle.nb_service.specs.Header.{opcode_of, rcode_of, PacketHeader}
 use Rattle.nb_service.specs.Packet.{ServicePacket, header_of, IsPacket, QuestionAt, RecordAt, RdataAt, bytes_there, domain_there, Row, none, more}
 use Rattle.nb_service.specs.Record.{ResourceData, of_bytes, of_domain, ResourceRecord}
-use Rattle.nb_service.specs.Views.{StatusParts, pieces, entries_in, node_name_of, status_of_size, status_of_data, status_in, no_status}
 use Rattle.nb_service.proofs.SectionLemmas.{sections}
-use Rattle.nb_telling.specs.Telling.{Field}
-use Rattle.nb_text.specs.Fields.{IsWord, two, four, AreLines}
-use Rattle.nb_text.specs.Lines.{line_end}
-use Rattle.nb_text.specs.Words.{word_of, operations, results, operation_word, rcode_word, named_text, packet_flags, name_flags, set_text}
-use Rattle.nb_text.specs.ServiceFields.{named_fields, head_fields, entry_fields, node_name_fields}
-use Rattle.nb_text.specs.ServiceText.{state_text, counts_text, header_line, question_line, rdata_text, record_line, entry_line, node_name_line, unit_line, status_lines, record_lines, service_text}
-use Rattle.nb_text.proofs.FieldLemmas.{IsSeen, bytes-take, number_word, word_seen, word_word, is_literal, literal, data_seen, data_word, written_word, labels_word, address_word, packet_set_word, name_set_word}
-use Rattle.nb_text.proofs.MidLemmas.{IsMid, mid_then, mid_both, mid_seen, mid_field, number_field, used_ends, ends_here, AreParts, no_parts, parts_both, parts_each, parts_all, part_line, lines_then, IsNamed, chosen, bytes-drop, bytes-stand, labels_bytes}
+use Rattle.nb_text.specs.Fields.{IsWord, two, AreLines}
+use Rattle.nb_text.specs.Words.{word_of, operations, results, operation_word, rcode_word, named_text, packet_flags, set_text}
+use Rattle.nb_text.specs.ServiceFields.{named_fields, head_fields}
+use Rattle.nb_text.specs.ServiceText.{state_text, counts_text, header_line, question_line, rdata_text, record_line, record_lines, service_text}
+use Rattle.nb_text.proofs.FieldLemmas.{IsSeen, number_word, word_seen, word_word, is_literal, literal, data_word, labels_word, packet_set_word}
+use Rattle.nb_text.proofs.MidLemmas.{IsMid, mid_then, mid_both, mid_seen, mid_field, number_field, used_ends, ends_here, AreParts, parts_both, parts_each, part_line, lines_then, IsNamed, chosen, bytes-stand, labels_bytes}
 use Rattle.nb_text.proofs.RowLemmas.{AreShown, row_ends}
+use Rattle.nb_text.proofs.ViewLemmas.{AreLabels, IsByteData, view_parts}
 
 -- ---- the header
 
@@ -61,10 +56,6 @@ header_lines header used =
 
 -- ---- questions and records
 
--- labels that stand in bytes
-abbrev pub AreLabels : List (List ℕ) → Type 0
-AreLabels labels = IsDomain labels × AreByteLabels labels
-
 -- a question that stands in bytes, with its numbers
 pub record IsShownQuestion (question : Question) : Type 0 where
   pub name : AreLabels question.name
@@ -82,10 +73,6 @@ question_parts question h =
     ((row_ends row refl (named_shown question.name question.kind question.class h.name) ends_here).lines (codes "question") (literal (codes "question") refl))
 
 -- RDATA that stands in bytes
-abbrev pub IsByteData : ResourceData → Type 0
-IsByteData (of_bytes bytes) = AreBytes bytes
-IsByteData (of_domain labels) = AreLabels labels
-
 rdata_mid : (rdata : ResourceData) → IsByteData rdata → IsMid (rdata_text rdata)
 rdata_mid (of_bytes bytes) h = mid_field (codes "data=") (data_text bytes) refl (data_word bytes h).1
 rdata_mid (of_domain labels) h = mid_field (codes "domain=") (labels_written labels) refl (labels_word labels h.0 h.1).1
@@ -108,72 +95,9 @@ record_parts section entry is h =
     part_line (codes "  ") two
     ((row_ends row refl (head_shown entry h) (mid_then (rdata_mid entry.rdata h.rdata) ends_here)).lines section is)
 
--- ---- parts of RDATA
-
--- the row of a part that is a line, between its beginning and its ends
-abbrev row_of : List Field → List Field
-row_of part = take (length part - 3) (drop 1 part)
-
-entry_parts : (entry : AddressEntry) → AreParts (entry_line entry)
-entry_parts entry =
-    part_line (codes "    ") four
-    ((row_ends (row_of (entry_fields entry)) refl (word_word entry.flags, (address_word entry.address, tt)) ends_here).lines
-    (codes "entry") (literal (codes "entry") refl))
-
-abbrev pub IsByteNode : NodeName → Type 0
-IsByteNode name = AreBytes name.bytes
-
-node_parts : (name : NodeName) → IsByteNode name → AreParts (node_name_line name)
-node_parts name h =
-    part_line (codes "    ") four
-    ((row_ends (row_of (node_name_fields name)) refl
-    (written_word (record { bytes = name.bytes; scope = [] }) h tt, (word_word name.flags, (name_set_word name.flags, tt))) ends_here).lines
-    (codes "name") (literal (codes "name") refl))
-
-unit_parts : (statistics : List ℕ) → AreBytes statistics → AreParts (unit_line statistics)
-unit_parts statistics a = either (nat_lt (length statistics) 6) where
-  either : (test : Bool) → AreParts (if test then [] else codes "    unit=" ++ (digits_text (take 6 statistics) ++ line_end))
-  either true = no_parts
-  either false =
-      part_line (codes "    ") four ((mid_then (mid_seen (digits_text (take 6 statistics)) (data_seen (take 6 statistics) (bytes-take 6 statistics a))) ends_here).lines
-      (codes "unit=") (literal (codes "unit=") refl))
-
--- a status that stands in bytes
-pub record IsByteStatus (status : StatusParts) : Type 0 where
-  pub names : AllByRecursion IsByteNode status.names
-  pub statistics : AreBytes status.statistics
-
-status_parts : (status : StatusParts) → IsByteStatus status → AreParts (status_lines status)
-status_parts status h =
-    parts_both (parts_each IsByteNode node_name_line status.names h.names node_parts) (unit_parts status.statistics h.statistics)
-
--- ---- the views of RDATA are of bytes
-
-nodes_each : (count : ℕ) (bytes : List ℕ) → AreBytes bytes → AllByRecursion IsByteNode (pieces 18 node_name_of count bytes)
-nodes_each zero bytes a = tt
-nodes_each (suc count) bytes a =
-    (bytes-take 16 (take 18 bytes) (bytes-take 18 bytes a), nodes_each count (drop 18 bytes) (bytes-drop 18 bytes a))
-
-chosen_status : (test : Bool) (status : StatusParts) → IsByteStatus status → IsByteStatus (if test then status else no_status)
-chosen_status true status h = h
-chosen_status false status h = record { names = tt; statistics = tt }
-
-size_status : (size : ℕ) (rest : List ℕ) → AreBytes rest → IsByteStatus (status_of_size size rest)
-size_status size rest a =
-    chosen_status (nat_le size (length rest)) _ (record {
-      names = nodes_each (length (take size rest) / 18) (take size rest) (bytes-take size rest a);
-      statistics = bytes-drop size rest a;
-    })
-
-data_status : (rdata : ResourceData) → IsByteData rdata → IsByteStatus (status_of_data rdata)
-data_status (of_bytes []) a = record { names = tt; statistics = tt }
-data_status (of_bytes (count ∷ rest)) a = size_status (18 * count) rest a.1
-data_status (of_domain labels) h = record { names = tt; statistics = tt }
-
 each_parts : (section : List ℕ) → IsWord section → (entry : ResourceRecord) → IsShownRecord entry → AreParts (record_lines section entry)
 each_parts section is entry h =
-    parts_both (record_parts section entry is h) (parts_both (parts_all entry_line (entries_in entry) entry_parts)
-    (status_parts (status_in entry) (chosen_status (entry.kind == NBSTAT) (status_of_data entry.rdata) (data_status entry.rdata h.rdata))))
+    parts_both (record_parts section entry is h) (view_parts entry.kind entry.rdata h.rdata)
 
 section_parts : (section : List ℕ) (entries : List ResourceRecord) → IsWord section → AllByRecursion IsShownRecord entries
     → AreParts (flat_map (record_lines section) entries)

@@ -1,24 +1,25 @@
 -- The text of a name service packet tells the packet.
-use Rattle.std.proofs.Common.{◌≡◌, ℕ, ◌<◌, ◌^◌, nat_lt, Bool, true, false, if◌then◌else◌, List, [], ◌++◌, length, take, refl, ap, arith, codes}
+use Rattle.std.proofs.Common.{◌≡◌, ℕ, ◌<◌, ◌^◌, List, [], ◌++◌, length, refl, ap, arith, codes}
 use Rattle.std.specs.List.{AllByRecursion, flat_map}
 use Rattle.std.specs.Fmt.{decimal}
 use Rattle.std.proofs.lemmas.Fmt.{decimal_injective}
 use Rattle.nb_names.specs.DomainName.{AreBytes}
-use Rattle.nb_names.specs.Hexadecimal.{digits_text, word_text}
+use Rattle.nb_names.specs.Hexadecimal.{word_text}
 use Rattle.nb_service.specs.declared.question.Question.{Question}
 use Rattle.nb_service.specs.Packet.{ServicePacket, header_of, IsPacket}
 use Rattle.nb_service.specs.Record.{ResourceData, of_bytes, of_domain, ResourceRecord}
-use Rattle.nb_service.specs.Views.{entries_in, status_in}
 use Rattle.nb_text.specs.Lines.{line_end, used_text}
 use Rattle.nb_text.specs.ServiceFields.{named_fields, head_fields}
-use Rattle.nb_text.specs.ServiceText.{state_text, counts_text, header_line, question_line, rdata_text, record_line, entry_line, node_name_line, unit_line, status_lines, record_lines, service_text}
+use Rattle.nb_text.specs.ServiceText.{state_text, counts_text, header_line, question_line, rdata_text, record_line, record_lines, service_text}
+use Rattle.nb_text.specs.Views.{lines_by}
 use Rattle.nb_text.proofs.FieldLemmas.{number_word}
 use Rattle.nb_text.proofs.FieldTells.{number_tells, word_tells, word_then, data_tells}
 use Rattle.nb_text.proofs.FormFields.{lists_text}
 use Rattle.nb_text.proofs.LabelTells.{labels_same, labels_tell}
 use Rattle.nb_text.proofs.RowLemmas.{rows_tell, value_at}
-use Rattle.nb_text.proofs.ServiceLines.{IsByteData, IsCounted, IsShownQuestion, IsShownRecord, IsShownPacket, named_shown, head_shown, packet_stands}
-use Rattle.nb_text.proofs.TellLemmas.{EndsField, ends_both, ends_each, Tells, space, feed, tells_whole, seen_tells, both_tell, field_then, after_tells, same_tells, differ_tells, tells_then, TellsAfter, both_after, each_after}
+use Rattle.nb_text.proofs.ServiceLines.{IsCounted, IsShownQuestion, IsShownRecord, IsShownPacket, named_shown, head_shown, packet_stands}
+use Rattle.nb_text.proofs.TellLemmas.{EndsField, Tells, space, feed, tells_whole, seen_tells, both_tell, field_then, after_tells, same_tells, differ_tells, tells_then, TellsAfter, both_after, each_after}
+use Rattle.nb_text.proofs.ViewLemmas.{IsByteData, view_ends}
 
 -- ---- the header
 
@@ -109,29 +110,14 @@ record_tells section x y a b =
       rdata = h.1.0 i;
     })
 
--- what follows a record's own line
-abbrev parts_lines : ResourceRecord → List ℕ
-parts_lines entry = flat_map entry_line (entries_in entry) ++ status_lines (status_in entry)
-
-unit_space : (statistics : List ℕ) → EndsField (unit_line statistics)
-unit_space statistics = either (nat_lt (length statistics) 6) where
-  either : (test : Bool) → EndsField (if test then [] else codes "    unit=" ++ (digits_text (take 6 statistics) ++ line_end))
-  either true = tt
-  either false = space
-
-parts_space : (entry : ResourceRecord) → EndsField (parts_lines entry)
-parts_space entry =
-    let status = status_in entry in
-    ends_both (flat_map entry_line (entries_in entry)) (status_lines status) (ends_each entry_line (entries_in entry) (λ _. space))
-    (ends_both (flat_map node_name_line status.names) (unit_line status.statistics) (ends_each node_name_line status.names (λ _. space))
-    (unit_space status.statistics))
-
 -- the lines of its parts are of the record that its own line told
 lines_tell : (section : List ℕ) (x y : ResourceRecord) → IsShownRecord x → IsShownRecord y
     → Tells (record_lines section x) (record_lines section y) (x ≡ y)
 lines_tell section x y a b =
     tells_then
-    (both_tell (record_tells section x y a b) (λ same. same_tells (parts_lines x) (parts_lines y) (ap parts_lines same)) (parts_space x) (parts_space y))
+    (both_tell (record_tells section x y a b)
+    (λ same. same_tells _ _ (ap (λ (entry : ResourceRecord). lines_by entry.kind entry.rdata) same))
+    (view_ends x.kind x.rdata a.rdata) (view_ends y.kind y.rdata b.rdata))
     (λ h. h.0)
 
 section_tells : (section : List ℕ) (xs ys : List ResourceRecord) → length xs ≡ length ys → AllByRecursion IsShownRecord xs

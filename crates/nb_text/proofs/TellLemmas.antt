@@ -44,10 +44,6 @@ pub ends_both : (xs ys : List ℕ) → EndsField xs → EndsField ys → EndsFie
 ends_both [] ys a b = b
 ends_both (x ∷ xs) ys a b = a
 
-pub ends_each : {A : Type 0} (f : A → List ℕ) (xs : List A) → ((x : A) → EndsField (f x)) → EndsField (flat_map f xs)
-ends_each {A} f [] ends = tt
-ends_each {A} f (x ∷ xs) ends = ends_both (f x) (flat_map f xs) (ends x) (ends_each f xs ends)
-
 ends_row : (xs : List ℕ) → EndsField xs → EndsRow IsVisible xs
 ends_row [] h = tt
 ends_row (c ∷ xs) h = λ seen. let low = seen.0 in omega (arith, low, h)

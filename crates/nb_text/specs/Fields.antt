@@ -1,9 +1,10 @@
 -- What a reader of the texts can rely on (our choice): a text is lines; a line is words of printable ASCII with one space
 -- between them; two or four spaces begin the line of a part, and no other.
 use Rattle.std.specs.Prelude.{◌≡◌, ℕ, ◌<◌, ◌≤◌, List, ◌∷◌, ◌++◌, length, [], Option}
+use Rattle.std.specs.Int.{w16, to_be_bytes}
 use Rattle.std.specs.List.{AllByRecursion, flat_map}
 use Rattle.nb_text.specs.Lines.{line_end}
-use Rattle.nb_telling.specs.Telling.{Field, Text, Number, Begins, Ends, LineEnds, place_fields}
+use Rattle.nb_telling.specs.Telling.{Field, FieldKey, Text, Number, Digits, Begins, Ends, LineEnds, place_fields}
 use Rattle.nb_text.specs.Keys.{key_named, refused_key}
 
 -- a character that can be seen: 21 to 7e in hexadecimal
@@ -41,6 +42,10 @@ used_fields used = Number (key_named "used") used ∷ LineEnds ∷ []
 -- refused_fields fault place: why a payload begins with no packet, the fault's text and its place
 abbrev pub refused_fields : List ℕ → Option ℕ → List Field
 refused_fields fault place = Text refused_key fault ∷ (place_fields place ++ LineEnds ∷ [])
+
+-- a number of sixteen bits, as four digits
+abbrev pub word_field : FieldKey → ℕ → Field
+word_field key n = Digits key (to_be_bytes w16 n)
 
 -- list_fields name parts: these parts as a list of this name
 abbrev pub list_fields : List ℕ → List Field → List Field

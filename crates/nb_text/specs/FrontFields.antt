@@ -13,7 +13,8 @@ use Rattle.nb_session.specs.declared.header.Header.{Header}
 use Rattle.nb_session.specs.Header.{body_length}
 use Rattle.nb_telling.specs.Telling.{Field, FieldKey, Text, Number, Digits, Words, LineEnds}
 use Rattle.nb_text.specs.Keys.{key_named, kind_key, id_key, packet_type_key}
-use Rattle.nb_text.specs.ServiceFields.{word_field, state_fields, count_fields, lists_fields}
+use Rattle.nb_text.specs.Fields.{word_field}
+use Rattle.nb_text.specs.ServiceFields.{state_fields, count_fields, lists_fields}
 use Rattle.nb_text.specs.Words.{datagram_word, session_word}
 
 -- what begins a line of the front

@@ -31,10 +31,6 @@ id_key = key_of (codes "id") (codes "id=")
 abbrev pub name_key : FieldKey
 name_key = key_of (codes "name") (codes " ")
 
--- the unit identifier, with which a line of a part begins
-abbrev pub unit_key : FieldKey
-unit_key = key_of (codes "unit") (codes "    unit=")
-
 -- the number that says what a packet is, where none of its kind is known
 abbrev pub packet_type_key : FieldKey
 packet_type_key = key_of (codes "type") (codes "type=")

@@ -6,6 +6,7 @@ pub mod SessionText
 pub mod Shown
 pub mod Fields
 pub mod Keys
+pub mod Views
 pub mod FaultEnds
 pub mod ServiceFields
 pub mod DatagramFields

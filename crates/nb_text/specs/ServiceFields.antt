@@ -1,28 +1,19 @@
 -- The fields of a name service packet, port 137 (our choice): those of the header, then lists of the questions and of the
 -- records, each with the parts of its RDATA.
-use Rattle.std.specs.Prelude.{ℕ, nat_lt, ◌==◌, List, [], ◌∷◌, ◌++◌, length, take, codes, Option, Some, None, if◌then◌else◌}
-use Rattle.std.specs.Int.{w16, to_be_bytes}
+use Rattle.std.specs.Prelude.{ℕ, List, [], ◌∷◌, ◌++◌, codes, Option, Some, None}
 use Rattle.std.specs.List.{flat_map}
-use Rattle.nb_names.specs.Addresses.{address_text}
-use Rattle.nb_names.specs.NameText.{labels_written, written}
-use Rattle.nb_service.specs.declared.address_entry.AddressEntry.{AddressEntry}
-use Rattle.nb_service.specs.declared.kinds.TheConstants.{NB, NBSTAT}
-use Rattle.nb_service.specs.declared.node_name.NodeName.{NodeName}
+use Rattle.nb_names.specs.NameText.{labels_written}
 use Rattle.nb_service.specs.declared.question.Question.{Question}
-use Rattle.nb_service.specs.Header.{opcode_of, rcode_of, ont_of, PacketHeader}
+use Rattle.nb_service.specs.Header.{opcode_of, rcode_of, PacketHeader}
 use Rattle.nb_service.specs.Packet.{ServicePacket, header_of}
-use Rattle.nb_service.specs.Record.{ResourceData, of_bytes, of_domain, ResourceRecord, record_of}
-use Rattle.nb_service.specs.Views.{StatusParts, entries_in, status_in}
-use Rattle.nb_telling.specs.Telling.{Field, FieldKey, Text, Number, Digits, Data, Set, Part, PartEnds, LineEnds}
-use Rattle.nb_text.specs.Keys.{key_named, id_key, name_key, unit_key}
-use Rattle.nb_text.specs.Fields.{used_fields, list_fields}
-use Rattle.nb_text.specs.Words.{operation_word, rcode_word, names_set, packet_flags, name_flags}
+use Rattle.nb_service.specs.Record.{ResourceData, of_bytes, of_domain, ResourceRecord}
+use Rattle.nb_telling.specs.Telling.{Field, FieldKey, Text, Number, Data, Set, Part, PartEnds, LineEnds}
+use Rattle.nb_text.specs.Keys.{key_named, id_key, name_key}
+use Rattle.nb_text.specs.Fields.{used_fields, list_fields, word_field}
+use Rattle.nb_text.specs.Views.{fields_by}
+use Rattle.nb_text.specs.Words.{operation_word, rcode_word, names_set, packet_flags}
 
 -- ---- the header
-
--- a number of sixteen bits, as four digits
-abbrev pub word_field : FieldKey → ℕ → Field
-word_field key n = Digits key (to_be_bytes w16 n)
 
 -- a number by its name, where it has one
 abbrev pub named_field : FieldKey → Option (List ℕ) → ℕ → Field
@@ -65,39 +56,6 @@ abbrev pub rdata_field : ResourceData → Field
 rdata_field (of_bytes bytes) = Data (key_named "data") bytes
 rdata_field (of_domain labels) = Text (key_named "domain") (labels_written labels)
 
--- an address entry
-abbrev pub entry_fields : AddressEntry → List Field
-entry_fields entry =
-    Part (codes "    entry") ∷ word_field (key_named "flags") entry.flags ∷ Number (key_named "ont") (ont_of entry.flags)
-    ∷ Text (key_named "address") (address_text entry.address) ∷ LineEnds ∷ PartEnds ∷ []
-
--- one of a node's names, which has no scope
-abbrev pub node_name_fields : NodeName → List Field
-node_name_fields name =
-    Part (codes "    name") ∷ Text name_key (written (record { bytes = name.bytes; scope = [] }))
-    ∷ word_field (key_named "flags") name.flags ∷ Number (key_named "ont") (ont_of name.flags)
-    ∷ Set (key_named "set") (names_set name_flags name.flags) ∷ LineEnds ∷ PartEnds ∷ []
-
--- the unit that a node's statistics begin with, where there are as many bytes
-abbrev pub unit_fields : List ℕ → List Field
-unit_fields statistics =
-    if nat_lt (length statistics) 6 then [] else Digits unit_key (take 6 statistics) ∷ LineEnds ∷ []
-
--- a node's names, and its unit
-abbrev pub status_fields : StatusParts → List Field
-status_fields status = list_fields (codes "names") (flat_map node_name_fields status.names) ++ unit_fields status.statistics
-
--- what the RDATA of a record of kind NB or NBSTAT says; lists are empty where it hasn't the form
-abbrev pub view_fields : ResourceRecord → List Field
-view_fields entry =
-    if entry.kind == NB then list_fields (codes "entries") (flat_map entry_fields (entries_in entry))
-    else if entry.kind == NBSTAT then status_fields (status_in entry)
-    else []
-
--- the same of RDATA of bytes
-abbrev pub data_fields : ℕ → List ℕ → List Field
-data_fields kind bytes = view_fields (record_of [] kind 0 0 (of_bytes bytes))
-
 -- head_fields labels kind class ttl: what a record has before its RDATA
 abbrev pub head_fields : List (List ℕ) → ℕ → ℕ → ℕ → List Field
 head_fields labels kind class ttl = named_fields labels kind class ++ Number (key_named "ttl") ttl ∷ []
@@ -106,7 +64,7 @@ head_fields labels kind class ttl = named_fields labels kind class ++ Number (ke
 abbrev pub record_fields : List ℕ → ResourceRecord → List Field
 record_fields lead entry =
     Part lead ∷ (head_fields entry.name entry.kind entry.class entry.ttl
-    ++ rdata_field entry.rdata ∷ LineEnds ∷ (view_fields entry ++ PartEnds ∷ []))
+    ++ rdata_field entry.rdata ∷ LineEnds ∷ (fields_by entry.kind entry.rdata ++ PartEnds ∷ []))
 
 -- ---- the packet
 

@@ -7,11 +7,9 @@ use Rattle.nb_names.specs.Hexadecimal.{digits_text}
 use Rattle.nb_names.specs.NameText.{labels_written, written}
 use Rattle.nb_names.specs.declared.pointers.Pointers.TheVariants.{Followed}
 use Rattle.nb_names.specs.Skipped.{IsSkipped}
-use Rattle.nb_service.specs.declared.address_entry.AddressEntry.{AddressEntry}
 use Rattle.nb_service.specs.declared.fault.ServiceFault.{ServiceFault}
 use Rattle.nb_service.specs.declared.fault.ServiceFault.TheVariants as faults
-use Rattle.nb_service.specs.declared.kinds.TheConstants.{A, NB, NBSTAT}
-use Rattle.nb_service.specs.declared.node_name.NodeName.{NodeName}
+use Rattle.nb_service.specs.declared.kinds.TheConstants.{NBSTAT}
 use Rattle.nb_service.specs.declared.question.Question.{Question}
 use Rattle.nb_service.specs.declared.seen.Seen.{Seen}
 use Rattle.nb_service.specs.FaultTexts.{service_fault_place, service_fault_subject, service_fault_words}
@@ -19,7 +17,6 @@ use Rattle.nb_service.specs.declared.flags.TheConstants.NodeFlags.{G}
 use Rattle.nb_service.specs.Header.{node_bits, opcode_of, rcode_of}
 use Rattle.nb_service.specs.Packet.{ServicePacket, records_of}
 use Rattle.nb_service.specs.Record.{ResourceData, of_bytes, of_domain, ResourceRecord}
-use Rattle.nb_service.specs.Views.{entries_of_data, status_of_data}
 use Rattle.nb_text.specs.declared.brief.form.Ending.{Ending}
 use Rattle.nb_text.specs.declared.brief.form.Ending.TheVariants as endings
 use Rattle.nb_text.specs.declared.brief.told.Few.{Few}
@@ -30,6 +27,7 @@ use Rattle.nb_text.specs.declared.brief.told.TheConstants.{MOST_LISTED}
 use Rattle.nb_text.specs.declared.codes.TheConstants.{FMT_ERR, SRV_ERR, NAM_ERR, IMP_ERR, RFS_ERR, ACT_ERR, CFT_ERR}
 use Rattle.nb_text.specs.Forms.{form_of, is_type}
 use Rattle.nb_text.specs.Said.{commas, counts_in, refused_said}
+use Rattle.nb_text.specs.Views.{flags_by, listed_by, units_by}
 use Rattle.nb_text.specs.Words.{is_set}
 
 -- the first of a list
@@ -72,43 +70,6 @@ name_said None = codes "no name"
 name_said (Some about) = labels_written about.name
 
 -- ---- what the records tell
-
--- an address of an entry, as what is listed
-abbrev pub address_listed : AddressEntry → Listed
-address_listed entry = items.Address entry.address
-
--- a name of a node, likewise
-abbrev pub name_listed : NodeName → Listed
-name_listed name = items.NodeName name.bytes
-
--- the address that data is, where it has four bytes
-abbrev pub host_listed : ResourceData → List Listed
-host_listed (of_bytes bytes) = if length bytes == 4 then items.Address bytes ∷ [] else []
-host_listed (of_domain labels) = []
-
--- listed_by status kind rdata: what is listed of RDATA of a kind: where a node's status is asked for, the names of the node status
--- of NBSTAT, else the addresses of the entries of NB, and that of A
-abbrev pub listed_by : Bool → ℕ → ResourceData → List Listed
-listed_by status kind rdata =
-    if status then (if kind == NBSTAT then map name_listed (status_of_data rdata).names else [])
-    else if kind == NB then map address_listed (entries_of_data rdata)
-    else if kind == A then host_listed rdata
-    else []
-
--- the flags in RDATA of a kind: of each address, and of each of a node's names
-abbrev pub flags_by : ℕ → ResourceData → List ℕ
-flags_by kind rdata =
-    if kind == NB then map (λ entry. entry.flags) (entries_of_data rdata)
-    else if kind == NBSTAT then map (λ name. name.flags) (status_of_data rdata).names
-    else []
-
--- the unit in it, with which a node's statistics begin where they have six bytes (4.2.18)
-abbrev pub unit_in : List ℕ → List (List ℕ)
-unit_in statistics = if nat_lt (length statistics) 6 then [] else take 6 statistics ∷ []
-
--- the unit in RDATA of a kind
-abbrev pub units_by : ℕ → ResourceData → List (List ℕ)
-units_by kind rdata = if kind == NBSTAT then unit_in (status_of_data rdata).statistics else []
 
 -- the name server in it
 abbrev pub server_in : ResourceData → List (List (List ℕ))

@@ -1,20 +1,17 @@
 -- The text of a name service packet, port 137 (our choice): a line for the header, then a line for each question and
 -- record, which two spaces begin, and after a record a line for each part of its RDATA, which four begin.
-use Rattle.std.specs.Prelude.{ℕ, nat_lt, List, [], ◌++◌, length, take, codes, if◌then◌else◌}
+use Rattle.std.specs.Prelude.{ℕ, List, ◌++◌, codes}
 use Rattle.std.specs.Fmt.{decimal}
 use Rattle.std.specs.List.{flat_map}
-use Rattle.nb_names.specs.Addresses.{address_text}
-use Rattle.nb_names.specs.Hexadecimal.{data_text, digits_text, word_text}
-use Rattle.nb_names.specs.NameText.{labels_written, written}
-use Rattle.nb_service.specs.declared.address_entry.AddressEntry.{AddressEntry}
-use Rattle.nb_service.specs.declared.node_name.NodeName.{NodeName}
+use Rattle.nb_names.specs.Hexadecimal.{data_text, word_text}
+use Rattle.nb_names.specs.NameText.{labels_written}
 use Rattle.nb_service.specs.declared.question.Question.{Question}
-use Rattle.nb_service.specs.Header.{opcode_of, rcode_of, ont_of, PacketHeader}
+use Rattle.nb_service.specs.Header.{opcode_of, rcode_of, PacketHeader}
 use Rattle.nb_service.specs.Packet.{ServicePacket, header_of}
 use Rattle.nb_service.specs.Record.{ResourceData, of_bytes, of_domain, ResourceRecord}
-use Rattle.nb_service.specs.Views.{StatusParts, entries_in, status_in}
 use Rattle.nb_text.specs.Lines.{line_end, used_text}
-use Rattle.nb_text.specs.Words.{operation_word, rcode_word, named_text, packet_flags, name_flags, set_text}
+use Rattle.nb_text.specs.Views.{lines_by}
+use Rattle.nb_text.specs.Words.{operation_word, rcode_word, named_text, packet_flags, set_text}
 
 -- ---- the header
 
@@ -62,33 +59,10 @@ record_line section entry =
     codes "  " ++ (section ++ (codes " " ++ (labels_written entry.name ++ (type_text entry.kind entry.class
     ++ (codes " ttl=" ++ (decimal entry.ttl ++ (rdata_text entry.rdata ++ line_end)))))))
 
--- ---- parts of RDATA
-
--- an address entry
-abbrev pub entry_line : AddressEntry → List ℕ
-entry_line entry =
-    codes "    entry flags=" ++ (word_text entry.flags ++ (codes " ont=" ++ (decimal (ont_of entry.flags)
-    ++ (codes " address=" ++ (address_text entry.address ++ line_end)))))
-
--- one of a node's names, which has no scope
-abbrev pub node_name_line : NodeName → List ℕ
-node_name_line name =
-    codes "    name " ++ (written (record { bytes = name.bytes; scope = [] }) ++ (codes " flags=" ++ (word_text name.flags
-    ++ (codes " ont=" ++ (decimal (ont_of name.flags) ++ (codes " set=" ++ (set_text name_flags name.flags ++ line_end)))))))
-
--- the unit that a node's statistics begin with, where there are as many bytes
-abbrev pub unit_line : List ℕ → List ℕ
-unit_line statistics =
-    if nat_lt (length statistics) 6 then [] else codes "    unit=" ++ (digits_text (take 6 statistics) ++ line_end)
-
--- a node's names, and its unit
-abbrev pub status_lines : StatusParts → List ℕ
-status_lines status = flat_map node_name_line status.names ++ unit_line status.statistics
-
 -- record_lines section entry: the record, and the parts of its RDATA
 abbrev pub record_lines : List ℕ → ResourceRecord → List ℕ
 record_lines section entry =
-    record_line section entry ++ (flat_map entry_line (entries_in entry) ++ status_lines (status_in entry))
+    record_line section entry ++ lines_by entry.kind entry.rdata
 
 -- ---- the packet
 

@@ -3,8 +3,7 @@
 use Rattle.std.specs.Prelude.{ℕ, ◌==◌, Bool, not, List, [], ◌∷◌, codes, Option, Some, None, bit_and, if◌then◌else◌}
 use Rattle.std.specs.Fmt.{decimal}
 use Rattle.nb_service.specs.declared.flags.TheConstants.NmFlags.{AA, TC, RD, RA, B}
-use Rattle.nb_service.specs.declared.flags.TheConstants.NodeFlags.{G, DRG, CNF, ACT, PRM}
-use Rattle.nb_service.specs.Header.{nm_bits, node_bits}
+use Rattle.nb_service.specs.Header.{nm_bits}
 use Rattle.nb_session.specs.declared.kind.Kind.{Kind as SessionKind}
 use Rattle.nb_session.specs.declared.kind.Kind.TheVariants as sessions
 use Rattle.nb_session.specs.Header as session_types
@@ -97,12 +96,6 @@ abbrev pub packet_flags : List Flag
 packet_flags =
     flag (codes "AA") (nm_bits AA) ∷ flag (codes "TC") (nm_bits TC) ∷ flag (codes "RD") (nm_bits RD)
     ∷ flag (codes "RA") (nm_bits RA) ∷ flag (codes "B") (nm_bits B) ∷ []
-
--- those of a name of a node status
-abbrev pub name_flags : List Flag
-name_flags =
-    flag (codes "G") (node_bits G) ∷ flag (codes "DRG") (node_bits DRG) ∷ flag (codes "CNF") (node_bits CNF)
-    ∷ flag (codes "ACT") (node_bits ACT) ∷ flag (codes "PRM") (node_bits PRM) ∷ []
 
 -- whether the flag with this bit is set in a word
 abbrev pub is_set : ℕ → ℕ → Bool

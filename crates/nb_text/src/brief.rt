@@ -9,7 +9,7 @@ mod form;
 mod pieces;
 mod services;
 mod sessions;
-mod told;
+pub mod told;
 
 use crate::brief::datagrams::push_datagram;
 use crate::brief::services::push_service;

@@ -2,10 +2,10 @@
 
 ghost use Rattle.std.specs.Prelude.{◌≡◌};
 ghost use Rattle.nb_telling.specs.Texts.{names_of};
-ghost use Rattle.nb_text.specs.Words.{is_set, name_flags, names_set, packet_flags};
+ghost use Rattle.nb_text.specs.Words.{is_set, names_set, packet_flags};
 
 use bitflags::{Flag as Named, Flags};
-use nb_service::{NmFlags, NodeFlags};
+use nb_service::NmFlags;
 use nb_telling::Flag;
 
 /// The flags of a packet, and which of them are set in its flag word.
@@ -24,31 +24,6 @@ pub fn packet_flags_of(word: u16) -> [Flag; 5]
 /// A flag of packets, and whether it is set in a word.
 #[inline(always)]
 fn packet_flag(flag: &Named<NmFlags>, word: u16) -> Flag
-    ensures named { result.name.now ≡ flag.now.name.now }
-    ensures set { result.is_set ≡ is_set word flag.now.value.0 }
-{
-    Flag {
-        name: flag.name(),
-        is_set: word & flag.value().bits() != 0,
-    }
-}
-
-/// The flags of a node's name, and which of them are set in its word.
-pub fn name_flags_of(word: u16) -> [Flag; 5]
-    ensures { names_of result ≡ names_set name_flags word }
-{
-    [
-        name_flag(&NodeFlags::FLAGS[0], word),
-        name_flag(&NodeFlags::FLAGS[1], word),
-        name_flag(&NodeFlags::FLAGS[2], word),
-        name_flag(&NodeFlags::FLAGS[3], word),
-        name_flag(&NodeFlags::FLAGS[4], word),
-    ]
-}
-
-/// A flag of nodes' names, and whether it is set in a word.
-#[inline(always)]
-fn name_flag(flag: &Named<NodeFlags>, word: u16) -> Flag
     ensures named { result.name.now ≡ flag.now.name.now }
     ensures set { result.is_set ≡ is_set word flag.now.value.0 }
 {

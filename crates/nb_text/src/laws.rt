@@ -37,7 +37,8 @@ ghost use Rattle.nb_text.specs.SessionFields.{session_fields};
 ghost use Rattle.nb_text.specs.SessionText.{session_text};
 ghost use Rattle.nb_text.specs.Shown.{Shown};
 ghost use Rattle.nb_text.specs.Tells.{Tells};
-ghost use Rattle.nb_text.specs.Words.{flag, name_flags, operation_word, packet_flags, query_word, rcode_word, set_text};
+ghost use Rattle.nb_text.specs.Views.{name_flags};
+ghost use Rattle.nb_text.specs.Words.{flag, operation_word, packet_flags, query_word, rcode_word, set_text};
 
 mod endings;
 mod fronts;

@@ -16,7 +16,7 @@ mod records;
 mod services;
 mod sessions;
 mod showing;
-mod statuses;
+mod views;
 mod words;
 
 pub use brief::push_brief;

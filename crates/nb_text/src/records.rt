@@ -1,6 +1,6 @@
 //! The records of a name service packet, told to a sink.
 
-ghost use Rattle.std.specs.Prelude.{◌≡◌, ◌∷◌, [], ℕ, List, IfOk, OnOk, codes, fold};
+ghost use Rattle.std.specs.Prelude.{◌≡◌, ◌∷◌, [], ℕ, List, IfOk, OnOk, fold};
 ghost use Rattle.std.specs.List.{flat_map};
 ghost use Rattle.nb_names.specs.declared.pointers.Pointers.TheVariants.{Followed};
 ghost use Rattle.nb_names.specs.NameText.{labels_written};
@@ -9,19 +9,17 @@ ghost use Rattle.nb_service.specs.Code.Steps.{HasRow, RowOf};
 ghost use Rattle.nb_service.specs.Items.{SeesRecord};
 ghost use Rattle.nb_service.specs.Packet.{RecordAt};
 ghost use Rattle.nb_service.specs.Record.{ResourceRecord, of_bytes};
-ghost use Rattle.nb_service.specs.Views.{entries_of_data};
 ghost use Rattle.nb_telling.specs.Telling.{Data, LineEnds, Text, Grows};
 ghost use Rattle.nb_text.specs.Keys.{key_named};
 ghost use Rattle.nb_text.specs.Fields.{list_fields};
-ghost use Rattle.nb_text.specs.ServiceFields.{data_fields, entry_fields, head_fields, rdata_field, record_fields, view_fields};
+ghost use Rattle.nb_text.specs.ServiceFields.{head_fields, rdata_field, record_fields};
+ghost use Rattle.nb_text.specs.Views.{fields_by};
 
 use crate::keys::field_key;
 use crate::questions::tell_named_fields;
-use crate::statuses::tell_status;
-use crate::words::{end_part, tell_owner};
+use crate::views::tell_view;
 use nb_names::{DomainName, NameReader, NoMemory};
-use nb_service::kinds::{NB, NBSTAT};
-use nb_service::{AddressEntries, AddressEntry, Rdata, Seen, see_record};
+use nb_service::{Rdata, Seen, see_record};
 use nb_telling::Sink;
 
 /// Tells the list of so many records, a section of this name, which stand one after the other from
@@ -132,7 +130,7 @@ fn tell_rdata<S: Sink>(
     requires { (entry : ResourceRecord) × SeesRecord names.now entry seen.now }
     ensures told { (entry : ResourceRecord) → SeesRecord names.now entry seen.now →
         OnOk result (S.seen sink.new ≡ fold S.after (S.seen sink.old)
-        (rdata_field entry.rdata ∷ LineEnds ∷ view_fields entry)) }
+        (rdata_field entry.rdata ∷ LineEnds ∷ fields_by entry.kind entry.rdata)) }
     ensures front { Grows S.is_front (S.seen sink.old) (S.seen sink.new) }
 {
     match seen.rdata(names) {
@@ -151,56 +149,13 @@ fn tell_domain<S: Sink>(domain: &DomainName, sink: &mut S) -> Result<(), NoMemor
     sink.line_ends()
 }
 
-/// Tells RDATA of bytes, and what it says where the kind is NB or NBSTAT.
+/// Tells RDATA of bytes, and what it says.
 fn tell_bytes<S: Sink>(kind: u16, bytes: &[u8], sink: &mut S) -> Result<(), NoMemory>
     ensures told { OnOk result (S.seen sink.new ≡ fold S.after (S.seen sink.old)
-        (Data (key_named "data") bytes.now ∷ LineEnds ∷ data_fields kind bytes.now)) }
+        (Data (key_named "data") bytes.now ∷ LineEnds ∷ fields_by kind (of_bytes bytes.now))) }
     ensures front { Grows S.is_front (S.seen sink.old) (S.seen sink.new) }
 {
     sink.data(field_key!("data"), bytes)?;
     sink.line_ends()?;
-    match kind {
-        NB => tell_entries(bytes, sink),
-        NBSTAT => tell_status(bytes, sink),
-        _ => Ok(()),
-    }
-}
-
-/// Tells the list of the address entries that bytes are, where they have the form.
-fn tell_entries<S: Sink>(bytes: &[u8], sink: &mut S) -> Result<(), NoMemory>
-    ensures told { OnOk result (S.seen sink.new ≡ fold S.after (S.seen sink.old)
-        (list_fields (codes "entries")
-        (flat_map entry_fields (entries_of_data (of_bytes bytes.now))))) }
-    ensures front { Grows S.is_front (S.seen sink.old) (S.seen sink.new) }
-{
-    sink.begins("entries")?;
-    if let Some(entries) = AddressEntries::of_rdata(NB, bytes) {
-        tell_each(&entries, sink)?;
-    }
-    sink.ends()
-}
-
-/// Tells each of these address entries.
-fn tell_each<S: Sink>(entries: &AddressEntries<'_>, sink: &mut S) -> Result<(), NoMemory>
-    ensures told { OnOk result
-        (S.seen sink.new ≡ fold S.after (S.seen sink.old) (flat_map entry_fields entries.now)) }
-    ensures front { Grows S.is_front (S.seen sink.old) (S.seen sink.new) }
-{
-    for place in 0..entries.len() {
-        let entry = entries.get(place).unwrap();
-        tell_entry(entry, sink)?;
-    }
-    Ok(())
-}
-
-/// Tells an address entry.
-fn tell_entry<S: Sink>(entry: AddressEntry, sink: &mut S) -> Result<(), NoMemory>
-    ensures told { OnOk result
-        (S.seen sink.new ≡ fold S.after (S.seen sink.old) (entry_fields entry)) }
-    ensures front { Grows S.is_front (S.seen sink.old) (S.seen sink.new) }
-{
-    sink.part("    entry")?;
-    tell_owner(entry.flags, sink)?;
-    sink.shown(field_key!("address"), &entry.address)?;
-    end_part(sink)
+    tell_view(kind, bytes, sink)
 }

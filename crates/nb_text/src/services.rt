@@ -6,7 +6,8 @@ ghost use Rattle.nb_service.specs.Items.{Walks};
 ghost use Rattle.nb_telling.specs.Telling.{Grows};
 ghost use Rattle.nb_text.specs.FrontFields.{names_header_fields};
 ghost use Rattle.nb_text.specs.Keys.{key_named, id_key};
-ghost use Rattle.nb_text.specs.ServiceFields.{count_fields, header_fields, lists_fields, state_fields, word_field};
+ghost use Rattle.nb_text.specs.Fields.{word_field};
+ghost use Rattle.nb_text.specs.ServiceFields.{count_fields, header_fields, lists_fields, state_fields};
 ghost use Rattle.nb_text.specs.TellsFront.{ServiceTold};
 
 use crate::codes::{operation_name, rcode_name};

@@ -4,8 +4,8 @@ ghost use Rattle.std.specs.Prelude.{◌≡◌, ◌∷◌, [], OnOk, fold, option
 ghost use Rattle.nb_service.specs.Header.{ont_of};
 ghost use Rattle.nb_telling.specs.Telling.{Digits, LineEnds, Number, PartEnds, Text, Grows, key_of};
 ghost use Rattle.nb_text.specs.Keys.{key_named, kind_key};
-ghost use Rattle.nb_text.specs.Fields.{used_fields};
-ghost use Rattle.nb_text.specs.ServiceFields.{named_field, word_field};
+ghost use Rattle.nb_text.specs.Fields.{used_fields, word_field};
+ghost use Rattle.nb_text.specs.ServiceFields.{named_field};
 
 use crate::keys::{KIND, field_key};
 use nb_names::NoMemory;

@@ -1,21 +1,20 @@
 //! What the records of a packet of port 137 tell, as far as a phrase says it, and what it lists of
 //! them: addresses, or the names of a node.
 
-ghost use Rattle.std.specs.Prelude.{◌≡◌, ◌++◌, ◌∷◌, [], List, map, ℕ};
+ghost use Rattle.std.specs.Prelude.{◌≡◌, ◌++◌, ◌∷◌, [], List, ℕ};
 ghost use Rattle.nb_service.specs.Code.Steps.{HasRow, RowOf};
 ghost use Rattle.nb_service.specs.Items.{SeesRecord};
 ghost use Rattle.nb_service.specs.Packet.{RecordAt};
-ghost use Rattle.nb_service.specs.Record.{ResourceRecord, of_bytes};
-ghost use Rattle.nb_service.specs.Views.{entries_of_data, status_of_data};
-ghost use Rattle.nb_text.specs.ServiceSaid.{address_listed, few, first, flags_by, listed_by, name_listed, told_of, units_by};
+ghost use Rattle.nb_service.specs.Record.{ResourceRecord};
+ghost use Rattle.nb_text.specs.ServiceSaid.{few, told_of};
 ghost use Rattle.nb_text.specs.declared.brief.told.Listed.{Listed};
 
+use crate::views::{first_flags, first_unit, list_view};
 use arrayvec::ArrayVec;
 use nb_names::limits::NAME_LENGTH;
 use nb_names::{DomainName, Name, NameReader, NoMemory, Scope, push_address, push_name};
-use nb_service::kinds::{A, NB, NBSTAT};
 use nb_service::limits::UNIT_ID_LENGTH;
-use nb_service::{AddressEntries, NodeStatus, Rdata, Seen, see_record};
+use nb_service::{Rdata, Seen, see_record};
 use nb_telling::Shows;
 
 /// What the records of a packet tell.
@@ -70,7 +69,7 @@ impl Told {
             Rdata::Bytes(bytes) => {
                 self.flags = self.flags.or(first_flags(kind, bytes));
                 self.unit = self.unit.or(first_unit(kind, bytes));
-                self.listed.list_all(status, kind, bytes);
+                list_view(status, kind, bytes, &mut self.listed);
             }
             Rdata::Domain(server) => {
                 if self.server.is_none() {
@@ -79,24 +78,6 @@ impl Told {
             }
         }
     }
-}
-
-/// The first flags in RDATA of this kind and these bytes.
-fn first_flags(kind: u16, bytes: &[u8]) -> Option<u16>
-    ensures { result ≡ first (flags_by kind (of_bytes bytes.now)) }
-{
-    match kind {
-        NB => Some(AddressEntries::of_rdata(NB, bytes)?.get(0)?.flags),
-        NBSTAT => Some(NodeStatus::of_rdata(NBSTAT, bytes)?.get(0)?.flags),
-        _ => None,
-    }
-}
-
-/// The unit in RDATA of this kind and these bytes.
-fn first_unit(kind: u16, bytes: &[u8]) -> Option<[u8; UNIT_ID_LENGTH]>
-    ensures { result ≡ first (units_by kind (of_bytes bytes.now)) }
-{
-    NodeStatus::of_rdata(kind, bytes)?.unit_id()
 }
 
 /// How many of what is listed stand in a phrase.
@@ -152,7 +133,7 @@ impl Few {
     }
 
     /// Lists one more.
-    fn list(&mut self, item: Listed)
+    pub fn list(&mut self, item: Listed)
         ensures { (items : List Listed) → self.old ≡ few items →
             self.new ≡ few (items ++ item ∷ []) }
     {
@@ -160,48 +141,5 @@ impl Few {
             self.first.push(item);
         }
         self.count = self.count.saturating_add(1);
-    }
-
-    /// Lists what RDATA of this kind and these bytes has: names of a node, where its status is
-    /// asked for, else addresses.
-    pub fn list_all(&mut self, status: bool, kind: u16, bytes: &[u8])
-        ensures { (items : List Listed) → self.old ≡ few items →
-            self.new ≡ few (items ++ listed_by status kind (of_bytes bytes.now)) }
-    {
-        if status {
-            if kind == NBSTAT {
-                self.list_names(bytes);
-            }
-        } else if kind == NB {
-            self.list_entries(bytes);
-        } else if kind == A {
-            if let [a, b, c, d] = bytes {
-                self.list(Listed::Address([*a, *b, *c, *d]));
-            }
-        }
-    }
-
-    /// Lists the addresses of the entries that RDATA of kind NB is, where it has the form.
-    fn list_entries(&mut self, bytes: &[u8])
-        ensures { (items : List Listed) → self.old ≡ few items →
-            self.new ≡ few (items ++ map address_listed (entries_of_data (of_bytes bytes.now))) }
-    {
-        if let Some(entries) = AddressEntries::of_rdata(NB, bytes) {
-            for place in 0..entries.len() {
-                self.list(Listed::Address(entries.get(place).unwrap().address));
-            }
-        }
-    }
-
-    /// Lists the names of the node status that RDATA of kind NBSTAT is, where it has the form.
-    fn list_names(&mut self, bytes: &[u8])
-        ensures { (items : List Listed) → self.old ≡ few items →
-            self.new ≡ few (items ++ map name_listed (status_of_data (of_bytes bytes.now)).names) }
-    {
-        if let Some(status) = NodeStatus::of_rdata(NBSTAT, bytes) {
-            for place in 0..status.len() {
-                self.list(Listed::NodeName(status.get(place).unwrap().bytes));
-            }
-        }
     }
 }

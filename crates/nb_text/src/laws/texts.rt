@@ -10,8 +10,9 @@ ghost use Rattle.nb_datagram.specs.declared.packet.QueryKind.TheVariants.{Reques
 ghost use Rattle.nb_datagram.specs.FaultTexts.{kind_text};
 ghost use Rattle.nb_text.specs.DatagramText.{datagram_text};
 ghost use Rattle.nb_text.specs.Lines.{line_end};
-ghost use Rattle.nb_text.specs.ServiceText.{header_line, question_line, record_line, record_lines, node_name_line, unit_line};
+ghost use Rattle.nb_text.specs.ServiceText.{header_line, question_line, record_line, record_lines};
 ghost use Rattle.nb_text.specs.SessionText.{session_text};
+ghost use Rattle.nb_text.specs.Views.{node_name_line, unit_line};
 
 /// Lines of packets of port 137: a header, a question, a record with an address, one of a node's
 /// names, its unit, and a record of a name server.

@@ -3,19 +3,20 @@ use Rattle.std.proofs.lemmas.Result.{on_ok_weaker}
 use Rattle.nb_service.specs.Record.{ResourceRecord}
 use Rattle.nb_telling.specs.Telling.{Field, Part, LineEnds, PartEnds}
 use Rattle.nb_telling.proofs.FoldLemmas.{told_both}
-use Rattle.nb_text.specs.ServiceFields.{head_fields, rdata_field, record_fields, view_fields}
+use Rattle.nb_text.specs.ServiceFields.{head_fields, rdata_field, record_fields}
+use Rattle.nb_text.specs.Views.{fields_by}
 use Rattle.nb_text.proofs.records.tell_record.Goals as goal
 
 -- a record, told part by part
 steps : {S : Type 0} (after : S → Field → S) (old begun head parts new : S) (lead : List ℕ) (e : ResourceRecord) → begun ≡ after old (Part lead)
-    → head ≡ fold after begun (head_fields e.name e.kind e.class e.ttl) → parts ≡ fold after head (rdata_field e.rdata ∷ LineEnds ∷ view_fields e)
+    → head ≡ fold after begun (head_fields e.name e.kind e.class e.ttl) → parts ≡ fold after head (rdata_field e.rdata ∷ LineEnds ∷ fields_by e.kind e.rdata)
     → new ≡ after parts PartEnds → new ≡ fold after old (record_fields lead e)
 steps {S} after old begun head parts new lead e first second third last =
     last
     ∙ ap (λ (s : S). after s PartEnds)
-    (third ∙ ap (λ (s : S). fold after s (rdata_field e.rdata ∷ LineEnds ∷ view_fields e))
+    (third ∙ ap (λ (s : S). fold after s (rdata_field e.rdata ∷ LineEnds ∷ fields_by e.kind e.rdata))
     (second ∙ ap (λ (s : S). fold after s (head_fields e.name e.kind e.class e.ttl)) first))
-    ∙ sym (told_both after (fold after old (Part lead ∷ (head_fields e.name e.kind e.class e.ttl ++ rdata_field e.rdata ∷ LineEnds ∷ []))) (view_fields e) (PartEnds ∷ []))
+    ∙ sym (told_both after (fold after old (Part lead ∷ (head_fields e.name e.kind e.class e.ttl ++ rdata_field e.rdata ∷ LineEnds ∷ []))) (fields_by e.kind e.rdata) (PartEnds ∷ []))
 
 pub tell_head-requires : goal.tell_head-requires
 tell_head-requires g c = (c.requires.0.name, c.requires.1.name)

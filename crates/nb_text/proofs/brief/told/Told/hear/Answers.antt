@@ -10,7 +10,7 @@ returns-in-Bytes c entry before sees is =
     let old = c.args.self.now in
     told_bytes c.args.status before entry old _ c.args.seen.now.fields.kind c.in-Bytes.bytes.now is (ap (λ (f : Fields). f.kind) sees.fields)
     (rw c.in-Bytes.is at (c.rdata.ensures entry sees)) (c.or-self.ensures ∙ ap (λ (f : Fields). option_or old.ttl (Some f.ttl)) sees.fields)
-    (c.or-self-in-Bytes.ensures ∙ ap (λ o. option_or old.flags o) c.first_flags.ensures) c.list_all.ensures
+    (c.or-self-in-Bytes.ensures ∙ ap (λ o. option_or old.flags o) c.first_flags.ensures) c.list_view.ensures
     (c.or-self-in-Bytes-2.ensures ∙ ap (λ o. option_or old.unit o) c.first_unit.ensures) refl
 
 pub returns-then-is_none : goal.returns-then-is_none

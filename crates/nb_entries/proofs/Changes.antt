@@ -23,10 +23,10 @@ facts_held a b h =
     λ i. record { kind = a.kind; source = a.source; destination = a.destination; cover = sym cover i }
 
 -- the bytes up to the end are as many as it says
-pub whole_size : (m : CoverFacts) (xs : List ℕ) (most : ℕ) → ((n : ℕ) → m.end ≡ Some n → n ≤ most) → Some xs ≡ bytes_to m.bytes m.end → length xs ≤ most
-whole_size m xs most short h = at m.end refl h
+pub whole_size : (m : CoverFacts) (xs : List ℕ) (most : ℕ) → ((n : ℕ) → m.marks.end ≡ Some n → n ≤ most) → Some xs ≡ bytes_to m.bytes m.marks.end → length xs ≤ most
+whole_size m xs most short h = at m.marks.end refl h
   where
-    at : (o : Option ℕ) → m.end ≡ o → Some xs ≡ bytes_to m.bytes o → length xs ≤ most
+    at : (o : Option ℕ) → m.marks.end ≡ o → Some xs ≡ bytes_to m.bytes o → length xs ≤ most
     at None e h = absurd (cc)
     at (Some n) e h = let size = (below_found m.bytes n xs (sym h)).count in let end = short n e in omega (arith, size, end)
 

@@ -3,20 +3,22 @@ use Rattle.std.proofs.Common.{◌<◌, ◌≤◌, ◌-◌, inl, inr, ℕ, get_or
 use Rattle.std.proofs.lemmas.Bool.{cases_lt, lt-leb, eqb-true, eq-eqb}
 use Rattle.std.proofs.lemmas.Option.{slice_get-get_or}
 use Rattle.nb_datagram.specs.Fragment.{Core, Covers, reach}
-use Rattle.nb_entries.specs.Cover.{GoesOnFrom, Promises, greater, promise_of_one, placed, CoverFacts, CoversFit, AreCoverFacts, IsCover, cover_of, same_where, bytes_agree, bytes_lie_below, covers_together}
-use Rattle.nb_entries.specs.Shared.PlacedLemmas.{covers_below, find-placed, adds_promised}
+use Rattle.nb_entries.specs.Marks.{GoesOnFrom, Promises, marks_of, marks_together, same_where}
+use Rattle.nb_entries.specs.Cover.{placed, CoverFacts, CoversFit, AreCoverFacts, IsCover, cover_of, bytes_agree, bytes_lie_below, covers_together}
+use Rattle.nb_entries.specs.Shared.PlacedLemmas.{covers_below, find-placed}
 use Rattle.std.specs.Ordering.{nat_cmp, eq_by_cmp}
 use Rattle.std.specs.Cmp.{nat_cmp_total, both_ways}
 use Rattle.std.specs.FinMap as maps
 use Rattle.std.specs.FinMap.{nat_cmp-IsAntisymmetric, is_sorted}
+use Rattle.std.specs.Option.{option_or}
 use Rattle.nb_entries.specs.Maps.{first_of, Spoilt, Held}
 use Rattle.nb_entries.specs.Code.CoverFacts.{with_bytes, Holds, is_there}
 use Rattle.nb_entries.specs.Shared.MapsLemmas.{one_key, all_entries_found, all_entries_from, sorted_entries}
 use Rattle.std.proofs.lemmas.Bool.Decides.{nat_tests}
 use Rattle.std.specs.Prelude.{T, nat_le, nat_lt}
 use Rattle.std.specs.List.{list_all}
-use Rattle.std.specs.Option.{option_or}
-use Rattle.nb_entries.specs.Shared.CoverLemmas.{same_at, at_same, in_union, same_cover, agree_of}
+use Rattle.nb_entries.specs.Shared.CoverLemmas.{in_union, same_cover, agree_of}
+use Rattle.nb_entries.specs.Shared.MarksLemmas.{same_at, at_same, either_first, first_alone}
 use Rattle.nb_entries.specs.Shared.RowLemmas.{run_below}
 use Rattle.nb_entries.specs.Shared.RunsLemmas.{sorted_placed}
 use Rattle.nb_entries.specs.Shared.EntryLemmas.{join_cover_formed}
@@ -68,10 +70,6 @@ get-with_bytes m i (x ∷ xs) q =
         let here : q ≡ i = one_key nat_cmp-IsAntisymmetric q i e in
         ap (λ o. first_of o (Some x)) (find_before q (i + 1) xs (omega (arith, here)))
     step false e = refl
-
-pub first_alone : (o : Option ℕ) → first_of o None ≡ o
-first_alone None = refl
-first_alone (Some x) = refl
 
 -- bytes put into the empty map are what the fragment says
 pub put_alone : (i : ℕ) (xs : List ℕ) → with_bytes maps.empty i xs ≡ maps.from_entries (placed i xs)
@@ -146,8 +144,7 @@ fragment_below f n = ap (list_all (λ (e : ℕ × ℕ). nat_lt e.0 n)) (entries_
 pub together_holds : (a b : CoverFacts) → CoversFit a b → covers_together a b ≡ a → Holds a b
 together_holds a b fit same = record {
   bytes = λ i x g. at (maps.get a.bytes i) x refl (fit.bytes i) g (sym (in_union a b i) ∙ ap (λ (c : CoverFacts). maps.get c.bytes i) same);
-  end = λ n g. at a.end n refl fit.ends g (ap (λ (c : CoverFacts). c.end) same);
-  promise = adds_promised a.promise b.promise (ap (λ (c : CoverFacts). c.promise) same);
+  marks = ap (λ (c : CoverFacts). c.marks) same;
 }
   where
     at : (o : Option ℕ) (x : ℕ) {p r : Option ℕ} → o ≡ r → ((u v : ℕ) → r ≡ Some u → p ≡ Some v → u ≡ v) → p ≡ Some x → first_of o p ≡ r → r ≡ Some x
@@ -156,24 +153,17 @@ together_holds a b fit same = record {
 
 -- ---- a fragment put into a cover that it agrees with
 
-either_first : (o p : Option ℕ) → ((m n : ℕ) → o ≡ Some m → p ≡ Some n → m ≡ n) → first_of p o ≡ first_of o p
-either_first None None same = refl
-either_first None (Some y) same = refl
-either_first (Some x) None same = refl
-either_first (Some x) (Some y) same = ap Some (sym (same x y refl refl))
-
 pub or_is : (o p : Option ℕ) → option_or o p ≡ first_of o p
 or_is None p = refl
 or_is (Some x) p = refl
 
 pub with_is : (a : CoverFacts) (f : Core) → CoversFit a (cover_of f) →
-    ◌≡◌ {A = CoverFacts} (record { bytes = with_bytes a.bytes f.offset f.bytes; end = option_or a.end (cover_of f).end; promise = greater a.promise (promise_of_one f) }) (covers_together a (cover_of f))
+    ◌≡◌ {A = CoverFacts} (record { bytes = with_bytes a.bytes f.offset f.bytes; marks = marks_together a.marks (marks_of f) }) (covers_together a (cover_of f))
 with_is a f fit = same_cover _ _
     (λ q. get-with_bytes a.bytes f.offset f.bytes q
     ∙ ap (λ o. first_of o (maps.get a.bytes q)) (sym (maps.get-from_entries nat_cmp_total (placed f.offset f.bytes) q))
-    ∙ either_first (maps.get a.bytes q) (maps.get (cover_of f).bytes q) (fit.bytes q)
+    ∙ sym (either_first (maps.get a.bytes q) (maps.get (cover_of f).bytes q) (fit.bytes q))
     ∙ sym (in_union a (cover_of f) q))
-    (or_is a.end (cover_of f).end)
     refl
 
 -- two that agree are well formed together if each is

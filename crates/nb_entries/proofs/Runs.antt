@@ -7,10 +7,12 @@ use Rattle.nb_entries.specs.declared.ranges.PlaceRange.{PlaceRange}
 use Rattle.nb_entries.specs.Maps.{first_of}
 use Rattle.nb_entries.specs.Runs.{OneHas, StartPast, RangesApart, AreRangesOf, range_of, ranges_of_map, RunValue, run_end, StartsPast, AreApart, runs_of_map, places_of, map_of_runs}
 use Rattle.nb_entries.specs.Code.Rows.{byte_in, look_in, held_in, EndBy}
-use Rattle.nb_entries.specs.Shared.CoverLemmas.{first_either, bytes_below_decides}
+use Rattle.nb_entries.specs.Shared.MarksLemmas.{first_either}
+use Rattle.nb_entries.specs.Shared.CoverLemmas.{bytes_below_decides}
 use Rattle.nb_entries.specs.Shared.RunsLemmas.{given_back, runs_apart, places-runs}
 use Rattle.nb_entries.proofs.KeptRuns.RunRowLemmas.{get-runs, has_below, has_from, byte_within}
 use Rattle.std.specs.Option.{option_and_then}
+use Rattle.nb_entries.specs.Marks.{no_marks}
 use Rattle.nb_entries.specs.Cover.{CoverFacts, bytes_lie_below, placed, BytesBelow}
 use Rattle.nb_entries.specs.Whole.{IsAwaited, awaited_of}
 use Rattle.nb_entries.specs.Shared.PlacedLemmas.{taken}
@@ -106,7 +108,7 @@ found m (Some q) r e =
 
 pub awaited_is : (c : CoverFacts) (r : ℕ) → awaited_of c ≡ Some r → IsAwaited c r
 awaited_is c r e =
-    let is = found c.bytes c.promise r e in
+    let is = found c.bytes c.marks.promise r e in
     record { promised = is.0; past = (bytes_below_decides r c.bytes).0 is.1 }
 
 pub is_awaited : (c : CoverFacts) (r : ℕ) → IsAwaited c r → awaited_of c ≡ Some r
@@ -135,7 +137,7 @@ held-map m = maps.len-entries m ∙ ap length (sym (places-runs (maps.entries m)
 
 -- the runs of bytes that all lie below the limit end there at most
 pub runs_end_of : (m : maps.FinMap nat_cmp ℕ) → BytesBelow MAX_LENGTH m → EndBy MAX_LENGTH (runs_of_map m)
-runs_end_of m below = runs_end MAX_LENGTH (maps.entries m) (places_below (record { bytes = m; end = None; promise = None }) below)
+runs_end_of m below = runs_end MAX_LENGTH (maps.entries m) (places_below (record { bytes = m; marks = no_marks }) below)
 
 -- the runs of a short entry are no more than its places
 pub few_runs_of : (c : CoverFacts) → BytesBelow MAX_LENGTH c.bytes → length (runs_of_map c.bytes) < 2 ^ 32

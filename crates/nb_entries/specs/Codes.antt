@@ -7,6 +7,7 @@ use Rattle.nb_names.specs.Name.{NetbiosName, name_code}
 use Rattle.nb_datagram.specs.declared.kind.Kind.{Kind}
 use Rattle.nb_datagram.specs.Packet.{kind_code}
 use Rattle.nb_entries.specs.Maps.{Slot, Spoilt, Held}
+use Rattle.nb_entries.specs.Marks.{Marks, marks_code}
 use Rattle.nb_entries.specs.Cover.{CoverFacts}
 use Rattle.nb_entries.specs.Entry.{EntryFacts, EntryValue}
 
@@ -29,12 +30,11 @@ slot_back (Held a) = refl
 abbrev pub slot_code : {X : Type 0} → Coded X → Coded (Slot X)
 slot_code {X} x = code_by (Option X) (coded_option x) held slot_of slot_back
 
--- a cover's facts as the tuple of them
+-- a cover's facts as the pair of them
 abbrev pub cover_facts_code : Coded CoverFacts
 cover_facts_code =
-    code_by (maps.FinMap nat_cmp ℕ × (Option ℕ × Option ℕ))
-    (coded× (maps.code coded_ℕ coded_ℕ) (coded× (coded_option coded_ℕ) (coded_option coded_ℕ)))
-    (λ c. (c.bytes, (c.end, c.promise))) (λ p. record { bytes = p.0; end = p.1.0; promise = p.1.1 }) (λ _. refl)
+    code_by (maps.FinMap nat_cmp ℕ × Marks) (coded× (maps.code coded_ℕ coded_ℕ) marks_code)
+    (λ c. (c.bytes, c.marks)) (λ p. record { bytes = p.0; marks = p.1 }) (λ _. refl)
 
 -- an entry's facts as the tuple of them
 abbrev pub entry_facts_code : Coded EntryFacts

@@ -1,11 +1,12 @@
 -- Entries: what is known of one datagram, that is of one key (our choice).
-use Rattle.std.specs.Prelude.{◌≡◌, ◌&&◌, Bool, ◌≤◌, ℕ, nat_le, true, Option, Some, None}
+use Rattle.std.specs.Prelude.{◌≡◌, ◌&&◌, Bool, ℕ, true}
 use Rattle.nb_names.specs.Name.{NetbiosName, name_eq}
 use Rattle.nb_datagram.specs.declared.kind.Kind.{Kind}
 use Rattle.nb_datagram.specs.Packet.{same_kind}
 use Rattle.nb_datagram.specs.Fragment.{Core}
 use Rattle.nb_entries.specs.Maps.{Slot, join_slot, OnHeld, Spoilt, Held}
 use Rattle.nb_entries.specs.Cover.{CoverFacts, CoversFit, covers_agree, covers_together, cover_of, AreCoverFacts, BytesBelow, bytes_lie_below}
+use Rattle.nb_entries.specs.Marks.{MarksUpTo, marks_up_to}
 
 -- the kind, both names, and the cover's facts
 pub record EntryFacts : Type 0 where
@@ -44,7 +45,7 @@ EntryValue = Slot EntryFacts
 abbrev pub join_entry : EntryValue → EntryValue → EntryValue
 join_entry = join_slot facts_agree facts_together
 
--- every place that it has a byte for, and its promise, lie below its end, if it has one
+-- all that it has lies below its end, if it has one
 abbrev pub AreEntryFacts : EntryFacts → Type 0
 AreEntryFacts a = AreCoverFacts a.cover
 
@@ -63,23 +64,17 @@ facts_of f = record {
 
 -- ---- Entries that reach no further than a place (our choice).
 
--- AreShort n e: each place that has a byte in the facts e lies below n, and they end and promise at most there
+-- AreShort n e: each place that has a byte in the facts e lies below n, and their marks are at most there
 pub record AreShort (n : ℕ) (e : EntryFacts) : Type 0 where
   pub below : BytesBelow n e.cover.bytes
-  pub ends : (m : ℕ) → e.cover.end ≡ Some m → m ≤ n
-  pub promises : (r : ℕ) → e.cover.promise ≡ Some r → r ≤ n
+  pub marks : MarksUpTo n e.cover.marks
 
 -- IsShort n e: the entry e is spoilt, or its facts are short
 abbrev pub IsShort : ℕ → EntryValue → Type 0
 IsShort n Spoilt = Unit {0}
 IsShort n (Held e) = AreShort n e
 
--- the end or the promise, if there is one, is at most n, as a test
-abbrev pub ends_by : ℕ → Option ℕ → Bool
-ends_by n None = true
-ends_by n (Some end) = nat_le end n
-
 -- IsShort n e, as a test
 abbrev pub is_short : ℕ → EntryValue → Bool
 is_short n Spoilt = true
-is_short n (Held e) = bytes_lie_below n e.cover.bytes && (ends_by n e.cover.end && ends_by n e.cover.promise)
+is_short n (Held e) = bytes_lie_below n e.cover.bytes && marks_up_to n e.cover.marks

@@ -10,6 +10,7 @@ use Rattle.nb_entries.specs.Maps.{Slot}
 use Rattle.nb_entries.specs.Cover.{CoverFacts, CoverValue}
 use Rattle.nb_entries.specs.Entry.{EntryFacts, EntryValue}
 use Rattle.nb_entries.specs.Codes.{held}
+use Rattle.nb_entries.specs.Marks.{same_marks}
 
 -- same_slot same a b: both are spoilt, or both hold facts that are the same
 abbrev pub same_slot : {X : Type 0} → (X → X → Bool) → Slot X → Slot X → Bool
@@ -19,10 +20,9 @@ same_slot same a b = option_eq same (held a) (held b)
 abbrev pub same_bytes : maps.FinMap nat_cmp ℕ → maps.FinMap nat_cmp ℕ → Bool
 same_bytes m n = pointwise (λ p q. (p.0 == q.0) && (p.1 == q.1)) (maps.entries m) (maps.entries n)
 
--- the two have the same bytes, the same end or none, and the same promise or none
+-- the two have the same bytes and the same marks
 abbrev pub same_cover_facts : CoverFacts → CoverFacts → Bool
-same_cover_facts a b =
-    same_bytes a.bytes b.bytes && (option_eq ◌==◌ a.end b.end && option_eq ◌==◌ a.promise b.promise)
+same_cover_facts a b = same_bytes a.bytes b.bytes && same_marks a.marks b.marks
 
 -- the two covers are equal
 abbrev pub same_cover : CoverValue → CoverValue → Bool

@@ -1,4 +1,5 @@
 pub mod Maps
+pub mod Marks
 pub mod Cover
 pub mod Entry
 pub mod Codes

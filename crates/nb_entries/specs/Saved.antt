@@ -5,17 +5,17 @@
 --     · promise: 00, where there is none, else 01 and the promise 2 · number of runs 2
 --     · for each run, ascending: start 2 · length 2 · its bytes
 -- This is the second form, which is written. The first has no promises; it is read as well.
-use Rattle.std.specs.Prelude.{ℕ, List, [], ◌∷◌, ◌++◌, length, map, Option, None, Some, ◌≡◌, ◌<◌, ◌^◌}
+use Rattle.std.specs.Prelude.{ℕ, List, [], ◌∷◌, ◌++◌, length, map, ◌<◌, ◌^◌}
 use Rattle.std.specs.Int.{w16, to_be_bytes}
 use Rattle.std.specs.List.{concat, AllByRecursion}
 use Rattle.nb_datagram.specs.Packet.{type_of, name_bytes}
 use Rattle.nb_entries.specs.declared.saved.SavedForm.{SavedForm}
-use Rattle.nb_entries.specs.declared.saved.SavedForm.TheVariants.{First, Second}
 use Rattle.nb_entries.specs.Maps.{Spoilt, Held}
 use Rattle.nb_entries.specs.Cover.{CoverFacts}
 use Rattle.nb_entries.specs.Entry.{EntryFacts, EntryValue}
 use Rattle.nb_entries.specs.Runs.{RunValue, runs_of_map}
 use Rattle.nb_names.specs.Name.{IsName}
+use Rattle.nb_entries.specs.Marks.{marks_bytes, FitMarks}
 
 -- a run: its start, how many bytes it has, and these
 abbrev pub run_bytes : RunValue → List ℕ
@@ -25,19 +25,9 @@ run_bytes r = to_be_bytes w16 r.start ++ (to_be_bytes w16 (length r.bytes) ++ r.
 abbrev pub runs_bytes : List RunValue → List ℕ
 runs_bytes rs = to_be_bytes w16 (length rs) ++ concat (map run_bytes rs)
 
--- an end or a promise, or that there is none
-abbrev pub end_bytes : Option ℕ → List ℕ
-end_bytes None = 0 ∷ []
-end_bytes (Some n) = 1 ∷ to_be_bytes w16 n
-
--- the promise, in the form that has it
-abbrev pub promise_bytes : SavedForm → Option ℕ → List ℕ
-promise_bytes First p = []
-promise_bytes Second p = end_bytes p
-
--- the end, the promise, and the maximal runs
+-- the marks, and the maximal runs
 abbrev pub cover_bytes : SavedForm → CoverFacts → List ℕ
-cover_bytes form c = end_bytes c.end ++ (promise_bytes form c.promise ++ runs_bytes (runs_of_map c.bytes))
+cover_bytes form c = marks_bytes form c.marks ++ runs_bytes (runs_of_map c.bytes)
 
 -- the kind, both names, and the cover
 abbrev pub facts_bytes : SavedForm → EntryFacts → List ℕ
@@ -55,10 +45,9 @@ pub record FitsRun (r : RunValue) : Type 0 where
   pub start : r.start < 2 ^ 16
   pub size : length r.bytes < 2 ^ 16
 
--- so have a cover's end, its promise and the number of its maximal runs
+-- so have a cover's marks and the number of its maximal runs
 pub record FitsCover (c : CoverFacts) : Type 0 where
-  pub end : (n : ℕ) → c.end ≡ Some n → n < 2 ^ 16
-  pub promise : (r : ℕ) → c.promise ≡ Some r → r < 2 ^ 16
+  pub marks : FitMarks c.marks
   pub count : length (runs_of_map c.bytes) < 2 ^ 16
   pub runs : AllByRecursion FitsRun (runs_of_map c.bytes)
 

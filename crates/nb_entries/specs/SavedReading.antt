@@ -16,6 +16,7 @@ use Rattle.nb_entries.specs.declared.load_fault.LoadFault.TheVariants.{Truncated
 use Rattle.nb_entries.specs.declared.saved.SavedForm.{SavedForm}
 use Rattle.nb_entries.specs.declared.saved.SavedForm.TheVariants.{First, Second}
 use Rattle.nb_entries.specs.Maps.{Spoilt, Held}
+use Rattle.nb_entries.specs.Marks.{Marks}
 use Rattle.nb_entries.specs.Entry.{EntryFacts, EntryValue}
 use Rattle.nb_entries.specs.Runs.{RunValue, run_end, map_of_runs}
 
@@ -108,6 +109,13 @@ promise_at Second input end at =
     Then (byte_at input at) (λ mark next.
     Marked at mark (Gives None next) (Then (Then (number_at input next) (Judged at (PromisesBelow end))) (λ promise. Gives (Some promise))))
 
+-- the end and the promise
+abbrev pub marks_at : SavedForm → List ℕ → ℕ → Outcome Marks → Type 0
+marks_at form input at =
+    Then (end_at input at) (λ end next.
+    Then (promise_at form input end next) (λ promise.
+    Gives (record { end = end; promise = promise })))
+
 -- ---- runs
 
 -- a run's start: at least `least`, which is past the end of the run before, if there is one
@@ -151,15 +159,14 @@ facts_at form input at =
     Then (kind_at input at) (λ kind after_kind.
     Then (name_at input after_kind) (λ source after_source.
     Then (name_at input after_source) (λ destination after_names.
-    Then (end_at input after_names) (λ end after_end.
-    Then (promise_at form input end after_end) (λ promise after_promise.
-    Then (runs_at input (most_of end) after_promise) (λ runs.
+    Then (marks_at form input after_names) (λ marks after_marks.
+    Then (runs_at input (most_of marks.end) after_marks) (λ runs.
     Gives (record {
       kind = kind;
       source = source;
       destination = destination;
-      cover = record { bytes = map_of_runs runs; end = end; promise = promise };
-    })))))))
+      cover = record { bytes = map_of_runs runs; marks = marks };
+    }))))))
 
 -- an entry
 abbrev pub entry_at : SavedForm → List ℕ → ℕ → Outcome EntryValue → Type 0

@@ -6,6 +6,7 @@ pub mod CoverLemmas
 pub mod EntryLemmas
 pub mod EqualLemmas
 pub mod PlacedLemmas
+pub mod MarksLemmas
 pub mod WholeLemmas
 pub mod RunsLemmas
 pub mod RowLemmas

@@ -14,7 +14,7 @@ use Rattle.nb_entries.specs.Runs.{runs_of_map}
 -- a cover is whole: its end is known, and no place before it lacks a byte
 pub record IsWholeCover (c : CoverFacts) : Type 0 where
   pub length : ℕ
-  pub ends : c.end ≡ Some length
+  pub ends : c.marks.end ≡ Some length
   pub covered : (i : ℕ) → i < length → (x : ℕ) × (maps.get c.bytes i ≡ Some x)
 
 -- an entry is whole: it isn't spoilt, and its cover is whole
@@ -47,7 +47,7 @@ datagram_with k e (Some bytes) =
 -- datagram_of k e: the datagram of the entry e of key k, if it is whole
 abbrev pub datagram_of : Key → EntryValue → Option DatagramParts
 datagram_of k Spoilt = None
-datagram_of k (Held e) = datagram_with k e (bytes_to e.cover.bytes e.cover.end)
+datagram_of k (Held e) = datagram_with k e (bytes_to e.cover.bytes e.cover.marks.end)
 
 -- IsDatagram k e d: d is the datagram of key k with the kind and names of e, and with the byte of e at each
 -- place up to the end
@@ -56,7 +56,7 @@ pub record IsDatagram (k : Key) (e : EntryFacts) (d : DatagramParts) : Type 0 wh
   pub kind : d.kind ≡ e.kind
   pub source : d.source ≡ e.source
   pub destination : d.destination ≡ e.destination
-  pub ends : e.cover.end ≡ Some (length d.bytes)
+  pub ends : e.cover.marks.end ≡ Some (length d.bytes)
   pub bytes : (i : ℕ) → i < length d.bytes → maps.get e.cover.bytes i ≡ slice_get d.bytes i
 
 -- newly o p: what there is after, if there was nothing before
@@ -69,12 +69,12 @@ newly (Some before) after = None
 -- IsAwaited c r: r is promised, and reaches past all that is known: each place that has a byte lies below r. So data is
 -- promised at the place r or after it, and none of it is known
 pub record IsAwaited (c : CoverFacts) (r : ℕ) : Type 0 where
-  pub promised : c.promise ≡ Some r
+  pub promised : c.marks.promise ≡ Some r
   pub past : BytesBelow r c.bytes
 
 -- the promise, where it reaches past all that is known: the one that `IsAwaited`
 abbrev pub awaited_of : CoverFacts → Option ℕ
-awaited_of c = option_and_then (λ r. cond (bytes_lie_below r c.bytes) (Some r) None) c.promise
+awaited_of c = option_and_then (λ r. cond (bytes_lie_below r c.bytes) (Some r) None) c.marks.promise
 
 -- the kind, both names, how many places have a byte and how many runs they make up, the end, if it is known, the
 -- promise, if there is one, and whether it reaches past all that is known
@@ -85,8 +85,8 @@ outline_of e = record {
   destination = e.destination;
   held = maps.len e.cover.bytes;
   runs = length (runs_of_map e.cover.bytes);
-  end = e.cover.end;
-  promise = e.cover.promise;
+  end = e.cover.marks.end;
+  promise = e.cover.marks.promise;
   awaited = awaited_of e.cover;
 }
 

@@ -14,31 +14,30 @@ ghost use Rattle.nb_entries.specs.Sinks.{Puts};
 ghost use Rattle.nb_entries.specs.Saved.{cover_bytes};
 ghost use Rattle.nb_entries.specs.declared.saved.SavedForm.TheVariants.{Second};
 
-pub(crate) mod end;
+pub(crate) mod marks;
 pub(crate) mod runs;
 mod uniting;
 
 use crate::ranges::Ranges;
 use crate::saved::ByteSink;
-use crate::saved::fields::put_end;
+use crate::saved::fields::put_marks;
 use crate::saved::runs::SavedRuns;
 use crate::slot::Slot;
-use end::{end_of, ends_agree, greater, has_end, is_before, is_below, is_promised, promise_of};
+use marks::{Marks, is_below};
 use nb_datagram::{Fragment, LentFragment};
 use nb_names::{Bytes, NoMemory};
 use runs::Runs;
 use std::alloc::Global;
 use std::marker::Model;
 
-/// The bytes by place, the end, if it is known, and the greatest promise, if there is one. No byte
-/// lies at or past the end, and no promise.
+/// The bytes by place, and the marks: the end, if it is known, and the greatest promise, if there
+/// is one. No byte lies at or past the end, and no promise.
 ///
 /// Places count from the first byte of the datagram's data.
 #[derive(Drop)]
 pub struct CoverFacts {
     bytes: Runs,
-    end: Option<u32>,
-    promise: Option<u32>,
+    marks: Marks,
 }
 
 impl Model for CoverFacts {
@@ -49,10 +48,9 @@ impl Model for CoverFacts {
 
     ghost coded = { cover_facts_code };
 
-    ghost view = { λ p. record { bytes = p.bytes; end = p.end; promise = p.promise } };
+    ghost view = { λ p. record { bytes = p.bytes; marks = p.marks } };
 
-    ghost invariant = { λ p.
-        AreCoverFacts (record { bytes = p.bytes; end = p.end; promise = p.promise }) };
+    ghost invariant = { λ p. AreCoverFacts (record { bytes = p.bytes; marks = p.marks }) };
 }
 
 /// The bytes that are known of a datagram's data, by place, its end, if that is known, and the
@@ -81,14 +79,9 @@ impl CoverFacts {
         ensures { IfOk result (λ cover. cover ≡ cover_of (core_of fragment.now)) }
     {
         let mut bytes = Runs::new(alloc);
-        let end = end_of(fragment);
-        let promise = promise_of(fragment);
         bytes.insert(alloc, u32::from(fragment.offset()), fragment.bytes())?;
-        Ok(CoverFacts {
-            bytes,
-            end,
-            promise,
-        })
+        let marks = Marks::of(fragment);
+        Ok(CoverFacts { bytes, marks })
     }
 
     /// Whether each byte lies below this place.
@@ -98,12 +91,12 @@ impl CoverFacts {
         self.bytes.lie_below(place)
     }
 
-    /// Whether each byte and the promise lie below the end, if there is one.
+    /// Whether each byte and what is marked lie below the end, if there is one.
     fn is_below(&self, end: Option<u32>) -> bool
         ensures { result ≡ is_below_end end self.now }
     {
         match end {
-            Some(end) => self.bytes_are_below(end) && is_before(self.promise, end),
+            Some(end) => self.bytes_are_below(end) && self.marks.lie_below(end),
             None => true,
         }
     }
@@ -113,9 +106,10 @@ impl CoverFacts {
         ensures { result ≡ covers_agree self.now (cover_of (core_of fragment.now)) }
     {
         let start = u32::from(fragment.offset());
-        ends_agree(self.end, end_of(fragment))
-            && self.is_below(end_of(fragment))
-            && is_below(fragment, self.end)
+        let said = Marks::of(fragment);
+        self.marks.agree(said)
+            && self.is_below(said.end)
+            && is_below(fragment, self.marks.end)
             && self.bytes.agree(start, fragment.bytes())
     }
 
@@ -123,10 +117,8 @@ impl CoverFacts {
     pub(crate) fn holds(&self, fragment: &LentFragment<'_>) -> bool
         ensures { IsTrue result ↔ Holds self.now (cover_of (core_of fragment.now)) }
     {
-        if !has_end(self.end, end_of(fragment)) {
-            return false;
-        }
-        if !is_promised(self.promise, promise_of(fragment)) {
+        let known = self.marks.together(Marks::of(fragment));
+        if !known.are(self.marks) {
             return false;
         }
         let start = u32::from(fragment.offset());
@@ -147,8 +139,7 @@ impl CoverFacts {
     {
         let start = u32::from(fragment.offset());
         self.bytes.insert(alloc, start, fragment.bytes())?;
-        self.end = self.end.or(end_of(fragment));
-        self.promise = greater(self.promise, promise_of(fragment));
+        self.marks = self.marks.together(Marks::of(fragment));
         Ok(())
     }
 
@@ -162,10 +153,10 @@ impl CoverFacts {
         requires { CoversFit self.now (cover_of (core_of fragment.now)) }
         ensures { IfOk result (λ bytes. bytes
             ≡ bytes_to (covers_together self.now (cover_of (core_of fragment.now))).bytes
-            (covers_together self.now (cover_of (core_of fragment.now))).end) }
+            (covers_together self.now (cover_of (core_of fragment.now))).marks.end) }
     {
         let start = u32::from(fragment.offset());
-        match self.end.or(end_of(fragment)) {
+        match self.marks.together(Marks::of(fragment)).end {
             Some(end) => self.bytes.bytes_with(alloc, end, start, fragment.bytes()),
             None => Ok(None),
         }
@@ -173,11 +164,11 @@ impl CoverFacts {
 
     /// The bytes up to the end, in order, if all are known. No memory is taken where one isn't.
     pub(crate) fn whole(&self, alloc: Global) -> Result<Option<Bytes>, NoMemory>
-        ensures value { IfOk result (λ bytes. bytes ≡ bytes_to self.now.bytes self.now.end) }
-        ensures no_memory_needed { bytes_to self.now.bytes self.now.end ≡ None
+        ensures value { IfOk result (λ bytes. bytes ≡ bytes_to self.now.bytes self.now.marks.end) }
+        ensures no_memory_needed { bytes_to self.now.bytes self.now.marks.end ≡ None
             → result ≡ Ok None }
     {
-        match self.end {
+        match self.marks.end {
             Some(end) => self.bytes.bytes_below(alloc, end),
             None => Ok(None),
         }
@@ -195,7 +186,7 @@ impl CoverFacts {
     pub(crate) fn is_whole(&self) -> bool
         ensures { IsTrue result ↔ IsWholeCover self.now }
     {
-        match self.end {
+        match self.marks.end {
             Some(end) => self.bytes.cover_below(end),
             None => false,
         }
@@ -213,7 +204,7 @@ impl CoverFacts {
     pub(crate) fn awaited(&self) -> Option<u32>
         ensures { result ≡ awaited_of self.now }
     {
-        match self.promise {
+        match self.marks.promise {
             Some(place) if self.bytes_are_below(place) => Some(place),
             _ => None,
         }
@@ -227,33 +218,25 @@ impl CoverFacts {
         self.bytes.ranges()
     }
 
-    /// The bytes of saved runs, with an end and a promise. No byte and no promise lies at or past
-    /// the end.
+    /// The bytes of saved runs, with marks. All of it lies below the end.
     pub(crate) fn load(
         alloc: Global,
         runs: &SavedRuns<'_>,
-        end: Option<u32>,
-        promise: Option<u32>,
+        marks: Marks,
     ) -> Result<CoverFacts, NoMemory>
-        requires { AreCoverFacts
-            (record { bytes = map_of_runs runs.now; end = end; promise = promise }) }
+        requires { AreCoverFacts (record { bytes = map_of_runs runs.now; marks = marks }) }
         ensures { IfOk result (λ cover.
-            cover ≡ record { bytes = map_of_runs runs.now; end = end; promise = promise }) }
+            cover ≡ record { bytes = map_of_runs runs.now; marks = marks }) }
     {
         let bytes = runs.to_runs(alloc)?;
-        Ok(CoverFacts {
-            bytes,
-            end,
-            promise,
-        })
+        Ok(CoverFacts { bytes, marks })
     }
 
-    /// Puts the end, the promise and the maximal runs.
+    /// Puts the marks and the maximal runs.
     pub(crate) fn put_to<S: ByteSink>(&self, sink: &mut S) -> Result<(), S::Fault>
         ensures { Puts S.takes S.breaks sink.old sink.new (cover_bytes Second self.now) result }
     {
-        put_end(sink, self.end)?;
-        put_end(sink, self.promise)?;
+        put_marks(sink, self.marks)?;
         self.bytes.put_to(sink)
     }
 }
@@ -267,7 +250,7 @@ impl PartialEq for CoverFacts {
     ghost laws = { cover_facts_per };
 
     fn eq(&self, other: &Self) -> bool {
-        self.end == other.end && self.promise == other.promise && self.bytes.are(&other.bytes)
+        self.marks == other.marks && self.bytes.are(&other.bytes)
     }
 }
 

@@ -136,10 +136,10 @@ impl EntryFacts {
 
     /// The datagram's data, if the facts are whole. No memory is taken where they aren't.
     fn user_data(&self, alloc: Global) -> Result<Option<UserData>, NoMemory>
-        requires { (n : ℕ) → self.now.cover.end ≡ Some n → n ≤ MAX_LENGTH }
+        requires { (n : ℕ) → self.now.cover.marks.end ≡ Some n → n ≤ MAX_LENGTH }
         ensures value { IfOk result (λ bytes.
-            bytes ≡ bytes_to self.now.cover.bytes self.now.cover.end) }
-        ensures no_memory_needed { bytes_to self.now.cover.bytes self.now.cover.end ≡ None
+            bytes ≡ bytes_to self.now.cover.bytes self.now.cover.marks.end) }
+        ensures no_memory_needed { bytes_to self.now.cover.bytes self.now.cover.marks.end ≡ None
             → result ≡ Ok None }
     {
         match self.known.cover.whole(alloc)? {

@@ -5,7 +5,8 @@
 
 ghost use Rattle.std.specs.Prelude.{◌≡◌, ℕ, ◌↔◌, IsTrue, Some, List};
 ghost use Rattle.std.specs.FinMap as maps;
-ghost use Rattle.nb_entries.specs.Cover.{CoverFacts, CoverValue, join_cover, IsCover, GoesOnFrom, Promises};
+ghost use Rattle.nb_entries.specs.Marks.{GoesOnFrom, Promises};
+ghost use Rattle.nb_entries.specs.Cover.{CoverFacts, CoverValue, join_cover, IsCover};
 ghost use Rattle.nb_entries.specs.Entry.{EntryValue, join_entry, IsEntry, EntryFacts};
 ghost use Rattle.nb_entries.specs.Equal.{same_cover, same_entry};
 ghost use Rattle.nb_datagram.specs.Fragment.{Core, Covers, DatagramParts};

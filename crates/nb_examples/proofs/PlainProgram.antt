@@ -8,7 +8,7 @@ use Rattle.nb_datagram.specs.declared.limits.TheConstants.{MAX_LENGTH}
 use Rattle.nb_entries.specs.declared.slot.Slot.TheVariants.{Spoilt, Held}
 use Rattle.nb_entries.specs.Entry.{EntryValue, facts_agree, facts_of}
 use Rattle.nb_table.specs.Conflict.{IsSpoilt, Overlap, PastEnd, BreaksPromise, Conflict, kinds, sources, destinations, overlap, ends, past_end, past_other_end, breaks, breaks_other, some_conflict, with_key, is_spoilt, conflicts}
-use Rattle.nb_table.specs.Contents.{first_end, byte_at, end_of, cover_in, facts_in, entry_in, table_of, datagram_at, IsWholeAt}
+use Rattle.nb_table.specs.Contents.{marks_in, byte_at, end_of, cover_in, facts_in, entry_in, table_of, datagram_at, IsWholeAt}
 use Rattle.nb_entries.specs.Whole.{IsWhole, bytes_below, bytes_to, datagram_with, datagram_of}
 use Rattle.nb_examples.specs.Plain.{IsLong, CoversBelow, datagram_to, differ, SameHeader}
 use Rattle.nb_examples.specs.declared.plain.whole.PlainFault.{PlainFault}
@@ -16,7 +16,7 @@ use Rattle.nb_examples.specs.declared.plain.whole.PlainFault.TheVariants.{TooLon
 use Rattle.nb_table.specs.Shared.ConflictLemmas.{is_spoilt_decides, conflicts_decides, past_from, covers}
 use Rattle.nb_table.specs.Shared.ContentsLemmas.{get-cover_in}
 use Rattle.nb_table.specs.Shared.TableLemmas.{get-table_of}
-use Rattle.nb_table.specs.Shared.SayingLemmas.{spoilt_exactly, held_says}
+use Rattle.nb_table.specs.Shared.SayingLemmas.{spoilt_exactly, held_says, says_end}
 use Rattle.nb_entries.specs.Shared.WholeLemmas.{whole_exactly, with_found, below_found}
 use Rattle.std.proofs.lemmas.List.{take_all}
 use Rattle.std.specs.List.{list_any}
@@ -55,7 +55,7 @@ held_from L k f free first = get-table_of L k ∙ chosen (with_key k L) first (u
     chosen (g ∷ gs) e h = let one : g ≡ f = cc in ap (λ b. Some (cond b Spoilt (Held (facts_in g (g ∷ gs))))) h ∙ ap (λ x. Some (Held (facts_in x (g ∷ gs)))) one
 
 -- a key that ends has a first fragment
-pub first_of_ending : (fs : List Core) (n : ℕ) → first_end fs ≡ Some n → (f : Core) × (slice_get fs 0 ≡ Some f)
+pub first_of_ending : (fs : List Core) (n : ℕ) → (marks_in fs).end ≡ Some n → (f : Core) × (slice_get fs 0 ≡ Some f)
 first_of_ending [] n h = absurd (cc)
 first_of_ending (f ∷ fs) n h = (f, refl)
 
@@ -80,7 +80,7 @@ whole_in : (L : List Core) (k : Key) (e : EntryValue) → maps.get (table_of L) 
 whole_in L k Spoilt h w = absurd w
 whole_in L k (Held e) h w =
     let s = held_says L k e h in
-    (w.length, sym s.end ∙ w.ends, λ i f. (let c = w.covered i f in (c.0, sym (s.bytes i) ∙ c.1)))
+    (w.length, sym (says_end L k e s) ∙ w.ends, λ i f. (let c = w.covered i f in (c.0, sym (s.bytes i) ∙ c.1)))
 
 pub whole_ends : (L : List Core) (k : Key) → IsWholeAt (table_of L) k → (n : ℕ) × (end_of L k ≡ Some n) × CoversBelow L k n
 whole_ends L k w = whole_in L k w.0 w.1 w.2

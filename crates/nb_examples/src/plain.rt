@@ -6,7 +6,7 @@
 ghost use Rattle.std.specs.Prelude.{◌≡◌, cond, None};
 ghost use Rattle.nb_datagram.specs.Key.{same_key};
 ghost use Rattle.nb_datagram.specs.Fragment.{core_of, cores_of, byte_of as core_byte, end_of_one as core_end};
-ghost use Rattle.nb_entries.specs.Cover.{promise_of_one as core_promise, greater};
+ghost use Rattle.nb_entries.specs.Marks.{promise_of_one as core_promise, greater};
 ghost use Rattle.nb_table.specs.Contents.{byte_at as list_byte, end_of as list_end, promise_of as list_promise};
 
 mod conflicting;

@@ -26,8 +26,9 @@ use Rattle.nb_table.specs.Join.{IsTable}
 use Rattle.nb_table.specs.Limits.{TableValue, IsFull, IsFullSource, KeepsLimits, held_keys, of_source}
 use Rattle.nb_table.proofs.Limits.GroupLemmas.{few_insert}
 use Rattle.nb_table.specs.Insert.{NeedsNoMemory, spoilt, contradicts, held, Passes, Refuses}
-use Rattle.nb_entries.specs.Shared.CoverLemmas.{bytes_below_both, first_either}
-use Rattle.nb_entries.specs.Shared.PlacedLemmas.{greater_either, promise_of_decides, end_of_decides, below_by_reach}
+use Rattle.nb_entries.specs.Shared.MarksLemmas.{up_to_reach, up_to_both, up_to_more}
+use Rattle.nb_entries.specs.Shared.CoverLemmas.{bytes_below_both}
+use Rattle.nb_entries.specs.Shared.PlacedLemmas.{below_by_reach}
 use Rattle.nb_entries.specs.Shared.EntryLemmas.{facts_fit_of}
 use Rattle.nb_table.specs.Shared.TableLemmas.{join_formed, join_one, insert_at, needs_new}
 use Rattle.nb_table.specs.Shared.ContentsLemmas.{table_of_formed}
@@ -153,8 +154,7 @@ change_at t k e c p = change_from t (maps.insert t k e) k c
 pub short_of : (n : ℕ) (f : Core) → reach f ≤ n → AreShort n (facts_of f)
 short_of n f h = record {
   below = below_by_reach f n h;
-  ends = λ m e. (let ends = ((end_of_decides f m).0 e).1 in omega (arith, h, ends));
-  promises = λ r e. (let promises = ((promise_of_decides f r).0 e).1 in omega (arith, h, promises));
+  marks = up_to_reach f n h;
 }
 
 pub short_join : (n : ℕ) (a b : EntryValue) → IsShort n a → IsShort n b → IsShort n (join_entry a b)
@@ -165,8 +165,7 @@ short_join n (Held a) (Held b) p q = at (facts_agree a b)
     at : (t : Bool) → IsShort n (cond t (Held (facts_together a b)) Spoilt)
     at true = record {
       below = bytes_below_both n a.cover b.cover p.below q.below;
-      ends = λ m e. elim (first_either a.cover.end b.cover.end m e) [ inl h ↦ p.ends m h | inr h ↦ q.ends m h ];
-      promises = λ r e. elim (greater_either a.cover.promise b.cover.promise r e) [ inl h ↦ p.promises r h | inr h ↦ q.promises r h ];
+      marks = up_to_both n a.cover.marks b.cover.marks p.marks q.marks;
     }
     at false = tt
 
@@ -224,8 +223,7 @@ pub short_more : (m n : ℕ) (e : EntryValue) → m ≤ n → IsShort m e → Is
 short_more m n Spoilt h s = tt
 short_more m n (Held e) h s = record {
   below = λ i x g. (let below = s.below i x g in omega (arith, h, below));
-  ends = λ k g. (let end = s.ends k g in omega (arith, h, end));
-  promises = λ r g. (let most = s.promises r g in omega (arith, h, most));
+  marks = up_to_more m n e.cover.marks h s.marks;
 }
 
 -- ---- results

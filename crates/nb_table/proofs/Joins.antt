@@ -8,6 +8,7 @@ use Rattle.std.specs.FinMap.{is_sorted}
 use Rattle.std.specs.FinMap.Entries.{below_all, same_entries}
 use Rattle.nb_entries.specs.Maps.{joined_at, joined_onto, joined, first_of}
 use Rattle.nb_table.specs.Code.Each.{joined_each, with_each, put_back, taken_back}
+use Rattle.nb_entries.specs.Shared.MarksLemmas.{first_alone}
 use Rattle.nb_entries.specs.Shared.MapsLemmas.{one_key, get-joined, below_none, lt_not_eq, T_left, T_right, tied_self, T_both, at-none, at-some}
 use Rattle.std.specs.FinMap as maps
 use Rattle.std.specs.List.{filter_map, cons_option}
@@ -101,10 +102,6 @@ get-each {R = R} o exact m (e ∷ es) s q =
     step : (b : Bool) → eq_by_cmp R q e.0 ≡ b → first_of (maps.find R q es) (cond b (Some e.1) (maps.get m q)) ≡ first_of (cond b (Some e.1) (maps.find R q es)) (maps.get m q)
     step true h = ap (λ a. first_of a (Some e.1)) (ap (λ k. maps.find R k es) (one_key exact q e.0 h) ∙ below_none R e.0 es (T_left _ _ s))
     step false h = refl
-
-first_alone : {X : Type 0} (o : Option X) → first_of o None ≡ o
-first_alone None = refl
-first_alone (Some x) = refl
 
 pub each_is : {K X : Type 0} {R : K → K → Ordering} (o : IsTotalOrder R) → maps.IsAntisymmetric R → (es : List (K × X)) → T (is_sorted R es) → with_each maps.empty es ≡ maps.from_entries {R = R} es
 each_is {R = R} o exact es s = maps.same_map o exact _ _ (λ q.

@@ -12,7 +12,8 @@ use Rattle.nb_table.specs.Join.{IsTable}
 use Rattle.nb_table.specs.Limits.{TableValue, KeepsLimits}
 use Rattle.nb_table.specs.Saved.{IsReadAs, IsSaved, saved, saved_first, entries_bytes, key_bytes, magic, saved_as, keyed_bytes, IsRead, FitsSaved, FitsKeyed}
 use Rattle.nb_table.specs.Merging.{AllShort}
-use Rattle.nb_entries.specs.Saved.{IsNamed, end_bytes, promise_bytes, runs_bytes, entry_bytes}
+use Rattle.nb_entries.specs.Marks.{marks_bytes}
+use Rattle.nb_entries.specs.Saved.{IsNamed, runs_bytes, entry_bytes}
 use Rattle.nb_table.specs.Code.SavedTables.{HasNames}
 use Rattle.nb_datagram.specs.Key.{key_cmp_total, key_cmp_exact, key_cmp}
 use Rattle.nb_table.proofs.Changes.{short_more}
@@ -103,7 +104,7 @@ fields : SavedForm → Option ℕ → List RunValue → List ℕ
 fields form p rs =
     key_bytes example_key
     ++ (1 ∷ type_of Group ∷ (name_bytes (example_facts p).source ++ (name_bytes (example_facts p).destination
-    ++ (end_bytes (Some 3598) ++ (promise_bytes form p ++ runs_bytes rs)))))
+    ++ (marks_bytes form (record { end = Some 3598; promise = p }) ++ runs_bytes rs))))
 
 saved_is : (form : SavedForm) (p : Option ℕ) → saved_as form (example_table p) ≡ magic form ++ (to_be_bytes w32 1 ++ (fields form p example_runs ++ []))
 unfolding fields

@@ -3,7 +3,7 @@ use Rattle.std.proofs.Common.{◌≡◌, ◌↔◌, option_and_then, Option, Som
 use Rattle.std.specs.FinMap as maps
 use Rattle.nb_datagram.specs.declared.key.Key.{Key}
 use Rattle.nb_datagram.specs.Fragment.{DatagramParts, Core, Covers, EndsAt, reach}
-use Rattle.nb_table.specs.Contents.{Contents, first_byte, first_end, table_of, Says, IsWholeAt, datagram_at}
+use Rattle.nb_table.specs.Contents.{Contents, first_byte, marks_in, table_of, Says, IsWholeAt, datagram_at}
 use Rattle.nb_entries.specs.Whole.{datagram_of, IsWholeCover, IsWhole}
 use Rattle.nb_entries.specs.Shared.WholeLemmas.{at_found, whole_found, whole_from, datagram_from}
 use Rattle.std.proofs.lemmas.Bool.{ltb-true, ltb-false}
@@ -12,7 +12,7 @@ use Rattle.nb_datagram.specs.Pieces.{IsPart}
 use Rattle.nb_entries.specs.Cover.{BytesBelow, cover_of}
 use Rattle.nb_table.specs.Conflict.{BreaksPromise, Conflict, kinds, sources, destinations, overlap, ends, past_end, past_other_end, breaks, breaks_other, IsSpoilt, with_key}
 use Rattle.nb_table.specs.Sender.{HasPartsAlone, IsOf, HasAll, Gives}
-use Rattle.nb_table.specs.Shared.SayingLemmas.{first_byte_from, first_end_from, absent_exactly, spoilt_exactly, held_says, first_byte_there, first_end_there}
+use Rattle.nb_table.specs.Shared.SayingLemmas.{first_byte_from, first_end_from, absent_exactly, spoilt_exactly, held_says, says_end, first_byte_there, first_end_there}
 use Rattle.nb_table.specs.Shared.ConflictLemmas.{covers, in_with_key, with_key_in}
 use Rattle.nb_entries.specs.declared.slot.Slot.TheVariants.{Spoilt, Held}
 use Rattle.nb_entries.specs.Entry.{EntryFacts, EntryValue}
@@ -83,7 +83,7 @@ byte_of_parts fs d h i x e =
     part.bytes i x w.covers
 
 -- the first end is the datagram's
-pub end_of_parts : (fs : List Core) (d : DatagramParts) → ((f : Core) → Contains fs f → IsPart f d) → (n : ℕ) → first_end fs ≡ Some n → n ≡ length d.bytes
+pub end_of_parts : (fs : List Core) (d : DatagramParts) → ((f : Core) → Contains fs f → IsPart f d) → (n : ℕ) → (marks_in fs).end ≡ Some n → n ≡ length d.bytes
 end_of_parts fs d h n e =
     let w = first_end_from fs n e in
     part_ends w.fragment d n (h w.fragment w.has) w.ends
@@ -127,7 +127,7 @@ facts_are_whole L d h all e says =
     let end_is = end_of_parts (with_key d.key L) d (of_key L d h) ends.0 ends.1 in
     record {
       length = ends.0;
-      ends = says.end ∙ ends.1;
+      ends = says_end L d.key e says ∙ ends.1;
       covered = λ i below. (
           let c = all.places i (subst (λ n. i < n) end_is below) in
           let there = first_byte_there (with_key d.key L) c.0 i c.2.0 (with_key_in d.key L c.0 c.1.0 c.1.1) c.2.1 in
@@ -142,7 +142,7 @@ whole_where_all L d h all =
 -- where the facts are whole, the list has all of d
 all_of_whole : (L : List Core) (d : DatagramParts) → HasPartsAlone L d → (e : EntryFacts) → Says L d.key e → IsWholeCover e.cover → HasAll L d
 all_of_whole L d h e says w =
-    let end = sym says.end ∙ w.ends in
+    let end = sym (says_end L d.key e says) ∙ w.ends in
     let end_is = end_of_parts (with_key d.key L) d (of_key L d h) w.length end in
     let last = first_end_from (with_key d.key L) w.length end in
     record {
@@ -168,14 +168,14 @@ gives_where_all L d h all =
     let says = held.says in
     let first : IsPart says.first d = first_is_part L d h says.first says.is_first in
     let whole = facts_are_whole L d h all held.facts says in
-    let end_is = end_of_parts (with_key d.key L) d (of_key L d h) whole.length (sym says.end ∙ whole.ends) in
+    let end_is = end_of_parts (with_key d.key L) d (of_key L d h) whole.length (sym (says_end L d.key held.facts says) ∙ whole.ends) in
     ap (option_and_then (datagram_of d.key)) held.is
     ∙ datagram_from d.key held.facts d (record {
       key = refl;
       kind = sym (says.kind ∙ first.kind);
       source = sym (says.source ∙ first.source);
       destination = sym (says.destination ∙ first.destination);
-      ends = subst (λ n. held.facts.cover.end ≡ Some n) end_is whole.ends;
+      ends = subst (λ n. held.facts.cover.marks.end ≡ Some n) end_is whole.ends;
       bytes = λ i below. (
           let x = whole.covered i (subst (λ n. i < n) (sym end_is) below) in
           x.1 ∙ sym (byte_of_parts (with_key d.key L) d (of_key L d h) i x.0 (sym (says.bytes i) ∙ x.1)));

@@ -3,7 +3,8 @@
 use Rattle.std.specs.Prelude.{◌≡◌, ◌≢◌, ◌≤◌, ℕ, List, Contains, Bool, false, not, [], ◌∷◌, ◌||◌, filter}
 use Rattle.nb_datagram.specs.declared.key.Key.{Key}
 use Rattle.nb_datagram.specs.Fragment.{Core, Covers, EndsAt}
-use Rattle.nb_entries.specs.Cover.{Promises, BytesBelow, cover_of}
+use Rattle.nb_entries.specs.Marks.{Promises}
+use Rattle.nb_entries.specs.Cover.{BytesBelow, cover_of}
 use Rattle.std.specs.List.{list_any}
 use Rattle.nb_datagram.specs.Key.{same_key}
 use Rattle.nb_entries.specs.Entry.{facts_agree, facts_of}

@@ -4,9 +4,11 @@ use Rattle.std.specs.Prelude.{◌≡◌, ◌≢◌, ◌++◌, ℕ, Contains, con
 use Rattle.std.specs.FinMap as maps
 use Rattle.nb_datagram.specs.declared.key.Key.{Key}
 use Rattle.nb_datagram.specs.Key.{key_cmp}
-use Rattle.nb_datagram.specs.Fragment.{Core, Covers, EndsAt, byte_of, end_of_one, DatagramParts}
+use Rattle.nb_datagram.specs.Fragment.{Core, Covers, EndsAt, byte_of, DatagramParts}
 use Rattle.nb_entries.specs.Maps.{first_of, at_keys}
-use Rattle.nb_entries.specs.Cover.{Promises, greater, promise_of_one, CoverFacts, placed}
+use Rattle.nb_entries.specs.declared.cover.marks.Marks.{Marks}
+use Rattle.nb_entries.specs.Marks.{Promises, no_marks, marks_of, marks_together}
+use Rattle.nb_entries.specs.Cover.{CoverFacts, placed}
 use Rattle.nb_entries.specs.declared.slot.Slot.TheVariants.{Spoilt, Held}
 use Rattle.nb_entries.specs.Entry.{EntryFacts, EntryValue}
 use Rattle.nb_table.specs.Conflict.{IsSpoilt, with_key, some_conflict}
@@ -20,15 +22,10 @@ abbrev pub first_byte : List Core → ℕ → Option ℕ
 first_byte [] i = None
 first_byte (f ∷ fs) i = first_of (byte_of f i) (first_byte fs i)
 
--- the end of the first of these fragments that ends
-abbrev pub first_end : List Core → Option ℕ
-first_end [] = None
-first_end (f ∷ fs) = first_of (end_of_one f) (first_end fs)
-
--- the greatest promise of these fragments, if there is one
-abbrev pub greatest_promise : List Core → Option ℕ
-greatest_promise [] = None
-greatest_promise (f ∷ fs) = greater (promise_of_one f) (greatest_promise fs)
+-- what these fragments mark together: the end of the first that ends, and the greatest promise
+abbrev pub marks_in : List Core → Marks
+marks_in [] = no_marks
+marks_in (f ∷ fs) = marks_together (marks_of f) (marks_in fs)
 
 -- byte_at L k i: what the earliest fragment of the key k in L that covers place i has there
 abbrev pub byte_at : List Core → Key → ℕ → Option ℕ
@@ -36,14 +33,14 @@ byte_at L k i = first_byte (with_key k L) i
 
 -- end_of L k: where the earliest fragment of the key k in L that ends does so
 abbrev pub end_of : List Core → Key → Option ℕ
-end_of L k = first_end (with_key k L)
+end_of L k = (marks_in (with_key k L)).end
 
 -- promise_of L k: the greatest of all places that the fragments of the key k in L promise
 abbrev pub promise_of : List Core → Key → Option ℕ
-promise_of L k = greatest_promise (with_key k L)
+promise_of L k = (marks_in (with_key k L)).promise
 
 -- Says L k e: these facts are what L says of key k: the kind and names of its first fragment with that
--- key, the byte at each place, the end, and the promise
+-- key, the byte at each place, and its marks: the end and the promise
 pub record Says (L : List Core) (k : Key) (e : EntryFacts) : Type 0 where
   pub first : Core
   pub is_first : slice_get (with_key k L) 0 ≡ Some first
@@ -51,8 +48,7 @@ pub record Says (L : List Core) (k : Key) (e : EntryFacts) : Type 0 where
   pub source : e.source ≡ first.source
   pub destination : e.destination ≡ first.destination
   pub bytes : (i : ℕ) → maps.get e.cover.bytes i ≡ byte_at L k i
-  pub end : e.cover.end ≡ end_of L k
-  pub promise : e.cover.promise ≡ promise_of L k
+  pub marks : e.cover.marks ≡ marks_in (with_key k L)
 
 -- a table: an entry for each key that it has
 abbrev pub Contents : Type 0
@@ -97,9 +93,9 @@ abbrev pub all_placed : List Core → List (ℕ × ℕ)
 all_placed [] = []
 all_placed (f ∷ fs) = placed f.offset f.bytes ++ all_placed fs
 
--- the finite map of the first byte at each place, the first end, and the greatest promise
+-- the finite map of the first byte at each place, and the marks
 abbrev pub cover_in : List Core → CoverFacts
-cover_in fs = record { bytes = maps.from_entries (all_placed fs); end = first_end fs; promise = greatest_promise fs }
+cover_in fs = record { bytes = maps.from_entries (all_placed fs); marks = marks_in fs }
 
 -- facts_in f fs: the kind and names of f, and the cover of fs
 abbrev pub facts_in : Core → List Core → EntryFacts

@@ -54,7 +54,7 @@ saved_first = saved_as First
 
 -- no entry of the table has a promise
 abbrev pub HasNoPromise : Contents → Type 0
-HasNoPromise t = (k : Key) (e : EntryFacts) → maps.get t k ≡ Some (Held e) → e.cover.promise ≡ None
+HasNoPromise t = (k : Key) (e : EntryFacts) → maps.get t k ≡ Some (Held e) → e.cover.marks.promise ≡ None
 
 -- the input is the bytes of the table t, saved; in the first form only where it has no promise
 abbrev pub IsSaved : List ℕ → Contents → Type 0

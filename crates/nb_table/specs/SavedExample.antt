@@ -24,7 +24,7 @@ example_facts promise = record {
   kind = Group;
   source = record { bytes = codes "ABCDEFGHIJKLMNO "; scope = [] };
   destination = record { bytes = codes "PQRSTUVWXYZ0123" ++ 28 ∷ []; scope = codes "NET" ∷ [] };
-  cover = record { bytes = map_of_runs example_runs; end = Some 3598; promise = promise };
+  cover = record { bytes = map_of_runs example_runs; marks = record { end = Some 3598; promise = promise } };
 }
 
 -- the table that has these alone

@@ -21,7 +21,7 @@ ghost use Rattle.nb_entries.specs.declared.state.State.{State};
 ghost use Rattle.nb_entries.specs.Change.{Change};
 ghost use Rattle.nb_table.specs.Change.{IsChange};
 ghost use Rattle.nb_table.specs.State.{IsState};
-ghost use Rattle.nb_entries.specs.Cover.{Promises};
+ghost use Rattle.nb_entries.specs.Marks.{Promises};
 ghost use Rattle.nb_datagram.specs.Pieces.{pieces};
 ghost use Rattle.nb_table.specs.Sender.{HasPartsAlone, HasAll, Gives};
 ghost use Rattle.nb_table.specs.Limits.{FewOfEach, every_key, held_keys, of_source, Limits, TableValue};
@@ -91,14 +91,14 @@ pub fn table_has_the_bytes_of_its_fragments()
 /// some fragment of its key ends there.
 pub fn table_has_the_ends_of_its_fragments()
     ensures { (L : List Core) (k : Key) (e : EntryFacts) → maps.get (table_of L) k ≡ Some (Held e) →
-        (n : ℕ) → (e.cover.end ≡ Some n) ↔ HasEnd L k n }
+        (n : ℕ) → (e.cover.marks.end ≡ Some n) ↔ HasEnd L k n }
 {}
 
 /// Whatever the order of its fragments, an entry that isn't spoilt has as its promise the greatest
 /// place that some fragment of its key promises.
 pub fn table_has_the_greatest_promise_of_its_fragments()
     ensures { (L : List Core) (k : Key) (e : EntryFacts) → maps.get (table_of L) k ≡ Some (Held e) →
-        (r : ℕ) → (e.cover.promise ≡ Some r) ↔
+        (r : ℕ) → (e.cover.marks.promise ≡ Some r) ↔
         (HasPromise L k r × ((s : ℕ) → HasPromise L k s → s ≤ r)) }
 {}
 

@@ -10,17 +10,17 @@ use Rattle.std.specs.Cmp.{both_ways, nat_cmp_total}
 use Rattle.std.specs.Cmp.Lexicographic.{pointwise}
 use Rattle.std.specs.FinMap as maps
 use Rattle.std.specs.FinMap.{nat_cmp-IsAntisymmetric}
-use Rattle.nb_entries.specs.Cover.{placed, same_where, bytes_agree}
+use Rattle.nb_entries.specs.Marks.{same_where}
+use Rattle.nb_entries.specs.Cover.{placed, bytes_agree}
 use Rattle.nb_entries.specs.Maps.{first_of, union}
 use Rattle.nb_entries.specs.Code.CoverFacts.{is_there, with_bytes}
 use Rattle.nb_entries.specs.Runs.{RunValue, AreApart, places_of, map_of_runs, run_end}
 use Rattle.nb_entries.specs.Whole.{bytes_below}
 use Rattle.nb_entries.specs.Code.Rows.{run_at, byte_in, look_in, Agree, IsPut, AreBetween, Lacks, value_of, values_of, grown, Meet, EndBefore, EndFrom, StartTo, StartAfter}
-use Rattle.nb_entries.specs.Shared.CoverLemmas.{same_at, at_same, first_either, first_of_three, one_value}
+use Rattle.nb_entries.specs.Shared.MarksLemmas.{same_at, at_same, first_alone, first_either, first_of_three, one_value}
 use Rattle.nb_entries.specs.Shared.MapsLemmas.{get-union, all_entries_found, all_entries_from}
 use Rattle.nb_entries.specs.Shared.RowLemmas.{places_in_map}
 use Rattle.nb_entries.specs.Shared.WholeLemmas.{below_from, below_none}
-use Rattle.nb_entries.proofs.Covers.{first_alone}
 use Rattle.nb_entries.proofs.KeptRuns.RunRowLemmas.{has_of, byte_on, get-runs, split_at, all_at, all_from_at, apart_front, apart_back}
 use Rattle.nb_entries.proofs.KeptRuns.RunPutLemmas.{swap, put_alone, put_one, put_more, put_part, part_agrees}
 use Rattle.nb_entries.proofs.KeptRuns.RunReadLemmas.{look_put, other_look}

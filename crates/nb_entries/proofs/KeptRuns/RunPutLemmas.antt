@@ -7,7 +7,7 @@ use Rattle.nb_entries.specs.Code.Rows.{byte_in, grown, Meet, look_in, EndBefore,
 use Rattle.nb_entries.specs.Shared.WholeLemmas.{slice_get-front}
 use Rattle.nb_entries.proofs.KeptRuns.RunRowLemmas.{byte_on, byte_off, byte_past, byte_within, has_below, has_from, look-append, look_before, look_past, apart_front, apart_back, apart_seam, apart_both}
 use Rattle.std.proofs.lemmas.List.{append-nil}
-use Rattle.nb_entries.specs.Shared.CoverLemmas.{first_either, first_of_three}
+use Rattle.nb_entries.specs.Shared.MarksLemmas.{first_either, first_of_three}
 use Rattle.nb_entries.specs.Shared.MapsLemmas.{none_from}
 
 -- ---- A run that has grown by another that overlaps or touches it.

@@ -8,19 +8,20 @@ use Rattle.std.specs.Cmp.Lexicographic.{pointwise, pointwise_decides}
 use Rattle.std.specs.List.{AllByRecursion, list_all}
 use Rattle.std.specs.Ordering.{nat_cmp}
 use Rattle.std.specs.FinMap as maps
-use Rattle.nb_entries.specs.Maps.{first_of, union}
+use Rattle.nb_entries.specs.Maps.{first_of}
 use Rattle.nb_entries.specs.Runs.{RunValue, run_end, StartsPast, AreApart, map_of_runs}
 use Rattle.nb_entries.specs.Code.CoverFacts.{with_bytes}
 use Rattle.nb_entries.specs.Code.Rows.{run_at, byte_in, look_in, Agree, AgreeOne, EndBefore, EndFrom, AreBetween, Lacks, IsFrom, run_of, after_run, row_of}
-use Rattle.nb_entries.specs.Shared.CoverLemmas.{first_either, agree_of}
+use Rattle.nb_entries.specs.Shared.MarksLemmas.{first_either}
+use Rattle.nb_entries.specs.Shared.CoverLemmas.{agree_of}
 use Rattle.nb_entries.specs.Shared.PlacedLemmas.{find-placed}
 use Rattle.nb_entries.specs.Shared.WholeLemmas.{slice_get-front}
-use Rattle.nb_entries.proofs.Covers.{get-with_bytes, bytes_agree_is, or_is, with_is}
+use Rattle.nb_entries.proofs.Covers.{get-with_bytes, bytes_agree_is, with_is}
 use Rattle.nb_entries.proofs.KeptRuns.RunRowLemmas.{byte_on, byte_off, byte_past, has_below, has_from, byte_within, get-runs, look-append, look_before, look_past, apart_front, apart_back, apart_seam, ends_min}
 use Rattle.nb_entries.proofs.KeptRuns.RunPutLemmas.{slice_get-take, slice_get-drop, slice_get-back, in_row}
-use Rattle.std.specs.Option.{option_or}
 use Rattle.nb_datagram.specs.Fragment.{Core}
-use Rattle.nb_entries.specs.Cover.{CoverFacts, CoversFit, placed, same_where, cover_of, covers_together, greater, promise_of_one}
+use Rattle.nb_entries.specs.Marks.{Marks, same_where, marks_of, marks_together}
+use Rattle.nb_entries.specs.Cover.{CoverFacts, CoversFit, placed, cover_of, covers_together}
 use Rattle.nb_entries.specs.Whole.{bytes_below, bytes_to}
 use Rattle.nb_entries.specs.Shared.MapsLemmas.{none_from, all_append}
 
@@ -201,18 +202,15 @@ fit_agrees a f s xs fit start bytes =
     ∙ bytes_agree_is a.bytes (maps.get a.bytes) f (λ q. refl)
     ∙ (and_parts _ _ (agree_of a (cover_of f) fit)).0
 
-pub put_is : (a : CoverFacts) (f : Core) (s : ℕ) (xs : List ℕ) (m : maps.FinMap nat_cmp ℕ) (o p : Option ℕ) → CoversFit a (cover_of f) → s ≡ f.offset → xs ≡ f.bytes → m ≡ with_bytes a.bytes s xs → o ≡ option_or a.end (cover_of f).end → p ≡ greater a.promise (promise_of_one f) → ◌≡◌ {A = CoverFacts} (record { bytes = m; end = o; promise = p }) (covers_together a (cover_of f))
-put_is a f s xs m o p fit start bytes put end promise =
+pub put_is : (a : CoverFacts) (f : Core) (s : ℕ) (xs : List ℕ) (m : maps.FinMap nat_cmp ℕ) (k : Marks) → CoversFit a (cover_of f) → s ≡ f.offset → xs ≡ f.bytes → m ≡ with_bytes a.bytes s xs → k ≡ marks_together a.marks (marks_of f) → ◌≡◌ {A = CoverFacts} (record { bytes = m; marks = k }) (covers_together a (cover_of f))
+put_is a f s xs m k fit start bytes put marks =
     let made = put ∙ ap₂ (with_bytes a.bytes) start bytes in
-    (λ i. record { bytes = made i; end = end i; promise = promise i }) ∙ with_is a f fit
+    (λ i. record { bytes = made i; marks = marks i }) ∙ with_is a f fit
 
-pub whole_put : (a : CoverFacts) (f : Core) (s : ℕ) (xs : List ℕ) (n : ℕ) (o : Option ℕ) → CoversFit a (cover_of f) → s ≡ f.offset → xs ≡ f.bytes → o ≡ Some n → o ≡ option_or a.end (cover_of f).end → bytes_below (with_bytes a.bytes s xs) n ≡ bytes_to (covers_together a (cover_of f)).bytes (covers_together a (cover_of f)).end
-whole_put a f s xs n o fit start bytes is or =
+pub whole_put : (a : CoverFacts) (f : Core) (s : ℕ) (xs : List ℕ) (n : ℕ) (k : Marks) → CoversFit a (cover_of f) → s ≡ f.offset → xs ≡ f.bytes → k.end ≡ Some n → k ≡ marks_together a.marks (marks_of f) → bytes_below (with_bytes a.bytes s xs) n ≡ bytes_to (covers_together a (cover_of f)).bytes (covers_together a (cover_of f)).marks.end
+whole_put a f s xs n k fit start bytes is marks =
     ap (bytes_to (with_bytes a.bytes s xs)) (sym is)
-    ∙ ap (λ (c : CoverFacts). bytes_to c.bytes c.end) (put_is a f s xs (with_bytes a.bytes s xs) o (greater a.promise (promise_of_one f)) fit start bytes refl or refl)
-
-pub union_is : (a b : CoverFacts) (m : maps.FinMap nat_cmp ℕ) (o p : Option ℕ) → m ≡ union a.bytes b.bytes → o ≡ option_or a.end b.end → p ≡ greater a.promise b.promise → ◌≡◌ {A = CoverFacts} (record { bytes = m; end = o; promise = p }) (covers_together a b)
-union_is a b m o p made or promise = let end = or ∙ or_is a.end b.end in λ i. record { bytes = made i; end = end i; promise = promise i }
+    ∙ ap (λ (c : CoverFacts). bytes_to c.bytes c.marks.end) (put_is a f s xs (with_bytes a.bytes s xs) k fit start bytes refl marks)
 
 -- a run is kept
 pub row_kept : (done new all : List RunValue) (n k : ℕ) (bs behind : List ℕ) (r : RunValue) (s : ℕ) (xs : List ℕ) → n ≡ suc k → r ≡ run_of bs → behind ≡ after_run bs → s ≡ r.start → xs ≡ r.bytes → new ≡ done ++ run_at s xs ∷ [] → done ++ row_of n bs ≡ all → new ++ row_of k behind ≡ all

@@ -12,7 +12,7 @@ use Rattle.nb_entries.specs.Cover.{placed}
 use Rattle.nb_entries.specs.Maps.{first_of}
 use Rattle.nb_entries.specs.Runs.{RunValue, run_end, StartsPast, AreApart, places_of, map_of_runs}
 use Rattle.nb_entries.specs.Code.Rows.{byte_in, look_in, EndBefore, value_of, values_of, StartTo, StartAfter}
-use Rattle.nb_entries.specs.Shared.CoverLemmas.{first_either, first_of_three}
+use Rattle.nb_entries.specs.Shared.MarksLemmas.{first_either, first_of_three}
 use Rattle.nb_entries.specs.Shared.PlacedLemmas.{find-placed, find-append}
 use Rattle.std.proofs.lemmas.Grind.{common_steps}
 use Rattle.std.specs.List.Sorted.{IsNonDecreasingBy}

@@ -1,5 +1,5 @@
 -- Maps of bytes by place, and the bytes of one fragment.
-use Rattle.std.specs.Prelude.{◌≡◌, ◌==◌, ℕ, ◌+◌, ◌<◌, ◌≤◌, nat_le, Bool, true, false, List, [], ◌∷◌, Option, Some, None}
+use Rattle.std.specs.Prelude.{◌≡◌, ◌==◌, ℕ, ◌+◌, ◌<◌, ◌≤◌, Bool, false, List, [], ◌∷◌, Option, Some, None}
 use Rattle.std.specs.Ordering.{nat_cmp}
 use Rattle.std.specs.FinMap as maps
 use Rattle.nb_entries.specs.Cover.{CoverFacts}
@@ -8,6 +8,7 @@ use Rattle.nb_datagram.specs.Fragment.{FragmentParts, core_of, reach}
 use Rattle.nb_datagram.specs.declared.limits.TheConstants.{MAX_LENGTH}
 use Rattle.nb_entries.specs.Maps.{Held}
 use Rattle.nb_entries.specs.Entry.{EntryValue, facts_of}
+use Rattle.nb_entries.specs.Marks.{marks_together}
 
 -- with_bytes m i xs: the map m, and from place i on these bytes
 abbrev pub with_bytes : maps.FinMap nat_cmp ℕ → ℕ → List ℕ → maps.FinMap nat_cmp ℕ
@@ -19,21 +20,10 @@ abbrev pub is_there : Option ℕ → ℕ → Bool
 is_there None y = false
 is_there (Some x) y = x == y
 
--- IsPromised own other: the other promise, if there is one, isn't greater than the own one
-abbrev pub IsPromised : Option ℕ → Option ℕ → Type 0
-IsPromised own other = (r : ℕ) → other ≡ Some r → (s : ℕ) × (own ≡ Some s) × (r ≤ s)
-
--- the same, as a test
-abbrev pub is_promised : Option ℕ → Option ℕ → Bool
-is_promised own None = true
-is_promised None (Some r) = false
-is_promised (Some s) (Some r) = nat_le r s
-
--- Holds a b: all that b says is known in a
+-- Holds a b: all that b says is known in a, to which its marks add nothing
 pub record Holds (a b : CoverFacts) : Type 0 where
   pub bytes : (i x : ℕ) → maps.get b.bytes i ≡ Some x → maps.get a.bytes i ≡ Some x
-  pub end : (n : ℕ) → b.end ≡ Some n → a.end ≡ Some n
-  pub promise : IsPromised a.promise b.promise
+  pub marks : marks_together a.marks b.marks ≡ a.marks
 
 -- AreCovered look n: there is a byte at each place below n
 abbrev pub AreCovered : (ℕ → Option ℕ) → ℕ → Type 0

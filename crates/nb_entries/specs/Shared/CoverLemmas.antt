@@ -1,33 +1,18 @@
 -- Covers agree by what look-ups find, and their union is one in the sense of SlotLemmas.
-use Rattle.std.proofs.Common.{◌≡◌, ◌⊎◌, inl, inr, ℕ, arith, true, Option, Some, None, refl, sym, ◌∙◌, ap, subst, nat_lt, Decides}
-use Rattle.std.proofs.lemmas.Bool.{eqb-true, eq-eqb, ltb-true, lt-ltb, and_from, and_parts}
+use Rattle.std.proofs.Common.{◌≡◌, inl, inr, ℕ, true, Option, Some, None, refl, sym, ◌∙◌, ap, subst, nat_lt, Decides}
+use Rattle.std.proofs.lemmas.Bool.{ltb-true, lt-ltb, and_from, and_parts}
 use Rattle.std.specs.Cmp.{nat_cmp_total}
 use Rattle.std.specs.Ordering.{nat_cmp}
 use Rattle.std.proofs.lemmas.Option.{none-some, same_Some}
 use Rattle.std.specs.FinMap as map
 use Rattle.std.specs.FinMap.{nat_cmp-IsAntisymmetric}
 use Rattle.nb_entries.specs.Maps.{first_of}
-use Rattle.nb_entries.specs.Cover.{CoverFacts, CoversFit, BytesBelow, LiesBelow, bytes_lie_below, lies_below, is_below_end, same_where, ends_agree, covers_agree, covers_together, AreCoverFacts}
+use Rattle.nb_entries.specs.Marks.{same_where}
+use Rattle.nb_entries.specs.Cover.{CoverFacts, CoversFit, BytesBelow, LiesBelow, bytes_lie_below, lies_below, is_below_end, covers_agree, covers_together, AreCoverFacts}
 use Rattle.nb_entries.specs.Shared.MapsLemmas.{get-union, all_entries_found, all_entries_from}
 use Rattle.nb_entries.specs.Code.CoverFacts.{Holds}
-use Rattle.nb_entries.specs.Shared.PlacedLemmas.{greater-comm, greater-assoc, greater-itself, greater_either, greater_left, greater_right, promised_adds, before_is, before_from}
+use Rattle.nb_entries.specs.Shared.MarksLemmas.{same_at, at_same, first_left, first_right, first_either, either_first, first_of_three, first_itself, first_held, one_value, end_right, marks_fit_decides, marks_below_decides, marks_left, marks_right, marks_both, marks_turned, marks_below_left, marks_below_right, marks_below_both, marks_comm, marks_assoc, marks_idem}
 use Rattle.nb_entries.specs.Shared.SlotLemmas.{Unites}
-
-pub same_at : (o : Option ℕ) (x y : ℕ) → same_where o x ≡ true → o ≡ Some y → x ≡ y
-same_at None x y h e = absurd (none-some y e)
-same_at (Some z) x y h e = sym (eqb-true z x h) ∙ same_Some z y e
-
-pub at_same : (o : Option ℕ) (x : ℕ) → ((y : ℕ) → o ≡ Some y → x ≡ y) → same_where o x ≡ true
-at_same None x h = refl
-at_same (Some z) x h = eq-eqb z x (sym (h z refl))
-
-ends_are : (o p : Option ℕ) → ends_agree o p ≡ true → (m n : ℕ) → o ≡ Some m → p ≡ Some n → m ≡ n
-ends_are None p h m n e f = absurd (none-some m e)
-ends_are (Some k) p h m n e f = sym (same_Some k m e) ∙ same_at p k n h f
-
-are_ends : (o p : Option ℕ) → ((m n : ℕ) → o ≡ Some m → p ≡ Some n → m ≡ n) → ends_agree o p ≡ true
-are_ends None p h = refl
-are_ends (Some k) p h = at_same p k (λ y e. h k y refl e)
 
 pub bytes_below_decides : (n : ℕ) (m : map.FinMap nat_cmp ℕ) → Decides (bytes_lie_below n m) (BytesBelow n m)
 bytes_below_decides n m = (
@@ -36,10 +21,10 @@ bytes_below_decides n m = (
 )
 
 below_is : (n : ℕ) (c : CoverFacts) → lies_below n c ≡ true → LiesBelow n c
-below_is n c h = record { bytes = (bytes_below_decides n c.bytes).0 (and_parts _ _ h).0; promise = before_is c.promise n (and_parts _ _ h).1 }
+below_is n c h = record { bytes = (bytes_below_decides n c.bytes).0 (and_parts _ _ h).0; marks = (marks_below_decides n c.marks).0 (and_parts _ _ h).1 }
 
 is_below : (n : ℕ) (c : CoverFacts) → LiesBelow n c → lies_below n c ≡ true
-is_below n c h = and_from _ _ ((bytes_below_decides n c.bytes).1 h.bytes) (before_from c.promise n h.promise)
+is_below n c h = and_from _ _ ((bytes_below_decides n c.bytes).1 h.bytes) ((marks_below_decides n c.marks).1 h.marks)
 
 pub below_end_is : (o : Option ℕ) (c : CoverFacts) → is_below_end o c ≡ true → (n : ℕ) → o ≡ Some n → LiesBelow n c
 below_end_is None c h n e = absurd (none-some n e)
@@ -54,30 +39,18 @@ fit_of a b h =
     let t1 = (and_parts _ _ h).1 in let t2 = (and_parts _ _ t1).1 in
     record {
       bytes = λ q x y e f. same_at (map.get b.bytes q) x y (all_entries_found nat_cmp-IsAntisymmetric (λ i v. same_where (map.get b.bytes i) v) a.bytes (and_parts _ _ h).0 q x e) f;
-      ends = ends_are a.end b.end (and_parts _ _ t1).0;
-      own_below = below_end_is b.end a (and_parts _ _ t2).0;
-      other_below = below_end_is a.end b (and_parts _ _ t2).1;
+      marks = (marks_fit_decides a.marks b.marks).0 (and_parts _ _ t1).0;
+      own_below = below_end_is b.marks.end a (and_parts _ _ t2).0;
+      other_below = below_end_is a.marks.end b (and_parts _ _ t2).1;
     }
 
 pub agree_of : (a b : CoverFacts) → CoversFit a b → covers_agree a b ≡ true
 agree_of a b f =
     and_from _ _
     (all_entries_from nat_cmp_total nat_cmp-IsAntisymmetric (λ i v. same_where (map.get b.bytes i) v) a.bytes (λ q x e. at_same (map.get b.bytes q) x (λ y g. f.bytes q x y e g)))
-    (and_from _ _ (are_ends a.end b.end f.ends) (and_from _ _ (below_end_from b.end a f.own_below) (below_end_from a.end b f.other_below)))
+    (and_from _ _ ((marks_fit_decides a.marks b.marks).1 f.marks) (and_from _ _ (below_end_from b.marks.end a f.own_below) (below_end_from a.marks.end b f.other_below)))
 
 -- ---- what fits with the union of two
-
-pub first_left : (o p : Option ℕ) (n : ℕ) → o ≡ Some n → first_of o p ≡ Some n
-first_left None p n e = absurd (none-some n e)
-first_left (Some k) p n e = e
-
-first_right : (o p : Option ℕ) → ((m n : ℕ) → o ≡ Some m → p ≡ Some n → m ≡ n) → (n : ℕ) → p ≡ Some n → first_of o p ≡ Some n
-first_right None p same n e = e
-first_right (Some k) p same n e = ap Some (same k n refl e)
-
-pub first_either : (o p : Option ℕ) (n : ℕ) → first_of o p ≡ Some n → (o ≡ Some n) ⊎ (p ≡ Some n)
-first_either None p n e = inr e
-first_either (Some k) p n e = inl e
 
 pub in_union : (a b : CoverFacts) (q : ℕ) → map.get (covers_together a b).bytes q ≡ first_of (map.get a.bytes q) (map.get b.bytes q)
 in_union a b q = get-union nat_cmp_total nat_cmp-IsAntisymmetric a.bytes b.bytes q
@@ -86,13 +59,13 @@ in_union a b q = get-union nat_cmp_total nat_cmp-IsAntisymmetric a.bytes b.bytes
 below_left : (n : ℕ) (a b : CoverFacts) → LiesBelow n (covers_together a b) → LiesBelow n a
 below_left n a b h = record {
   bytes = λ q x g. h.bytes q x (in_union a b q ∙ first_left _ _ x g);
-  promise = λ r e. (let w = greater_left a.promise b.promise r e in let below = h.promise w.0 w.1 in let less = w.2 in omega (arith, below, less));
+  marks = marks_below_left n a.marks b.marks h.marks;
 }
 
 below_right : (n : ℕ) (a b : CoverFacts) → CoversFit a b → LiesBelow n (covers_together a b) → LiesBelow n b
 below_right n a b ab h = record {
   bytes = λ q x g. h.bytes q x (in_union a b q ∙ first_right _ _ (ab.bytes q) x g);
-  promise = λ r e. (let w = greater_right a.promise b.promise r e in let below = h.promise w.0 w.1 in let less = w.2 in omega (arith, below, less));
+  marks = marks_below_right n a.marks b.marks h.marks;
 }
 
 pub bytes_below_both : (n : ℕ) (a b : CoverFacts) → BytesBelow n a.bytes → BytesBelow n b.bytes → BytesBelow n (covers_together a b).bytes
@@ -101,13 +74,13 @@ bytes_below_both n a b h k q x g = elim (first_either _ _ x (sym (in_union a b q
 below_both : (n : ℕ) (a b : CoverFacts) → LiesBelow n a → LiesBelow n b → LiesBelow n (covers_together a b)
 below_both n a b h k = record {
   bytes = bytes_below_both n a b h.bytes k.bytes;
-  promise = λ r e. elim (greater_either a.promise b.promise r e) [ inl f ↦ h.promise r f | inr f ↦ k.promise r f ];
+  marks = marks_below_both n a.marks b.marks h.marks k.marks;
 }
 
 pub fit_left : (a b c : CoverFacts) → CoversFit (covers_together a b) c → CoversFit a c
 fit_left a b c f = record {
   bytes = λ q x y e g. f.bytes q x y (in_union a b q ∙ first_left _ _ x e) g;
-  ends = λ m n e g. f.ends m n (first_left _ _ m e) g;
+  marks = marks_left a.marks b.marks c.marks f.marks;
   own_below = λ n e. below_left n a b (f.own_below n e);
   other_below = λ n e. f.other_below n (first_left _ _ n e);
 }
@@ -115,15 +88,15 @@ fit_left a b c f = record {
 pub fit_right : (a b c : CoverFacts) → CoversFit a b → CoversFit (covers_together a b) c → CoversFit b c
 fit_right a b c ab f = record {
   bytes = λ q x y e g. f.bytes q x y (in_union a b q ∙ first_right _ _ (ab.bytes q) x e) g;
-  ends = λ m n e g. f.ends m n (first_right _ _ ab.ends m e) g;
+  marks = marks_right a.marks b.marks c.marks ab.marks f.marks;
   own_below = λ n e. below_right n a b ab (f.own_below n e);
-  other_below = λ n e. f.other_below n (first_right _ _ ab.ends n e);
+  other_below = λ n e. f.other_below n (end_right a.marks b.marks ab.marks n e);
 }
 
 pub fit_both : (a b c : CoverFacts) → CoversFit a c → CoversFit b c → CoversFit (covers_together a b) c
 fit_both a b c ac bc = record {
   bytes = λ q x y e g. elim (first_either _ _ x (sym (in_union a b q) ∙ e)) [ inl h ↦ ac.bytes q x y h g | inr h ↦ bc.bytes q x y h g ];
-  ends = λ m n e g. elim (first_either _ _ m e) [ inl h ↦ ac.ends m n h g | inr h ↦ bc.ends m n h g ];
+  marks = marks_both a.marks b.marks c.marks ac.marks bc.marks;
   own_below = λ n e. below_both n a b (ac.own_below n e) (bc.own_below n e);
   other_below = λ n e. elim (first_either _ _ n e) [ inl h ↦ ac.other_below n h | inr h ↦ bc.other_below n h ];
 }
@@ -131,7 +104,7 @@ fit_both a b c ac bc = record {
 pub fit_turned : (a b : CoverFacts) → CoversFit a b → CoversFit b a
 fit_turned a b f = record {
   bytes = λ q x y e g. sym (f.bytes q y x g e);
-  ends = λ m n e g. sym (f.ends n m g e);
+  marks = marks_turned a.marks b.marks f.marks;
   own_below = f.other_below;
   other_below = f.own_below;
 }
@@ -139,37 +112,21 @@ fit_turned a b f = record {
 -- ---- the laws of the union
 
 -- covers with the same look-ups are one
-pub same_cover : (a b : CoverFacts) → ((q : ℕ) → map.get a.bytes q ≡ map.get b.bytes q) → a.end ≡ b.end → a.promise ≡ b.promise → a ≡ b
-same_cover a b m e p = let bytes = map.same_map nat_cmp_total nat_cmp-IsAntisymmetric a.bytes b.bytes m in λ i. record { bytes = bytes i; end = e i; promise = p i }
-
--- two that agree, either first
-either_first : (o p : Option ℕ) → ((m n : ℕ) → o ≡ Some m → p ≡ Some n → m ≡ n) → first_of o p ≡ first_of p o
-either_first None None same = refl
-either_first None (Some y) same = refl
-either_first (Some x) None same = refl
-either_first (Some x) (Some y) same = ap Some (same x y refl refl)
-
-pub first_of_three : (o p r : Option ℕ) → first_of (first_of o p) r ≡ first_of o (first_of p r)
-first_of_three None p r = refl
-first_of_three (Some x) p r = refl
-
-first_itself : (o : Option ℕ) → first_of o o ≡ o
-first_itself None = refl
-first_itself (Some x) = refl
+pub same_cover : (a b : CoverFacts) → ((q : ℕ) → map.get a.bytes q ≡ map.get b.bytes q) → a.marks ≡ b.marks → a ≡ b
+same_cover a b m e = let bytes = map.same_map nat_cmp_total nat_cmp-IsAntisymmetric a.bytes b.bytes m in λ i. record { bytes = bytes i; marks = e i }
 
 pub together-comm : (a b : CoverFacts) → CoversFit a b → covers_together a b ≡ covers_together b a
-together-comm a b f = same_cover _ _ (λ q. in_union a b q ∙ either_first _ _ (f.bytes q) ∙ sym (in_union b a q)) (either_first _ _ f.ends) (greater-comm a.promise b.promise)
+together-comm a b f = same_cover _ _ (λ q. in_union a b q ∙ either_first _ _ (f.bytes q) ∙ sym (in_union b a q)) (marks_comm a.marks b.marks f.marks)
 
 together-assoc : (a b c : CoverFacts) → covers_together (covers_together a b) c ≡ covers_together a (covers_together b c)
 together-assoc a b c = same_cover _ _
     (λ q. in_union (covers_together a b) c q ∙ ap (λ o. first_of o (map.get c.bytes q)) (in_union a b q)
     ∙ first_of_three (map.get a.bytes q) (map.get b.bytes q) (map.get c.bytes q)
     ∙ sym (in_union a (covers_together b c) q ∙ ap (first_of (map.get a.bytes q)) (in_union b c q)))
-    (first_of_three a.end b.end c.end)
-    (greater-assoc a.promise b.promise c.promise)
+    (marks_assoc a.marks b.marks c.marks)
 
 together-idem : (a : CoverFacts) → covers_together a a ≡ a
-together-idem a = same_cover _ _ (λ q. in_union a a q ∙ first_itself (map.get a.bytes q)) (first_itself a.end) (greater-itself a.promise)
+together-idem a = same_cover _ _ (λ q. in_union a a q ∙ first_itself (map.get a.bytes q)) (marks_idem a.marks)
 
 pub covers_unite : Unites covers_agree covers_together
 covers_unite = record {
@@ -184,13 +141,10 @@ covers_unite = record {
 
 -- ---- well formed is to agree with oneself
 
-pub one_value : (o : Option ℕ) (x y : ℕ) → o ≡ Some x → o ≡ Some y → x ≡ y
-one_value o x y e f = same_Some x y (sym e ∙ f)
-
 pub formed_agrees : (a : CoverFacts) → AreCoverFacts a → covers_agree a a ≡ true
 formed_agrees a h = agree_of a a (record {
   bytes = λ q x y e f. one_value (map.get a.bytes q) x y e f;
-  ends = λ m n e f. one_value a.end m n e f;
+  marks = one_value a.marks.end;
   own_below = h;
   other_below = h;
 })
@@ -200,9 +154,4 @@ agrees_formed a h = (fit_of a a h).own_below
 
 -- a union with facts that are held already adds nothing
 pub together_held : (a b : CoverFacts) → Holds a b → covers_together a b ≡ a
-together_held a b h = same_cover _ _ (λ i. in_union a b i ∙ first_held (map.get a.bytes i) (map.get b.bytes i) (h.bytes i)) (first_held a.end b.end h.end) (promised_adds a.promise b.promise h.promise)
-  where
-    first_held : (o p : Option ℕ) → ((x : ℕ) → p ≡ Some x → o ≡ Some x) → first_of o p ≡ o
-    first_held (Some x) p h = refl
-    first_held None None h = refl
-    first_held None (Some y) h = sym (h y refl)
+together_held a b h = same_cover _ _ (λ i. in_union a b i ∙ first_held (map.get a.bytes i) (map.get b.bytes i) (h.bytes i)) h.marks

@@ -1,9 +1,7 @@
 -- The tests of equality decide equality.
-use Rattle.std.proofs.Common.{◌≡◌, ◌==◌, ◌&&◌, ℕ, List, Bool, true, Option, Some, None, refl, sym, ◌∙◌, ap, Decides}
+use Rattle.std.proofs.Common.{◌≡◌, ◌==◌, ◌&&◌, ℕ, List, Bool, true, refl, sym, ◌∙◌, ap, Decides}
 use Rattle.std.proofs.lemmas.Bool.{true≢false, eqb-true, eq-eqb, and_from, and_parts}
-use Rattle.std.proofs.lemmas.Option.{none-some, same_Some}
-use Rattle.std.specs.Option.{option_eq}
-use Rattle.std.specs.Cmp.{IsEquivalence, IsPartialEquivalence, decided, equiv, partial_equiv_from_equiv, unsigned_Decides}
+use Rattle.std.specs.Cmp.{IsEquivalence, IsPartialEquivalence, decided, equiv, partial_equiv_from_equiv}
 use Rattle.std.specs.Cmp.Lexicographic.{pointwise, pointwise_decides}
 use Rattle.std.specs.Ordering.{nat_cmp}
 use Rattle.std.specs.FinMap as maps
@@ -14,13 +12,7 @@ use Rattle.nb_entries.specs.Entry.{EntryFacts, EntryValue}
 use Rattle.nb_entries.specs.Codes.{held, slot_of, slot_back}
 use Rattle.nb_entries.specs.Equal.{same_slot, same_bytes, same_cover_facts, same_cover, same_entry_facts, same_entry}
 use Rattle.nb_datagram.specs.EqualityFacts.{same_kind_decides}
-
--- two options are the same where their values are
-pub options_decide : {X : Type 0} (E : X → X → Bool) → ((x y : X) → Decides (E x y) (x ≡ y)) → (o p : Option X) → Decides (option_eq E o p) (o ≡ p)
-options_decide E d None None = (λ h. refl, λ e. refl)
-options_decide E d None (Some y) = (λ h. absurd (true≢false (sym h)), λ e. absurd (none-some y e))
-options_decide E d (Some x) None = (λ h. absurd (true≢false (sym h)), λ e. absurd (none-some x (sym e)))
-options_decide E d (Some x) (Some y) = (λ h. ap Some ((d x y).0 h), λ e. (d x y).1 (same_Some x y e))
+use Rattle.nb_entries.specs.Shared.MarksLemmas.{options_decide, marks_decide}
 
 pair_decides : (p q : ℕ × ℕ) → Decides ((p.0 == q.0) && (p.1 == q.1)) (p ≡ q)
 pair_decides p q = (
@@ -40,13 +32,11 @@ bytes_decide m n = (
 
 pub cover_facts_decide : (a b : CoverFacts) → Decides (same_cover_facts a b) (a ≡ b)
 cover_facts_decide a b = (
-  λ h. (let bytes = (bytes_decide a.bytes b.bytes).0 (and_parts _ _ h).0 in let t1 = (and_parts _ _ h).1 in
-      let end = (options_decide ◌==◌ unsigned_Decides a.end b.end).0 (and_parts _ _ t1).0 in
-      let promise = (options_decide ◌==◌ unsigned_Decides a.promise b.promise).0 (and_parts _ _ t1).1 in
-      λ i. record { bytes = bytes i; end = end i; promise = promise i }),
+  λ h. (let bytes = (bytes_decide a.bytes b.bytes).0 (and_parts _ _ h).0 in
+      let marks = (marks_decide a.marks b.marks).0 (and_parts _ _ h).1 in
+      λ i. record { bytes = bytes i; marks = marks i }),
   λ e. and_from _ _ ((bytes_decide a.bytes b.bytes).1 (ap (λ (c : CoverFacts). c.bytes) e))
-      (and_from _ _ ((options_decide ◌==◌ unsigned_Decides a.end b.end).1 (ap (λ (c : CoverFacts). c.end) e))
-      ((options_decide ◌==◌ unsigned_Decides a.promise b.promise).1 (ap (λ (c : CoverFacts). c.promise) e))),
+      ((marks_decide a.marks b.marks).1 (ap (λ (c : CoverFacts). c.marks) e)),
 )
 
 pub entry_facts_decide : (a b : EntryFacts) → Decides (same_entry_facts a b) (a ≡ b)

@@ -13,10 +13,11 @@ use Rattle.nb_datagram.specs.declared.kind.Kind.{Kind}
 use Rattle.nb_datagram.specs.Packet.{type_of, name_bytes}
 use Rattle.nb_entries.specs.declared.saved.SavedForm.{SavedForm}
 use Rattle.nb_entries.specs.declared.saved.SavedForm.TheVariants.{First, Second}
+use Rattle.nb_entries.specs.Marks.{Marks, MarksBelow, end_bytes, promise_bytes, marks_bytes}
 use Rattle.nb_entries.specs.Entry.{EntryFacts, EntryValue}
 use Rattle.nb_entries.specs.Runs.{RunValue, run_end, StartsPast, AreApart, map_of_runs, runs_of_map}
-use Rattle.nb_entries.specs.Saved.{run_bytes, runs_bytes, end_bytes, promise_bytes, facts_bytes, entry_bytes}
-use Rattle.nb_entries.specs.SavedReading.{gives, goes_on, whole, good, is_0, is_1, byte_at, number_at, bytes_at, known, kind_at, name_at, stands, end_at, promise_at, PromisesBelow, run_at, row_at, runs_at, most_of, facts_at, entry_at}
+use Rattle.nb_entries.specs.Saved.{run_bytes, runs_bytes, facts_bytes, entry_bytes}
+use Rattle.nb_entries.specs.SavedReading.{gives, goes_on, whole, good, is_0, is_1, byte_at, number_at, bytes_at, known, kind_at, name_at, stands, end_at, promise_at, PromisesBelow, marks_at, run_at, row_at, runs_at, most_of, facts_at, entry_at}
 use Rattle.nb_entries.specs.Shared.RunsLemmas.{runs_back}
 
 -- ---- bytes in a row
@@ -73,20 +74,25 @@ end_found input at next end (goes_on mark n h (is_0 e gives)) = subst (λ (t : �
 end_found input at next end (goes_on mark n h (is_1 e (goes_on m l k gives))) =
     spells_then input at n next (1 ∷ []) (to_be_bytes w16 m) (subst (λ (t : ℕ). Spells input at (t ∷ []) n) e (byte_found input at mark n h)) (number_found input n m l k).0
 
--- what a promise that was found keeps to
-pub record IsPromise (end promise : Option ℕ) : Type 0 where
-  pub below : (r : ℕ) → promise ≡ Some r → PromisesBelow end r
-
-pub promise_found : (form : SavedForm) (input : List ℕ) (end : Option ℕ) (at next : ℕ) (promise : Option ℕ) → promise_at form input end at (Ok (promise, next)) → Spells input at (promise_bytes form promise) next × IsPromise end promise
-promise_found First input end at next promise gives = (spells_none input at, record { below = λ r e. absurd (none-some r e) })
+promise_found : (form : SavedForm) (input : List ℕ) (end : Option ℕ) (at next : ℕ) (promise : Option ℕ) → promise_at form input end at (Ok (promise, next)) → Spells input at (promise_bytes form promise) next × ((r : ℕ) → promise ≡ Some r → PromisesBelow end r)
+promise_found First input end at next promise gives = (spells_none input at, λ r e. absurd (none-some r e))
 promise_found Second input end at next promise (goes_on mark n h (is_0 e gives)) = (
   subst (λ (t : ℕ). Spells input at (t ∷ []) n) e (byte_found input at mark n h),
-  record { below = λ r e. absurd (none-some r e) },
+  λ r e. absurd (none-some r e),
 )
 promise_found Second input end at next promise (goes_on mark n h (is_1 e (goes_on m l (goes_on q p k (good g)) gives))) = (
   spells_then input at n next (1 ∷ []) (to_be_bytes w16 m) (subst (λ (t : ℕ). Spells input at (t ∷ []) n) e (byte_found input at mark n h)) (number_found input n m l k).0,
-  record { below = λ r e. subst (PromisesBelow end) (same_Some m r e) g },
+  λ r e. subst (PromisesBelow end) (same_Some m r e) g,
 )
+
+-- what was marked lies below the end
+abbrev pub AreMarks : Marks → Type 0
+AreMarks m = (n : ℕ) → m.end ≡ Some n → MarksBelow n m
+
+pub marks_found : (form : SavedForm) (input : List ℕ) (at next : ℕ) (m : Marks) → marks_at form input at (Ok (m, next)) → Spells input at (marks_bytes form m) next × AreMarks m
+marks_found form input at next m (goes_on end n h (goes_on promise p k gives)) =
+    let found = promise_found form input end n p promise k in
+    (spells_then input at n p (end_bytes end) (promise_bytes form promise) (end_found input at n end h) found.0, λ k e r f. found.1 r f k e)
 
 -- ---- runs
 
@@ -147,15 +153,14 @@ runs_found input most at next rs (goes_on n m h r) =
 -- ---- entries
 
 facts_found : (form : SavedForm) (input : List ℕ) (at next : ℕ) (e : EntryFacts) → facts_at form input at (Ok (e, next)) → Spells input at (facts_bytes form e) next
-facts_found form input at next e (goes_on kind a k (goes_on source b s (goes_on destination c d (goes_on end m n (goes_on promise p q (goes_on runs l r gives)))))) =
-    let row = runs_found input (most_of end) p l runs r in
+facts_found form input at next e (goes_on kind a k (goes_on source b s (goes_on destination c d (goes_on marks p q (goes_on runs l r gives))))) =
+    let row = runs_found input (most_of marks.end) p l runs r in
     let same : runs_bytes runs ≡ runs_bytes (runs_of_map (map_of_runs runs)) = ap runs_bytes (sym (runs_back runs row.1)) in
     spells_then input at a l (type_of kind ∷ []) _ (kind_found input at a kind k)
     (spells_then input a b l (name_bytes source) _ (name_found input a b source s).0
     (spells_then input b c l (name_bytes destination) _ (name_found input b c destination d).0
-    (spells_then input c m l (end_bytes end) _ (end_found input c m end n)
-    (spells_then input m p l (promise_bytes form promise) _ (promise_found form input end m p promise q).0
-    (subst (λ (bytes : List ℕ). Spells input p bytes l) same row.0)))))
+    (spells_then input c p l (marks_bytes form marks) _ (marks_found form input c p marks q).0
+    (subst (λ (bytes : List ℕ). Spells input p bytes l) same row.0))))
 
 pub entry_found : (form : SavedForm) (input : List ℕ) (at next : ℕ) (e : EntryValue) → entry_at form input at (Ok (e, next)) → Spells input at (entry_bytes form e) next
 entry_found form input at next e (goes_on state n h (is_0 z gives)) = subst (λ (t : ℕ). Spells input at (t ∷ []) n) z (byte_found input at state n h)

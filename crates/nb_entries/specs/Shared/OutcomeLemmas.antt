@@ -14,7 +14,7 @@ use Rattle.nb_entries.specs.declared.load_fault.LoadFault.{LoadFault}
 use Rattle.nb_entries.specs.declared.saved.SavedForm.{SavedForm}
 use Rattle.nb_entries.specs.declared.saved.SavedForm.TheVariants.{First, Second}
 use Rattle.nb_entries.specs.Maps.{Spoilt, Held}
-use Rattle.nb_entries.specs.SavedReading.{Outcome, Gives, gives, Then, stops, goes_on, Field, cut, whole, Judged, good, bad, Marked, is_0, is_1, is_neither, byte_at, number_at, bytes_at, KindOf, known, unknown, kind_at, name_at, fault_of_name, stands, ill, end_at, PromisesBelow, promise_at, start_at, size_at, run_at, row_at, runs_at, most_of, facts_at, entry_at}
+use Rattle.nb_entries.specs.SavedReading.{Outcome, Gives, gives, Then, stops, goes_on, Field, cut, whole, Judged, good, bad, Marked, is_0, is_1, is_neither, byte_at, number_at, bytes_at, KindOf, known, unknown, kind_at, name_at, fault_of_name, stands, ill, end_at, PromisesBelow, promise_at, marks_at, start_at, size_at, run_at, row_at, runs_at, most_of, facts_at, entry_at}
 use Rattle.nb_entries.specs.Runs.{run_end}
 
 -- ---- how readings are made
@@ -117,6 +117,11 @@ one_promise Second input end at =
     one_marked at mark (Gives None next) (Then (Then (number_at input next) (Judged at (PromisesBelow end))) (λ promise. Gives (Some promise))) (one_gives None next)
     (one_then (Then (number_at input next) (Judged at (PromisesBelow end))) (λ promise. Gives (Some promise)) judged (λ promise. one_gives (Some promise))))
 
+one_marks : (form : SavedForm) (input : List ℕ) (at : ℕ) → IsOne (marks_at form input at)
+one_marks form input at =
+    one_then (end_at input at) _ (one_end input at) (λ end next.
+    one_then (promise_at form input end next) _ (one_promise form input end next) (λ promise last. one_gives _ last))
+
 -- ---- runs
 
 one_start : (input : List ℕ) (least at : ℕ) → IsOne (start_at input least at)
@@ -147,9 +152,8 @@ one_facts form input at =
     one_then (kind_at input at) _ (one_kind input at) (λ kind a.
     one_then (name_at input a) _ (one_name_at input a) (λ source b.
     one_then (name_at input b) _ (one_name_at input b) (λ destination c.
-    one_then (end_at input c) _ (one_end input c) (λ end d.
-    one_then (promise_at form input end d) _ (one_promise form input end d) (λ promise e.
-    one_then (runs_at input (most_of end) e) _ (one_runs input (most_of end) e) (λ runs next. one_gives _ next))))))
+    one_then (marks_at form input c) _ (one_marks form input c) (λ marks d.
+    one_then (runs_at input (most_of marks.end) d) _ (one_runs input (most_of marks.end) d) (λ runs next. one_gives _ next)))))
 
 pub one_entry : (form : SavedForm) (input : List ℕ) (at : ℕ) → IsOne (entry_at form input at)
 one_entry form input at =

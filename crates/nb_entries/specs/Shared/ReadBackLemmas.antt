@@ -18,14 +18,15 @@ use Rattle.nb_datagram.specs.declared.limits.TheConstants.{MAX_LENGTH}
 use Rattle.nb_datagram.specs.Packet.{type_of, name_bytes}
 use Rattle.nb_entries.specs.declared.saved.SavedForm.{SavedForm}
 use Rattle.nb_entries.specs.declared.saved.SavedForm.TheVariants.{First, Second}
+use Rattle.nb_entries.specs.Marks.{Marks, end_bytes, promise_bytes, marks_bytes, FitMarks}
 use Rattle.nb_entries.specs.Cover.{CoverFacts, AreCoverFacts, BytesBelow}
 use Rattle.nb_entries.specs.Entry.{EntryFacts, EntryValue}
 use Rattle.nb_entries.specs.Maps.{Spoilt, Held, OnHeld}
 use Rattle.nb_entries.specs.Runs.{RunValue, run_end, StartsPast, AreApart, map_of_runs, runs_of_map}
-use Rattle.nb_entries.specs.Saved.{run_bytes, runs_bytes, end_bytes, promise_bytes, facts_bytes, FitsRun, FitsFacts}
-use Rattle.nb_entries.specs.SavedReading.{gives, goes_on, whole, good, is_0, is_1, byte_at, number_at, bytes_at, known, kind_at, name_at, stands, end_at, PromisesBelow, promise_at, run_at, row_at, runs_at, most_of, facts_at}
+use Rattle.nb_entries.specs.Saved.{run_bytes, runs_bytes, facts_bytes, FitsRun, FitsFacts}
+use Rattle.nb_entries.specs.SavedReading.{gives, goes_on, whole, good, is_0, is_1, byte_at, number_at, bytes_at, known, kind_at, name_at, stands, end_at, PromisesBelow, promise_at, marks_at, run_at, row_at, runs_at, most_of, facts_at}
 use Rattle.nb_entries.specs.Shared.CoverLemmas.{bytes_below_decides}
-use Rattle.nb_entries.specs.Shared.FoundLemmas.{Spells, StartsFrom}
+use Rattle.nb_entries.specs.Shared.FoundLemmas.{Spells, AreMarks, StartsFrom}
 use Rattle.nb_entries.specs.Shared.RowLemmas.{map_below}
 use Rattle.nb_entries.specs.Shared.RunsLemmas.{given_back, runs_apart}
 
@@ -80,20 +81,28 @@ end_back input at next (Some n) few s =
     let parts = split input at (1 ∷ []) (to_be_bytes w16 n) next s in
     goes_on 1 (at + 1) (byte_back input at 1 (at + 1) parts.front) (is_1 refl (goes_on n next (number_back input (at + 1) n next (few n refl) parts.rest) gives))
 
--- a promise fits the form: the first has none
-abbrev pub InForm : SavedForm → Option ℕ → Type 0
-InForm First promise = promise ≡ None
-InForm Second promise = Unit {0}
+-- marks fit the form: in the first there is no promise
+abbrev pub InForm : SavedForm → Marks → Type 0
+InForm First m = m.promise ≡ None
+InForm Second m = Unit {0}
 
-promise_back : (form : SavedForm) (input : List ℕ) (end : Option ℕ) (at next : ℕ) (promise : Option ℕ) → InForm form promise → ((r : ℕ) → promise ≡ Some r → r < 2 ^ 16) → ((r : ℕ) → promise ≡ Some r → PromisesBelow end r) →
-    Spells input at (promise_bytes form promise) next → promise_at form input end at (Ok (promise, next))
-promise_back First input end at next promise none few below s =
-    let same : at ≡ next = omega (arith, s.behind) in
-    subst (λ (p : Option ℕ). promise_at First input end at (Ok (p, next))) (sym none) (subst (λ (n : ℕ). promise_at First input end at (Ok (None, n))) same gives)
-promise_back Second input end at next None form few below s = goes_on 0 next (byte_back input at 0 next s) (is_0 refl gives)
-promise_back Second input end at next (Some r) form few below s =
-    let parts = split input at (1 ∷ []) (to_be_bytes w16 r) next s in
-    goes_on 1 (at + 1) (byte_back input at 1 (at + 1) parts.front) (is_1 refl (goes_on r next (goes_on r next (number_back input (at + 1) r next (few r refl) parts.rest) (good (below r refl))) gives))
+marks_back : (form : SavedForm) (input : List ℕ) (at next : ℕ) (m : Marks) → InForm form m → FitMarks m → AreMarks m → Spells input at (marks_bytes form m) next → marks_at form input at (Ok (m, next))
+marks_back form input at next m in_form fits formed s =
+    let parts = split input at (end_bytes m.end) (promise_bytes form m.promise) next s in
+    let behind = at + length (end_bytes m.end) in
+    goes_on m.end behind (end_back input at behind m.end fits.end parts.front)
+    (goes_on m.promise next (promise_back form behind m.promise in_form fits.promise (λ r f n g. formed n g r f) parts.rest) gives)
+  where
+    -- a promise, of marks in this form
+    promise_back : (form : SavedForm) (at : ℕ) (promise : Option ℕ) → InForm form (record { end = m.end; promise = promise }) → ((r : ℕ) → promise ≡ Some r → r < 2 ^ 16) → ((r : ℕ) → promise ≡ Some r → PromisesBelow m.end r) →
+        Spells input at (promise_bytes form promise) next → promise_at form input m.end at (Ok (promise, next))
+    promise_back First at promise none few below s =
+        let same : at ≡ next = omega (arith, s.behind) in
+        subst (λ (p : Option ℕ). promise_at First input m.end at (Ok (p, next))) (sym none) (subst (λ (n : ℕ). promise_at First input m.end at (Ok (None, n))) same gives)
+    promise_back Second at None form few below s = goes_on 0 next (byte_back input at 0 next s) (is_0 refl gives)
+    promise_back Second at (Some r) form few below s =
+        let parts = split input at (1 ∷ []) (to_be_bytes w16 r) next s in
+        goes_on 1 (at + 1) (byte_back input at 1 (at + 1) parts.front) (is_1 refl (goes_on r next (goes_on r next (number_back input (at + 1) r next (few r refl) parts.rest) (good (below r refl))) gives))
 
 -- ---- runs
 
@@ -142,32 +151,29 @@ runs_below n c below =
     ∙ ap (λ (m : maps.FinMap nat_cmp ℕ). list_all (λ (e : ℕ × ℕ). nat_lt e.0 n) (maps.entries m)) (given_back c.bytes)
     ∙ (bytes_below_decides n c.bytes).1 below)
 
-most_below : (c : CoverFacts) (end : Option ℕ) → c.end ≡ end → AreCoverFacts c → BytesBelow MAX_LENGTH c.bytes → AllByRecursion (λ (r : RunValue). run_end r ≤ most_of end) (runs_of_map c.bytes)
+most_below : (c : CoverFacts) (end : Option ℕ) → c.marks.end ≡ end → AreCoverFacts c → BytesBelow MAX_LENGTH c.bytes → AllByRecursion (λ (r : RunValue). run_end r ≤ most_of end) (runs_of_map c.bytes)
 most_below c None e formed short = runs_below MAX_LENGTH c short
 most_below c (Some n) e formed short = runs_below n c (formed n e).bytes
 
-pub facts_back : (form : SavedForm) (input : List ℕ) (at next : ℕ) (e : EntryFacts) → InForm form e.cover.promise → FitsFacts e → AreCoverFacts e.cover → BytesBelow MAX_LENGTH e.cover.bytes → Spells input at (facts_bytes form e) next → facts_at form input at (Ok (e, next))
+pub facts_back : (form : SavedForm) (input : List ℕ) (at next : ℕ) (e : EntryFacts) → InForm form e.cover.marks → FitsFacts e → AreCoverFacts e.cover → BytesBelow MAX_LENGTH e.cover.bytes → Spells input at (facts_bytes form e) next → facts_at form input at (Ok (e, next))
 facts_back form input at next e in_form fits formed short s =
-    let first = split input at (type_of e.kind ∷ []) (name_bytes e.source ++ (name_bytes e.destination ++ (end_bytes e.cover.end ++ (promise_bytes form e.cover.promise ++ runs_bytes (runs_of_map e.cover.bytes))))) next s in
+    let first = split input at (type_of e.kind ∷ []) (name_bytes e.source ++ (name_bytes e.destination ++ (marks_bytes form e.cover.marks ++ runs_bytes (runs_of_map e.cover.bytes)))) next s in
     let a = at + 1 in
-    let second = split input a (name_bytes e.source) (name_bytes e.destination ++ (end_bytes e.cover.end ++ (promise_bytes form e.cover.promise ++ runs_bytes (runs_of_map e.cover.bytes)))) next first.rest in
+    let second = split input a (name_bytes e.source) (name_bytes e.destination ++ (marks_bytes form e.cover.marks ++ runs_bytes (runs_of_map e.cover.bytes))) next first.rest in
     let b = a + length (name_bytes e.source) in
-    let third = split input b (name_bytes e.destination) (end_bytes e.cover.end ++ (promise_bytes form e.cover.promise ++ runs_bytes (runs_of_map e.cover.bytes))) next second.rest in
+    let third = split input b (name_bytes e.destination) (marks_bytes form e.cover.marks ++ runs_bytes (runs_of_map e.cover.bytes)) next second.rest in
     let c = b + length (name_bytes e.destination) in
-    let fourth = split input c (end_bytes e.cover.end) (promise_bytes form e.cover.promise ++ runs_bytes (runs_of_map e.cover.bytes)) next third.rest in
-    let d = c + length (end_bytes e.cover.end) in
-    let fifth = split input d (promise_bytes form e.cover.promise) (runs_bytes (runs_of_map e.cover.bytes)) next fourth.rest in
-    let p = d + length (promise_bytes form e.cover.promise) in
+    let fourth = split input c (marks_bytes form e.cover.marks) (runs_bytes (runs_of_map e.cover.bytes)) next third.rest in
+    let d = c + length (marks_bytes form e.cover.marks) in
     let runs = runs_of_map e.cover.bytes in
     let same : map_of_runs runs ≡ e.cover.bytes = given_back e.cover.bytes in
-    subst (λ (m : maps.FinMap nat_cmp ℕ). facts_at form input at (Ok (record { kind = e.kind; source = e.source; destination = e.destination; cover = record { bytes = m; end = e.cover.end; promise = e.cover.promise } }, next))) same
+    subst (λ (m : maps.FinMap nat_cmp ℕ). facts_at form input at (Ok (record { kind = e.kind; source = e.source; destination = e.destination; cover = record { bytes = m; marks = e.cover.marks } }, next))) same
     (goes_on e.kind a (kind_back_at input at a e.kind first.front)
     (goes_on e.source b (name_back input a b e.source fits.named.source second.front)
     (goes_on e.destination c (name_back input b c e.destination fits.named.destination third.front)
-    (goes_on e.cover.end d (end_back input c d e.cover.end fits.cover.end fourth.front)
-    (goes_on e.cover.promise p (promise_back form input e.cover.end d p e.cover.promise in_form fits.cover.promise (λ r f n g. (formed n g).promise r f) fifth.front)
-    (goes_on runs next (row_bytes_back input (most_of e.cover.end) p next runs fits.cover.count fits.cover.runs (runs_apart e.cover.bytes) (most_below e.cover e.cover.end refl formed short) fifth.rest) gives))))))
+    (goes_on e.cover.marks d (marks_back form input c d e.cover.marks in_form fits.cover.marks (λ n g. (formed n g).marks) fourth.front)
+    (goes_on runs next (row_bytes_back input (most_of e.cover.marks.end) d next runs fits.cover.count fits.cover.runs (runs_apart e.cover.bytes) (most_below e.cover e.cover.marks.end refl formed short) fourth.rest) gives)))))
 
-pub any_form : (e : EntryValue) → OnHeld (λ a. InForm Second a.cover.promise) e
+pub any_form : (e : EntryValue) → OnHeld (λ a. InForm Second a.cover.marks) e
 any_form Spoilt = tt
 any_form (Held e) = tt

@@ -1,5 +1,5 @@
 -- A row of saved runs that was read: its runs by their bytes, its map, and how far it reaches.
-use Rattle.std.proofs.Common.{◌≡◌, ◌+◌, ◌<◌, ◌≤◌, ◌&&◌, ℕ, suc, zero, List, [], ◌∷◌, length, take, drop, Bool, true, false, Ok, refl, sym, ap, subst, ◌∙◌, arith, length-drop, Option, None}
+use Rattle.std.proofs.Common.{◌≡◌, ◌+◌, ◌<◌, ◌≤◌, ◌&&◌, ℕ, suc, zero, List, [], ◌∷◌, length, take, drop, Bool, true, false, Ok, refl, sym, ap, subst, ◌∙◌, arith, length-drop, None}
 use Rattle.std.proofs.lemmas.Bool.{le-leb, lt-leb, and_from}
 use Rattle.std.specs.Prelude.{nat_le, nat_lt}
 use Rattle.std.specs.Int.{w16, from_be_bytes}
@@ -12,12 +12,13 @@ use Rattle.std.proofs.lemmas.List.{drop-drop}
 use Rattle.std.proofs.lemmas.List.Folds.{list_all-append}
 use Rattle.std.proofs.lemmas.Nat.{from_be_bytes-to_be_bytes_2}
 use Rattle.nb_names.specs.Labels.{StandsAt, NumberAt}
+use Rattle.nb_entries.specs.Marks.{Marks}
 use Rattle.nb_entries.specs.Cover.{placed, AreCoverFacts}
 use Rattle.nb_entries.specs.Runs.{RunValue, run_end, AreApart, places_of, map_of_runs}
 use Rattle.nb_entries.specs.SavedReading.{gives, goes_on, whole, good, number_at, bytes_at, run_at, row_at, is_0, is_1, most_of, facts_at, entry_at}
 use Rattle.nb_entries.specs.Code.Rows.{number_in, run_of, after_run, RunThere, row_of, RowThere}
 use Rattle.nb_entries.specs.Shared.MapsLemmas.{sorted_entries}
-use Rattle.nb_entries.specs.Shared.FoundLemmas.{row_found, IsPromise, promise_found, runs_found}
+use Rattle.nb_entries.specs.Shared.FoundLemmas.{row_found, AreMarks, marks_found, runs_found}
 use Rattle.nb_entries.specs.Shared.RunsLemmas.{sorted_places}
 use Rattle.nb_entries.specs.declared.saved.SavedForm.{SavedForm}
 use Rattle.nb_entries.specs.declared.saved.SavedForm.TheVariants.{First}
@@ -179,18 +180,18 @@ row_short limit n k bs behind r all e same rest few h =
 -- ---- entries are well formed
 
 -- runs that don't pass the end lie below it
-pub covers_formed : (runs : List RunValue) (end promise : Option ℕ) → AreApart runs → AllByRecursion (λ (r : RunValue). run_end r ≤ most_of end) runs → IsPromise end promise →
-    AreCoverFacts (record { bytes = map_of_runs runs; end = end; promise = promise })
-covers_formed runs end promise apart short kept n e =
+pub covers_formed : (runs : List RunValue) (marks : Marks) → AreApart runs → AllByRecursion (λ (r : RunValue). run_end r ≤ most_of marks.end) runs → AreMarks marks →
+    AreCoverFacts (record { bytes = map_of_runs runs; marks = marks })
+covers_formed runs marks apart short formed n e =
     let below = subst (λ (m : ℕ). AllByRecursion (λ (r : RunValue). run_end r ≤ m) runs) (ap most_of e) short in
     record {
       bytes = (bytes_below_decides n (map_of_runs runs)).0 (map_below n runs apart ∙ all_short n runs below);
-      promise = λ r f. kept.below r f n e;
+      marks = formed n e;
     }
 
 facts_formed : (form : SavedForm) (input : List ℕ) (at next : ℕ) (e : EntryFacts) → facts_at form input at (Ok (e, next)) → AreCoverFacts e.cover
-facts_formed form input at next e (goes_on kind a k (goes_on source b s (goes_on destination c d (goes_on end m n (goes_on promise p q (goes_on runs l r gives)))))) =
-    let row = runs_found input (most_of end) p l runs r in covers_formed runs end promise row.1 row.2 (promise_found form input end m p promise q).1
+facts_formed form input at next e (goes_on kind a k (goes_on source b s (goes_on destination c d (goes_on marks p q (goes_on runs l r gives))))) =
+    let row = runs_found input (most_of marks.end) p l runs r in covers_formed runs marks row.1 row.2 (marks_found form input c p marks q).1
 
 pub entry_formed : (form : SavedForm) (input : List ℕ) (at next : ℕ) (e : EntryValue) → entry_at form input at (Ok (e, next)) → IsEntry e
 entry_formed form input at next e (goes_on state n h (is_0 z gives)) = tt
@@ -198,10 +199,10 @@ entry_formed form input at next e (goes_on state n h (is_1 z (goes_on f m k give
 
 -- ---- what was saved
 
--- the first form has no promises
-facts_plain : (input : List ℕ) (at next : ℕ) (e : EntryFacts) → facts_at First input at (Ok (e, next)) → e.cover.promise ≡ None
-facts_plain input at next e (goes_on kind a k (goes_on source b s (goes_on destination c d (goes_on end m n (goes_on promise p gives (goes_on runs l r gives)))))) = refl
+-- marks that were read of a form are in it
+facts_plain : (input : List ℕ) (at next : ℕ) (e : EntryFacts) → facts_at First input at (Ok (e, next)) → e.cover.marks.promise ≡ None
+facts_plain input at next e (goes_on kind a k (goes_on source b s (goes_on destination c d (goes_on marks p (goes_on end n q (goes_on promise m gives gives)) (goes_on runs l r gives))))) = refl
 
-pub entry_plain : (input : List ℕ) (at next : ℕ) (e : EntryValue) → entry_at First input at (Ok (e, next)) → OnHeld (λ a. a.cover.promise ≡ None) e
+pub entry_plain : (input : List ℕ) (at next : ℕ) (e : EntryValue) → entry_at First input at (Ok (e, next)) → OnHeld (λ a. a.cover.marks.promise ≡ None) e
 entry_plain input at next e (goes_on state n h (is_0 z gives)) = tt
 entry_plain input at next e (goes_on state n h (is_1 z (goes_on f m k gives))) = facts_plain input n m f k

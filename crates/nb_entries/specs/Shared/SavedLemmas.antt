@@ -14,11 +14,13 @@ use Rattle.nb_names.specs.Name.{NetbiosName, IsName, labels_of_name}
 use Rattle.nb_datagram.specs.Packet.{type_of, kind_of, kind_back, name_bytes}
 use Rattle.nb_entries.specs.declared.saved.SavedForm.TheVariants.{Second}
 use Rattle.nb_entries.specs.Maps.{Spoilt, Held, OnHeld}
+use Rattle.nb_entries.specs.Marks.{Marks, MarksUpTo, end_bytes, marks_bytes, FitMarks}
 use Rattle.nb_entries.specs.Cover.{CoverFacts, BytesBelow}
 use Rattle.nb_entries.specs.Entry.{EntryFacts, EntryValue, IsShort}
 use Rattle.nb_entries.specs.Runs.{RunValue, map_of_runs, runs_of_map, run_end, StartsPast, AreApart, in_front, runs_in}
-use Rattle.nb_entries.specs.Saved.{run_bytes, runs_bytes, end_bytes, cover_bytes, facts_bytes, entry_bytes, FitsRun, FitsCover, FitsFacts, IsNamed}
+use Rattle.nb_entries.specs.Saved.{run_bytes, runs_bytes, cover_bytes, facts_bytes, entry_bytes, FitsRun, FitsCover, FitsFacts, IsNamed}
 use Rattle.nb_entries.specs.Shared.MapsLemmas.{below_none, T_left, T_right, found_first, found_later}
+use Rattle.nb_entries.specs.Shared.MarksLemmas.{marks_fit}
 use Rattle.nb_entries.specs.Shared.RunsLemmas.{given_back, runs_apart}
 use Rattle.std.proofs.lemmas.Bool.{eqb-true}
 use Rattle.nb_datagram.specs.declared.limits.TheConstants.{MAX_LENGTH}
@@ -100,17 +102,20 @@ end_same (Some m) (Some n) x y p q e =
     let number = numbers_same m n x y (p m refl) (q n refl) (ap (λ (r : List ℕ). drop 1 r) e) in
     (ap Some number.0, number.1)
 
+marks_same : (c d : Marks) (x y : List ℕ) → FitMarks c → FitMarks d → marks_bytes Second c ++ x ≡ marks_bytes Second d ++ y → (c ≡ d) × (x ≡ y)
+marks_same c d x y p q e =
+    let end = end_same c.end d.end (end_bytes c.promise ++ x) (end_bytes d.promise ++ y) p.end q.end (sym (append_assoc (end_bytes c.end) (end_bytes c.promise) x) ∙ e ∙ append_assoc (end_bytes d.end) (end_bytes d.promise) y) in
+    let promise = end_same c.promise d.promise x y p.promise q.promise end.1 in
+    (λ i. record { end = end.0 i; promise = promise.0 i }, promise.1)
+
 pub cover_same : (c d : CoverFacts) (x y : List ℕ) → FitsCover c → FitsCover d → cover_bytes Second c ++ x ≡ cover_bytes Second d ++ y → (c ≡ d) × (x ≡ y)
 cover_same c d x y p q e =
     let one : List ℕ = runs_bytes (runs_of_map c.bytes) in
     let two : List ℕ = runs_bytes (runs_of_map d.bytes) in
-    let more_c : List ℕ = end_bytes c.promise ++ one in
-    let more_d : List ℕ = end_bytes d.promise ++ two in
-    let end = end_same c.end d.end (more_c ++ x) (more_d ++ y) p.end q.end (sym (append_assoc (end_bytes c.end) more_c x) ∙ e ∙ append_assoc (end_bytes d.end) more_d y) in
-    let promise = end_same c.promise d.promise (one ++ x) (two ++ y) p.promise q.promise (sym (append_assoc (end_bytes c.promise) one x) ∙ end.1 ∙ append_assoc (end_bytes d.promise) two y) in
-    let runs = runs_same (runs_of_map c.bytes) (runs_of_map d.bytes) x y p.runs q.runs p.count q.count promise.1 in
+    let marks = marks_same c.marks d.marks (one ++ x) (two ++ y) p.marks q.marks (sym (append_assoc (marks_bytes Second c.marks) one x) ∙ e ∙ append_assoc (marks_bytes Second d.marks) two y) in
+    let runs = runs_same (runs_of_map c.bytes) (runs_of_map d.bytes) x y p.runs q.runs p.count q.count marks.1 in
     let bytes : c.bytes ≡ d.bytes = sym (given_back c.bytes) ∙ ap map_of_runs runs.0 ∙ given_back d.bytes in
-    (λ i. record { bytes = bytes i; end = end.0 i; promise = promise.0 i }, runs.1)
+    (λ i. record { bytes = bytes i; marks = marks.0 i }, runs.1)
 
 -- ---- entries
 
@@ -180,16 +185,15 @@ runs_fit : (rs : List RunValue) → EndBy MAX_LENGTH rs → AllByRecursion FitsR
 runs_fit [] h = tt
 runs_fit (r ∷ rs) h = (record { start = omega (arith, h.0); size = omega (arith, h.0) }, runs_fit rs h.1)
 
-cover_fits : (c : CoverFacts) → BytesBelow MAX_LENGTH c.bytes → ((m : ℕ) → c.end ≡ Some m → m ≤ MAX_LENGTH) → ((r : ℕ) → c.promise ≡ Some r → r ≤ MAX_LENGTH) → FitsCover c
-cover_fits c below ends promises =
+cover_fits : (c : CoverFacts) → BytesBelow MAX_LENGTH c.bytes → MarksUpTo MAX_LENGTH c.marks → FitsCover c
+cover_fits c below marks =
     let runs = runs_end MAX_LENGTH (maps.entries c.bytes) (places_below c below) in
     record {
-      end = λ n e. (let most = ends n e in omega (arith, most));
-      promise = λ r e. (let most = promises r e in omega (arith, most));
+      marks = marks_fit c.marks marks;
       count = omega (arith, few_runs MAX_LENGTH (runs_of_map c.bytes) (runs_apart c.bytes) runs);
       runs = runs_fit (runs_of_map c.bytes) runs;
     }
 
 pub entry_fits : (e : EntryValue) → IsShort MAX_LENGTH e → OnHeld IsNamed e → OnHeld FitsFacts e
 entry_fits Spoilt short named = tt
-entry_fits (Held e) short named = record { named = named; cover = cover_fits e.cover short.below short.ends short.promises }
+entry_fits (Held e) short named = record { named = named; cover = cover_fits e.cover short.below short.marks }

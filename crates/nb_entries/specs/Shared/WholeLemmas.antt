@@ -105,8 +105,8 @@ to_found m (Some n) xs h = (n, refl, h)
 
 pub datagram_found : (k : Key) (e : EntryFacts) (d : DatagramParts) → datagram_of k (Held e) ≡ Some d → IsDatagram k e d
 datagram_found k e d h =
-    let w = with_found k e (bytes_to e.cover.bytes e.cover.end) d h in
-    let t = to_found e.cover.bytes e.cover.end w.0 w.1 in
+    let w = with_found k e (bytes_to e.cover.bytes e.cover.marks.end) d h in
+    let t = to_found e.cover.bytes e.cover.marks.end w.0 w.1 in
     let b = below_found e.cover.bytes t.0 w.0 t.2 in
     let same : d.bytes ≡ w.0 = ap (λ (d : DatagramParts). d.bytes) w.2 in
     let long : length d.bytes ≡ t.0 = ap length same ∙ b.count in
@@ -166,7 +166,7 @@ newly_none (Some d) = refl
 -- ---- covers whose end is known
 
 -- a cover that ends is whole where each place below its end is covered
-pub whole_below_end : (c : CoverFacts) (look : ℕ → Option ℕ) → ((q : ℕ) → maps.get c.bytes q ≡ look q) → (n : ℕ) → c.end ≡ Some n → (AreCovered look n → IsWholeCover c) × (IsWholeCover c → AreCovered look n)
+pub whole_below_end : (c : CoverFacts) (look : ℕ → Option ℕ) → ((q : ℕ) → maps.get c.bytes q ≡ look q) → (n : ℕ) → c.marks.end ≡ Some n → (AreCovered look n → IsWholeCover c) × (IsWholeCover c → AreCovered look n)
 whole_below_end c look same n ends = (
   λ all. record { length = n; ends = ends; covered = λ i h. (let w = all i h in (w.0, same i ∙ w.1)) },
   λ w i h. (let one : w.length ≡ n = same_Some w.length n (sym w.ends ∙ ends) in let x = w.covered i (subst (λ m. i < m) (sym one) h) in (x.0, sym (same i) ∙ x.1)),

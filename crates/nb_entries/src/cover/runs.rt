@@ -2,7 +2,8 @@
 ghost use Rattle.std.specs.Prelude.{◌≡◌, IfOk, OnOk, OnErr, true};
 ghost use Rattle.std.specs.List.{list_all};
 ghost use Rattle.std.specs.FinMap as maps;
-ghost use Rattle.nb_entries.specs.Cover.{placed, same_where};
+ghost use Rattle.nb_entries.specs.Marks.{same_where};
+ghost use Rattle.nb_entries.specs.Cover.{placed};
 ghost use Rattle.nb_entries.specs.Code.CoverFacts.{with_bytes};
 ghost use Rattle.nb_entries.specs.Runs.{AreApart, run_end, map_of_runs};
 ghost use Rattle.nb_entries.specs.Code.Rows.{value_of, run_at, kept_values, AreFilled};

@@ -2,10 +2,10 @@
 ghost use Rattle.std.specs.Prelude.{◌≡◌, ◌&&◌, IfOk, MatchOption};
 ghost use Rattle.std.specs.FinMap as maps;
 ghost use Rattle.nb_entries.specs.Cover.{bytes_lie_below, placed};
-ghost use Rattle.nb_entries.specs.Entry.{ends_by};
+ghost use Rattle.nb_entries.specs.Marks.{marks_up_to};
 
 use super::CoverFacts;
-use super::end::{ends_agree, greater, is_at_most};
+use super::marks::Marks;
 use crate::slot::Facts;
 use nb_names::NoMemory;
 
@@ -25,33 +25,25 @@ impl Facts for CoverFacts {
 
     fn agree(&self, other: &CoverFacts) -> bool {
         self.bytes.agree_all(&other.bytes)
-            && ends_agree(self.end, other.end)
-            && self.is_below(other.end)
-            && other.is_below(self.end)
+            && self.marks.agree(other.marks)
+            && self.is_below(other.marks.end)
+            && other.is_below(self.marks.end)
     }
 
     fn together(&self, other: &CoverFacts) -> Result<CoverFacts, NoMemory> {
         let bytes = self.bytes.together(&other.bytes)?;
-        let end = self.end.or(other.end);
-        let promise = greater(self.promise, other.promise);
-        Ok(CoverFacts {
-            bytes,
-            end,
-            promise,
-        })
+        let marks = self.marks.together(other.marks);
+        Ok(CoverFacts { bytes, marks })
     }
 }
 
 impl CoverFacts {
-    /// Whether all places lie below this one, and the end and the promise, if there are any, are at
-    /// most there.
+    /// Whether all places lie below this one, and the marks are at most there.
     pub(crate) fn is_short(&self, longest: u32) -> bool
         ensures { result ≡ (bytes_lie_below longest self.now.bytes
-            && (ends_by longest self.now.end && ends_by longest self.now.promise)) }
+            && marks_up_to longest self.now.marks) }
     {
-        self.bytes_are_below(longest)
-            && is_at_most(longest, self.end)
-            && is_at_most(longest, self.promise)
+        self.bytes_are_below(longest) && self.marks.are_up_to(longest)
     }
 
     /// The place of the first byte, and the bytes, if all are in one run.
@@ -62,18 +54,11 @@ impl CoverFacts {
         self.bytes.only()
     }
 
-    /// The end, if it is known.
-    pub(crate) fn end(&self) -> Option<u32>
-        ensures { result ≡ self.now.end }
+    /// The end and the promise.
+    pub(crate) fn marks(&self) -> Marks
+        ensures { result ≡ self.now.marks }
     {
-        self.end
-    }
-
-    /// The promise, if there is one.
-    pub(crate) fn promise(&self) -> Option<u32>
-        ensures { result ≡ self.now.promise }
-    {
-        self.promise
+        self.marks
     }
 
     /// A copy.
@@ -82,8 +67,7 @@ impl CoverFacts {
     {
         Ok(CoverFacts {
             bytes: self.bytes.copied()?,
-            end: self.end,
-            promise: self.promise,
+            marks: self.marks,
         })
     }
 }

@@ -36,13 +36,13 @@ impl EntryFacts {
     ) -> Result<Option<UserData>, NoMemory>
         requires fits { CoversFit self.now.cover (cover_of (core_of fragment.now)) }
         requires short { (n : ℕ)
-            → (covers_together self.now.cover (cover_of (core_of fragment.now))).end ≡ Some n
+            → (covers_together self.now.cover (cover_of (core_of fragment.now))).marks.end ≡ Some n
             → n ≤ MAX_LENGTH }
         ensures { IfOk result (λ bytes. datagram_with fragment.now.key self.now bytes
             ≡ handed_by handing (newly (entry_datagram fragment.now.key (Held self.now))
             (datagram_with fragment.now.key self.now
             (bytes_to (covers_together self.now.cover (cover_of (core_of fragment.now))).bytes
-            (covers_together self.now.cover (cover_of (core_of fragment.now))).end)))) }
+            (covers_together self.now.cover (cover_of (core_of fragment.now))).marks.end)))) }
     {
         match handing {
             Handing::Over => {}
@@ -67,7 +67,7 @@ impl EntryFacts {
     ) -> Result<Change<UserData>, NoMemory>
         requires fits { FactsFit self.old (facts_of (core_of fragment.now)) }
         requires short { (n : ℕ)
-            → (facts_together self.old (facts_of (core_of fragment.now))).cover.end ≡ Some n
+            → (facts_together self.old (facts_of (core_of fragment.now))).cover.marks.end ≡ Some n
             → n ≤ MAX_LENGTH }
         ensures joined { OnOk result
             (self.new ≡ facts_together self.old (facts_of (core_of fragment.now))) }
@@ -88,9 +88,9 @@ impl EntryFacts {
 
     /// The datagram's data, if the facts are whole and it is handed over. No memory is taken else.
     fn first_data(&self, alloc: Global, handing: Handing) -> Result<Option<UserData>, NoMemory>
-        requires { (n : ℕ) → self.now.cover.end ≡ Some n → n ≤ MAX_LENGTH }
+        requires { (n : ℕ) → self.now.cover.marks.end ≡ Some n → n ≤ MAX_LENGTH }
         ensures { IfOk result (λ bytes. bytes
-            ≡ handed_by handing (bytes_to self.now.cover.bytes self.now.cover.end)) }
+            ≡ handed_by handing (bytes_to self.now.cover.bytes self.now.cover.marks.end)) }
     {
         match handing {
             Handing::Over => self.user_data(alloc),
@@ -104,7 +104,7 @@ impl EntryFacts {
         fragment: &LentFragment<'_>,
         handing: Handing,
     ) -> Result<(EntryFacts, Change<UserData>), NoMemory>
-        requires { (n : ℕ) → (facts_of (core_of fragment.now)).cover.end ≡ Some n → n ≤ MAX_LENGTH }
+        requires { (n : ℕ) → (facts_of (core_of fragment.now)).cover.marks.end ≡ Some n → n ≤ MAX_LENGTH }
         ensures facts { IfOk result (λ made. made.0 ≡ facts_of (core_of fragment.now)) }
         ensures change { IfOk result (λ made.
             Tells handing fragment.now None (Some (Held made.0)) made.1) }

@@ -1,7 +1,6 @@
 //! Entries joined.
-ghost use Rattle.std.specs.Prelude.{◌≡◌, ◌≤◌, cond, IfOk, OnOk, OnErr, MatchOption, Some, None, option_and_then};
+ghost use Rattle.std.specs.Prelude.{◌≡◌, IfOk, OnOk, OnErr, MatchOption, Some, None, option_and_then};
 ghost use Rattle.std.specs.Option.{option_copied};
-ghost use Rattle.nb_datagram.specs.Fragment.{has_more};
 ghost use Rattle.nb_datagram.specs.declared.limits.TheConstants.{MAX_LENGTH};
 ghost use Rattle.nb_entries.specs.Entry.{join_entry, IsShort, is_short};
 ghost use Rattle.nb_entries.specs.Whole.{newly, datagram_of as entry_datagram};
@@ -11,6 +10,7 @@ ghost use Rattle.nb_entries.specs.Code.CoverFacts.{IsPart};
 use super::{Entry, EntryFacts};
 use crate::change::{Change, Handing};
 use crate::cover::CoverFacts;
+use crate::cover::marks::Marks;
 use crate::slot::{Facts, Slot};
 use nb_datagram::limits::{MAX_LENGTH, MORE};
 use nb_datagram::{Datagram, Key, LentFragment};
@@ -23,23 +23,6 @@ fn datagram_of(change: Change) -> Option<Datagram>
 {
     match change {
         Change::Whole(datagram) => Some(datagram),
-        _ => None,
-    }
-}
-
-/// The flags of a fragment that reaches this far and says just this of the end and the promise, if
-/// one can.
-fn flags_to(end: Option<u32>, promise: Option<u32>, reach: usize) -> Option<u8>
-    ensures { MatchOption result (Unit {0})
-        (λ flags. (end ≡ cond (has_more flags) None (Some reach))
-        × (promise ≡ cond (has_more flags) (Some reach) None) × (reach ≤ MAX_LENGTH)) }
-{
-    if reach > MAX_LENGTH {
-        return None;
-    }
-    match (end, promise) {
-        (None, Some(promise)) if promise as usize == reach => Some(MORE),
-        (Some(end), None) if end as usize == reach => Some(0),
         _ => None,
     }
 }
@@ -99,11 +82,27 @@ impl Slot<EntryFacts> {
         let cover = facts.cover();
         let (start, bytes) = cover.only()?;
         let offset = u16::try_from(start).ok()?;
-        let reach = usize::from(offset) + bytes.len();
-        let flags = flags_to(cover.end(), cover.promise(), reach)?;
+        let flags = match cover.marks().end {
+            Some(_) => 0,
+            None => MORE,
+        };
         let source = facts.source();
         let destination = facts.destination();
-        LentFragment::new(facts.kind(), flags, key, offset, source, destination, bytes).ok()
+        let kind = facts.kind();
+        let fragment = LentFragment::new(
+            kind,
+            flags,
+            key,
+            offset,
+            source,
+            destination,
+            bytes,
+        ).ok()?;
+        let said = Marks::of(&fragment);
+        if fragment.reach() as usize > MAX_LENGTH || !said.are(cover.marks()) {
+            return None;
+        }
+        Some(fragment)
     }
 
     /// Joins the other into this one, and gives the datagram of the key, if it becomes whole by

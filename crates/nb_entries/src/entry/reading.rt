@@ -25,8 +25,8 @@ impl EntryFacts {
             destination: self.destination().to_name(),
             held: self.known.cover.held(),
             runs: self.run_count(),
-            end: self.known.cover.end(),
-            promise: self.known.cover.promise(),
+            end: self.known.cover.marks().end,
+            promise: self.known.cover.marks().promise,
             awaited: self.known.cover.awaited(),
         }
     }

@@ -7,11 +7,11 @@ ghost use Rattle.nb_entries.specs.SavedReading.{facts_at, entry_at, most_of as m
 ghost use Rattle.nb_entries.specs.Maps.{Held, OnHeld};
 ghost use Rattle.nb_entries.specs.declared.saved.SavedForm.TheVariants.{Second};
 
-use super::fields::{read_byte, read_end, read_kind, read_plain_name, read_promise};
+use super::fields::{read_byte, read_kind, read_marks, read_plain_name};
 use super::runs::{SavedRuns, read_runs};
 use super::{ByteSink, SavedForm};
 use crate::cover::CoverFacts;
-use crate::cover::end::is_at_most;
+use crate::cover::marks::Marks;
 use crate::entry::{Entry, EntryFacts};
 use crate::load_fault::LoadFault;
 use crate::slot::Slot;
@@ -27,8 +27,7 @@ pub struct SavedFacts<'a> {
     kind: Kind,
     source: LentName<'a>,
     destination: LentName<'a>,
-    end: Option<u32>,
-    promise: Option<u32>,
+    marks: Marks,
     runs: SavedRuns<'a>,
 }
 
@@ -46,11 +45,11 @@ impl<'a> Model for SavedFacts<'a> {
       kind = f.kind;
       source = f.source;
       destination = f.destination;
-      cover = record { bytes = map_of_runs f.runs; end = f.end; promise = f.promise };
+      cover = record { bytes = map_of_runs f.runs; marks = f.marks };
     } };
 
     ghost invariant = { λ f.
-        AreCoverFacts (record { bytes = map_of_runs f.runs; end = f.end; promise = f.promise }) };
+        AreCoverFacts (record { bytes = map_of_runs f.runs; marks = f.marks }) };
 }
 
 /// The place that no run passes: the end, where it is known.
@@ -71,15 +70,13 @@ fn read_facts<'a>(
     let (kind, after_kind) = read_kind(input, at)?;
     let (source, after_source) = read_plain_name(input, after_kind)?;
     let (destination, after_names) = read_plain_name(input, after_source)?;
-    let (end, after_end) = read_end(input, after_names)?;
-    let (promise, after_promise) = read_promise(form, input, end, after_end)?;
-    let (runs, next) = read_runs(input, most_of(end), after_promise)?;
+    let (marks, after_marks) = read_marks(form, input, after_names)?;
+    let (runs, next) = read_runs(input, most_of(marks.end), after_marks)?;
     let facts = SavedFacts {
         kind,
         source,
         destination,
-        end,
-        promise,
+        marks,
         runs,
     };
     Ok((facts, next))
@@ -90,15 +87,14 @@ impl<'a> SavedFacts<'a> {
     fn is_short(&self, limit: u16) -> bool
         ensures { result ≡ is_short_entry limit (Held self.now) }
     {
-        let most = u32::from(limit);
-        self.runs.are_short(limit) && is_at_most(most, self.end) && is_at_most(most, self.promise)
+        self.runs.are_short(limit) && self.marks.are_up_to(u32::from(limit))
     }
 
     /// The facts, kept.
     fn load(&self, alloc: Global) -> Result<EntryFacts, NoMemory>
         ensures { IfOk result (λ facts. facts ≡ self.now) }
     {
-        let cover = CoverFacts::load(alloc, &self.runs, self.end, self.promise)?;
+        let cover = CoverFacts::load(alloc, &self.runs, self.marks)?;
         EntryFacts::new(alloc, self.kind, &self.source, &self.destination, cover)
     }
 }

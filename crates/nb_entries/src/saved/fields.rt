@@ -5,10 +5,12 @@ ghost use Rattle.std.specs.Prelude.{◌≡◌, ◌↔◌, ℕ, IsTrue, MatchResu
 ghost use Rattle.std.specs.Int.{w16, w32, to_be_bytes};
 ghost use Rattle.nb_names.specs.Labels.{NumberAt};
 ghost use Rattle.nb_entries.specs.Sinks.{Puts};
-ghost use Rattle.nb_entries.specs.Saved.{end_bytes};
-ghost use Rattle.nb_entries.specs.SavedReading.{Field, PromisesBelow, fault_of_name, byte_at as byte_reading, number_at as number_reading, bytes_at as bytes_reading, kind_at as kind_reading, name_at as name_reading, end_at as end_reading, promise_at as promise_reading};
+ghost use Rattle.nb_entries.specs.Marks.{end_bytes, marks_bytes};
+ghost use Rattle.nb_entries.specs.SavedReading.{Field, PromisesBelow, fault_of_name, byte_at as byte_reading, number_at as number_reading, bytes_at as bytes_reading, kind_at as kind_reading, name_at as name_reading, end_at as end_reading, promise_at as promise_reading, marks_at as marks_reading};
+ghost use Rattle.nb_entries.specs.declared.saved.SavedForm.TheVariants.{Second};
 
 use super::{ByteSink, SavedForm};
+use crate::cover::marks::Marks;
 use crate::load_fault::LoadFault;
 use nb_datagram::Kind;
 use nb_names::numbers::{number_16, number_32};
@@ -128,7 +130,7 @@ pub(crate) fn read_plain_name<'a>(
 }
 
 /// The end at an offset, if there is one.
-pub(crate) fn read_end(input: &[u8], at: usize) -> Result<(Option<u32>, usize), LoadFault>
+fn read_end(input: &[u8], at: usize) -> Result<(Option<u32>, usize), LoadFault>
     ensures { end_reading input.now at result }
 {
     let (mark, next) = read_byte(input, at)?;
@@ -154,7 +156,7 @@ fn is_below_end(promise: Option<u32>, end: Option<u32>) -> bool
 
 /// The promise at an offset, if there is one, which has to lie below the end. The first form has no
 /// such field.
-pub(crate) fn read_promise(
+fn read_promise(
     form: SavedForm,
     input: &[u8],
     end: Option<u32>,
@@ -173,8 +175,21 @@ pub(crate) fn read_promise(
     Ok((promise, next))
 }
 
+/// The end and the promise at an offset.
+pub(crate) fn read_marks(
+    form: SavedForm,
+    input: &[u8],
+    at: usize,
+) -> Result<(Marks, usize), LoadFault>
+    ensures { marks_reading form input.now at result }
+{
+    let (end, after) = read_end(input, at)?;
+    let (promise, next) = read_promise(form, input, end, after)?;
+    Ok((Marks { end, promise }, next))
+}
+
 /// Puts an end or a promise, or that there is none.
-pub(crate) fn put_end<S: ByteSink>(sink: &mut S, end: Option<u32>) -> Result<(), S::Fault>
+fn put_end<S: ByteSink>(sink: &mut S, end: Option<u32>) -> Result<(), S::Fault>
     ensures { Puts S.takes S.breaks sink.old sink.new (end_bytes end) result }
 {
     match end {
@@ -184,4 +199,12 @@ pub(crate) fn put_end<S: ByteSink>(sink: &mut S, end: Option<u32>) -> Result<(),
         }
         None => sink.put(&[0]),
     }
+}
+
+/// Puts the end and the promise, in the second form.
+pub(crate) fn put_marks<S: ByteSink>(sink: &mut S, marks: Marks) -> Result<(), S::Fault>
+    ensures { Puts S.takes S.breaks sink.old sink.new (marks_bytes Second marks) result }
+{
+    put_end(sink, marks.end)?;
+    put_end(sink, marks.promise)
 }

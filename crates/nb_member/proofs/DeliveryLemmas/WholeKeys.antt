@@ -12,7 +12,8 @@ use Rattle.nb_entries.specs.Maps.{joined_at}
 use Rattle.nb_entries.specs.declared.slot.Slot.TheVariants.{Spoilt, Held}
 use Rattle.nb_entries.specs.Entry.{EntryFacts, EntryValue, join_entry, facts_agree, facts_together, facts_of}
 use Rattle.nb_entries.specs.Whole.{IsDatagram, datagram_of, newly}
-use Rattle.nb_entries.specs.Shared.CoverLemmas.{in_union, first_left}
+use Rattle.nb_entries.specs.Shared.MarksLemmas.{first_left}
+use Rattle.nb_entries.specs.Shared.CoverLemmas.{in_union}
 use Rattle.nb_entries.specs.Shared.MapsLemmas.{at-none}
 use Rattle.nb_entries.specs.Shared.WholeLemmas.{newly_same}
 use Rattle.nb_table.specs.Contents.{Contents, table_of, datagram_at, newly_whole}
@@ -43,7 +44,7 @@ together_is k a b d h = record {
   kind = h.kind;
   source = h.source;
   destination = h.destination;
-  ends = first_left a.cover.end b.cover.end (length d.bytes) h.ends;
+  ends = first_left a.cover.marks.end b.cover.marks.end (length d.bytes) h.ends;
   bytes = λ i below. (
       let there = slice_get-get_or d.bytes i 0 below in
       in_union a.cover b.cover i

@@ -1,7 +1,7 @@
 -- Counts of the keys of each address, as they are kept: a key more, and a key less.
-use Rattle.std.proofs.Common.{◌≡◌, ◌≢◌, ◌≤◌, ◌<◌, ◌+◌, ◌-◌, ◌==◌, ◌&&◌, ℕ, cond, Bool, true, false, List, filter, length, Option, Some, None, is_none, is_some, unwrap_or, IfSome, refl, sym, ◌∙◌, ap, subst, arith, nat_le}
-use Rattle.std.proofs.lemmas.Bool.{true≢false, leb-true, le-leb, and_from, and_parts}
-use Rattle.std.proofs.lemmas.Option.{none-some, same_Some}
+use Rattle.std.proofs.Common.{◌≡◌, ◌≢◌, ◌≤◌, ◌<◌, ◌+◌, ◌-◌, ◌==◌, ◌&&◌, ℕ, cond, Bool, true, false, List, filter, length, Option, Some, None, is_none, is_some, unwrap_or, IfSome, refl, sym, ◌∙◌, ap, subst, arith}
+use Rattle.std.proofs.lemmas.Bool.{true≢false, and_from, and_parts}
+use Rattle.std.proofs.lemmas.Option.{none-some}
 use Rattle.std.specs.Prelude.{Decides}
 use Rattle.std.specs.Ordering.{eq_by_cmp}
 use Rattle.std.specs.Cmp.{Equal-is, tied_itself, unsigned_Decides}
@@ -9,7 +9,7 @@ use Rattle.std.specs.Cmp.Lexicographic.{nat_list_cmp_total, pointwise, pointwise
 use Rattle.std.specs.FinMap.{slice_cmp-IsAntisymmetric, nat_cmp-IsAntisymmetric}
 use Rattle.std.specs.FinMap as maps
 use Rattle.nb_datagram.specs.declared.key.Key.{Key}
-use Rattle.nb_entries.specs.Entry.{EntryValue, IsShort, ends_by, is_short}
+use Rattle.nb_entries.specs.Entry.{EntryValue, IsShort, is_short}
 use Rattle.nb_table.specs.Contents.{Contents}
 use Rattle.nb_table.specs.Limits.{of_source, held_keys, Limits, KeepsLimits}
 use Rattle.nb_table.specs.Code.SourceCounts.{ip_cmp, Adds, AreCounted, Counts, CountsKeys, HasNoZero, Takes, count_of, if_same}
@@ -18,6 +18,7 @@ use Rattle.nb_datagram.specs.Key.{key_cmp, key_cmp_total, key_cmp_exact}
 use Rattle.std.specs.List.{list_all}
 use Rattle.nb_entries.specs.declared.slot.Slot.TheVariants.{Spoilt, Held}
 use Rattle.nb_table.specs.Merging.{AllShort}
+use Rattle.nb_entries.specs.Shared.MarksLemmas.{up_to_decides}
 use Rattle.nb_entries.specs.Shared.MapsLemmas.{all_entries_found, all_entries_from}
 use Rattle.nb_entries.specs.Shared.CoverLemmas.{bytes_below_decides}
 
@@ -199,23 +200,11 @@ empty_keeps l = record {
 
 -- ---- short entries
 
-ends_found : (n : ℕ) (o : Option ℕ) → ends_by n o ≡ true → (m : ℕ) → o ≡ Some m → m ≤ n
-ends_found n None h m e = absurd (none-some m e)
-ends_found n (Some k) h m e = let one = same_Some k m e in leb-true m n (ap (λ j. nat_le j n) (sym one) ∙ h)
-
-ends_from : (n : ℕ) (o : Option ℕ) → ((m : ℕ) → o ≡ Some m → m ≤ n) → ends_by n o ≡ true
-ends_from n None h = refl
-ends_from n (Some k) h = le-leb k n (h k refl)
-
 short_decides : (n : ℕ) (e : EntryValue) → Decides (is_short n e) (IsShort n e)
 short_decides n Spoilt = (λ _. tt, λ _. refl)
 short_decides n (Held e) = (
-  λ h. (let t1 = (and_parts _ _ h).1 in record {
-    below = (bytes_below_decides n e.cover.bytes).0 (and_parts _ _ h).0;
-    ends = ends_found n e.cover.end (and_parts _ _ t1).0;
-    promises = ends_found n e.cover.promise (and_parts _ _ t1).1;
-  }),
-  λ h. and_from _ _ ((bytes_below_decides n e.cover.bytes).1 h.below) (and_from _ _ (ends_from n e.cover.end h.ends) (ends_from n e.cover.promise h.promises)),
+  λ h. record { below = (bytes_below_decides n e.cover.bytes).0 (and_parts _ _ h).0; marks = (up_to_decides n e.cover.marks).0 (and_parts _ _ h).1 },
+  λ h. and_from _ _ ((bytes_below_decides n e.cover.bytes).1 h.below) ((up_to_decides n e.cover.marks).1 h.marks),
 )
 
 pub all_short_decides : (n : ℕ) (t : Contents) → Decides (list_all (λ e. is_short n e.1) (maps.entries t)) (AllShort n t)

@@ -113,7 +113,7 @@ read_entries input es last h = sorted_entries key_cmp_total key_cmp_exact es (re
 pub read_len : (input : List ℕ) (es : List (Key × EntryValue)) (last : ℕ) → IsRead input (Ok (es, last)) → maps.len (table_with es) ≡ length es
 read_len input es last h = maps.len-entries (table_with es) ∙ ap length (read_entries input es last h)
 
-entries_plain : (input : List ℕ) (count : ℕ) (before : Option Key) (at next : ℕ) (es : List (Key × EntryValue)) → entries_at First input count before at (Ok (es, next)) → AllByRecursion (λ (e : Key × EntryValue). OnHeld (λ a. a.cover.promise ≡ None) e.1) es
+entries_plain : (input : List ℕ) (count : ℕ) (before : Option Key) (at next : ℕ) (es : List (Key × EntryValue)) → entries_at First input count before at (Ok (es, next)) → AllByRecursion (λ (e : Key × EntryValue). OnHeld (λ a. a.cover.marks.promise ≡ None) e.1) es
 entries_plain input zero before at next es gives = tt
 entries_plain input (suc count) before at next es (goes_on key a k (goes_on e b h (goes_on fs c r gives))) =
     (entry_plain input a b e h, entries_plain input count (Some key) b c fs r)
@@ -129,7 +129,7 @@ read_saved input es last h = let w = read_inside input es last h in by_form w.fo
     by_form Second r b = inl (found_as Second input es (read_len input es last h) (read_entries input es last h) b)
     by_form First r b = inr (
       found_as First input es (read_len input es last h) (read_entries input es last h) b,
-      λ k e f. found_in (OnHeld (λ a. a.cover.promise ≡ None)) es (entries_plain input (length es) None 8 last es r) k (Held e) (sym (maps.get-from_entries key_cmp_total es k) ∙ f),
+      λ k e f. found_in (OnHeld (λ a. a.cover.marks.promise ≡ None)) es (entries_plain input (length es) None 8 last es r) k (Held e) (sym (maps.get-from_entries key_cmp_total es k) ∙ f),
     )
 
 pub read_formed : (input : List ℕ) (es : List (Key × EntryValue)) (last : ℕ) → IsRead input (Ok (es, last)) → IsTable (table_with es)
@@ -155,7 +155,7 @@ key_back input before at next k is after s =
 
 -- an entry that fits the form and its fields, is well formed, and is short
 pub record IsSound (form : SavedForm) (k : Key) (e : EntryValue) : Type 0 where
-  pub in_form : OnHeld (λ a. InForm form a.cover.promise) e
+  pub in_form : OnHeld (λ a. InForm form a.cover.marks) e
   pub fits : FitsKeyed k e
   pub formed : IsEntry e
   pub short : IsShort MAX_LENGTH e
@@ -190,7 +190,7 @@ entries_back form input before at next (e ∷ es) sound sorted head s =
 
 -- ---- the whole table
 
-pub read_back_as : (form : SavedForm) (t : Contents) → ((k : Key) (e : EntryValue) → maps.get t k ≡ Some e → OnHeld (λ a. InForm form a.cover.promise) e) → FitsSaved t → IsTable t → AllShort MAX_LENGTH t → IsRead (saved_as form t) (Ok (maps.entries t, length (saved_as form t)))
+pub read_back_as : (form : SavedForm) (t : Contents) → ((k : Key) (e : EntryValue) → maps.get t k ≡ Some e → OnHeld (λ a. InForm form a.cover.marks) e) → FitsSaved t → IsTable t → AllShort MAX_LENGTH t → IsRead (saved_as form t) (Ok (maps.entries t, length (saved_as form t)))
 read_back_as form t in_form fits formed short =
     let es = maps.entries t in
     let input = saved_as form t in
@@ -217,7 +217,7 @@ read_back t = read_back_as Second t (λ k e f. any_form e)
 pub read_back_first : (t : Contents) → HasNoPromise t → FitsSaved t → IsTable t → AllShort MAX_LENGTH t → IsRead (saved_first t) (Ok (maps.entries t, length (saved_first t)))
 read_back_first t none = read_back_as First t plain
   where
-    plain : (k : Key) (e : EntryValue) → maps.get t k ≡ Some e → OnHeld (λ a. InForm First a.cover.promise) e
+    plain : (k : Key) (e : EntryValue) → maps.get t k ≡ Some e → OnHeld (λ a. InForm First a.cover.marks) e
     plain k Spoilt f = tt
     plain k (Held a) f = none k a f
 

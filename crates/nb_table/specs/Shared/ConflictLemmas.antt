@@ -9,7 +9,8 @@ use Rattle.nb_datagram.specs.declared.key.Key.{Key}
 use Rattle.nb_datagram.specs.Packet.{same_kind}
 use Rattle.nb_datagram.specs.Key.{same_key, same_key_decides}
 use Rattle.nb_datagram.specs.Fragment.{Core, Covers, EndsAt, end_of_one}
-use Rattle.nb_entries.specs.Cover.{Promises, promise_of_one, CoverFacts, bytes_lie_below, is_before, lies_below, same_where, bytes_agree, ends_agree, is_below_end, covers_agree, cover_of}
+use Rattle.nb_entries.specs.Marks.{Promises, promise_of_one, is_before, same_where, ends_agree}
+use Rattle.nb_entries.specs.Cover.{CoverFacts, bytes_lie_below, lies_below, bytes_agree, is_below_end, covers_agree, cover_of}
 use Rattle.nb_entries.specs.Entry.{FactsFit, facts_agree, facts_of}
 use Rattle.nb_table.specs.Conflict.{PastEnd, BreaksPromise, Conflict, kinds, sources, destinations, overlap, ends, past_end, past_other_end, breaks, breaks_other, IsSpoilt, conflicts, some_conflict, with_key, is_spoilt}
 use Rattle.nb_names.specs.Name.{name_eq}
@@ -124,14 +125,14 @@ contradicts f g a (kinds h) = h a.kind
 contradicts f g a (sources h) = h a.source
 contradicts f g a (destinations h) = h a.destination
 contradicts f g a (overlap o) = o.differs (a.cover.bytes o.place o.byte o.other_byte (covered f o.place o.byte o.covers) (covered g o.place o.other_byte o.other_covers))
-contradicts f g a (ends m n p q h) = h (a.cover.ends m n ((end_of_decides f m).1 p) ((end_of_decides g n).1 q))
+contradicts f g a (ends m n p q h) = h (a.cover.marks m n ((end_of_decides f m).1 p) ((end_of_decides g n).1 q))
 contradicts f g a (past_end p) = p.past (a.cover.other_below p.end ((end_of_decides f p.end).1 p.ends)).bytes
 contradicts f g a (past_other_end p) = p.past (a.cover.own_below p.end ((end_of_decides g p.end).1 p.ends)).bytes
 contradicts f g a (breaks p) =
-    let below = (a.cover.other_below p.end ((end_of_decides f p.end).1 p.ends)).promise p.promised ((promise_of_decides g p.promised).1 p.promises) in
+    let below = (a.cover.other_below p.end ((end_of_decides f p.end).1 p.ends)).marks p.promised ((promise_of_decides g p.promised).1 p.promises) in
     let broken = p.broken in omega (arith, below, broken)
 contradicts f g a (breaks_other p) =
-    let below = (a.cover.own_below p.end ((end_of_decides g p.end).1 p.ends)).promise p.promised ((promise_of_decides f p.promised).1 p.promises) in
+    let below = (a.cover.own_below p.end ((end_of_decides g p.end).1 p.ends)).marks p.promised ((promise_of_decides f p.promised).1 p.promises) in
     let broken = p.broken in omega (arith, below, broken)
 
 test_of : (f g : Core) (b : Bool) → facts_agree (facts_of f) (facts_of g) ≡ b → Conflict f g → not b ≡ true

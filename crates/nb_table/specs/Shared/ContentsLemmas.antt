@@ -45,7 +45,6 @@ cover_in-cons f fs = same_cover _ _ (λ i.
     ∙ ap (first_of (maps.get (cover_of f).bytes i)) (sym (maps.get-from_entries nat_cmp_total (all_placed fs) i))
     ∙ sym (in_union (cover_of f) (cover_in fs) i))
     refl
-    refl
 
 with_cover : Core → CoverFacts → EntryFacts
 with_cover f c = record { kind = f.kind; source = f.source; destination = f.destination; cover = c }

@@ -2,10 +2,12 @@
 use Rattle.std.proofs.Common.{◌≡◌, ◌≤◌, arith, inl, inr, ℕ, Contains, List, [], ◌∷◌, Option, Some, None, refl, ◌∙◌, ap, ◌≢◌, ◌↔◌, Bool, true, false, cond, slice_get, sym, subst}
 use Rattle.nb_datagram.specs.Fragment.{Core, Covers, EndsAt, byte_of, end_of_one}
 use Rattle.nb_entries.specs.Maps.{first_of}
-use Rattle.nb_entries.specs.Cover.{Promises, promise_of_one}
-use Rattle.nb_table.specs.Contents.{first_byte, first_end, greatest_promise, Contents, facts_in, entry_in, table_of, Says, IsEntryOf, IsTableOf, HasByte, HasEnd, HasPromise}
-use Rattle.nb_entries.specs.Shared.CoverLemmas.{first_either, same_cover}
-use Rattle.nb_entries.specs.Shared.PlacedLemmas.{promise_of_decides, greater_either, greater_left, greater_right, byte_of_decides, end_of_decides}
+use Rattle.nb_entries.specs.declared.cover.marks.Marks.{Marks}
+use Rattle.nb_entries.specs.Marks.{Promises, promise_of_one}
+use Rattle.nb_table.specs.Contents.{first_byte, marks_in, end_of, promise_of, Contents, facts_in, entry_in, table_of, Says, IsEntryOf, IsTableOf, HasByte, HasEnd, HasPromise}
+use Rattle.nb_entries.specs.Shared.MarksLemmas.{first_either, greater_either, greater_left, greater_right}
+use Rattle.nb_entries.specs.Shared.CoverLemmas.{same_cover}
+use Rattle.nb_entries.specs.Shared.PlacedLemmas.{promise_of_decides, byte_of_decides, end_of_decides}
 use Rattle.nb_table.specs.Shared.ContentsLemmas.{in_none, in_first, in_rest, in_cons, get-cover_in}
 use Rattle.std.proofs.lemmas.Bool.{cases_eq}
 use Rattle.std.proofs.lemmas.Option.{same_Some, slice_get_within, get_or_from_slice_get}
@@ -38,9 +40,9 @@ first_byte_from (f ∷ fs) i x e = elim (first_either (byte_of f i) (first_byte 
   | inr there ↦ let w = first_byte_from fs i x there in record { fragment = w.fragment; has = in_rest f fs w.fragment w.has; covers = w.covers }
 ]
 
-pub first_end_from : (fs : List Core) (n : ℕ) → first_end fs ≡ Some n → EndFrom fs n
+pub first_end_from : (fs : List Core) (n : ℕ) → (marks_in fs).end ≡ Some n → EndFrom fs n
 first_end_from [] n e = absurd (cc)
-first_end_from (f ∷ fs) n e = elim (first_either (end_of_one f) (first_end fs) n e) [
+first_end_from (f ∷ fs) n e = elim (first_either (end_of_one f) (marks_in fs).end n e) [
   | inl here ↦ record { fragment = f; has = in_first f fs; ends = (end_of_decides f n).0 here }
   | inr there ↦ let w = first_end_from fs n there in record { fragment = w.fragment; has = in_rest f fs w.fragment w.has; ends = w.ends }
 ]
@@ -51,21 +53,21 @@ pub record PromiseFrom (fs : List Core) (r : ℕ) : Type 0 where
   pub has : Contains fs fragment
   pub promises : Promises fragment r
 
-pub greatest_promise_from : (fs : List Core) (r : ℕ) → greatest_promise fs ≡ Some r → PromiseFrom fs r
+pub greatest_promise_from : (fs : List Core) (r : ℕ) → (marks_in fs).promise ≡ Some r → PromiseFrom fs r
 greatest_promise_from [] r e = absurd (cc)
-greatest_promise_from (f ∷ fs) r e = elim (greater_either (promise_of_one f) (greatest_promise fs) r e) [
+greatest_promise_from (f ∷ fs) r e = elim (greater_either (promise_of_one f) (marks_in fs).promise r e) [
   | inl here ↦ record { fragment = f; has = in_first f fs; promises = (promise_of_decides f r).0 here }
   | inr there ↦ let w = greatest_promise_from fs r there in record { fragment = w.fragment; has = in_rest f fs w.fragment w.has; promises = w.promises }
 ]
 
 -- no fragment promises more than the greater
-pub greatest_promise_there : (fs : List Core) (f : Core) (r : ℕ) → Contains fs f → Promises f r → (s : ℕ) × (greatest_promise fs ≡ Some s) × (r ≤ s)
+pub greatest_promise_there : (fs : List Core) (f : Core) (r : ℕ) → Contains fs f → Promises f r → (s : ℕ) × ((marks_in fs).promise ≡ Some s) × (r ≤ s)
 greatest_promise_there [] f r h p = absurd (in_none f h)
 greatest_promise_there (g ∷ gs) f r h p = elim (in_cons g gs f h) [
-  | inl same ↦ greater_left (promise_of_one g) (greatest_promise gs) r (ap promise_of_one same ∙ (promise_of_decides f r).1 p)
+  | inl same ↦ greater_left (promise_of_one g) (marks_in gs).promise r (ap promise_of_one same ∙ (promise_of_decides f r).1 p)
   | inr there ↦
       let w = greatest_promise_there gs f r there p in
-      let v = greater_right (promise_of_one g) (greatest_promise gs) w.0 w.1 in
+      let v = greater_right (promise_of_one g) (marks_in gs).promise w.0 w.1 in
       let less = w.2 in let more = v.2 in (v.0, v.1, omega (arith, less, more))
 ]
 
@@ -84,11 +86,11 @@ first_byte_there (g ∷ gs) f i x h c = elim (in_cons g gs f h) [
   | inr there ↦ rest_there (byte_of g i) (first_byte gs i) (first_byte_there gs f i x there c)
 ]
 
-pub first_end_there : (fs : List Core) (f : Core) (n : ℕ) → Contains fs f → EndsAt f n → (m : ℕ) × (first_end fs ≡ Some m)
+pub first_end_there : (fs : List Core) (f : Core) (n : ℕ) → Contains fs f → EndsAt f n → (m : ℕ) × ((marks_in fs).end ≡ Some m)
 first_end_there [] f n h c = absurd (in_none f h)
 first_end_there (g ∷ gs) f n h c = elim (in_cons g gs f h) [
-  | inl same ↦ first_there (end_of_one g) (first_end gs) n (ap end_of_one same ∙ (end_of_decides f n).1 c)
-  | inr there ↦ rest_there (end_of_one g) (first_end gs) (first_end_there gs f n there c)
+  | inl same ↦ first_there (end_of_one g) (marks_in gs).end n (ap end_of_one same ∙ (end_of_decides f n).1 c)
+  | inr there ↦ rest_there (end_of_one g) (marks_in gs).end (first_end_there gs f n there c)
 ]
 
 -- ---- nothing
@@ -154,9 +156,15 @@ held_says L k e h =
       source = ap (λ (a : EntryFacts). a.source) (sym w.facts);
       destination = ap (λ (a : EntryFacts). a.destination) (sym w.facts);
       bytes = λ i. ap (λ (a : EntryFacts). maps.get a.cover.bytes i) (sym w.facts) ∙ get-cover_in (with_key k L) i;
-      end = ap (λ (a : EntryFacts). a.cover.end) (sym w.facts);
-      promise = ap (λ (a : EntryFacts). a.cover.promise) (sym w.facts);
+      marks = ap (λ (a : EntryFacts). a.cover.marks) (sym w.facts);
     }
+
+-- of the marks, the end and the promise
+pub says_end : (L : List Core) (k : Key) (e : EntryFacts) → Says L k e → e.cover.marks.end ≡ end_of L k
+says_end L k e says = ap (λ (m : Marks). m.end) says.marks
+
+says_promise : (L : List Core) (k : Key) (e : EntryFacts) → Says L k e → e.cover.marks.promise ≡ promise_of L k
+says_promise L k e says = ap (λ (m : Marks). m.promise) says.marks
 
 -- what the list says of a key is one thing
 one_saying : (L : List Core) (k : Key) (a b : EntryFacts) → Says L k a → Says L k b → a ≡ b
@@ -165,7 +173,7 @@ one_saying L k a b p q =
     let kind = p.kind ∙ ap (λ (f : Core). f.kind) first ∙ sym q.kind in
     let source = p.source ∙ ap (λ (f : Core). f.source) first ∙ sym q.source in
     let destination = p.destination ∙ ap (λ (f : Core). f.destination) first ∙ sym q.destination in
-    let cover = same_cover a.cover b.cover (λ i. p.bytes i ∙ sym (q.bytes i)) (p.end ∙ sym q.end) (p.promise ∙ sym q.promise) in
+    let cover = same_cover a.cover b.cover (λ i. p.bytes i ∙ sym (q.bytes i)) (p.marks ∙ sym q.marks) in
     λ i. record { kind = kind i; source = source i; destination = destination i; cover = cover i }
 
 -- a key of which the list says something, and which isn't spoilt, is held
@@ -244,46 +252,46 @@ byte_exactly L k e h i x = (found, from)
         let w = first_byte_from (with_key k L) i there.0 there.1 in
         both.1.bytes i ∙ there.1 ∙ ap Some (same_byte L k both.0 w.fragment b.fragment i there.0 x w.has has w.covers b.covers)
 
-pub end_exactly : (L : List Core) (k : Key) (e : EntryFacts) → maps.get (table_of L) k ≡ Some (Held e) → (n : ℕ) → (e.cover.end ≡ Some n) ↔ HasEnd L k n
+pub end_exactly : (L : List Core) (k : Key) (e : EntryFacts) → maps.get (table_of L) k ≡ Some (Held e) → (n : ℕ) → (e.cover.marks.end ≡ Some n) ↔ HasEnd L k n
 end_exactly L k e h n = (found, from)
   where
     both : (IsSpoilt L k → ⊥) × Says L k e
     both = (held_exactly L k e).0 h
 
-    found : e.cover.end ≡ Some n → HasEnd L k n
+    found : e.cover.marks.end ≡ Some n → HasEnd L k n
     found g =
-        let w = first_end_from (with_key k L) n (sym both.1.end ∙ g) in
+        let w = first_end_from (with_key k L) n (sym (says_end L k e both.1) ∙ g) in
         let own = in_with_key k L w.fragment w.has in
         record { fragment = w.fragment; has = own.0; of_key = own.1; ends = w.ends }
 
-    from : HasEnd L k n → e.cover.end ≡ Some n
+    from : HasEnd L k n → e.cover.marks.end ≡ Some n
     from b =
         let has = with_key_in k L b.fragment b.has b.of_key in
         let there = first_end_there (with_key k L) b.fragment n has b.ends in
         let w = first_end_from (with_key k L) there.0 there.1 in
-        both.1.end ∙ there.1 ∙ ap Some (same_end L k both.0 w.fragment b.fragment there.0 n w.has has w.ends b.ends)
+        says_end L k e both.1 ∙ there.1 ∙ ap Some (same_end L k both.0 w.fragment b.fragment there.0 n w.has has w.ends b.ends)
 
-pub promise_exactly : (L : List Core) (k : Key) (e : EntryFacts) → maps.get (table_of L) k ≡ Some (Held e) → (r : ℕ) → (e.cover.promise ≡ Some r) ↔ (HasPromise L k r × ((s : ℕ) → HasPromise L k s → s ≤ r))
+pub promise_exactly : (L : List Core) (k : Key) (e : EntryFacts) → maps.get (table_of L) k ≡ Some (Held e) → (r : ℕ) → (e.cover.marks.promise ≡ Some r) ↔ (HasPromise L k r × ((s : ℕ) → HasPromise L k s → s ≤ r))
 promise_exactly L k e h r = (λ g. (found r g, λ s p. most r g s p), from)
   where
     says : Says L k e
     says = ((held_exactly L k e).0 h).1
 
-    found : (r : ℕ) → e.cover.promise ≡ Some r → HasPromise L k r
+    found : (r : ℕ) → e.cover.marks.promise ≡ Some r → HasPromise L k r
     found r g =
-        let w = greatest_promise_from (with_key k L) r (sym says.promise ∙ g) in
+        let w = greatest_promise_from (with_key k L) r (sym (says_promise L k e says) ∙ g) in
         let own = in_with_key k L w.fragment w.has in
         record { fragment = w.fragment; has = own.0; of_key = own.1; promises = w.promises }
 
-    there : (s : ℕ) → HasPromise L k s → (t : ℕ) × (e.cover.promise ≡ Some t) × (s ≤ t)
+    there : (s : ℕ) → HasPromise L k s → (t : ℕ) × (e.cover.marks.promise ≡ Some t) × (s ≤ t)
     there s p =
         let w = greatest_promise_there (with_key k L) p.fragment s (with_key_in k L p.fragment p.has p.of_key) p.promises in
-        (w.0, says.promise ∙ w.1, w.2)
+        (w.0, says_promise L k e says ∙ w.1, w.2)
 
-    most : (r : ℕ) → e.cover.promise ≡ Some r → (s : ℕ) → HasPromise L k s → s ≤ r
+    most : (r : ℕ) → e.cover.marks.promise ≡ Some r → (s : ℕ) → HasPromise L k s → s ≤ r
     most r g s p = let w = there s p in let same = same_Some w.0 r (sym w.1 ∙ g) in let less = w.2 in omega (arith, same, less)
 
-    from : HasPromise L k r × ((s : ℕ) → HasPromise L k s → s ≤ r) → e.cover.promise ≡ Some r
+    from : HasPromise L k r × ((s : ℕ) → HasPromise L k s → s ≤ r) → e.cover.marks.promise ≡ Some r
     from p =
         let w = there r p.0 in
         let less = w.2 in

@@ -15,14 +15,15 @@ use Rattle.nb_names.specs.Hexadecimal.{digits_text}
 use Rattle.nb_names.specs.NameText.{digits_of}
 use Rattle.nb_datagram.specs.declared.key.Key.{Key}
 use Rattle.nb_datagram.specs.Key.{key_cmp_total, key_cmp_exact, key_cmp, same_key, same_key_decides}
-use Rattle.nb_datagram.specs.Fragment.{Core, end_of_one}
-use Rattle.nb_entries.specs.Maps.{joined_at, first_of, joined_onto}
+use Rattle.nb_datagram.specs.Fragment.{Core}
+use Rattle.nb_entries.specs.Maps.{joined_at, joined_onto}
 use Rattle.nb_entries.specs.Entry.{EntryValue, join_entry, IsEntry, facts_of}
 use Rattle.nb_entries.specs.Shared.MapsLemmas.{get-joined, joined-comm, joined-assoc, joined-idem, get-at_keys, tied_self}
 use Rattle.nb_entries.specs.Shared.EntryLemmas.{join_entry-comm, join_entry-assoc, join_entry-idem, join_entry_formed}
 use Rattle.nb_entries.specs.declared.slot.Slot.TheVariants.{Spoilt, Held}
-use Rattle.nb_entries.specs.Cover.{placed, cover_of, promise_of_one}
-use Rattle.nb_entries.specs.Shared.PlacedLemmas.{greater-alone}
+use Rattle.nb_entries.specs.Marks.{marks_of}
+use Rattle.nb_entries.specs.Cover.{placed, cover_of}
+use Rattle.nb_entries.specs.Shared.MarksLemmas.{marks_alone}
 use Rattle.nb_table.specs.Contents.{Contents, cover_in, facts_in, entry_in, entry_at, table_of}
 use Rattle.nb_table.specs.Join.{join, IsTable}
 use Rattle.nb_table.specs.Limits.{held_keys}
@@ -172,12 +173,8 @@ module _ {W : Type 0} {C : W → Option (List ℕ)} where
 
 -- ---- the facts of one fragment
 
-first_alone : (o : Option ℕ) → first_of o None ≡ o
-first_alone None = refl
-first_alone (Some x) = refl
-
 cover_in-one : (f : Core) → cover_in (f ∷ []) ≡ cover_of f
-cover_in-one f = λ i. record { bytes = maps.from_entries (append-nil (placed f.offset f.bytes) i); end = first_alone (end_of_one f) i; promise = greater-alone (promise_of_one f) i }
+cover_in-one f = λ i. record { bytes = maps.from_entries (append-nil (placed f.offset f.bytes) i); marks = marks_alone (marks_of f) i }
 
 pub facts_in-one : (f : Core) → facts_in f (f ∷ []) ≡ facts_of f
 facts_in-one f = λ i. record { kind = f.kind; source = f.source; destination = f.destination; cover = cover_in-one f i }

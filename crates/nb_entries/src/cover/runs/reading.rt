@@ -4,7 +4,8 @@ ghost use Rattle.std.specs.Prelude.{◌≡◌, ◌↔◌, ◌≤◌, ◌<◌, �
 ghost use Rattle.std.specs.List.{list_all};
 ghost use Rattle.std.specs.FinMap as maps;
 ghost use Rattle.nb_datagram.specs.declared.limits.TheConstants.{MAX_LENGTH};
-ghost use Rattle.nb_entries.specs.Cover.{placed, same_where, bytes_agree, BytesBelow};
+ghost use Rattle.nb_entries.specs.Marks.{same_where};
+ghost use Rattle.nb_entries.specs.Cover.{placed, bytes_agree, BytesBelow};
 ghost use Rattle.nb_entries.specs.Maps.{union};
 ghost use Rattle.nb_entries.specs.Runs.{ranges_of_map, runs_of_map};
 ghost use Rattle.nb_entries.specs.Whole.{bytes_below as map_below};

@@ -5,10 +5,10 @@ use Rattle.nb_entries.proofs.cover.CoverFacts.held.Goals as goal
 pub held-requires : goal.held-requires
 held-requires c =
     let below = rw (← c.self.view_is) at c.requires in
-    few_bytes_of (record { bytes = c.self.inside.bytes; end = c.self.inside.end; promise = c.self.inside.promise }) below
+    few_bytes_of (record { bytes = c.self.inside.bytes; marks = c.self.inside.marks }) below
 
 pub overflow_cast-result : goal.overflow_cast-result
 overflow_cast-result c =
     let below = rw (← c.self.view_is) at c.requires in
-    let few = few_bytes_of (record { bytes = c.self.inside.bytes; end = c.self.inside.end; promise = c.self.inside.promise }) below in
+    let few = few_bytes_of (record { bytes = c.self.inside.bytes; marks = c.self.inside.marks }) below in
     omega (arith, few)

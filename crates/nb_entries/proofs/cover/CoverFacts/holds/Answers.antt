@@ -1,24 +1,27 @@
-use Rattle.std.proofs.Common.{ap, ap₂, sym, ◌∙◌}
+use Rattle.std.proofs.Common.{◌≡◌, true, false, ap, ap₂, sym, ◌∙◌}
+use Rattle.std.proofs.lemmas.Bool.Decides.{not_from_Decides}
 use Rattle.std.specs.List.{list_all}
 use Rattle.std.specs.FinMap as maps
 use Rattle.nb_datagram.specs.Fragment.{core_of}
-use Rattle.nb_entries.specs.Cover.{cover_of, placed}
-use Rattle.nb_entries.specs.Code.CoverFacts.{is_promised, is_there}
-use Rattle.nb_entries.specs.Shared.PlacedLemmas.{is_promised_decides}
+use Rattle.nb_entries.specs.Marks.{marks_together}
+use Rattle.nb_entries.specs.Cover.{placed}
+use Rattle.nb_entries.specs.Code.CoverFacts.{is_there}
 use Rattle.nb_entries.proofs.Covers.{held_from_all, all_from_held}
 use Rattle.nb_entries.proofs.cover.CoverFacts.holds.Goals as goal
+
+pub returns-then-not-are : goal.returns-then-not-are
+returns-then-not-are c =
+    let known = c.together-known.ensures ∙ ap (marks_together c.self.inside.marks) c.of.ensures in
+    let other = not_from_Decides c.are.result c.are.ensures c.if-not-are.true in
+    rw (← c.self.view_is) (λ t. (let clash : false ≡ true = t in absurd (cc clash)), λ h. absurd (other (known ∙ h.marks)))
 
 pub returns : goal.returns
 returns c =
     let own = c.self.inside in
     let f = core_of c.args.fragment.now in
     let at = c.hold.ensures ∙ ap₂ (λ i xs. list_all (λ e. is_there (maps.get own.bytes e.0) e.1) (placed i xs)) (c.from-start.ensures ∙ c.offset.ensures) c.bytes.ensures.value in
-    let promised = sym (c.is_promised.ensures ∙ ap (is_promised own.promise) c.promise_of.ensures) ∙ c.if-not-is_promised.false in
+    let known = c.together-known.ensures ∙ ap (marks_together own.marks) c.of.ensures in
     rw (← c.self.view_is) (
-      λ h. record {
-        bytes = held_from_all (maps.get own.bytes) f (sym at ∙ h);
-        end = λ n e. c.has_end.ensures.0 c.if-not-has_end.false n (c.end_of.ensures ∙ e);
-        promise = (is_promised_decides own.promise (cover_of f).promise).0 promised;
-      },
+      λ h. record { bytes = held_from_all (maps.get own.bytes) f (sym at ∙ h); marks = sym known ∙ c.are.ensures.0 c.if-not-are.false },
       λ h. at ∙ all_from_held (maps.get own.bytes) f h.bytes,
     )

@@ -17,9 +17,8 @@ returns c =
     ∙ ap (λ m. with_bytes m c.from.result c.bytes.result.now) c.new-bytes.ensures
     ∙ ap₂ (with_bytes maps.empty) (c.from.ensures ∙ c.offset.ensures) c.bytes.ensures.value
     ∙ put_alone c.args.fragment.now.offset c.args.fragment.now.bytes in
-    let end = c.end_of-end.ensures in
-    let promise = c.promise_of-promise.ensures in
-    λ i. record { bytes = bytes i; end = end i; promise = promise i }
+    let marks = c.of-marks.ensures in
+    λ i. record { bytes = bytes i; marks = marks i }
 
 pub invariant_of-result : goal.invariant_of-result
 invariant_of-result c = subst AreCoverFacts (sym (returns c)) (cover_of_formed (core_of c.args.fragment.now))

@@ -1,14 +1,14 @@
 use Rattle.std.proofs.lemmas.Result.{IfOk-weaker}
 use Rattle.std.proofs.Common.{ap, ◌∙◌}
-use Rattle.std.specs.Option.{option_or}
 use Rattle.nb_datagram.specs.Fragment.{core_of}
+use Rattle.nb_entries.specs.Marks.{marks_together}
 use Rattle.nb_entries.specs.Cover.{CoverFacts}
 use Rattle.nb_entries.proofs.KeptRuns.RunReadLemmas.{whole_put}
 use Rattle.nb_entries.proofs.cover.CoverFacts.whole_with.Goals as goal
 
 pub returns-in-Some : goal.returns-in-Some
 returns-in-Some c =
-    let own : CoverFacts = record { bytes = c.self.inside.bytes; end = c.self.inside.end; promise = c.self.inside.promise } in
+    let own : CoverFacts = record { bytes = c.self.inside.bytes; marks = c.self.inside.marks } in
     let fit = rw (← c.self.view_is) at c.requires in
-    let whole = whole_put own (core_of c.args.fragment.now) _ _ c.in-Some.end c.or.result fit (c.from-start.ensures ∙ c.offset.ensures) c.bytes.ensures.value c.in-Some.is (c.or.ensures ∙ ap (option_or c.self.inside.end) c.end_of.ensures) in
+    let whole = whole_put own (core_of c.args.fragment.now) _ _ c.in-Some.end c.together.result fit (c.from-start.ensures ∙ c.offset.ensures) c.bytes.ensures.value c.in-Some.is (c.together.ensures ∙ ap (marks_together c.self.inside.marks) c.of.ensures) in
     rw (← c.self.view_is) (IfOk-weaker c.bytes_with.result _ _ (λ made e. e ∙ whole) c.bytes_with.ensures)

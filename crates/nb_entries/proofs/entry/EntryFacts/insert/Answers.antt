@@ -40,7 +40,7 @@ returns-clause-change c =
     let whole = newly (datagram_of k (Held old)) (datagram_of k (Held (facts_together old b))) in
     let datagram =
     (rw (← c.self.view_is) at c.in_ok-bytes.ensures)
-    ∙ ap (λ (d : Option DatagramParts). handed_by h (newly (datagram_of k (Held old)) d)) (with_together k old b (bytes_to (facts_together old b).cover.bytes (facts_together old b).cover.end)) in
+    ∙ ap (λ (d : Option DatagramParts). handed_by h (newly (datagram_of k (Held old)) d)) (with_together k old b (bytes_to (facts_together old b).cover.bytes (facts_together old b).cover.marks.end)) in
     let told = ap (made_by f) c.grown_to.ensures ∙ made_grown f old c.in_ok-bytes.bytes fit.kind fit.source fit.destination ∙ ap grown_to datagram ∙ told_grown h whole in
     let grown = key_grown k old b fit (rw c.deref.ensures at (not_from_Decides c.holds.result c.holds.ensures c.if-holds.false)) in
     rw (← c.self.view_is, c.deref_mut.ensures.value) (grown_to whole, rw new grown, told)

@@ -3,7 +3,7 @@ use Rattle.std.specs.List.{AllByRecursion}
 use Rattle.nb_entries.specs.Runs.{RunValue, run_end}
 use Rattle.nb_entries.specs.SavedReading.{goes_on, gives}
 use Rattle.nb_entries.specs.Shared.RowLemmas.{covers_formed}
-use Rattle.nb_entries.specs.Shared.FoundLemmas.{promise_found, runs_found}
+use Rattle.nb_entries.specs.Shared.FoundLemmas.{marks_found, runs_found}
 use Rattle.nb_entries.proofs.SavedReading.{stopped}
 use Rattle.nb_entries.proofs.saved.facts.read_facts.Goals as goal
 
@@ -17,24 +17,20 @@ pub returns-in_err-destination : goal.returns-in_err-destination
 returns-in_err-destination c =
     goes_on _ _ c.in_ok-kind.ensures (goes_on _ _ c.in_ok-source.ensures (stopped _ _ c.from_residual-in_err-destination.ensures.1 c.in_err-destination.ensures))
 
-pub returns-in_err-end : goal.returns-in_err-end
-returns-in_err-end c =
-    goes_on _ _ c.in_ok-kind.ensures (goes_on _ _ c.in_ok-source.ensures (goes_on _ _ c.in_ok-destination.ensures (stopped _ _ c.from_residual-in_err-end.ensures.1 c.in_err-end.ensures)))
-
-pub returns-in_err-promise : goal.returns-in_err-promise
-returns-in_err-promise c =
-    goes_on _ _ c.in_ok-kind.ensures (goes_on _ _ c.in_ok-source.ensures (goes_on _ _ c.in_ok-destination.ensures (goes_on _ _ c.in_ok-end.ensures (stopped _ _ c.from_residual-in_err-promise.ensures.1 c.in_err-promise.ensures))))
+pub returns-in_err-marks : goal.returns-in_err-marks
+returns-in_err-marks c =
+    goes_on _ _ c.in_ok-kind.ensures (goes_on _ _ c.in_ok-source.ensures (goes_on _ _ c.in_ok-destination.ensures (stopped _ _ c.from_residual-in_err-marks.ensures.1 c.in_err-marks.ensures)))
 
 pub returns-in_err-runs : goal.returns-in_err-runs
 returns-in_err-runs c =
-    goes_on _ _ c.in_ok-kind.ensures (goes_on _ _ c.in_ok-source.ensures (goes_on _ _ c.in_ok-destination.ensures (goes_on _ _ c.in_ok-end.ensures (goes_on _ _ c.in_ok-promise.ensures (rw (← c.most_of.ensures) (stopped _ _ c.from_residual-in_err-runs.ensures.1 c.in_err-runs.ensures))))))
+    goes_on _ _ c.in_ok-kind.ensures (goes_on _ _ c.in_ok-source.ensures (goes_on _ _ c.in_ok-destination.ensures (goes_on _ _ c.in_ok-marks.ensures (rw (← c.most_of.ensures) (stopped _ _ c.from_residual-in_err-runs.ensures.1 c.in_err-runs.ensures)))))
 
 pub invariant_of-facts : goal.invariant_of-facts
 invariant_of-facts c =
     let row = runs_found _ _ _ _ _ c.in_ok-runs.ensures in
-    covers_formed c.in_ok-runs.runs c.in_ok-end.end c.in_ok-promise.promise row.1 (subst (λ (n : ℕ). AllByRecursion (λ (r : RunValue). run_end r ≤ n) c.in_ok-runs.runs) c.most_of.ensures row.2)
-    (promise_found _ _ _ _ _ _ c.in_ok-promise.ensures).1
+    covers_formed c.in_ok-runs.runs c.in_ok-marks.marks row.1 (subst (λ (n : ℕ). AllByRecursion (λ (r : RunValue). run_end r ≤ n) c.in_ok-runs.runs) c.most_of.ensures row.2)
+    (marks_found _ _ _ _ _ c.in_ok-marks.ensures).1
 
 pub returns : goal.returns
 returns c =
-    goes_on _ _ c.in_ok-kind.ensures (goes_on _ _ c.in_ok-source.ensures (goes_on _ _ c.in_ok-destination.ensures (goes_on _ _ c.in_ok-end.ensures (goes_on _ _ c.in_ok-promise.ensures (rw (← c.most_of.ensures) (goes_on _ _ c.in_ok-runs.ensures gives))))))
+    goes_on _ _ c.in_ok-kind.ensures (goes_on _ _ c.in_ok-source.ensures (goes_on _ _ c.in_ok-destination.ensures (goes_on _ _ c.in_ok-marks.ensures (rw (← c.most_of.ensures) (goes_on _ _ c.in_ok-runs.ensures gives)))))

@@ -1,8 +1,7 @@
 use Rattle.std.proofs.Common.{sym, subst}
-use Rattle.nb_entries.specs.Cover.{CoverFacts, AreCoverFacts}
+use Rattle.nb_entries.specs.Cover.{AreCoverFacts}
 use Rattle.nb_entries.specs.Shared.CoverLemmas.{fit_of}
 use Rattle.nb_entries.proofs.Covers.{together_formed}
-use Rattle.nb_entries.proofs.KeptRuns.RunReadLemmas.{union_is}
 use Rattle.nb_entries.proofs.cover.uniting.CoverFactsFacts.together.Goals as goal
 use Rattle.std.proofs.lemmas.Bool.{and_parts}
 
@@ -11,9 +10,9 @@ together-requires c = let agree = rw (← c.self.view_is, ← c.other.view_is) a
 
 pub returns-clause-value : goal.returns-clause-value
 returns-clause-value c =
-    let own : CoverFacts = record { bytes = c.self.inside.bytes; end = c.self.inside.end; promise = c.self.inside.promise } in
-    let others : CoverFacts = record { bytes = c.other.inside.bytes; end = c.other.inside.end; promise = c.other.inside.promise } in
-    rw (← c.self.view_is, ← c.other.view_is) (union_is own others _ _ _ c.in_ok-bytes.ensures c.or-end.ensures c.greater-promise.ensures)
+    let bytes = c.in_ok-bytes.ensures in
+    let marks = c.together-marks.ensures in
+    rw (← c.self.view_is, ← c.other.view_is) (λ i. record { bytes = bytes i; marks = marks i })
 
 pub returns-clause-formed : goal.returns-clause-formed
 returns-clause-formed c =

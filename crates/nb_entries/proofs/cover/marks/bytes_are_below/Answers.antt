@@ -2,7 +2,7 @@ use Rattle.std.proofs.Common.{rules}
 use Rattle.std.proofs.lemmas.Bool.Decides.{nat_tests}
 use Rattle.nb_datagram.specs.Fragment.{core_of}
 use Rattle.nb_entries.proofs.Covers.{fragment_below}
-use Rattle.nb_entries.proofs.cover.end.bytes_are_below.Goals as goal
+use Rattle.nb_entries.proofs.cover.marks.bytes_are_below.Goals as goal
 
 pub returns-then-is_empty : goal.returns-then-is_empty
 returns-then-is_empty c = let below = fragment_below (core_of c.args.fragment.now) c.args.end in search (rules, below)

@@ -1,0 +1,117 @@
+//! Marks: what fragments say of a datagram's data besides its bytes, its end and the greatest
+//! promise: those of one, and of two together.
+ghost use Rattle.std.specs.Prelude.{◌≡◌, ◌↔◌, IsTrue};
+ghost use Rattle.nb_datagram.specs.Fragment.{core_of};
+ghost use Rattle.nb_entries.specs.Marks.{greater as the_greater, marks_agree, marks_lie_below, marks_of, marks_together, ends_by, marks_up_to};
+ghost use Rattle.nb_entries.specs.Cover.{bytes_lie_below, cover_of, is_below_end};
+
+use nb_datagram::LentFragment;
+
+/// The end of a datagram's data, if it is known, and the greatest promise, if there is one.
+#[derive(Clone, Copy, Debug, PartialEq, Eq)]
+pub struct Marks {
+    pub(crate) end: Option<u32>,
+    pub(crate) promise: Option<u32>,
+}
+
+impl Marks {
+    /// What a fragment says.
+    pub(crate) fn of(fragment: &LentFragment<'_>) -> Marks
+        ensures { result ≡ marks_of (core_of fragment.now) }
+    {
+        let reach = Some(fragment.reach());
+        if fragment.has_more() {
+            Marks {
+                end: None,
+                promise: reach,
+            }
+        } else {
+            Marks {
+                end: reach,
+                promise: None,
+            }
+        }
+    }
+
+    /// Whether the two don't contradict each other.
+    pub(super) fn agree(self, other: Marks) -> bool
+        ensures { result ≡ marks_agree self other }
+    {
+        match (self.end, other.end) {
+            (Some(end), Some(other)) => end == other,
+            _ => true,
+        }
+    }
+
+    /// What two that don't contradict each other say together.
+    pub(super) fn together(self, other: Marks) -> Marks
+        ensures { result ≡ marks_together self other }
+    {
+        Marks {
+            end: self.end.or(other.end),
+            promise: greater(self.promise, other.promise),
+        }
+    }
+
+    /// Whether the two are the same.
+    pub(crate) fn are(self, other: Marks) -> bool
+        ensures { IsTrue result ↔ (self ≡ other) }
+    {
+        self == other
+    }
+
+    /// Whether what is marked lies below a place.
+    pub(super) fn lie_below(self, place: u32) -> bool
+        ensures { result ≡ marks_lie_below place self }
+    {
+        match self.promise {
+            Some(promise) => promise < place,
+            None => true,
+        }
+    }
+
+    /// Whether the end and the promise, if there are any, are at most the limit.
+    pub(crate) fn are_up_to(self, limit: u32) -> bool
+        ensures { result ≡ marks_up_to limit self }
+    {
+        is_at_most(limit, self.end) && is_at_most(limit, self.promise)
+    }
+}
+
+/// Whether each byte of a fragment lies below the end.
+fn bytes_are_below(fragment: &LentFragment<'_>, end: u32) -> bool
+    ensures { result ≡ bytes_lie_below end (cover_of (core_of fragment.now)).bytes }
+{
+    fragment.bytes().is_empty() || fragment.reach() <= end
+}
+
+/// Whether each byte of a fragment and what it marks lie below the end, if there is one.
+pub(super) fn is_below(fragment: &LentFragment<'_>, end: Option<u32>) -> bool
+    ensures { result ≡ is_below_end end (cover_of (core_of fragment.now)) }
+{
+    match end {
+        Some(end) => bytes_are_below(fragment, end) && Marks::of(fragment).lie_below(end),
+        None => true,
+    }
+}
+
+/// Whether the end or the promise, if there is one, is at most the limit.
+fn is_at_most(limit: u32, place: Option<u32>) -> bool
+    ensures { result ≡ ends_by limit place }
+{
+    match place {
+        Some(place) => place <= limit,
+        None => true,
+    }
+}
+
+/// The greater of two promises, or the one that there is.
+fn greater(promise: Option<u32>, other: Option<u32>) -> Option<u32>
+    ensures { result ≡ the_greater promise other }
+{
+    match (promise, other) {
+        (Some(promise), Some(other)) => Some(promise.max(other)),
+        (Some(promise), None) => Some(promise),
+        (None, other) => other,
+    }
+}

@@ -104,7 +104,8 @@ impl EntryFacts {
         fragment: &LentFragment<'_>,
         handing: Handing,
     ) -> Result<(EntryFacts, Change<UserData>), NoMemory>
-        requires { (n : ℕ) → (facts_of (core_of fragment.now)).cover.marks.end ≡ Some n → n ≤ MAX_LENGTH }
+        requires { (n : ℕ) → (facts_of (core_of fragment.now)).cover.marks.end ≡ Some n
+            → n ≤ MAX_LENGTH }
         ensures facts { IfOk result (λ made. made.0 ≡ facts_of (core_of fragment.now)) }
         ensures change { IfOk result (λ made.
             Tells handing fragment.now None (Some (Held made.0)) made.1) }

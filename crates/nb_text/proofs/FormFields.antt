@@ -1,6 +1,6 @@
 -- The fields of a payload are members of an object, and their text is the payload's text. A form that is a line has a line
 -- here, whatever its fields are.
-use Rattle.std.proofs.Common.{◌≡◌, ℕ, nat_lt, ◌==◌, Bool, true, false, List, [], ◌∷◌, ◌++◌, length, take, drop, codes, Option, Some, None, if◌then◌else◌, refl, sym, subst, ◌∙◌, arith, append-nil}
+use Rattle.std.proofs.Common.{ℕ, List, [], ◌∷◌, ◌++◌, drop, codes, Option, Some, None, sym, subst}
 use Rattle.std.specs.List.{flat_map}
 use Rattle.nb_names.specs.Name.{NetbiosName}
 use Rattle.nb_service.specs.declared.question.Question.{Question}
@@ -24,7 +24,7 @@ use Rattle.nb_text.specs.DatagramText as datagram_texts
 use Rattle.nb_text.specs.Fields.{used_fields, refused_fields, list_fields, word_field}
 use Rattle.nb_text.specs.FrontFields.{indent, names_header_fields, type_field, standing_name, fragment_front_fields}
 use Rattle.nb_text.specs.Keys.{key_named, id_key}
-use Rattle.nb_text.specs.Lines.{line_end, used_text, refused_text}
+use Rattle.nb_text.specs.Lines.{used_text, refused_text}
 use Rattle.nb_text.specs.ServiceFields as services
 use Rattle.nb_text.specs.ServiceText as service_texts
 use Rattle.nb_text.specs.SessionFields as sessions

@@ -13,7 +13,7 @@ use Rattle.nb_telling.specs.Telling.{Field, Digits, LineEnds}
 use Rattle.nb_text.specs.Fields.{IsPart, two, four}
 use Rattle.nb_text.specs.Lines.{line_end}
 use Rattle.nb_text.specs.ServiceSaid.{first}
-use Rattle.nb_text.specs.Views.{View, entry_fields, entry_line, entries_view, node_name_fields, node_name_line, parts_in, unit_in, unit_key, unit_fields, unit_line, status_lines, status_view, host_view, views, by_kind, fields_by, lines_by}
+use Rattle.nb_text.specs.Views.{View, entry_fields, entry_line, entries_view, node_name_fields, node_name_line, parts_in, unit_in, unit_key, unit_fields, unit_line, status_lines, status_view, views, by_kind, fields_by, lines_by}
 use Rattle.nb_text.proofs.FieldLemmas.{address_word, bytes-take, data_seen, literal, name_set_word, word_word, written_word}
 use Rattle.nb_text.proofs.MidLemmas.{AreParts, bytes-drop, ends_here, mid_seen, mid_then, no_parts, part_line, parts_all, parts_both, parts_each}
 use Rattle.nb_text.proofs.RowLemmas.{row_ends}

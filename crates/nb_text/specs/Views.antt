@@ -33,11 +33,13 @@ pub record View : Type 0 where
 
 -- ---- address entries
 
+-- an address entry, as fields
 abbrev pub entry_fields : AddressEntry → List Field
 entry_fields entry =
     Part (codes "    entry") ∷ word_field (key_named "flags") entry.flags ∷ Number (key_named "ont") (ont_of entry.flags)
     ∷ Text (key_named "address") (address_text entry.address) ∷ LineEnds ∷ PartEnds ∷ []
 
+-- as a line
 abbrev pub entry_line : AddressEntry → List ℕ
 entry_line entry =
     codes "    entry flags=" ++ (word_text entry.flags ++ (codes " ont=" ++ (decimal (ont_of entry.flags)
@@ -47,6 +49,7 @@ entry_line entry =
 abbrev pub address_listed : AddressEntry → Listed
 address_listed entry = items.Address entry.address
 
+-- what RDATA of kind NB says
 abbrev pub entries_view : View
 entries_view = record {
   kind = NB;
@@ -72,6 +75,7 @@ node_name_fields name =
     ∷ word_field (key_named "flags") name.flags ∷ Number (key_named "ont") (ont_of name.flags)
     ∷ Set (key_named "set") (names_set name_flags name.flags) ∷ LineEnds ∷ PartEnds ∷ []
 
+-- as a line
 abbrev pub node_name_line : NodeName → List ℕ
 node_name_line name =
     codes "    name " ++ (written (record { bytes = name.bytes; scope = [] }) ++ (codes " flags=" ++ (word_text name.flags
@@ -90,19 +94,24 @@ abbrev pub unit_fields : List ℕ → List Field
 unit_fields statistics =
     if nat_lt (length statistics) 6 then [] else Digits unit_key (take 6 statistics) ∷ LineEnds ∷ []
 
+-- as a line
 abbrev pub unit_line : List ℕ → List ℕ
 unit_line statistics =
     if nat_lt (length statistics) 6 then [] else codes "    unit=" ++ (digits_text (take 6 statistics) ++ line_end)
 
+-- by itself
 abbrev pub unit_in : List ℕ → List (List ℕ)
 unit_in statistics = if nat_lt (length statistics) 6 then [] else take 6 statistics ∷ []
 
+-- a status, as fields
 abbrev pub status_fields : StatusParts → List Field
 status_fields status = list_fields (codes "names") (flat_map node_name_fields status.names) ++ unit_fields status.statistics
 
+-- as lines
 abbrev pub status_lines : StatusParts → List ℕ
 status_lines status = flat_map node_name_line status.names ++ unit_line status.statistics
 
+-- what RDATA of kind NBSTAT says
 abbrev pub status_view : View
 status_view = record {
   kind = NBSTAT;
@@ -120,6 +129,7 @@ abbrev pub host_listed : ResourceData → List Listed
 host_listed (of_bytes bytes) = if length bytes == 4 then items.Address bytes ∷ [] else []
 host_listed (of_domain labels) = []
 
+-- what RDATA of kind A says
 abbrev pub host_view : View
 host_view = record {
   kind = A;
@@ -132,6 +142,7 @@ host_view = record {
 
 -- ---- all views
 
+-- a row for each kind that has one
 abbrev pub views : List View
 views = entries_view ∷ status_view ∷ host_view ∷ []
 
@@ -140,19 +151,23 @@ abbrev pub by_kind : {T : Type 0} → List View → (View → ResourceData → L
 by_kind [] part kind rdata = []
 by_kind (view ∷ rows) part kind rdata = if kind == view.kind then part view rdata else by_kind rows part kind rdata
 
--- what RDATA of a kind says
+-- the fields of RDATA of a kind
 abbrev pub fields_by : ℕ → ResourceData → List Field
 fields_by = by_kind views (λ view. view.fields)
 
+-- its lines
 abbrev pub lines_by : ℕ → ResourceData → List ℕ
 lines_by = by_kind views (λ view. view.lines)
 
+-- its flags
 abbrev pub flags_by : ℕ → ResourceData → List ℕ
 flags_by = by_kind views (λ view. view.flags)
 
+-- its units
 abbrev pub units_by : ℕ → ResourceData → List (List ℕ)
 units_by = by_kind views (λ view. view.units)
 
+-- what is listed of it
 abbrev pub listed_by : Bool → ℕ → ResourceData → List Listed
 listed_by status = by_kind views (λ view. view.listed status)
 

@@ -3,10 +3,9 @@
 use crate::service_texts::say_packet;
 use nb_examples_words::asked;
 use nb_examples_words::line::Line;
-use nb_names::{Bytes, DomainName, Name, Scope};
+use nb_names::{Bytes, DomainName};
 use nb_service::{
-    NodeStatus, Packet, PushFault, Question, Rdata, Record, Section, ServiceFault, decode, encode,
-    ont,
+    Packet, PushFault, Question, Rdata, Record, Section, ServiceFault, decode, encode,
 };
 
 /// `decode BYTES`: the packet that the bytes begin with, part by part, and how many bytes it takes
@@ -229,63 +228,5 @@ fn say_word(line: &mut Line<'_>, packet: &Packet<'_>) {
     line.end();
     line.say_with("opcode ", opcode);
     line.say_with(" rcode ", rcode);
-    line.say_debug(" ", &flags);
-}
-
-/// `status BYTES`: the node status of a packet's first answer: how many names it has, each with its
-/// flag word, ONT and flags, what stands after the last, the statistics and the unit's identifier.
-pub fn status(line: &mut Line<'_>) {
-    let bytes = line.bytes();
-    let packet = front(line, bytes.as_slice());
-    say_first_status(line, packet.answers().as_slice());
-}
-
-/// Says the node status of the first of some records.
-fn say_first_status(line: &mut Line<'_>, records: &[Record<'_>]) {
-    match records.first() {
-        Some(record) => say_record_status(line, record),
-        None => line.bad_words(),
-    }
-}
-
-/// Says the node status that a record has, or `none`.
-fn say_record_status(line: &mut Line<'_>, record: &Record<'_>) {
-    line.begin();
-    let status = record.node_status();
-    line.end();
-    match status {
-        Some(status) => say_status(line, &status),
-        None => line.say("none"),
-    }
-}
-
-/// Says a node's status.
-fn say_status(line: &mut Line<'_>, status: &NodeStatus<'_>) {
-    line.begin();
-    let count = status.len();
-    let statistics = status.statistics();
-    let unit = status.unit_id();
-    line.end();
-    line.say_with("names ", count);
-    for place in 0..=count {
-        say_node_name(line, status, place);
-    }
-    line.say("; statistics ");
-    line.say_bytes(statistics);
-    line.say_debug("; unit ", &unit);
-}
-
-/// Says the name at a place of a node's status, and its flags.
-fn say_node_name(line: &mut Line<'_>, status: &NodeStatus<'_>, place: usize) {
-    let Some(name) = status.get(place) else {
-        return line.say("; none");
-    };
-    line.begin();
-    let owner = ont(name.flags);
-    let flags = name.node_flags();
-    line.end();
-    line.say_name("; ", &Name::new(name.bytes, Scope::empty()));
-    line.say_hex_16(" ", name.flags);
-    line.say_with(" ont ", owner);
     line.say_debug(" ", &flags);
 }

@@ -3,35 +3,38 @@
 use crate::service::front;
 use crate::service_texts::{say_question, say_record};
 use nb_examples_words::line::Line;
-use nb_names::NameReader;
+use nb_names::{Name, NameReader, Scope};
 use nb_service::{
-    AddressEntries, AddressEntry, Record, ont, opcode, outline, rcode, see_question, see_record,
+    AddressEntries, AddressEntry, NodeStatus, Record, ont, opcode, outline, rcode, see_question,
+    see_record,
 };
 
-/// `entries BYTES`: how many address entries the RDATA of a packet's first answer has, each by its
-/// place, with its flags, its address, its ONT and its bytes, and what stands after the last; or
-/// `none`.
-pub fn entries(line: &mut Line<'_>) {
+/// `view BYTES`: what the RDATA of a packet's first answer says: its address entries, or its node
+/// status, or `none`. Of entries and names their number, each by its place, and what stands after
+/// the last.
+pub fn view(line: &mut Line<'_>) {
     let bytes = line.bytes();
     let packet = front(line, bytes.as_slice());
     match packet.answers().as_slice().first() {
-        Some(record) => say_entries_of(line, record),
+        Some(record) => say_view(line, record),
         None => line.bad_words(),
     }
 }
 
-/// Says the address entries that a record has, or `none`.
-fn say_entries_of(line: &mut Line<'_>, record: &Record<'_>) {
+/// Says what the RDATA of a record says.
+fn say_view(line: &mut Line<'_>, record: &Record<'_>) {
     line.begin();
     let entries = record.address_entries();
+    let status = record.node_status();
     line.end();
-    match entries {
-        Some(entries) => say_entries(line, &entries),
-        None => line.say("none"),
+    match (entries, status) {
+        (Some(entries), None) => say_entries(line, &entries),
+        (None, Some(status)) => say_status(line, &status),
+        _ => line.say("none"),
     }
 }
 
-/// Says address entries.
+/// Says address entries, each with its flags, its address, its ONT and its bytes.
 fn say_entries(line: &mut Line<'_>, entries: &AddressEntries<'_>) {
     line.begin();
     let count = entries.len();
@@ -59,6 +62,38 @@ fn say_entry(line: &mut Line<'_>, entry: Option<AddressEntry>) {
     line.say_with(" ont ", owner);
     line.say(" bytes ");
     line.say_bytes(&bytes);
+}
+
+/// Says a node's status: each name with its flag word, ONT and flags; the statistics, and the
+/// unit's identifier.
+fn say_status(line: &mut Line<'_>, status: &NodeStatus<'_>) {
+    line.begin();
+    let count = status.len();
+    let statistics = status.statistics();
+    let unit = status.unit_id();
+    line.end();
+    line.say_with("names ", count);
+    for place in 0..=count {
+        say_node_name(line, status, place);
+    }
+    line.say("; statistics ");
+    line.say_bytes(statistics);
+    line.say_debug("; unit ", &unit);
+}
+
+/// Says the name at a place of a node's status, and its flags.
+fn say_node_name(line: &mut Line<'_>, status: &NodeStatus<'_>, place: usize) {
+    let Some(name) = status.get(place) else {
+        return line.say("; none");
+    };
+    line.begin();
+    let owner = ont(name.flags);
+    let flags = name.node_flags();
+    line.end();
+    line.say_name("; ", &Name::new(name.bytes, Scope::empty()));
+    line.say_hex_16(" ", name.flags);
+    line.say_with(" ont ", owner);
+    line.say_debug(" ", &flags);
 }
 
 /// `outline BYTES`: the header of the packet at the front, as `Debug` prints it, the opcode and the

@@ -102,3 +102,5 @@ module _ {A : Type 0} (P : Type 0) (here others : Result A Refusal) where
       | inl x ↦ absurd (isnt x.0)
       | inr x ↦ x.1
     ]
+
+pub ruleset choices = (chosen, not_chosen)

@@ -54,6 +54,7 @@ pub struct NbtDatagram {
 ///
 /// RFC 1002 section 4.4.
 #[unsafe(no_mangle)]
+#[tactic(auto, using(crate::proofs::AnswerLemmas::fills))]
 pub extern "C" fn nbt_datagram_read(payload: &[u8], packet: &mut NbtDatagram, at: &mut usize) -> u32
     ensures { Fills NbtDatagram (Reads payload.now) packet.old packet.new at.old at.new result }
 {
@@ -181,6 +182,7 @@ pub struct NbtDatagramFront {
 ///
 /// RFC 1002 sections 4.4.1 and 4.4.2.
 #[unsafe(no_mangle)]
+#[tactic(auto, using(crate::proofs::AnswerLemmas::fills))]
 pub extern "C" fn nbt_datagram_front(
     payload: &[u8],
     front: &mut NbtDatagramFront,

@@ -47,6 +47,7 @@ pub struct NbtServiceUnit {
 ///
 /// RFC 1002 section 4.2.13.
 #[unsafe(no_mangle)]
+#[tactic(auto, using(crate::proofs::AnswerLemmas::fills))]
 pub extern "C" fn nbt_service_address(
     kind: u16,
     contents: &[u8],
@@ -61,6 +62,7 @@ pub extern "C" fn nbt_service_address(
 }
 
 /// The entry of a number of RDATA of a kind.
+#[tactic(auto, using(crate::proofs::AnswerLemmas::choices))]
 fn address_at(kind: u16, contents: &[u8], number: usize) -> Result<NbtServiceAddress, Refusal>
     ensures { Alone NbtServiceAddress (ReadsAddress kind contents.now number) result }
 {
@@ -87,6 +89,7 @@ fn address_of(entries: &AddressEntries<'_>, number: usize) -> Result<NbtServiceA
 ///
 /// RFC 1002 section 4.2.18.
 #[unsafe(no_mangle)]
+#[tactic(auto, using(crate::proofs::AnswerLemmas::fills))]
 pub extern "C" fn nbt_service_node(
     kind: u16,
     contents: &[u8],
@@ -130,6 +133,7 @@ fn node_of(status: &NodeStatus<'_>, number: usize) -> Result<NbtServiceNode, Ref
 ///
 /// RFC 1002 section 4.2.18.
 #[unsafe(no_mangle)]
+#[tactic(auto, using(crate::proofs::AnswerLemmas::fills))]
 pub extern "C" fn nbt_service_unit(
     kind: u16,
     contents: &[u8],

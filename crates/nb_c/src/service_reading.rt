@@ -71,6 +71,7 @@ pub struct NbtServiceItem {
 ///
 /// RFC 1002 section 4.2.1.1.
 #[unsafe(no_mangle)]
+#[tactic(auto, using(crate::proofs::AnswerLemmas::fills))]
 pub extern "C" fn nbt_service_header(
     payload: &[u8],
     header: &mut NbtServiceHeader,

@@ -37,6 +37,7 @@ pub struct NbtSession {
 ///
 /// RFC 1002 section 4.3.
 #[unsafe(no_mangle)]
+#[tactic(auto, using(crate::proofs::AnswerLemmas::fills))]
 pub extern "C" fn nbt_session_read(bytes: &[u8], packet: &mut NbtSession, at: &mut usize) -> u32
     ensures { Fills NbtSession (Reads bytes.now) packet.old packet.new at.old at.new result }
 {
@@ -83,6 +84,7 @@ pub struct NbtSessionFront {
 ///
 /// RFC 1002 section 4.3.1.
 #[unsafe(no_mangle)]
+#[tactic(auto, using(crate::proofs::AnswerLemmas::fills))]
 pub extern "C" fn nbt_session_front(
     bytes: &[u8],
     front: &mut NbtSessionFront,
@@ -146,6 +148,7 @@ pub struct NbtSessionRetarget {
 ///
 /// RFC 1002 section 4.3.2.
 #[unsafe(no_mangle)]
+#[tactic(auto, using(crate::proofs::AnswerLemmas::fills))]
 pub extern "C" fn nbt_session_names(
     bytes: &[u8],
     names: &mut NbtSessionNames,
@@ -196,6 +199,7 @@ fn names_of(called: &LentName<'_>, calling: &LentName<'_>) -> NbtSessionNames
 ///
 /// RFC 1002 section 4.3.5.
 #[unsafe(no_mangle)]
+#[tactic(auto, using(crate::proofs::AnswerLemmas::fills))]
 pub extern "C" fn nbt_session_retarget(
     bytes: &[u8],
     retarget: &mut NbtSessionRetarget,

@@ -10,7 +10,8 @@ use Rattle.nb_table.specs.Contents.{Contents}
 use Rattle.nb_entries.specs.Entry.{EntryValue, join_entry}
 use Rattle.nb_entries.specs.Equal.{same_entry}
 use Rattle.nb_table.specs.Join.{join}
-use Rattle.nb_entries.specs.Shared.EqualLemmas.{options_decide, entry_decides}
+use Rattle.nb_entries.specs.Shared.EqualLemmas.{entry_decides}
+use Rattle.nb_entries.specs.Shared.MarksLemmas.{options_decide}
 use Rattle.nb_table.specs.Shared.TableLemmas.{entries_kept, keys_kept, get_kept, get-join}
 use Rattle.nb_entries.specs.Shared.MapsLemmas.{one_key}
 use Rattle.nbt.specs.Differences.{differ_at, differing}

@@ -24,7 +24,7 @@ MOST_BYTES, LINE = 2_000_000, 8_000
 CLANGS = [os.environ.get('FUZZ_CLANG'), 'clang-22', 'clang-19', 'clang-16', 'clang']
 WRAPPED = '-Wl,--wrap=malloc,--wrap=realloc,--wrap=free'
 SOURCES = ('calls', 'harness', 'cases', 'hostile', 'bounds', 'corpus', 'memory')
-PROGRAM = [*(f'{TOP}/tests/library/{name}.c' for name in SOURCES), f'-DCASES="{TOP}/tests/library/cases.txt"']
+PROGRAM = [f'{TOP}/tests/library/{name}.c' for name in SOURCES]
 LIMITS = ['-max_len=4000', '-timeout=20', '-rss_limit_mb=1500']
 REACHED = re.compile(r'^(?:UN)?COVERED_FUNC: hits: \d+ edges: (\d+)/(\d+) (\S+)', re.M)
 
@@ -65,7 +65,9 @@ def built(room, module):
     # The functions of the module don't ask for AddressSanitizer, so they are made to.
     run([*words, '-O2', '-fsanitize=address,fuzzer-no-link', '-mllvm', '-force-attribute=sanitize_address', '-o', at('library.o')])
     run([*words, '-O0', '-fsanitize=fuzzer-no-link', '-o', at('blocks.o')])
-    words = [clang, '-std=c11', '-g', '-O1', '-fsanitize=address', f'-I{TOP}/include', *PROGRAM]
+    with open(at('cases'), 'w', encoding='ascii') as file:
+        file.write(run([f'{TOP}/tests/library/payload_rows.py', 'cases'], input=''))
+    words = [clang, '-std=c11', '-g', '-O1', '-fsanitize=address', f'-I{TOP}/include', f'-DCASES="{at("cases")}"', *PROGRAM]
     heap = f'{TOP}/bindings/heaps/malloc.c'
     for library, program in (('library.o', 'fuzz'), ('blocks.o', 'blocks')):
         run([*words, '-DFUZZER', '-fsanitize=fuzzer', WRAPPED, heap, at(library), '-o', at(program)])

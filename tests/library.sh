@@ -88,8 +88,10 @@ callers() {
     compiled plain "$CC" "$built/libnbt.a"
     compiled sanitized "$CC" "$built/libnbt.a" "${sanitized[@]}"
     rows_of 1 "$payloads"
-    judged plain "$room/rows1" "$room/plain" judged 64
-    judged sanitized "$room/rows1" "$room/sanitized" judged 8
+    judged plain "$room/rows" "$room/plain" judged 64
+    judged sanitized "$room/rows" "$room/sanitized" judged 8
+    sed -nE '/^enum nbt_status/,/^};/s/^ .* = ([0-9]+).*/\1/p' "$top/include/nbt.h" | sort \
+        | same "$(sed -n 's/^status_text \([0-9]*\) = .*/\1/p' "$room/cases" | sort)" 'the words of each status are in a row'
 }
 
 refused() {
@@ -124,13 +126,13 @@ processors() {
 
 # The limits of what the header allows, to each of which a caller goes, its bounds, and the statuses that it lists for each call.
 limits() {
-    "$here/library/payload_rows.py" limits | cat "$here/library/cases.txt" - >"$room/limits"
+    "$here/library/payload_rows.py" cases limits </dev/null >"$room/limits"
     ended "$room/sanitized" varied <"$room/limits" >"$room/statuses" 2>"$room/errors"
     count $? "calls at each limit: $(tail -n 3 "$room/errors" | head -c 500)"
     "$here/library/statuses_reached.py" "$top/include/nbt.h" <"$room/statuses" >"$room/output" 2>&1
     count $? "each call answers what the header lists: $(head -n 3 "$room/output" | head -c 300)"
-    { "$here/captures/payloads.py" --seed 5 library 500; "$here/captures/payloads.py" worst 6; } | "$here/library/payload_rows.py" \
-        | cat "$room/limits" - | ended "$room/plain" measured >"$room/output" 2>"$room/errors"
+    { "$here/captures/payloads.py" --seed 5 library 500; "$here/captures/payloads.py" worst 6; } \
+        | "$here/library/payload_rows.py" cases limits | ended "$room/plain" measured >"$room/output" 2>"$room/errors"
     count $? "the stack and the texts of calls: $(tail -n 1 "$room/errors")"
     sed -nE 's/^(brief|capture_line|name_text): .*, ([0-9]+) of text$/\1 \2/p' "$room/output" | sort \
         | same "$(printf '%s\n' 'brief 1633' "capture_line $(limit LINE_ROOM)" "name_text $(limit NAME_ROOM)")" 'the longest texts'
@@ -144,14 +146,17 @@ in_python() {
     NBT_LIBRARY=$built/libnbt.so.0 PYTHONDONTWRITEBYTECODE=1 PYTHONPATH=$top/bindings/python ended python3 "$@"
 }
 
-# What payloads say, as values, and what stands of those that are refused: those that are made by chance, and those of the corpus.
+# Payloads that are made by chance, and those of the corpus.
+many_payloads() {
+    "$here/captures/payloads.py" --seed 11 values "$values"
+    "$here/captures/payloads.py" inputs 1000000 <"$here/library/corpus.txt" | grep -v '^table'
+}
+
+# What payloads say, as values, and what stands of those that are refused.
 values() {
-    "$here/captures/payloads.py" --seed 11 values "$values" >"$room/values"
-    "$here/captures/payloads.py" inputs 1000000 <"$here/library/corpus.txt" | grep -v '^table' >>"$room/values"
-    said "$room/values"
-    [ "$(grep -c '^[0-9]* 137 whole$' "$room/values.wanted")" -ge 4000 ] && [ "$(grep -c '^[0-9]* 137 refused ' "$room/values.wanted")" -ge 15000 ]
+    said "$room/values" many_payloads
+    [ "$(grep -cP '^137 .*\t: whole' "$room/values")" -ge 4000 ] && [ "$(grep -cP '^137 .*\t: refused ' "$room/values")" -ge 15000 ]
     count $? 'at least 19,000 payloads of port 137, of which some stand and many are refused'
-    reads "$room/values" tests/library/values_in_python.py in_python "$here/library/values_in_python.py"
 }
 
 # The programs of examples/ in C and Python, over its pcaps; that in Rust is one of the part rust.
@@ -170,29 +175,14 @@ programs() {
         'the claimants of names that Samba sends'
 }
 
-# shown CALL [OPTION]: what `nbt show` prints of payloads, with this option, the package has by this call.
-shown() {
-    sed 's/ / 0 /' "$room/lines3" | ended "$program" show ${2:+"$2"} --input-limit 4294967296 \
-        | sed -E 's/^\{"line":([0-9]+),"port":([0-9]+),"moment":0,/\1 \2 {/' >"$room/shown"
-    [ -s "$room/shown" ] && in_python -c '
-import sys, nbt
-for number, line in enumerate(sys.stdin, 1):
-    port, digits = line.split()
-    print(number, port, getattr(nbt, sys.argv[1])(int(port), bytes.fromhex(digits.replace("empty", ""))).removesuffix("\n"))
-' "$1" <"$room/lines3" 2>"$room/errors" | cmp -s "$room/shown" -
-    count $? "nbt.$1 prints what nbt show ${2:-} prints: $(tail -n 1 "$room/errors")"
-}
-
-# The package for Python, over the shared object, and beside `nbt show`.
+# The package for Python, over the shared object.
 python() {
     (cd "$top/bindings/python" && NBT_LIBRARY=$built/libnbt.so.0 PYTHONDONTWRITEBYTECODE=1 PYTHONPATH=. \
         ended python3 -m unittest discover -v tests) >"$room/log" 2>&1
     count $? "python3 -m unittest: $(tail -n 3 "$room/log" | head -c 300)"
     passed=$((passed + $(grep -cE '\.\.\. ok$' "$room/log")))
-    lines "$payloads" 3
-    shown show
-    shown json --json
-    shown brief --brief
+    answers tests/library/answers.py "$room/asked" in_python "$here/library/answers.py"
+    answers tests/library/answers.py "$room/values" in_python "$here/library/answers.py"
 }
 
 # The types of the package, and of calls that use them, by mypy's strict rules for the oldest Python that it is for.
@@ -285,12 +275,11 @@ in_rust_too() {
     fi
 }
 
-# The crate for Rust: its tests over the shared object, also in a program that links libnbt.a, and beside `nbt show`.
+# The crate for Rust: its tests over the shared object, also in a program that links libnbt.a, and beside the model.
 # Programs that don't ask for the feature serde need no registry.
 rust() {
     local each
     mkdir -p "$room/bindings/rust" && cp -R "$top"/bindings/rust/{Cargo.toml,build.rs,rustfmt.toml,src,tests} "$room/bindings/rust"
-    ln -s "$here" "$room/tests"
     in_rust test "${debian[@]}" --features serde
     passed=$((passed + $(awk '/^test result: ok/ { sum += $4 } END { print sum + 0 }' "$room/log")))
     in_rust_too fmt --check
@@ -300,10 +289,9 @@ rust() {
     done
     released
     in_rust build --offline --release --manifest-path "$room/released/Cargo.toml"
-    LD_LIBRARY_PATH=$room/root/lib ended "$room/target/release/values" shown <"$room/lines3" >"$room/output" 2>"$room/errors"
-    cmp -s "$room/lines3.wanted" "$room/output"
-    count $? "nbt::show_into prints what nbt show prints: $(tail -n 1 "$room/errors")"
-    LD_LIBRARY_PATH=$room/root/lib reads "$room/values" tests/library/values.rs ended "$room/target/release/values"
+    for each in asked values; do
+        LD_LIBRARY_PATH=$room/root/lib answers tests/library/answers.rs "$room/$each" ended "$room/target/release/answers"
+    done
     block rust "$page" >"$room/first.rs"
     user_program first "$room/first.rs" </dev/null | same "$(block text "$page" 6)" 'the program in Rust of docs/CALLING.md'
     CARGO_TARGET_DIR=$room/commands commands 3 "$room/first" </dev/null \
@@ -315,11 +303,11 @@ rust() {
     [ ! -f "$room/samba.txt" ] || node_statuses
 }
 
-# released: a package of tests/library/values.rs as a program: the crate itself would have it compiled with what its tests need too.
+# released: a package of tests/library/answers.rs as a program: the crate itself would have it compiled with what its tests need too.
 released() {
     mkdir "$room/released"
-    printf '[package]\nname = "released"\nversion = "0.1.0"\nedition = "2021"\n\n[dependencies]\nnbt.path = "%s"\n\n[[bin]]\nname = "values"\npath = "%s"\n' \
-        "$room/bindings/rust" "$here/library/values.rs" >"$room/released/Cargo.toml"
+    printf '[package]\nname = "released"\nversion = "0.1.0"\nedition = "2021"\n\n[dependencies]\nnbt.path = "%s"\n\n[[bin]]\nname = "answers"\npath = "%s"\n' \
+        "$room/bindings/rust" "$here/library/answers.rs" >"$room/released/Cargo.toml"
 }
 
 # The program of examples/ in Rust that answers: two requests of its own names and one of any, and neither another name nor a query.

@@ -54,11 +54,11 @@ all_calls() {
     compiled calls "${CC:-cc}" "$out/lib/libnbt.a"
     compiled calls.arm aarch64-linux-gnu-gcc "$out/lib/aarch64/libnbt.a"
     rows_of 11 "$payloads"
-    ended "$room/calls" answers <"$room/rows11" >"$room/answers" 2>"$room/errors"
+    ended "$room/calls" answers <"$room/rows" >"$room/answers" 2>"$room/errors"
     count $? "tests/library/calls.c: $(tail -n 1 "$room/errors")"
-    alike aarch64 "$room/answers" "${qemu[@]}" "$room/calls.arm" answers <"$room/rows11"
-    alike WebAssembly "$room/answers" "${node[@]}" "$here/library/calls.mjs" "$out/nbt.wasm" answers <"$room/rows11"
-    judged 'aarch64, in rooms that are too small' "$here/library/cases.txt" "${qemu[@]}" "$room/calls.arm" judged 8
+    alike aarch64 "$room/answers" "${qemu[@]}" "$room/calls.arm" answers <"$room/rows"
+    alike WebAssembly "$room/answers" "${node[@]}" "$here/library/calls.mjs" "$out/nbt.wasm" answers <"$room/rows"
+    judged 'aarch64, in rooms that are too small' "$room/cases" "${qemu[@]}" "$room/calls.arm" judged 8
 }
 
 # Each request for memory refused in turn, on the other targets.
@@ -85,9 +85,9 @@ corpus() {
     compiled sanitized "${CC:-cc}" "$out/lib/libnbt.a" "${sanitized[@]}"
     ended "$room/sanitized" inputs <"$inputs" 2>&1 | tail -n 1 | same "$wanted" 'the corpus on x86-64'
     ended "${qemu[@]}" "$room/calls.arm" inputs <"$inputs" 2>&1 | tail -n 1 | same "$wanted" 'the corpus on aarch64'
-    "$here/captures/payloads.py" inputs 1000000 <"$here/library/corpus.txt" | "$here/library/payload_rows.py" >"$room/rows"
-    judged 'of the corpus, sanitized' "$room/rows" "$room/sanitized" judged
-    awk '/^datagram_read P ! truncated / { $NF++ } 1' "$room/rows" | ended "$room/sanitized" judged >"$room/output" 2>&1
+    "$here/captures/payloads.py" inputs 1000000 <"$here/library/corpus.txt" | "$here/library/payload_rows.py" >"$room/corpus"
+    judged 'of the corpus, sanitized' "$room/corpus" "$room/sanitized" judged
+    awk '/^datagram_read P ! truncated / { $NF++ } 1' "$room/corpus" | ended "$room/sanitized" judged >"$room/output" 2>&1
     [ $? -ne 0 ] && grep -q 'not so: what a row says' "$room/output"
     count $? "a place that is one off is found: $(tail -n 1 "$room/output")"
     [ "$(stat -c %s "$here/library/corpus.txt")" -lt 2000000 ]
@@ -96,12 +96,14 @@ corpus() {
 
 # The package for JavaScript: its tests, and the program of its page.
 javascript() {
+    local each
     ended "${node[@]}" --expose-gc "$top/bindings/javascript/tests/nbt.test.mjs" "$out" "$top/include/nbt.h" >"$room/log" 2>&1
     count $? "bindings/javascript/tests: $(grep -m 3 -E "^not ok|^ +error:" "$room/log" | tr '\n' ' ')"
     passed=$((passed + $(grep -c '^ok ' "$room/log")))
-    "$here/captures/payloads.py" --seed 14 values 9000 >"$room/values"
-    said "$room/values"
-    reads "$room/values" tests/library/values.mjs ended "${node[@]}" "$here/library/values.mjs" "$out"
+    said "$room/values" "$here/captures/payloads.py" --seed 14 values 9000
+    for each in asked values; do
+        answers tests/library/answers.mjs "$room/$each" ended "${node[@]}" "$here/library/answers.mjs" "$out"
+    done
     mkdir -p "$room/user/node_modules/nbt"
     cp "$out/nbt.mjs" "$out/nbt.wasm" "$top/bindings/javascript/package.json" "$room/user/node_modules/nbt"
     block js "$top/bindings/javascript/README.md" >"$room/user/first.mjs"

@@ -2,7 +2,6 @@
 // the same. Usage: node calls.mjs MODULE answers|refused <ROWS. With `refused` they are made once more, each request for memory refused in
 // turn: they answer the same, and memory stays as large.
 import { readFileSync, writeFileSync } from 'node:fs';
-import { bytesOf, wordsOf } from './rows.mjs';
 
 const [path, way] = process.argv.slice(2);
 const { instance } = await WebAssembly.instantiate(readFileSync(path), {});
@@ -41,6 +40,9 @@ function expect(holds, what) {
 const size = (place) => view.getBigUint64(place, true);
 const isUntouched = (start, end) => memory.subarray(start, end).every((byte) => byte === FILL);
 
+/** The bytes of a name, or of digits. */
+const bytesOf = (word) => names.get(word) ?? Uint8Array.from(Buffer.from(word.replace('empty', ''), 'hex'));
+
 /** The digits of a sum of bytes. */
 function sumOf(bytes) {
     const sum = bytes.reduce((sum, byte) => Math.imul(sum ^ byte, 0x01000193), 0x811c9dc5);
@@ -55,7 +57,7 @@ function askedOf(row, given) {
     row.words.filter(isGiven).forEach((word, index) => {
         const place = Number(/\d/.exec(word)?.[0]);
         if (word.startsWith('IN')) {
-            asked.inputs[place] = bytesOf(given[index], names);
+            asked.inputs[place] = bytesOf(given[index]);
             asked.values.set(word, [big(inputs[place]), big(asked.inputs[place].length)]);
         } else if (word.startsWith('N')) {
             asked.values.set(word, [Number(BigInt.asIntN(32, big(given[index])))]);
@@ -136,9 +138,10 @@ function run(isRefused) {
 
 /** What a line asks, null of one that begins a payload's; undefined of one that gives a name. */
 function stepOf(line) {
-    if (line === 'line') return null;
-    const [name, ...given] = wordsOf(line, names) ?? [];
-    return name && [name, askedOf(rows.get(name), given)];
+    const [name, ...given] = line.split(' ');
+    if (name === 'line') return null;
+    if (name === 'let') names.set(given[0], bytesOf(given[2]));
+    return rows.has(name) ? [name, askedOf(rows.get(name), given)] : undefined;
 }
 
 const steps = readFileSync(0, 'latin1').split('\n').map(stepOf).filter((step) => step !== undefined);

@@ -1,8 +1,8 @@
-/* Rows in the form of cases.txt, which says how they are written: see harness.h. They are read without a request for memory. */
+/* Rows in the form of rows.py: see harness.h. They are read without a request for memory. */
 #include "harness.h"
 #include <stdlib.h>
 
-enum { MOST_NAMES = 256, MOST_STATIONS = 48, LONGEST = 1 << 19 };
+enum { MOST_NAMES = 512, MOST_STATIONS = 64 };
 
 /* What has a name: bytes, or a station. */
 static struct named {
@@ -17,7 +17,7 @@ static size_t name_count, station_count;
 static size_t first_names, first_kept;
 
 /* The length of a name, or of a number, at the front of a text. */
-static size_t word_length(const char *text) { return strcspn(text, " +*\n"); }
+static size_t word_length(const char *text) { return strcspn(text, " \n"); }
 
 /* What a text's first word names: the last that has this name. */
 static struct named *find(struct named *list, size_t count, const char *text) {
@@ -27,36 +27,14 @@ static struct named *find(struct named *list, size_t count, const char *text) {
     return count > 0 ? &list[count - 1] : NULL;
 }
 
-/* A part of bytes, which a text begins with and which is passed over. */
-static struct bytes part_at(const char **text) {
-    struct named *named = find(names, name_count, *text);
-    struct bytes part;
-    if (**text == '\'') {
-        part = (struct bytes){(const uint8_t *)*text + 1, strcspn(*text + 1, "'")};
-        *text += part.length + 2;
-        return part;
-    }
-    part = named != NULL ? named->bytes : bytes_of(*text);
-    expect(named != NULL || 2 * part.length == word_length(*text), "a name or digits of a row");
-    *text += word_length(*text);
-    return part;
-}
-
+/* The bytes of a word with which a text begins, and which is passed over: those of a name, or digits. */
 static struct bytes bytes_at(const char **text) {
-    static uint8_t built[LONGEST];
-    size_t length = 0, mark = kept_mark();
-    for (;; ++*text) {
-        struct bytes part = part_at(text);
-        size_t times = 1;
-        if (**text == '*')
-            times = strtoul(*text + 1, (char **)text, 10);
-        for (expect(times * part.length <= LONGEST - length, "room for bytes"); times > 0; times--, length += part.length)
-            memcpy(built + length, part.at, part.length);
-        if (**text != '+')
-            break;
-    }
-    release(mark);
-    return keep(built, length);
+    struct named *named = find(names, name_count, *text);
+    struct bytes found = named != NULL ? named->bytes : bytes_of(*text);
+    size_t length = word_length(*text);
+    expect(named != NULL || 2 * found.length == length || strncmp(*text, "empty", length) == 0, "a name or digits of a row");
+    *text += length;
+    return found;
 }
 
 static void name_bytes(const char *text) {

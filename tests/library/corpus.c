@@ -7,19 +7,20 @@
 
 enum { PORT_138 = 1, TABLE = 3 };
 
-/* The first row of cases.txt of each call that has an input and changes no station. */
+/* The first row of CASES of each call that has an input and changes no station. */
 static struct sample samples[CALLS];
 static size_t sample_count;
 
 static void read_samples(void) {
-    static char text[1 << 17];
+    static char text[1 << 25];
+    static int is_there[CALLS];
     const char *at = text;
     FILE *file = fopen(CASES, "r");
     struct sample row;
-    expect(file != NULL && fread(text, 1, sizeof text - 1, file) > 0 && fclose(file) == 0, "cases.txt");
+    expect(file != NULL && fread(text, 1, sizeof text - 1, file) > 0 && feof(file) && fclose(file) == 0, "the rows of cases.txt");
     while (next_row(&at, &row))
-        if (has_input(row.of, 0) && !rows[row.of].changes && (sample_count == 0 || samples[sample_count - 1].of != row.of)) {
-            expect(sample_count < CALLS, "the rows of a call stand together");
+        if (has_input(row.of, 0) && !rows[row.of].changes && !is_there[row.of]) {
+            is_there[row.of] = 1;
             samples[sample_count++] = row;
         }
     hold(kept_mark());

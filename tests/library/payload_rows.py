@@ -1,35 +1,36 @@
 #!/usr/bin/env python3
-"""What the calls of the library should answer of payloads, by tests/model: rows in the form of cases.txt, for calls.c and calls.mjs.
+"""What the calls of the library should answer, by tests/model: rows in the form of rows.py, for calls.c and calls.mjs.
 
-Usage: payload_rows.py [limits] <LINES, each a port and the digits of a payload, or `empty`; `table` stands for the port of a saved table.
-The rows begin with the names of cases.txt. A payload has a `line`, and then rows of what it says, and a row for each call that needs
-no station with the payload for an input, beside what some row of cases.txt gives it; every 48 have the rows of stations that took
-them. `limits` has no lines: stations at the limits of their names and keys.
+Usage: payload_rows.py [cases] [limits] <LINES, each a port and the digits of a payload, or `empty`; `table` stands for the port of a saved
+table. The rows begin with the names of cases.txt; with `cases` its rows follow, those of its payloads too, with `limits` stations at the limits
+of their names and keys. A payload has a `line`, and then rows of what it says, and a row for each call that needs no station with the
+payload for an input, beside what some row of cases.txt gives it; every 48 have the rows of stations that took them.
 """
-import re
+import json
 import sys
-from functools import partial
 from itertools import product
-from pathlib import Path
 from struct import pack
 
 sys.dont_write_bytecode = True
 sys.path.insert(1, f'{sys.path[0]}/..')
+from model import objects, phrases, text
+from model.captures import digits
 from model.names import Refused, name_of, read_labels, spelled, spelling_of, text_of
 from model.packets import ERROR, FIRST, KINDS, MORE, REQUEST, RETARGET, Reader, domain, question, read, record
-from rows import read_cases
-from station_rows import Station, digits, table_rows, told_rows
+from rows import WORDS, read_cases
+from station_rows import Station, table_rows, told_rows
 
-CALL = re.compile(r'^ROW\((\w+), \w+, \d+, \w+, \((.*)\)\)$', re.MULTILINE)
-GIVEN = re.compile(r'\b(IN|N|L|B)\(')
-# What each call is given, and those calls that read RDATA: they are given a type, its bytes, and some the number of a part.
-WORDS = {call: GIVEN.findall(words) for call, words in CALL.findall((Path(__file__).parent / 'calls.def').read_text('ascii'))}
+# Calls that read RDATA: they are given a type, its bytes, and some the number of a part.
 OF_RDATA = [(call, words) for call, words in WORDS.items() if call.startswith('service_') and words[:2] == ['N', 'IN']]
-# A word of a row that stands for many bytes.
-LONG = re.compile(r'\*\d{4}')
-TOGETHER, ENTRIES, MOST_ITEMS, LONGEST_CUT, MOST_PIECES, SPOILT_KEYS = 48, 3, 12, 4000, 50, 2000
-NAMES, SAID = 'FRED<20> JOE<00>', ('show', 'json', 'brief')
+TOGETHER, ENTRIES, MOST_ITEMS, LONGEST_CUT, MOST_PIECES, SPOILT_KEYS, LONG = 48, 3, 12, 4000, 50, 2000, 2000
+NAMES = 'FRED<20> JOE<00>'
 MOST = (1 << 32) - 1
+# What payloads are told by.
+SAID = {
+    'show': lambda *of: ''.join(f'{line}\n' for line in text.lines_of(*of)),
+    'json': lambda *of: json.dumps(objects.shown(*of), separators=(',', ':')),
+    'brief': phrases.said,
+}
 
 
 def told(packet_fault, fields):
@@ -163,15 +164,15 @@ def session_rows(payload):
 
 def rdata_rows(payload):
     """Bytes as RDATA: of type NS where they are one name, of another type where they aren't too many."""
-    front = '000785000000000100000000' + spelled([b'EGFCEFEECACACACACACACACACACACACA']).hex()
-    written = lambda kind: f'= {front}{kind:04x}00010000004d{len(payload):04x}+P'
-    yield f"service_response 7 0x8500 'FRED<20>' 1 77 P {written(1) if len(payload) < 65536 else '! data too long'}"
+    name, front = b'FRED<20>'.hex(), '000785000000000100000000' + spelled([b'EGFCEFEECACACACACACACACACACACACA']).hex()
+    written = lambda kind: f'= {front}{kind:04x}00010000004d{len(payload):04x}{payload.hex()}'
+    yield f'service_response 7 0x8500 {name} 1 77 P {written(1) if len(payload) < 65536 else "! data too long"}'
     try:
         _, after = read_labels(payload, 0)
-        name = written(2) if after == len(payload) else f'! name: trailing bytes {after}'
+        said = written(2) if after == len(payload) else f'! name: trailing bytes {after}'
     except Refused as fault:
-        name = f'! name: {fault}'
-    yield f"service_response 7 0x8500 'FRED<20>' 2 77 P {name}"
+        said = f'! name: {fault}'
+    yield f'service_response 7 0x8500 {name} 2 77 P {said}'
 
 
 # ---- calls, whatever they are given
@@ -191,9 +192,9 @@ def any_rows(number, given):
 
 def rows_of(number, port, payload, given):
     """The rows of a payload."""
-    yield from ('line', f'let P = {digits(payload)}')
+    yield f'let P = {digits(payload)}'
     if port != 'table':
-        yield from (f'{call} {int(port) | 0xabcd0000} P' for call in SAID)
+        yield from (f'{call} {int(port) | 0xabcd0000} P = {digits(said(int(port), payload).encode())}' for call, said in SAID.items())
         yield from {'137': service_rows, '138': datagram_rows, '139': session_rows}[port](payload)
     yield from rdata_rows(payload)
     yield from any_rows(number, given)
@@ -222,25 +223,47 @@ def limit_rows(names):
     yield from told_rows([b'NBT2' + pack('>I', SPOILT_KEYS) + b''.join(b'\xff' * 6 + pack('>HB', it, 0) for it in range(SPOILT_KEYS))])
 
 
-def main():
-    (names, cases), say = read_cases(), partial(print, sep='\n')
-    if sys.argv[1:] == ['limits']:
-        return say(*limit_rows(names))
-    given = {}
+def given_of(cases):
+    """What calls that need no station are given: payloads and ones, and what rows give them."""
+    given = {call: [['P' if it == 'IN' else '1' for it in words]] for call, words in WORDS.items()
+             if call not in SAID and not call.startswith('station_')}
     for call, words, _ in cases:
-        if call not in SAID and not call.startswith('station_') and not LONG.search(' '.join(words)):
-            given.setdefault(call, []).append(words)
-    say(*(f'let {name} = {digits(data)}' for name, data in names.items()))
-    together = []
-    for number, line in enumerate(sys.stdin):
+        if call in given and len(' '.join(words)) < LONG:
+            given[call].append(words)
+    return given
+
+
+def case_rows(cases, payloads, given):
+    """The rows of cases.txt, and those of its payloads."""
+    yield from (' '.join([call, *words, *answer]) for call, words, answer in cases)
+    for number, it in enumerate(payloads):
+        yield from rows_of(number, *it, given)
+    yield from together_rows(payloads, 0)
+    yield from told_rows([payload for port, payload in payloads if port == 'table'])
+
+
+def payload_rows(lines, given):
+    """The rows of lines."""
+    together, number = [], 0
+    for number, line in enumerate(lines):
         port, payload = line.split()
         payload = bytes.fromhex(payload.replace('empty', ''))
-        say(*rows_of(number, port, payload, given))
+        yield from ('line', *rows_of(number, port, payload, given))
         together.append((port, payload))
         if len(together) == TOGETHER:
-            say(*together_rows(together, number))
+            yield from together_rows(together, number)
             together.clear()
-    return say(*together_rows(together, number))
+    yield from together_rows(together, number)
+
+
+def main():
+    names, cases, payloads = read_cases()
+    given = given_of(cases)
+    for name, data in names.items():
+        print('let', name, '=', digits(data))
+    for rows in ([case_rows(cases, payloads, given)] * ('cases' in sys.argv) + [limit_rows(names)] * ('limits' in sys.argv)
+                 + [payload_rows(sys.stdin, given)]):
+        print(*rows, sep='\n')
 
 
 if __name__ == '__main__':

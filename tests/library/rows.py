@@ -1,9 +1,29 @@
-"""Rows in the form of cases.txt, which says how they are written: payload_rows.py and cases_in_python.py read them."""
+#!/usr/bin/env python3
+"""The rows of cases.txt, which says how they are written, in a plain form: a call, what it is given, and its answer, of which bytes are
+digits, `empty`, or a name that a line `let NAME = BYTES` gave them.
+
+Usage: rows.py <ROWS, in this form, prints what the packages for other languages are asked, each row before a tab and its answer: without names,
+and of the calls that packages have as calls. The payload of a call that reads a packet stands after its port.
+"""
 import pathlib
 import re
+import sys
 
+sys.dont_write_bytecode = True
+sys.path.insert(1, f'{sys.path[0]}/..')
+from model.captures import digits
+from model.values import FAULTS, NAME_FAULTS, ROLES, told
+
+FOLDER = pathlib.Path(__file__).parent
 WORD = re.compile(r"(?:'[^']*'|[^' ])+")
 PART = re.compile(r"(?:'([^']*)'|([A-Z]\w*)|([0-9a-f]*))(?:\*(\d+))?(?:\+|$)")
+CALL = re.compile(r'^ROW\((\w+), \w+, \d+, \w+, \((.*)\)\)$', re.MULTILINE)
+# What each call is given.
+WORDS = {call: re.findall(r'\b(IN|[NLB])\(|\b(?:STATION|MADE)\b', words) for call, words in CALL.findall((FOLDER / 'calls.def').read_text('ascii'))}
+READS = {'service_read': 137, 'datagram_read': 138, 'session_read': 139}
+# What packages have within other calls, and what they have no word for.
+WITHIN = re.compile(r'version|service_(header|item|items|address|node|unit|domain)|datagram_front|session_(front|names|retarget)')
+UNASKED = re.compile(r'status_text ([0-9]|254) |.*! (no station|unknown request)$')
 
 
 def bytes_of(word, names):
@@ -13,18 +33,64 @@ def bytes_of(word, names):
                     for text, name, digits, times in found)
 
 
-CASES = (pathlib.Path(__file__).parent / 'cases.txt').read_text('ascii').splitlines()
-WITHIN = next(line.split()[2:] for line in CASES if line.startswith('# Within: '))
+def plain(kind, word, names):
+    """A word that a call is given."""
+    return digits(bytes_of(word, names)) if kind == 'IN' else str(int(word, 0)) if kind else word
+
+
+def answer_of(mark, words, names):
+    """Bytes, or words of which some stand for others."""
+    if mark == '=':
+        return [mark, digits(bytes_of(words[0], names))]
+    texts = [names[word].decode() if word in names else word for word in words]
+    return [mark, *(re.sub(r'^([0-9a-f]+)\*(\d+)$', lambda it: it[1] * int(it[2]), text) for text in texts)]
+
+
+def status_rows():
+    """What statuses of names and packets say."""
+    of_names = {f'{role}: {fault}': plus + number for role, plus in ROLES.items() for fault, number in NAME_FAULTS.items()}
+    return [('status_text', [str(number)], ['=', text.encode().hex()]) for text, number in (of_names | FAULTS).items()]
 
 
 def read_cases():
-    """The names of cases.txt with their bytes, and its rows: a call, what it is given, and the words of its answer, the first of them its mark."""
-    names, rows = {}, []
-    for line in CASES:
-        words = WORD.findall(line)
-        if line.startswith('let '):
-            names[words[1]] = bytes_of(words[3], names)
-        elif words and not line.startswith('#'):
-            at = next(place for place, word in enumerate(words) if word in ('=', ':', '!'))
-            rows.append((words[0], words[1:at], words[at:]))
-    return names, rows
+    """The names of cases.txt with their bytes, the rows, each a call, what it is given, and the words of its answer, the first of them its mark,
+    and the payloads with their ports."""
+    names, rows, payloads = {}, status_rows(), []
+    for line in (FOLDER / 'cases.txt').read_text('ascii').splitlines():
+        call, *words = WORD.findall(line) or ['#']
+        if call == 'let':
+            names[words[0]] = bytes_of(words[2], names)
+        elif call in ('137', '138', '139', 'table'):
+            payloads.append((call, bytes_of(words[0], names)))
+        elif call != '#':
+            given = [plain(*it, names) for it in zip(WORDS[call], words)]
+            mark, *answer = words[len(given):]
+            rows.append((call, given, answer_of(mark, answer, names)))
+    return names, rows, payloads
+
+
+def asked(lines):
+    """What the packages are asked, and what they should answer."""
+    names = {}
+    for line in lines:
+        call, *words = line.split()
+        if call == 'let':
+            names[words[0]] = words[2]
+        if call not in WORDS or WITHIN.fullmatch(call):
+            continue
+        given = [names.get(word, word) if kind == 'IN' else str(int(word, 0)) if kind else word for kind, word in zip(WORDS[call], words)]
+        answer = words[len(given):]
+        if call in READS:
+            call, answer = str(READS[call]), [told(READS[call], given[0])]
+        elif call in ('show', 'json', 'brief'):
+            given[0] = str(int(given[0]) & 0xffff)
+        if ':' in answer:
+            del answer[:answer.index(':')]
+        question, said = ' '.join([call, *given]), ' '.join(answer)
+        if said and (said != ':' or call == 'station_create') and not UNASKED.match(f'{question} {said}'):
+            yield question, said
+
+
+if __name__ == '__main__':
+    for row in asked(sys.stdin):
+        print(*row, sep='\t')

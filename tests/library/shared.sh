@@ -4,7 +4,7 @@ strict=(-std=c11 -O1 -g -Wall -Wextra -Wpedantic -Werror "-I$top/include")
 sanitized=(-fsanitize=address,undefined -fno-sanitize-recover=all)
 # tests/library/calls.c, over the rows of calls.def.
 wrapped=(-Wl,--wrap=malloc,--wrap=realloc,--wrap=free)
-rows=("$here"/library/{calls,harness,cases,hostile,bounds,corpus,memory}.c "-DCASES=\"$here/library/cases.txt\"" "${wrapped[@]}")
+rows=("$here"/library/{calls,harness,cases,hostile,bounds,corpus,memory}.c "-DCASES=\"$room/cases\"" "${wrapped[@]}")
 
 # same WANTED NAME: whether standard input is what is wanted.
 same() {
@@ -47,16 +47,20 @@ example() {
 
 # compiled NAME COMPILER ARCHIVE OPTION..: tests/library/calls.c, compiled so, as $room/NAME.
 compiled() {
+    "$here/library/payload_rows.py" cases </dev/null >"$room/cases"
     "$2" "${strict[@]}" -o "$room/$1" "${rows[@]}" "${@:4}" "$3" >"$room/log" 2>&1
     count $? "tests/library/calls.c, $1: $(head -n 1 "$room/log")"
 }
 
-# rows_of SEED COUNT [LONGEST]: payloads, and the rows of what the calls should answer of them, those of cases.txt before.
+# rows_of SEED COUNT: the rows of what the calls should answer of payloads, those of cases.txt and of limits before, and what of them the
+# packages are asked: $room/rows and $room/asked.
 rows_of() {
-    "$here/captures/payloads.py" --seed "$1" ${3:+--longest "$3"} library "$2" >"$room/lines$1"
-    { cat "$here/library/cases.txt"; "$here/library/payload_rows.py" <"$room/lines$1"; } >"$room/rows$1"
-    [ "$(grep -c '^line$' "$room/rows$1")" -eq "$2" ] && [ "$(wc -l <"$room/rows$1")" -gt $((35 * $2)) ]
+    "$here/captures/payloads.py" --seed "$1" library "$2" | "$here/library/payload_rows.py" cases limits >"$room/rows"
+    [ "$(grep -c '^line$' "$room/rows")" -eq "$2" ] && [ "$(wc -l <"$room/rows")" -gt $((35 * $2)) ]
     count $? "the rows of $2 payloads"
+    "$here/library/rows.py" <"$room/rows" >"$room/asked"
+    [ "$(wc -l <"$room/asked")" -gt $((12 * $2)) ]
+    count $? "what packages are asked of them"
 }
 
 # judged NAME ROWS COMMAND..: each call answers what its row says.
@@ -88,25 +92,17 @@ few_payloads() {
     count $? 'the rows of a few payloads'
 }
 
-# lines COUNT SEED: payloads, and what `nbt show` prints of them.
-lines() {
-    "$here/captures/payloads.py" --seed "$2" library "$1" >"$room/lines$2"
-    sed 's/ / 0 /' "$room/lines$2" | ended "$program" show --input-limit 4294967296 >"$room/lines$2.wanted"
-    [ $? -eq 0 ] && [ "$(grep -cE '^[0-9]+ 13[789] ' "$room/lines$2.wanted")" -eq "$1" ]
-    count $? "$1 payloads of tests/captures/payloads.py, and nbt show of each"
-}
-
-# said LINES: what a slow model reads in payloads.
+# said FILE COMMAND..: the payloads that a command prints, and what a slow model reads in them.
 said() {
-    PYTHONPATH=$here ended python3 -m model.values <"$1" >"$1.wanted"
-    [ $? -eq 0 ] && [ "$(grep -cE '^[0-9]+ 13[789] ' "$1.wanted")" -eq "$(wc -l <"$1")" ]
+    "${@:2}" | PYTHONPATH=$here ended python3 -m model.values >"$1"
     count $? "what tests/model/values.py reads in $(wc -l <"$1") payloads"
 }
 
-# reads LINES NAME COMMAND..: a caller of the library reads the same there.
-reads() {
-    "${@:3}" <"$1" >"$room/output" 2>"$room/errors"
-    count $? "$2: $(tail -n 1 "$room/errors")"
-    cmp -s "$1.wanted" "$room/output"
-    count $? "$2 reads what tests/model/values.py does: $(diff "$1.wanted" "$room/output" | head -c 300)"
+# answers NAME FILE COMMAND..: a caller of the library answers what stands behind the tabs of a file, each line of which is a case.
+answers() {
+    cut -f 1 "$2" | "${@:3}" >"$room/output" 2>"$room/errors"
+    count $? "$1: $(tail -n 1 "$room/errors")"
+    cut -f 2 "$2" | diff - "$room/output" >"$room/difference"
+    count $? "$1 answers what rows say: $(head -c 300 "$room/difference")"
+    [ -s "$room/difference" ] || passed=$((passed + $(wc -l <"$2")))
 }

@@ -3,18 +3,15 @@ import json
 from itertools import product
 from struct import pack
 
-from model.captures import Line
+from model.captures import Line, digits
 from model.names import Refused, name_of_text, spelling_of
-from model.reports import hears, listed, listing, reported
+from model.objects import key_text
+from model.reports import addressed, hears, listed, listing, report_text, reported
 from model.tables import PER_SOURCE, Table, load
 
 MOMENT, KEPT_FOR = 7, 2000
 # Why a station takes no fragment. Why other payloads are refused it says in its answer.
 UNTAKEN = ('misplaced first', 'too long', 'full source', 'full')
-
-
-def digits(data):
-    return data.hex() or "''"
 
 
 def handed_over(entry, between=b''):
@@ -36,16 +33,17 @@ class Station:
         return {key for key, entry in self.table.entries.items() if entry.is_whole()}
 
     def take(self, moment, payload):
-        """A payload comes; what is written is the datagram that is handed over, or the error packet."""
+        """A payload comes; what is written is the datagram that is handed over, or the error packet. The packages answer words."""
         before = self.whole()
         said = reported(self.table, self.names, Line(0, 138, moment, payload))
         row = f'station_take {self.label} {moment} {digits(payload)}'
         if said.get('refused') in UNTAKEN:
             return f'{row} ! {said["refused"]}'
-        if said.get('outcome') != 'delivered':
-            return f'{row} = {digits(bytes.fromhex(said.get("error", "")))}'
-        key, = self.whole() - before
-        return f'{row} = {digits(handed_over(self.table.entries[key]))}'
+        written = bytes.fromhex(said.get('error', ''))
+        if said.get('outcome') == 'delivered':
+            key, = self.whole() - before
+            written = handed_over(self.table.entries[key])
+        return f'{row} = {digits(written)} : {report_text(said)}'
 
     def absorb(self, moment, data):
         """A table is taken in; what is written are the datagrams that are whole by it, and heard."""
@@ -56,11 +54,13 @@ class Station:
             return f'{row} ! {fault}'
         for key in self.table.entries.keys() - held:
             self.table.entries[key].start = moment
-        new = [(key, self.table.entries[key]) for key in sorted(self.whole() - before)]
-        return f'{row} = {digits(b"".join(with_key(*it) for it in new if hears(self.names, it[1])))}'
+        new = ((key, self.table.entries[key]) for key in sorted(self.whole() - before))
+        heard = [it for it in new if hears(self.names, it[1])]
+        return f'{row} = {digits(b"".join(with_key(*it) for it in heard))} : {" and ".join(told(*it) for it in heard) or "none"}'
 
     def tick(self, moment):
-        return f'station_tick {self.label} {moment} ~ {pack("<I", self.table.drop(moment)).hex()}'
+        dropped = self.table.drop(moment)
+        return f'station_tick {self.label} {moment} ~ {pack("<I", dropped).hex()} : {dropped}'
 
     def save(self):
         return f'station_save {self.label} = {self.table.saved().hex()}'
@@ -73,6 +73,11 @@ def with_key(key, entry):
     """A datagram that a table's key makes whole."""
     address, port, identifier = key
     return address + pack('>HHB', port, identifier, entry.parts()[0]) + handed_over(entry, pack('>H', len(entry.data())))
+
+
+def told(key, entry):
+    """The words of one."""
+    return ' '.join([key_text(key), *addressed(entry).values(), digits(entry.data())])
 
 
 def loaded(data, role, keys=PER_SOURCE, per_source=PER_SOURCE):
@@ -102,8 +107,8 @@ def differ(first, second):
     entries = [loaded(it, role).entries for it, role in ((first, 'table'), (second, 'second table'))]
     for key in sorted(entries[0].keys() | entries[1].keys()):
         if len({entry and entry.saved() for entry in (it.get(key) for it in entries)}) == 2:
-            return f'~ {key[0][::-1].hex()}{pack("<HHB", *key[1:], 1).hex()}'
-    return f'~ {bytes(9).hex()}'
+            return f'~ {key[0][::-1].hex()}{pack("<HHB", *key[1:], 1).hex()} : {key_text(key)}'
+    return f'~ {bytes(9).hex()} : none'
 
 
 def lines(data):

@@ -1,8 +1,8 @@
 """What a caller of the library should read out of payloads, which come as lines of a port and digits. Usage: python3 -m model.values,
-in tests/. tests/library/values_in_python.py and values.rs print the same by the bindings.
+in tests/, prints each line before a tab and what it says. The drivers tests/library/answers.* print the same by the packages.
 
-Of port 137 there is a line for the packet, one for its header and one for each question and record that stands; of the other ports one
-for the packet, and one for what stands at its front. A fault is the number of its status, and its place, or - where it has none."""
+Of port 137 there are words for the packet, for its header and for each question and record that stands; of the other ports for the packet,
+and for what stands at its front. A fault is the number of its status, and its place, or - where it has none."""
 import sys
 
 from .captures import digits
@@ -87,19 +87,17 @@ def session(packet):
     return [whole, f'front {packet.kind:02x} {packet.flags:02x} {packet.length}'] if packet.stands else [whole]
 
 
-def lines_of(port, payload):
-    """The lines of a payload that came to a port."""
-    return {137: service, 138: datagram, 139: session}[port](read(port, payload))
+def told(port, payload):
+    """What a payload with these digits says that came to a port."""
+    said = {137: service, 138: datagram, 139: session}[port](read(port, bytes.fromhex(payload.replace('empty', ''))))
+    return f': {", ".join(said)}'
 
 
-def main(lines_of=lines_of):
-    """Prints those of the lines of standard input, as the model or another reader has them, each with its number and port."""
-    for place, line in enumerate(sys.stdin, 1):
+def main():
+    """Prints those of standard input."""
+    for line in sys.stdin:
         port, payload = line.split()
-        first, *others = lines_of(int(port), bytes.fromhex(payload.replace('empty', '')))
-        print(place, port, first)
-        for each in others:
-            print(' ', each)
+        print(f'{port} {payload}\t{told(int(port), payload)}')
 
 
 if __name__ == '__main__':

@@ -6,7 +6,6 @@ import { createServer } from 'node:http';
 import { test } from 'node:test';
 import { pathToFileURL } from 'node:url';
 import vm from 'node:vm';
-import { testRows } from '../../../tests/library/cases.mjs';
 
 const [folder, header] = process.argv.slice(2);
 const { load, NbtError, Status } = await import(pathToFileURL(`${folder}/nbt.mjs`));
@@ -29,8 +28,6 @@ function refused(call) {
     assert.fail('it is done');
 }
 
-const numbers = testRows(nbt);
-
 /** The module's own calls, and its memory. */
 async function raw() {
     const { exports } = (await WebAssembly.instantiate(wasm, {})).instance;
@@ -51,10 +48,6 @@ test('a module has each call of nbt.h', async () => {
 
 test('version', () => {
     assert.equal(nbt.version(), /NBT_VERSION "(.*)"/.exec(readFileSync(header, 'utf8'))[1]);
-});
-
-test('each status has a row', () => {
-    assert.deepEqual(numbers, Object.values(Status));
 });
 
 test('what an error has', () => {

@@ -1,4 +1,4 @@
-"""Responses of port 137, written from values. test_cases.py writes those of rows, and tests/library/values_in_python.py many."""
+"""Responses of port 137, written from values. tests/library/answers.py writes those of rows, and many."""
 import unittest
 from ipaddress import IPv4Address
 

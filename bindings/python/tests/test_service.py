@@ -1,4 +1,4 @@
-"""Packets of port 137, read: numbers and flags, values, threads, and buffers that change. test_cases.py has what stands in them."""
+"""Packets of port 137, read: numbers and flags, values, threads, and buffers that change. tests/library/answers.py has what stands in them."""
 import copy
 import ipaddress
 import pickle

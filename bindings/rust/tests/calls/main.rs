@@ -1,7 +1,5 @@
-//! What the calls answer, by rows and by examples: the bytes that several of them have, and how a refusal looks.
+//! What the calls answer, by examples: the bytes that several of them have, and how a refusal looks.
 
-#[path = "../../../../tests/library/cases.rs"]
-mod cases;
 mod datagrams;
 mod names;
 mod responses;

@@ -1,4 +1,4 @@
-//! Responses of port 137 that are written of values. tests/library/cases.rs writes those of rows so.
+//! Responses of port 137 that are written of values. tests/library/answers.rs writes those of rows so.
 
 use crate::refused;
 use nbt::service::{Answer, Entry, NodeName, Response, ResultCode, NS, NULL};

@@ -3,27 +3,11 @@ import random
 import struct
 
 import random_pcap
-from wire import block, ip, pcap_header, section, udp
+from wire import block, pcap_header, pcap_record, section
 
 PCAP, SECTION, INTERFACE = pcap_header(), section(), block(1, struct.pack('<HHL', 1, 0, 0))
 
 KEEP = b'139 0 85000000\n'
-
-
-def frame(data):
-    return struct.pack('<LLLL', 1, 0, len(data), len(data)) + data
-
-
-PLAIN_GRE = bytes([0, 0, 8, 0])
-
-
-def packet(data, protocol=17, is_udp=True):
-    """A packet of IPv4 with data, on port 137 where it is UDP."""
-    return ip(protocol, udp(137, 137, data) if is_udp else data, target=bytes([10, 0, 0, 9]), identifier=1)
-
-
-def ethernet(data):
-    return bytes([1, 2, 3, 4, 5, 6, 2, 0, 0, 0, 0, 9, 8, 0]) + data
 
 
 def refused(program):
@@ -64,9 +48,9 @@ def markup(program):
 def bad(program):
     """Files that can't be read, or not to their end: names, bytes, and what is said of each."""
     table = program.run(['nbt', 'save'], ''.join(program.build('group', '10.0.0.5:138/0001', 'JOE<00>', 'FRED<20>', '6162', '1')[:1]).encode()).strip()
-    good = frame(bytes(60))
+    good = pcap_record(0, bytes(60))
     rng = random.Random('bad')
-    frames = b''.join(frame(rng.randbytes(rng.randrange(120))) for _ in range(500))
+    frames = b''.join(pcap_record(0, rng.randbytes(rng.randrange(120))) for _ in range(500))
     faces = SECTION + INTERFACE * 300_000
     return [
         ('empty.pcap', b'', 'empty.pcap: the file is empty, at byte 0'),

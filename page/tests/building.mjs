@@ -1,4 +1,20 @@
-/** Files and packets for the tests, built byte by byte. */
+/** Files and packets for the tests, built byte by byte, and files as the page reads them. */
+import { readFileSync } from 'node:fs';
+
+import { PayloadReader, framesOf } from '../src/containers/payloads.js';
+import { slicesOf } from '../src/containers/slices.js';
+
+/** Hands on what the frames of a file give; answers what read them, and the time of the first. */
+export function readFrames(path, take) {
+    const reader = new PayloadReader(take);
+    let first = null;
+    for (const frame of framesOf(slicesOf(new Uint8Array(readFileSync(path)))) ?? []) {
+        first ??= frame.time;
+        reader.read(frame);
+    }
+    reader.finish();
+    return { reader, first };
+}
 
 export const bytesOf = (...parts) => Uint8Array.from(parts.flatMap((part) => (typeof part === 'number' ? [part] : [...part])));
 

@@ -1,19 +1,15 @@
 // Prints the capture of a pcap or pcapng file as the page makes it, and on standard error what is left out, by reason: tests/lib/bundled.py
 // makes what node runs, with FILE after it.
-import { readFileSync } from 'node:fs';
-
-import { PayloadReader, framesOf } from '../src/containers/payloads.js';
 import { FRAGMENTS_CUT, FRAGMENTS_MISSING, FRAGMENTS_UNKNOWN } from '../src/made/reasons.js';
-import { slicesOf } from '../src/containers/slices.js';
 import { made, textOf } from '../src/model/capture.js';
 import { LEFT_OUT, Packets } from '../src/model/packets.js';
+import { readFrames } from './building.mjs';
 
 /** What nbt-pcap2cap doesn't count. */
 const ALONE = [FRAGMENTS_CUT, FRAGMENTS_MISSING, FRAGMENTS_UNKNOWN];
 const packets = new Packets();
 const left = new Map();
-let first = null;
-const reader = new PayloadReader((item) => {
+const { reader, first } = readFrames(process.argv[2], (item) => {
     if (item.kind === 'comment') packets.comment(item.text);
     else if (item.kind === 'payload') packets.add(item.mark, item);
     else if (item.kind === 'left out' && !ALONE.includes(item.why)) {
@@ -21,11 +17,6 @@ const reader = new PayloadReader((item) => {
         left.set(item.why, (left.get(item.why) ?? 0) + 1);
     }
 });
-for (const frame of framesOf(slicesOf(new Uint8Array(readFileSync(process.argv[2])))) ?? []) {
-    first ??= frame.time;
-    reader.read(frame);
-}
-reader.finish();
 const text = Array.from(made({ packets, first }), (line) => `${textOf(line)}\n`).join('');
 process.stdout.write(text);
 const total = [...left.values()].reduce((sum, each) => sum + each, 0);

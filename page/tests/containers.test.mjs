@@ -2,7 +2,7 @@ import assert from 'node:assert/strict';
 import test from 'node:test';
 
 import { PayloadReader, framesOf } from '../src/containers/payloads.js';
-import { CUT, FRAGMENTS, FRAGMENTS_CUT, FRAGMENTS_MISSING, FRAGMENTS_UNKNOWN } from '../src/made/reasons.js';
+import { FRAGMENTS, FRAGMENTS_CUT, FRAGMENTS_MISSING, FRAGMENTS_UNKNOWN } from '../src/made/reasons.js';
 import { slicesOf } from '../src/containers/slices.js';
 import { bytesOf, block, enhanced, ethernet, face, ipv4, ipv6, number, pcap, section, udp } from './building.mjs';
 
@@ -89,13 +89,6 @@ test('fragments of IP come together in any order, and one that is missing is lef
     const differing = { bytes: ethernet(ipv4(other.subarray(16, 40), { offset: 16, more: true })) };
     assert.deepEqual(leftOut(pcap([parts[0], parts[1], differing, parts[2]])), [[4, FRAGMENTS]]);
     assert.deepEqual(leftOut(pcap([parts[1]])), [[1, FRAGMENTS_UNKNOWN]]);
-});
-
-test('what is cut by the snap length is left out with how much is missing', () => {
-    const bytes = ethernet(ipv4(udp(QUERY)));
-    assert.deepEqual(leftOut(pcap([{ bytes: bytes.subarray(0, 48), size: bytes.length }])), [[1, CUT]]);
-    assert.deepEqual(leftOut(pcap([{ bytes: bytes.subarray(0, 36), size: bytes.length }])), [[1, CUT]]);
-    assert.deepEqual(leftOut(pcap([{ bytes: bytes.subarray(0, 39), size: bytes.length }])), [[1, CUT]]);
 });
 
 test('frames of no use are counted by why', () => {

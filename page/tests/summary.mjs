@@ -1,13 +1,10 @@
 // Prints the tables that the page has of pcap files, a line of JSON for each: by title the columns, and rows of texts as the page shows them.
 // tests/lib/bundled.py makes what node runs, with PROGRAM FILE.. after it.
-import { readFileSync } from 'node:fs';
-
-import { PayloadReader, framesOf } from '../src/containers/payloads.js';
-import { slicesOf } from '../src/containers/slices.js';
 import { since } from '../src/model/times.js';
 import { TABLES, shownAs } from '../src/view/tables.js';
 import { datagramsOf } from '../src/worker/datagrams.js';
 import { Tap } from '../src/worker/tap.js';
+import { readFrames } from './building.mjs';
 import { libraryBy } from './program.mjs';
 
 const [program, ...paths] = process.argv.slice(2);
@@ -16,12 +13,7 @@ const library = libraryBy(program);
 /** A file as the page keeps it. */
 function tapOf(path) {
     const tap = new Tap(new Blob(), '', library);
-    const reader = new PayloadReader((item) => tap.take(item));
-    for (const frame of framesOf(slicesOf(new Uint8Array(readFileSync(path)))) ?? []) {
-        tap.first ??= frame.time;
-        reader.read(frame);
-    }
-    reader.finish();
+    tap.first = readFrames(path, (item) => tap.take(item)).first;
     return tap;
 }
 

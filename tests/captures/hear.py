@@ -11,43 +11,29 @@ sys.dont_write_bytecode = True
 sys.path.insert(1, f'{sys.path[0]}/../lib')
 from wire import UDP, ip, ip6, udp
 
-IPV4, IPV6, TAG, SERVICE_TAG, PPPOE = 0x0800, 0x86dd, 0x8100, 0x88a8, 0x8864
-HOP_BY_HOP, ROUTING, DESTINATION = 0, 43, 60
 PORT = 20_137
-
-
-def kind(number):
-    return struct.pack('>H', number)
-
-
-def tag(number, inner):
-    """The rest of a VLAN tag, and the type after it."""
-    return struct.pack('>HH', number, inner)
+IPV4, IPV6, PPPOE = b'\x08\0', b'\x86\xdd', b'\x88\x64'
+# Tags of VLANs, each with the type before it.
+TAG, SERVICE_TAG = b'\x81\0\0\x05', b'\x88\xa8\0\x05'
+HOP_BY_HOP, ROUTING, DESTINATION = 0, 43, 60
 
 
 def pppoe(protocol, packet):
-    return struct.pack('>BBHHH', 0x11, 0, 1, 2 + len(packet), protocol) + packet
-
-
-def options(header, payload):
-    """IPv6 with an extension header of this kind, without a word in it."""
-    filler = bytes(6) if header == ROUTING else b'\x01\x04' + bytes(4)
-    return ip6(header, bytes([UDP, 0]) + filler + udp(PORT, 138, payload))
+    return PPPOE + struct.pack('>BBHHH', 0x11, 0, 1, 2 + len(packet), protocol) + packet
 
 
 def frames():
     """What stands before each packet, and the frame's type with all after it."""
     four = lambda name: ip(UDP, udp(PORT, 138, name))
     six = lambda name: ip6(UDP, udp(PORT, 138, name))
-    yield b'plain', kind(IPV4) + four(b'plain')
-    yield b'tag', kind(TAG) + tag(5, IPV4) + four(b'tag')
-    yield b'two tags', kind(SERVICE_TAG) + tag(5, TAG) + tag(6, IPV4) + four(b'two tags')
-    yield b'two tags, IPv6', kind(TAG) + tag(5, TAG) + tag(6, IPV6) + six(b'two tags, IPv6')
-    yield b'PPPoE', kind(PPPOE) + pppoe(0x0021, four(b'PPPoE'))
-    yield b'PPPoE, IPv6', kind(PPPOE) + pppoe(0x0057, six(b'PPPoE, IPv6'))
-    yield b'tag, PPPoE', kind(TAG) + tag(5, PPPOE) + pppoe(0x0021, four(b'tag, PPPoE'))
+    yield from ((name, front + made(name)) for name, front, made in (
+        (b'plain', IPV4, four), (b'tag', TAG + IPV4, four), (b'two tags', SERVICE_TAG + TAG + IPV4, four), (b'two tags, IPv6', TAG + TAG + IPV6, six),
+        (b'PPPoE', b'', lambda name: pppoe(0x0021, four(name))), (b'PPPoE, IPv6', b'', lambda name: pppoe(0x0057, six(name))),
+        (b'tag, PPPoE', TAG, lambda name: pppoe(0x0021, four(name)))))
+    # An extension header of IPv6, without a word in it.
     for header, name in ((HOP_BY_HOP, b'hop-by-hop'), (ROUTING, b'routing'), (DESTINATION, b'destination')):
-        yield name, kind(IPV6) + options(header, name)
+        filler = bytes(6) if header == ROUTING else b'\x01\x04' + bytes(4)
+        yield name, IPV6 + ip6(header, bytes([UDP, 0]) + filler + udp(PORT, 138, name))
 
 
 def main():
@@ -56,9 +42,8 @@ def main():
         return
     with socket.socket(socket.AF_PACKET, socket.SOCK_RAW) as sender:
         sender.bind(('lo', 0))
-        for _, frame in frames():
+        for _, frame in (*frames(), (b'', TAG + TAG + IPV4 + ip(UDP, udp(53, 53, b'another port')))):
             sender.send(bytes(12) + frame)
-        sender.send(bytes(12) + kind(TAG) + tag(5, TAG) + tag(6, IPV4) + ip(UDP, udp(53, 53, b'another port')))
 
 
 if __name__ == '__main__':

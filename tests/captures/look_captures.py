@@ -47,11 +47,6 @@ def backwards():
     return pcap([(2_000_000, query(FRED), None), (500_000, query(JOE), None), (3_000_000, query(FRED), None)])
 
 
-def interfaces():
-    """The same addresses on two interfaces: each has a query of its own."""
-    return pcapng([b'eth0', b'eth1'], [(0, 0, query(FRED)), (1, 1000, query(JOE))])
-
-
 def nameless():
     """Three interfaces, of which the second one has a name."""
     frames = [(each, each, query(FRED, number=each)) for each in range(3)]
@@ -177,7 +172,7 @@ def chance():
     return pcap([(each, rng.choice(heads) + rng.randbytes(rng.randrange(1, 200)), rng.choice((None, 20, 40, 60))) for each in range(2_000)])
 
 
-CAPTURES = (snapped, evil, backwards, interfaces, nameless, qinq, others, usb, fragments, life, fronts, gaps, chance)
+CAPTURES = (snapped, evil, backwards, nameless, qinq, others, usb, fragments, life, fronts, gaps, chance)
 
 
 def main():

@@ -3,54 +3,11 @@ import random
 import struct
 
 import random_pcap
-from wire import block, ip, pcap_header, section, udp
+from wire import block, pcap_header, pcap_record, section
 
 PCAP, SECTION, INTERFACE = pcap_header(), section(), block(1, struct.pack('<HHL', 1, 0, 0))
 
 KEEP = b'139 0 85000000\n'
-
-
-def frame(data):
-    return struct.pack('<LLLL', 1, 0, len(data), len(data)) + data
-
-
-PLAIN_GRE = bytes([0, 0, 8, 0])
-
-
-def packet(data, protocol=17, is_udp=True):
-    """A packet of IPv4 with data, on port 137 where it is UDP."""
-    return ip(protocol, udp(137, 137, data) if is_udp else data, target=bytes([10, 0, 0, 9]), identifier=1)
-
-
-def ethernet(data):
-    return bytes([1, 2, 3, 4, 5, 6, 2, 0, 0, 0, 0, 9, 8, 0]) + data
-
-
-def at(line, moment, number, source='10.0.0.5', target='10.0.0.255'):
-    """A line of `nbt build` at a moment, after the comment on its frame."""
-    port, _, digits = line.split()
-    second = f'2026-01-01T00:00:{moment // 1000:02d}.{moment % 1000:03d}000Z'
-    return [f'# frame {number} {second} {source}:{port} > {target}:{port}\n', f'{port} {moment} {digits}\n']
-
-
-def conflicts(program):
-    """Claims of one name by several stations, refusals, a demand, node statuses, and a query without an answer."""
-    made = [
-        (program.build('--broadcast', 'registration', '0001', 'FRED<20>', '300', '0000', '10.0.0.5'), '10.0.0.5', '10.0.0.255'),
-        (program.build('--broadcast', 'registration', '0002', 'FRED<20>', '300', '0000', '10.0.0.6'), '10.0.0.6', '10.0.0.255'),
-        (program.build('response', '0002', 'ad86', 'FRED<20>', '0020', '0', '00000a000005'), '10.0.0.5', '10.0.0.6'),
-        (program.build('--broadcast', 'registration', '0003', 'GROUP<00>', '0', '8000', '10.0.0.5'), '10.0.0.5', '10.0.0.255'),
-        (program.build('--broadcast', 'registration', '0004', 'ANN<00>', '60', '0000', '10.0.0.7'), '10.0.0.7', '10.0.0.255'),
-        (program.build('--broadcast', 'registration', '0005', 'ANN<00>', '60', '0000', '10.0.0.8'), '10.0.0.8', '10.0.0.255'),
-        (program.build('response', '0005', 'ad07', 'ANN<00>', '0020', '0', '00000a000007'), '10.0.0.7', '10.0.0.8'),
-        (program.build('--broadcast', 'release', '0006', 'GROUP<00>', '8000', '10.0.0.5'), '10.0.0.5', '10.0.0.255'),
-        (program.build('--broadcast', 'query', '0007', 'NOBODY<20>'), '10.0.0.9', '10.0.0.255'),
-        (program.build('status', '0008', 'FRED<20>'), '10.0.0.9', '10.0.0.5'),
-        (program.build('response', '0008', '8400', 'FRED<20>', '0021', '0', '0146524544202020202020202020202020200400020000000001'), '10.0.0.5', '10.0.0.9'),
-        (['137 0 0003011000010000\n'], '10.0.0.66', '10.0.0.255'),
-    ]
-    return [line for number, (lines, source, target) in enumerate(made, 1) for each in lines
-            for line in at(each, 250 * number, number, source, target)]
 
 
 def refused(program):
@@ -91,9 +48,9 @@ def markup(program):
 def bad(program):
     """Files that can't be read, or not to their end: names, bytes, and what is said of each."""
     table = program.run(['nbt', 'save'], ''.join(program.build('group', '10.0.0.5:138/0001', 'JOE<00>', 'FRED<20>', '6162', '1')[:1]).encode()).strip()
-    good = frame(bytes(60))
+    good = pcap_record(0, bytes(60))
     rng = random.Random('bad')
-    frames = b''.join(frame(rng.randbytes(rng.randrange(120))) for _ in range(500))
+    frames = b''.join(pcap_record(0, rng.randbytes(rng.randrange(120))) for _ in range(500))
     faces = SECTION + INTERFACE * 300_000
     return [
         ('empty.pcap', b'', 'empty.pcap: the file is empty, at byte 0'),

@@ -1,4 +1,5 @@
 """The parts of tests/page.py on what all views have: names of controls, widths, colors, paper, and silence."""
+import look_captures
 import page_files
 from parts import check, equal
 
@@ -25,8 +26,8 @@ class LookCases:
     def looks(self):
         """In wide windows and narrow ones no word breaks; light, dark and on paper all texts can be read."""
         one, two = page_files.taps(self.program)
-        conflicts = self.path('conflicts.pcap', self.program.pcap(page_files.conflicts(self.program)))
-        for paths in ([conflicts, self.path('two.txt', two.encode())], [f'{self.top}/examples/samba.pcap', self.path('one.txt', one.encode())]):
+        life = self.path('life.pcap', look_captures.life())
+        for paths in ([life, self.path('two.txt', two.encode())], [f'{self.top}/examples/samba.pcap', self.path('one.txt', one.encode())]):
             self.opened(*paths)
             self.browser.driver.execute_script('location.hash = "#packets"')
             self.browser.wait(lambda: self.browser.id('tap').get_attribute('value') == '0')

@@ -1,6 +1,7 @@
 """The parts of tests/page.py on packets: their rows, the one that is chosen, the filter, and the keys."""
 import re
 
+import look_captures
 import page_files
 from parts import check, equal
 
@@ -62,22 +63,22 @@ class PacketCases:
 
     def hints(self):
         """Where no row fits it is said what the box takes; a filter of Wireshark leads to words; conflicts are found by that word."""
-        self.opened(self.path('conflicts.pcap', self.program.pcap(page_files.conflicts(self.program))))
+        self.opened(self.path('life.pcap', look_captures.life()))
         for words in ('conflict', 'Conflict'):
             self.filter(words)
-            self.browser.wait(lambda: self.browser.text('shown').startswith('4 of'))
-            equal([row[0] for row in self.browser.rows()], ['2', '3', '6', '7'], f'the packets of {words}')
+            self.browser.wait(lambda: self.browser.text('shown').startswith('3 of'))
+            equal([row[0] for row in self.browser.rows()], ['2', '3', '22'], f'the packets of {words}')
             check(not self.browser.id('hint').is_displayed(), f'no hint at {words}')
         self.filter('nobody has this')
         self.browser.wait(lambda: self.browser.id('hint').is_displayed())
         check('No row fits “nobody has this”. The box takes words' in self.browser.text('hint'), f"no row fits: {self.browser.text('hint')}")
-        self.filter('ip.addr==10.0.0.6')
+        self.filter('ip.addr==10.0.0.9')
         self.browser.wait(lambda: 'is a filter of Wireshark' in self.browser.text('hint'))
-        equal(self.browser.texts('#hint button'), ['Filter by 10.0.0.6'], 'words in place of a filter of Wireshark')
+        equal(self.browser.texts('#hint button'), ['Filter by 10.0.0.9'], 'words in place of a filter of Wireshark')
         self.browser.all('#hint button')[0].click()
         self.browser.wait(lambda: not self.browser.id('hint').is_displayed())
-        equal([row[0] for row in self.browser.rows()], ['2', '3'], 'the packets of these words')
-        equal(self.browser.driver.execute_script('return document.activeElement === words && words.value'), '10.0.0.6', 'the box has the words, and the keys')
+        equal([row[0] for row in self.browser.rows()], ['4', '5'], 'the packets of these words')
+        equal(self.browser.driver.execute_script('return document.activeElement === words && words.value'), '10.0.0.9', 'the box has the words, and the keys')
 
     def filter(self, words):
         self.browser.driver.execute_script(

@@ -20,8 +20,7 @@ class Program:
     def __init__(self, program, top):
         self.path, self.top = program, top
         self.folder = tempfile.TemporaryDirectory()
-        for name, path in (('nbt', program), ('nbt-look', f'{top}/tools/nbt-look'), ('nbt-pcap2cap', f'{top}/tools/pcap2cap'),
-                           ('nbt-cap2pcap', f'{top}/tools/cap2pcap')):
+        for name, path in (('nbt', program), ('nbt-look', f'{top}/tools/nbt-look'), ('nbt-pcap2cap', f'{top}/tools/pcap2cap')):
             os.symlink(path, f'{self.folder.name}/{name}')
         self.env = {**os.environ, 'PATH': f"{self.folder.name}:{os.environ['PATH']}", 'WIRESHARK_CONFIG_DIR': f'{self.folder.name}/settings'}
 
@@ -84,10 +83,6 @@ class Program:
             return self.table(path)
         capture = self.capture(path)
         return self.run(['nbt', 'show', '--json'], capture) if form == 'json' else capture
-
-    def pcap(self, lines):
-        """A pcap file of a capture's lines."""
-        return self.run(['nbt-cap2pcap'], ''.join(lines).encode())
 
     def page(self, page, capture):
         """The page with a capture in it, by nbt-look, beside which the page lies."""

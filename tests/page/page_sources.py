@@ -1,12 +1,11 @@
 """The parts of tests/page.py on where bytes come from: frames that the page doesn't read, and files that change after they were opened."""
 import gzip
 import os
-import struct
 import subprocess
 
-import page_files
 from limits import MANY
 from parts import check, equal
+from wire import QUERY, UDP, ethernet, ip, pcap, pcap_header, pcap_record, udp
 
 SAVES = ' '.join(['nbt save', *MANY])
 
@@ -16,17 +15,16 @@ class SourceCases:
 
     def unread(self):
         """Frames that the page doesn't read are counted by link type and reason, and it is said what reads them."""
-        query = bytes.fromhex(self.program.build('query', '0003', 'FRED<20>')[0].split()[2])
-        inner = page_files.packet(query)
+        inner = ip(UDP, udp(137, 137, QUERY))
         radio = bytes([0, 0, 8, 0, 0, 0, 0, 0, 8]) + bytes(23) + bytes.fromhex('aaaa030000000800') + inner
-        self.opened(self.path('radio.pcap', page_files.PCAP[:20] + struct.pack('<L', 127) + 6 * page_files.frame(radio)))
+        self.opened(self.path('radio.pcap', pcap_header(127) + 6 * pcap_record(0, radio)))
         equal(self.browser.text('counts'), '0 packets · 0 names · 0 malformed · 0 left out · 6 not read here', 'the counts of a capture of radiotap')
         equal(self.browser.text('live'), 'radio.pcap: 0 packets, 0 malformed, 0 left out, 6 not read here', 'the footer of it')
         equal(self.browser.texts('#unread'), ["6 frames of what this page doesn't read: link type radiotap (127). nbt-look reads them."], 'the line above its rows')
         self.browser.view('names', self.browser.tables)
         equal(self.browser.tables()['not read here'], [['link type', 'why', 'frames', 'frame'], ['radiotap (127)', 'link type', '6', '1']], 'the table of it')
-        tunnel = page_files.ethernet(page_files.packet(page_files.PLAIN_GRE + inner, protocol=47, is_udp=False))
-        self.opened(self.path('tunnel.pcap', page_files.PCAP + page_files.frame(page_files.ethernet(inner)) + 2 * page_files.frame(tunnel)))
+        gre = ip(47, b'\0\0\x08\0' + inner)
+        self.opened(self.path('tunnel.pcap', pcap([(0, ethernet(each), None) for each in (inner, gre, gre)])))
         equal(self.browser.texts('#unread'), ["2 frames of what this page doesn't read: GRE. nbt-look reads them."], 'the line of a tunnel')
         equal(len(self.browser.rows()), 1, 'what is read beside it')
         equal(len(self.program.listed(f'{self.folder}/tunnel.pcap')), 3, 'nbt-look reads them')

@@ -1,6 +1,7 @@
 """The parts of tests/page.py on the other views: names, reassembly, two taps, and what is exported."""
 import os
 
+import look_captures
 import page_files
 from parts import check, equal
 
@@ -13,16 +14,13 @@ class ViewCases:
 
     def names(self):
         """The tables are those of nbt-look --summary."""
-        conflicts = self.path('conflicts.pcap', self.program.pcap(page_files.conflicts(self.program)))
-        for path in (f'{self.top}/examples/office.pcap', f'{self.top}/examples/samba.pcap', conflicts):
+        for path in (f'{self.top}/examples/office.pcap', self.path('life.pcap', look_captures.life()), f'{self.top}/examples/samba.pcap'):
             self.opened(path)
             self.browser.view('names', self.names_are_drawn)
             shown, wanted = self.browser.tables(), self.program.summary(path)
             equal(sorted(shown), sorted(wanted), f'the tables of {os.path.basename(path)}')
             for title, rows in wanted.items():
                 equal(shown.get(title), rows, f'{os.path.basename(path)}, {title}')
-        equal([row[7] for row in shown['names'][1:] if row[4] == 'refused'], ['-', '-'], 'a refused claim has no lifetime')
-        equal(shown['conflicts'][1:], [['FRED<20>', '10.0.0.5', '10.0.0.6', '10.0.0.5', '3'], ['ANN<00>', '10.0.0.7', '10.0.0.8', '10.0.0.7', '7']], 'the conflicts')
         self.losers()
 
     def names_are_drawn(self):
@@ -31,21 +29,16 @@ class ViewCases:
 
     def losers(self):
         """Who holds a name and who was refused it is said, and has another color."""
-        equal(self.browser.text('to-names'), 'Names 2', 'how many conflicts there are')
-        equal(self.browser.texts('#view-names .lead'), ['2 names are in conflict.'], 'how many names are in conflict')
-        equal(self.browser.texts('.outcomes li'), ['FRED<20>: 10.0.0.5 holds it; 10.0.0.6 was refused it. frame 3',
-                                                   'ANN<00>: 10.0.0.7 holds it; 10.0.0.8 was refused it. frame 7'], 'how the conflicts ended')
-        colors = {}
-        for cell in self.browser.all('#view-names td[data-column=address]'):
-            colors.setdefault(cell.text, self.browser.color(cell))
+        equal(self.browser.text('to-names'), 'Names 3', 'how many conflicts there are')
+        equal(self.browser.texts('#view-names .lead'), ['3 names are in conflict.'], 'how many names are in conflict')
+        frames = {'FRED<20>': 150, 'FRED<03>': 153, 'FRED<00>': 156}
+        equal(self.browser.texts('.outcomes li'), [f'{name}: 10.0.0.6 holds it; 10.0.0.5 was refused it. frame {frame}' for name, frame in frames.items()],
+              'how the conflicts ended')
         plain = self.browser.color(self.browser.id('view-names'))
-        equal([colors[f'10.0.0.{last}'] == plain for last in (5, 6, 7, 8)], [True, False, True, False], 'the colors of holders and losers')
+        colors = [self.browser.color(each) == plain for each in self.browser.all('#view-names td[data-column=address]')[:7]]
+        equal(colors, [False, True, False, True, False, True, True], 'the colors of losers, of holders, and of a name that is in no conflict')
         self.browser.all('.outcomes a')[1].click()
-        self.browser.wait(lambda: self.browser.texts('#packet h2') == ['Frame 7'])
-        self.opened(self.path('undecided.pcap', self.program.pcap([*page_files.conflicts(self.program)[:4], *page_files.conflicts(self.program)[-2:]])))
-        self.browser.view('names', self.browser.tables)
-        equal(self.browser.texts('.outcomes li'), ['FRED<20>: 10.0.0.5 and 10.0.0.6 claim it, and nobody was refused it. frame 2'], 'a conflict that nobody decided')
-        equal(self.browser.tables()['conflicts'][1:], [['FRED<20>', '10.0.0.5 or 10.0.0.6', 'nobody', '-', '2']], 'who claims it')
+        self.browser.wait(lambda: self.browser.texts('#packet h2') == ['Frame 153'])
 
     def deliveries(self):
         """What a station is handed is what `nbt replay` delivers."""

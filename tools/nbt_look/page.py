@@ -5,8 +5,9 @@ import html
 import os
 import sys
 
-from nbt_pcap.process import Stopped
-from nbt_pcap.replacing import faults_of, keep_mode, new_file, standing
+from nbt_pcap.arguments import title_of
+from nbt_pcap.process import Stopped, faults_of
+from nbt_pcap.replacing import keep_mode, new_file, standing
 
 HERE = os.path.dirname(os.path.abspath(__file__))
 # Where the page is: beside the installed tools, or where `make page` puts it.
@@ -37,12 +38,9 @@ def write(options):
 
 
 def read(path):
-    title = 'standard input' if path == '-' else path
-    try:
-        with (sys.stdin.buffer if path == '-' else open(path, 'rb')) as file:
-            data = file.read(MOST + 1)
-    except OSError as error:
-        raise Stopped(3, f'{title}: {error.strerror}') from error
+    title = title_of(path)
+    with faults_of(title), sys.stdin.buffer if path == '-' else open(path, 'rb') as file:
+        data = file.read(MOST + 1)
     if len(data) > MOST:
         raise Stopped(2, f'{title}: it has more than {MOST} bytes, which a page is given at most: tshark -r FILE -Y FILTER -w PART makes it shorter')
     return data

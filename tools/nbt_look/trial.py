@@ -7,7 +7,7 @@ import subprocess
 import time
 
 from nbt_pcap.header import VERSION
-from nbt_pcap.process import Stopped
+from nbt_pcap.process import Stopped, faults_of
 
 # How many seconds an answer may take on a machine that is busy, and how many bytes it has at most.
 PATIENCE, MOST = 10, 4_096
@@ -27,10 +27,8 @@ def judge(program):
 
 def answer_of(program, words, given):
     """What a program prints, as far as it is read. It is ended after that, with all that it started."""
-    try:
+    with faults_of(program):
         child = subprocess.Popen([program, *words], stdin=subprocess.PIPE, stdout=subprocess.PIPE, stderr=subprocess.DEVNULL, start_new_session=True)
-    except OSError as error:
-        raise Stopped(3, '%s: %s' % (program, error.strerror)) from error
     try:
         with contextlib.suppress(BrokenPipeError):
             os.write(child.stdin.fileno(), given)      # less than a pipe holds

@@ -6,7 +6,7 @@ import ipaddress
 import re
 
 from .header import MOST_LINE
-from .process import Stopped
+from .process import Stopped, faults_of
 
 LINE = re.compile(rb'(137|138|139) ([0-9]{1,20}) ((?:[0-9a-fA-F]{2})+|empty)|tick ([0-9]{1,20})|(#.*)?', re.DOTALL)
 COMMENT = re.compile(r'# frame ([0-9]{1,10}) (\S+) (\S+):([0-9]{1,5}) > (\S+):([0-9]{1,5})')
@@ -63,11 +63,9 @@ class Frame:
 
 def lines_of(file, title):
     """The lines of an open file; of one that is too long so much that it is refused."""
-    try:
+    with faults_of(title):
         while line := file.readline(MOST_LINE + 2):
             yield line
-    except OSError as error:
-        raise Stopped(3, '%s: %s' % (title, error.strerror)) from error
 
 
 def payloads_of(lines):

@@ -1,4 +1,5 @@
 """A tool as a process: its standard streams, what it says on standard error, and its exit status."""
+import contextlib
 import errno
 import os
 import signal
@@ -14,6 +15,15 @@ class Stopped(Exception):
     def __init__(self, status, text):
         super().__init__(text)
         self.status = status
+
+
+@contextlib.contextmanager
+def faults_of(what):
+    """What goes wrong with a file or a program, as the reason to stop."""
+    try:
+        yield
+    except OSError as error:
+        raise Stopped(3, f'{what}: {error.strerror}') from error
 
 
 class ReaderEnded(Stopped):

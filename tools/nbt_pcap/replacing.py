@@ -11,15 +11,6 @@ UMASK = os.umask(0o077)
 os.umask(UMASK)
 
 
-@contextlib.contextmanager
-def faults_of(path):
-    """What goes wrong with a file, as the reason to stop."""
-    try:
-        yield
-    except OSError as error:
-        raise Stopped(3, f'{path}: {error.strerror}') from error
-
-
 def standing(path):
     """What the system says of the file at a path, None where nothing stands there; Stopped where it is no regular file."""
     try:

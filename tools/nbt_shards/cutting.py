@@ -8,7 +8,7 @@ import re
 from collections import namedtuple
 
 from nbt_pcap.header import INPUT, KEPT_FOR
-from nbt_pcap.process import Stopped
+from nbt_pcap.process import Stopped, faults_of
 
 
 # Whole lines of an input: the offsets between which they stand, the number of the first, and how many they are.
@@ -24,7 +24,7 @@ PAYLOAD = re.compile(rb'138 ([0-9]{1,20}) ')
 
 def ranges_of(capture, options):
     """The ranges of an input, in order: of at most --shard-bytes for each group, but where it can't be cut so often."""
-    try:
+    with faults_of(capture):
         if options.tables:
             places = table_ends(capture)
         elif has_ticks(capture):
@@ -32,8 +32,6 @@ def ranges_of(capture, options):
         else:
             places = line_ends(capture, options.shard_bytes)
         ranges = list(packed(capture, places, options.shard_bytes * (options.by_source or 1)))
-    except OSError as error:
-        raise Stopped(3, '%s: %s' % (capture, error.strerror)) from error
     for each in ranges:
         if each.end - each.begin > INPUT and not options.by_source:
             raise too_long(each, options)

@@ -2,6 +2,7 @@
 import ctypes
 import os
 import re
+import shlex
 import shutil
 import signal
 import subprocess
@@ -65,7 +66,7 @@ def find_tools(options):
 
 def identities(options):
     """Which programs the machines have: of those that answer, what is told of each."""
-    command = ['parallel', '--plain', '--will-cite', '--nonall', *logins(options), 'sh', '-c', quoted(IDENTITY), 'sh', quoted(options.program)]
+    command = ['parallel', '--plain', '--will-cite', '--nonall', *logins(options), 'sh', '-c', shlex.quote(IDENTITY), 'sh', shlex.quote(options.program)]
     with tempfile.TemporaryDirectory() as folder:
         done = subprocess.run(command, env=environment(folder), stdin=subprocess.DEVNULL, capture_output=True, text=True, errors='replace')
     found = sorted(set(done.stdout.splitlines()))
@@ -131,7 +132,7 @@ def command_of(options, step):
     command += logins(options)
     if options.sshlogin:
         command += ['--workdir', '...', '--transferfile', '{2}', '--return', '{3}', '--cleanup']
-    return command + ['sh', '-c', quoted(JOB), 'job', quoted(options.program), '{1}', '{2}', '{3}', '{4}', '{5}']
+    return command + ['sh', '-c', shlex.quote(JOB), 'job', shlex.quote(options.program), '{1}', '{2}', '{3}', '{4}', '{5}']
 
 
 def logins(options):
@@ -142,10 +143,6 @@ def environment(folder):
     """The environment without the user's settings of parallel, whose own files go to a folder."""
     kept = {name: value for name, value in os.environ.items() if not name.startswith('PARALLEL')}
     return kept | {'PARALLEL_HOME': os.path.join(folder, 'parallel'), 'PARALLEL_SHELL': '/bin/sh', 'TMPDIR': folder}
-
-
-def quoted(text):
-    return "'" + text.replace("'", "'\\''") + "'"
 
 
 def end_with_us():

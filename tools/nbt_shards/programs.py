@@ -3,7 +3,7 @@ import os
 import shutil
 import subprocess
 
-from nbt_pcap.process import Stopped
+from nbt_pcap.process import Stopped, faults_of
 
 from .tables import checksum_of_file
 
@@ -25,8 +25,6 @@ def local_program(asked):
 
 def identity(program):
     """Which program it is: its version, and the checksum of its file."""
-    try:
+    with faults_of(program):
         version = subprocess.run([program, '--version'], stdin=subprocess.DEVNULL, capture_output=True).stdout
         return ['%s %s' % (version.decode(errors='replace').strip(), checksum_of_file(program))]
-    except OSError as error:
-        raise Stopped(3, '%s: %s' % (program, error.strerror)) from error

@@ -4,7 +4,7 @@ import hashlib
 import os
 
 from nbt_pcap.header import INPUT
-from nbt_pcap.process import Stopped
+from nbt_pcap.process import Stopped, faults_of
 
 from .groups import HALF
 
@@ -38,14 +38,11 @@ def groups_for(size, options):
 def part_beside(out):
     """A new file beside OUT, which goes where it isn't put in the place of OUT."""
     part = '%s.%d.part' % (os.path.abspath(out), os.getpid())
-    try:
+    with faults_of(part):
         open(part, 'xb').close()
-    except OSError as error:
-        raise Stopped(3, '%s: %s' % (part, error.strerror)) from error
     try:
-        yield part
-    except OSError as error:
-        raise Stopped(3, '%s: %s' % (out, error.strerror)) from error
+        with faults_of(out):
+            yield part
     finally:
         if os.path.exists(part):
             os.unlink(part)

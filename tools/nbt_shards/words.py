@@ -3,7 +3,7 @@ import argparse
 import os
 
 from nbt_pcap.header import INPUT, MOST_LINE
-from nbt_pcap.process import Stopped
+from nbt_pcap.process import Stopped, faults_of
 
 from .groups import MOST_GROUPS
 
@@ -58,11 +58,8 @@ def judge(options):
 
 def judge_kind(capture):
     """Refuses a pcap or pcapng file."""
-    try:
-        with open(capture, 'rb') as file:
-            front = file.read(4)
-    except OSError as error:
-        raise Stopped(3, '%s: %s' % (capture, error.strerror)) from error
+    with faults_of(capture), open(capture, 'rb') as file:
+        front = file.read(4)
     if front in PCAPS:
         raise Stopped(1, '%s is a pcap file, and a capture is wanted: nbt-pcap2cap --no-ticks makes one of it' % capture)
 

@@ -4,7 +4,7 @@ import contextlib
 import os
 import re
 
-from nbt_pcap import replacing
+from nbt_pcap import process, replacing
 from nbt_pcap.process import Stopped
 from nbt_pcap.replacing import keep_mode, standing
 
@@ -19,7 +19,7 @@ PREFIX = '.nbt-station.'
 def faults_of(path):
     """What goes wrong with a file, as the reason to stop; want of memory too."""
     try:
-        with replacing.faults_of(path):
+        with process.faults_of(path):
             yield
     except MemoryError as error:
         raise Stopped(3, f'{path}: memory') from error

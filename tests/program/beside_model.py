@@ -140,7 +140,7 @@ def recorded(cases, chosen):
         records, tools, files = (os.path.join(room, it) for it in ('records', 'bin', 'files'))
         for folder in (records, tools, files):
             os.mkdir(folder)
-        for tool, text in (('nbt', RECORDER), ('hostile', DEVICES)):
+        for tool, text in (('nbt', RECORDER), ('hostile', DEVICES), ('terminal', DEVICES)):
             with open(os.path.join(tools, tool), 'w', encoding='utf-8') as written:
                 written.write(text)
             os.chmod(written.name, 0o755)

@@ -103,8 +103,7 @@ elif [ $# -gt 1 ]; then
     exit
 fi
 parts cases pages saved
-# Beside the model: tables in every order and grouping; what is printed of captures and tables, phrases, and fronts of packets.
-part merges counted_by program/random_merges.py "$program" "$room/refuse_memory.so"
+# Beside the model: what is printed of captures and tables, phrases, and fronts of packets.
 part model counted_by program/beside_model.py "$program"
 parts streams memory
 finish

@@ -21,7 +21,7 @@ from limits import MANY
 from parts import check, counts, enough, finish, least, part, skip
 from process_inputs import CAPTURE, COMMANDS, FRED, READING, captures, chained, forms, repeated, roomy
 from process_runs import bytes_of, closed, instructions, limited, lines_of, program, run, run_over, small_pipe, start, starts, wait
-from process_terminals import advised, at_terminals, dropped, given_files, looked, mistaken, plain, short_of_memory
+from process_terminals import advised, at_terminals, dropped, looked, short_of_memory
 from served import requests as counted_requests
 
 
@@ -175,7 +175,7 @@ def halting_inputs():
 
 def terminals():
     """A terminal as all three streams, and as standard error alone."""
-    for passed, name in itertools.chain(at_terminals(), advised(), mistaken(), looked(), dropped(), given_files(), plain(), short_of_memory()):
+    for passed, name in itertools.chain(at_terminals(), advised(), looked(), dropped(), short_of_memory()):
         check(passed, name)
 
 

@@ -1,7 +1,7 @@
 #!/usr/bin/env bash
 # The built program as a process of its own: exit statuses, words, what it prints, how often it writes, and each request
-# for memory refused in turn. Usage: tests/program.sh [PROGRAM [FILE..]], where FILE is one of tests/cases, which is run alone; its last
-# line is 'N passed, M failed, K skipped'.
+# for memory refused in turn. Usage: tests/program.sh [PROGRAM [FILE..]], where FILE is one of tests/cases, which is run alone, or PROGRAM PAGE,
+# for the samples of a page, such as docs/GUIDE.md; its last line is 'N passed, M failed, K skipped'.
 set -uo pipefail
 . "$(dirname "$0")/lib/counting.sh"
 program=${1:-$here/../crates/nbt/out/nbt}
@@ -12,7 +12,7 @@ read -r fred scoped empty < <(PYTHONPATH=$here/lib python3 -c 'import limits; pr
 nbt() { ended "$program" "$@"; }
 
 # ---- The cases of tests/cases, by tests/lib/samples.py. `hostile NAME=VALUE .. COMMAND` runs a command over the devices of
-# tests/lib/devices.c. What stands behind `% ` is held by the model alone (tests/program/beside_model.py), as what each command of the other
+# tests/lib/devices.c, `terminal COMMAND` one with a terminal as standard error. What stands behind `% ` is held by the model alone (tests/program/beside_model.py), as what each command of the other
 # samples prints is too.
 
 # cases [FILE..]: those of these files, or of all.
@@ -88,17 +88,22 @@ memory() {
 }
 
 with_tools "$program"
-printf '#!/bin/sh\nexec env LD_PRELOAD=%s/devices.so "$@"\n' "$room" >"$room/bin/hostile" && chmod +x "$room/bin/hostile"
+printf '#!/bin/sh\nexec env LD_PRELOAD=%s/devices.so "$@"\n' "$room" >"$room/bin/hostile"
+printf '#!/bin/bash\n%q /dev/stdout "$@" | tr -d "\\r"\nexit ${PIPESTATUS[0]}\n' "$here/lib/terminal.py" >"$room/bin/terminal"
+chmod +x "$room/bin/hostile" "$room/bin/terminal"
 part shims compile devices refuse_memory
-if [ $# -gt 1 ]; then
+if [[ ${2-} == *.md ]]; then
+    page "$2"
+    total
+    exit
+elif [ $# -gt 1 ]; then
     cases "${@:2}"
     counted_by program/beside_model.py --files "${@:2}" -- "$program"
     total
     exit
 fi
 parts cases pages saved
-# Beside the model: tables in every order and grouping; what is printed of captures and tables, phrases, and fronts of packets.
-part merges counted_by program/random_merges.py "$program" "$room/refuse_memory.so"
+# Beside the model: what is printed of captures and tables, phrases, and fronts of packets.
 part model counted_by program/beside_model.py "$program"
 parts streams memory
 finish

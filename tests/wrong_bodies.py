@@ -23,13 +23,13 @@ import sys
 import tempfile
 from collections import defaultdict
 from concurrent.futures import ThreadPoolExecutor
-from dataclasses import dataclass, field
+from dataclasses import dataclass
 from pathlib import Path
 
-sys.path.insert(1, f'{sys.path[0]}/wrong_bodies')
+sys.path[1:1] = [f'{sys.path[0]}/{it}' for it in ('docs', 'wrong_bodies')]
 from left_out import leave_out_bodies
+from sources import ROOT, edit, planted
 
-ROOT = Path(__file__).resolve().parent.parent
 # How long a check may take: they take half a minute to six.
 LONGEST = '40m'
 # An answer to a goal, or a goal without one, of a function's proof; and a goal by its place in the source, above its function's line.
@@ -51,15 +51,11 @@ GONE = re.compile(r'module `[^`]+` has no `')
 
 @dataclass
 class WrongBody:
-    """A file of wrong-bodies/."""
+    """A file of wrong-bodies/: the function that is refused, the goal by its name, a front of it or its clause, and the changes."""
     path: Path
-    what: str = ''
-    why: str = ''
-    # The function that is refused, and the goal: its name or the front of it, or the clause that it is of.
-    function: str = ''
-    goal: str = ''
-    # Of each change the file, the lines as they stand, and as they are planted.
-    changes: list = field(default_factory=list)
+    function: str
+    goal: str
+    changes: list
 
     def is_alone(self, crate):
         """Whether it changes something else than the function that is refused."""
@@ -68,21 +64,9 @@ class WrongBody:
 
 def read(path):
     """The wrong body of a file."""
-    body, file, old = WrongBody(path), None, None
-    for line in path.read_text(encoding='utf-8').splitlines():
-        head, _, rest = line.partition(':')
-        rest = rest.removeprefix(' ')
-        if head in ('what', 'why'):
-            setattr(body, head, rest)
-        elif head == 'refused':
-            body.function, _, body.goal = rest.partition(' ')
-        elif head == 'file':
-            file = rest
-        elif head == 'old':
-            old = rest
-        elif head == 'new':
-            body.changes.append((file, old, rest))
-    return body
+    said, changes = edit(path)
+    function, _, goal = said.get('refused', '').partition(' ')
+    return WrongBody(path, function, goal, changes)
 
 
 def function_at(crate, file, old, _):
@@ -177,12 +161,11 @@ class Check:
         lines = {old for body in self.every for _, old, _ in body.changes}
         leave_out_bodies(Path(room), self.crate, {body.function for body in self.every}, lines)
         for body in self.bodies:
-            for file, old, new in body.changes:
-                path = Path(room, file)
-                text = path.read_text(encoding='utf-8')
-                if text.count(old) != 1:
-                    return f'{body.path.stem}: its old line stands {text.count(old)} times'
-                path.write_text(text.replace(old, new), encoding='utf-8')
+            texts = planted(Path(room), body.changes)
+            if texts is None:
+                return f"{body.path.stem}: an old line doesn't stand there once"
+            for path, text in texts.items():
+                path.write_text(text, encoding='utf-8')
         return ''
 
     def run(self, kept):

@@ -2,7 +2,7 @@
  * `absorb` a table of one further key, `save` that key from a station of its own, `load` it into a station of no keys, or `look` at
  * each of the keys by giving its fragment again. Usage: absorb_loop KEYS WHAT. Prints the nanoseconds of processor time of that. */
 #define _GNU_SOURCE
-#include "../lib/payloads.h"
+#include "payloads.h"
 #include <nbt.h>
 
 /* The first fragment of a group datagram from JOE<00> to FRED<20>, of which more is to come, and where its identifier stands. */

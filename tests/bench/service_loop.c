@@ -3,7 +3,7 @@
  * after item; where `judged` is said, nbt_service_read judges the whole packet before. Prints the sum of what was read, as
  * tests/plain/sum.rs does, and the nanoseconds of processor time of the calls. */
 #define _GNU_SOURCE
-#include "../lib/payloads.h"
+#include "payloads.h"
 #include <nbt.h>
 
 enum { NB = 0x20, NBSTAT = 0x21 };

@@ -1,7 +1,7 @@
 /* What nbt_show costs, or nbt_json: reads a capture, and then has the library tell each payload of it, ROUNDS times, into one
  * buffer. Usage: show_loop ROUNDS [json] <CAPTURE. Prints the bytes of all texts, and the nanoseconds of processor time of the calls. */
 #define _GNU_SOURCE
-#include "../lib/payloads.h"
+#include "payloads.h"
 #include <nbt.h>
 
 typedef uint32_t telling(uint16_t port, const uint8_t *payload, size_t length, uint8_t *into, size_t into_length, size_t *used);

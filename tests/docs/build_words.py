@@ -1,4 +1,5 @@
-"""The words that `nbt build` takes: crates/nbt/src/forms.rt has them, and each other place says the same."""
+"""The words that `nbt build` takes: crates/nbt/src/forms.rt has them, and each other place says the same. That it takes them is shown by the model,
+which reads docs/FORMATS.md."""
 import re
 
 from sources import ROOT
@@ -14,9 +15,6 @@ HELP = 'crates/nbt/src/help.rt'
 ITEM = re.compile(r'([a-z]+)(?: and ([a-z]+))?((?: [A-Z]+)*)( \(the same\))?')
 MANUAL = 'man/nbt.1'
 ENTRY = re.compile(r'\.It (?:Xo\n\.)?Cm ([a-z| ]+?)(?:\n\.Xc|(?:\n\.| )Ar ([A-Z ]+))?\n')
-BUILDING = 'crates/nb_building/src'
-ARM = re.compile(r'"(\w+)" => (\w+(?:::build)?)\(')
-TAKEN = re.compile(r'let \[(.*?)\] = words|match words \{\s*\[(.*?)\] =>')
 
 
 def text_of(path):
@@ -58,23 +56,9 @@ def of_manual():
     return {what: words.split() for packets, words in ENTRY.findall(section) for what in packets.split(' | ')}
 
 
-def taken():
-    """How many words each packet takes, by the code of nb_building."""
-    texts = {name: text_of(f'{BUILDING}/{name}.rt') for name in ('service', 'response', 'session', 'datagram')}
-    found = {}
-    for module in 'service', 'session', 'datagram':
-        for what, call in ARM.findall(texts[module].split('\n}\n', 1)[0]):
-            text, name = (texts['response'], 'build') if '::' in call else (texts[module], call)
-            pattern = TAKEN.search(text, text.index(f'fn {name}('))
-            found[what] = len(re.findall(r'\w+', pattern[1] or pattern[2] or ''))
-    return found
-
-
 def compared():
     """A place, what it has, and what it should have."""
     wanted = forms()
     for path, found in (*((each, of_table(each)) for each in TABLES), (HELP, of_help()), (MANUAL, of_manual())):
         yield from ((f'{path}, {what}', found.get(what), words) for what, words in wanted.items())
         yield f'{path}, packets', len(found), len(wanted)
-    found = taken()
-    yield from ((f'{BUILDING}, {what}', found.get(what), len(words)) for what, words in wanted.items())

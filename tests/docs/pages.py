@@ -24,7 +24,7 @@ sys.path.insert(1, f'{sys.path[0]}/../lib')
 from build_words import FORMS, compared
 from made_pages import calls, definitions_of, made, spec_files
 from parts import tally
-from sources import CRATES, LISTED, ROOT, aliases, functions, law_files, sources
+from sources import CRATES, LISTED, ROOT, aliases, edit, functions, law_files, planted, sources
 
 LIBRARIES = [it for it in LISTED if it != 'nbt' and not it.startswith('nb_examples')]
 TICKED = re.compile(r'`([^`\n]+)`')
@@ -132,35 +132,18 @@ def commented():
 
 
 def edits():
-    """Each file of must-fail/ and wrong-bodies/, by its path in crates/, with its lines."""
+    """Each file of must-fail/ and wrong-bodies/, by its path in crates/, with what it has behind its heads, and its changes."""
     for path in sorted(it for folder in ('must-fail', 'wrong-bodies') for it in CRATES.glob(f'*/{folder}/*.edit')):
-        lines = (line.removeprefix('# ').partition(':') for line in path.read_text(encoding='utf-8').splitlines())
-        yield path.relative_to(CRATES), [(head, rest.removeprefix(' ')) for head, _, rest in lines]
-
-
-def is_planted(crate, fields):
-    """Whether each old line stands once in its file, as the changes before it leave that."""
-    texts, file, old = {}, None, None
-    for head, rest in fields:
-        if head == 'file':
-            file = CRATES / crate / rest
-            texts.setdefault(file, file.read_text(encoding='utf-8') if file.is_file() else '')
-        elif head == 'old':
-            if texts.get(file, '').count(rest) != 1:
-                return False
-            old = rest
-        elif head == 'new':
-            texts[file] = texts[file].replace(old, rest)
-    return old is not None
+        yield path.relative_to(CRATES), *edit(path)
 
 
 def wrong_bodies():
     """Whether each such file says what is wrong and why, and its old lines stand once where it changes them."""
-    for path, fields in edits():
+    for path, said, changes in edits():
         heads = {'what', 'why', 'file'} | ({'refused'} if 'wrong-bodies' in path.parts else set())
-        is_right = heads <= {it for it, _ in fields} and is_planted(path.parts[0], fields)
+        is_right = heads <= said.keys() and planted(CRATES / path.parts[0], changes)
         yield is_right, f'{path}: {", ".join(sorted(heads))}, old lines'
-        why = dict(fields).get('why', '')
+        why = said.get('why', '')
         unknown = [it for it in re.findall(r'`(\w+(?:::\w+)*)`', why) if any(each not in named() for each in it.split('::'))]
         yield not unknown, f'{path} names {unknown}'
 
@@ -168,7 +151,7 @@ def wrong_bodies():
 def named_bodies():
     """Whether the table of named wrong bodies in docs/PROOFS.md has each file of must-fail/, and no other."""
     stated = set(re.findall(r'`(nb\w*/must-fail/[\w-]+\.edit)`', (ROOT / 'docs' / 'PROOFS.md').read_text(encoding='utf-8')))
-    there = {str(path) for path, _ in edits() if path.parts[1] == 'must-fail'}
+    there = {str(path) for path, *_ in edits() if path.parts[1] == 'must-fail'}
     for it in sorted(stated | there):
         yield it in stated & there, f'PROOFS.md has the named wrong body {it}' if it in there else f'{it}, a named wrong body, is there'
 
@@ -229,8 +212,8 @@ def main(word=''):
             path.write_text(text, encoding='utf-8')
         return
     if word == '--wrong-bodies':
-        for path, fields in edits():
-            print(f'{path.parts[0]}/{path.stem}: {dict(fields)["what"]}\n    {dict(fields)["why"]}')
+        for path, said, _ in edits():
+            print(f'{path.parts[0]}/{path.stem}: {said["what"]}\n    {said["why"]}')
         return
     checks = (places, names, promises, commented, wrong_bodies, named_bodies, costs, sizes, made_lines, rust_samples, build_words)
     tally((case, not is_right) for check in checks for is_right, case in check())

@@ -1,4 +1,5 @@
-"""What the sources of the crates say of their functions: owners, clauses, answers, first words of their docs; for tests/docs/pages.py."""
+"""What the sources of the crates say of their functions: owners, clauses, answers, first words of their docs, bodies; and edits of sources. For
+tests/docs/pages.py and tests/wrong_bodies.py."""
 import collections
 import functools
 import pathlib
@@ -7,7 +8,8 @@ import re
 ROOT = pathlib.Path(__file__).resolve().parents[2]
 CRATES = ROOT / 'crates'
 LISTED = re.findall(r'^(\w+)\b[^:#\n]*:', (ROOT / 'crates.txt').read_text(encoding='utf-8'), re.MULTILINE)
-Function = collections.namedtuple('Function', 'owner trait name is_public head clauses doc path errors')
+# `block` is the head of the `impl` that it stands in, or of the trait; `start` its place, and `body` those of its braces.
+Function = collections.namedtuple('Function', 'owner trait name is_public head clauses doc path errors block start body')
 
 QUOTED = re.compile(r'"(?:\\.|[^"\\])*"|\'(?:\\.|[^\'\\])\'')
 COMMENT = re.compile(r'//[^\n]*')
@@ -64,13 +66,13 @@ def owner_of(head):
 
 
 def blocks(code):
-    """Where each `impl` and each trait begins and ends, with its type and its trait."""
+    """Where each `impl` and each trait begins and ends, with its head."""
     for found in BLOCK.finditer(code):
         brace = code.find('{', found.start())
         if brace < 0 or ';' in code[found.start():brace] or re.search(r'[(,:<]\s*(?:&\S*\s*)?$|->\s*$', code[:found.start()][-20:]):
             continue
         head = found[0] if 'trait' in found[0] else code[found.start():brace]
-        yield brace, closed(code, brace), owner_of(' '.join(head.split()))
+        yield brace, closed(code, brace), ' '.join(head.split())
 
 
 def end_of_head(code, start):
@@ -85,12 +87,12 @@ def end_of_head(code, start):
 
 
 def clauses_at(code, text, place):
-    """The names and the words of a function's clauses; what it requires has no name."""
+    """The names and the words of a function's clauses, and where they end; what it requires has no name."""
     found = []
     while clause := CLAUSE.match(code, place):
         place = closed(code, clause.end())
         found.append((clause[1] if clause[1] == 'requires' else clause[2], ' '.join(text[clause.end() + 1:place - 1].split())))
-    return found
+    return found, place
 
 
 def doc_before(text, start):
@@ -110,13 +112,15 @@ def functions(path):
     owners = list(blocks(code))
     found = []
     for it in FUNCTION.finditer(code):
-        around = [owner for begin, end, owner in owners if begin < it.start() < end]
-        owner, trait = around[-1] if around else ('', '')
+        around = [head for begin, end, head in owners if begin < it.start() < end]
+        owner, trait = owner_of(around[-1]) if around else ('', '')
         end = end_of_head(code, it.end())
         is_public = it[1] == 'pub' or trait != ''
         doc, errors = doc_before(text, it.start())
-        found.append(Function(owner, trait, it[2], is_public, ' '.join(plain[it.start():end].split()), clauses_at(code, text, end),
-                              doc, path, errors))
+        clauses, place = clauses_at(code, text, end)
+        brace = re.compile(r'\s*\{').match(code, place)
+        found.append(Function(owner, trait, it[2], is_public, ' '.join(plain[it.start():end].split()), clauses, doc, path, errors,
+                              around[-1] if around else '', it.start(), (brace.end(), closed(code, brace.end() - 1) - 1) if brace else None))
     return found
 
 
@@ -142,3 +146,26 @@ def heading(path):
     """The first paragraph of a file's own doc."""
     lines = [it[3:].strip() for it in path.read_text(encoding='utf-8').splitlines() if it.startswith('//!')]
     return ' '.join(lines[:lines.index('')] if '' in lines else lines)
+
+
+def edit(path):
+    """What a file of must-fail/ or wrong-bodies/ has behind each head, the last of each, and its changes: a file, an old line, and the new one."""
+    heads, changes = {}, []
+    for line in path.read_text(encoding='utf-8').splitlines():
+        head, _, rest = line.removeprefix('# ').partition(':')
+        heads[head] = rest.removeprefix(' ')
+        if head == 'new':
+            changes.append((heads['file'], heads['old'], heads['new']))
+    return heads, changes
+
+
+def planted(folder, changes):
+    """By its path each file of a crate as changes leave it, one after the other; None where an old line doesn't stand there once."""
+    texts = {}
+    for file, old, new in changes:
+        path = folder / file
+        text = texts[path] if path in texts else path.read_text(encoding='utf-8') if path.is_file() else ''
+        if text.count(old) != 1:
+            return None
+        texts[path] = text.replace(old, new)
+    return texts

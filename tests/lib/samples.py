@@ -9,7 +9,8 @@ the shell's. {NAME} stands for VALUE, or for what limits.py has. Lines that begi
 sample. A part begins with `== PART`. Commands run in FOLDER; of several in a pipe the first that fails has the status.
 
 Of a page, FILE.md, each block that begins with ```console is a part of `$ COMMAND`s, with the lines that a terminal shows; there a line `...` stands
-for one line or more that the page isn't about. Without tshark those of its samples that need it are left out. The last line is 'N passed, M failed,
+for one line or more that the page isn't about. Without tshark those of its samples that need it are left out. With ANEW=1 samples that no longer fit
+are written anew: a difference to be read before it is committed, since nothing else says that it is right. The last line is 'N passed, M failed,
 K skipped'.
 """
 import fnmatch
@@ -24,6 +25,8 @@ from parts import check, finish, leave_out
 
 PATIENCE = 600
 CONSOLE = re.compile(r'^```console\n(.*?)^```$', re.MULTILINE | re.DOTALL)
+# A sample of a page: its first line, the command, and what a terminal shows.
+SAMPLE = re.compile(r'^([$] (.*)\n)((?:(?![$] ).*\n)*)', re.MULTILINE)
 OF_PCAPS = re.compile('nbt-pcap2cap|nbt-look')
 
 
@@ -103,14 +106,19 @@ def on_page(folder, path):
     """The cases of a page: what a terminal shows of each command, and what it shows otherwise."""
     name = os.path.basename(path)
     with open(path, encoding='utf-8') as page:
-        blocks = CONSOLE.findall(page.read())
-    for sample in re.split('^[$] ', ''.join(blocks), flags=re.MULTILINE)[1:]:
-        command, _, told = sample.partition('\n')
+        text = page.read()
+    for whole, first, command, told in re.findall(f'({SAMPLE.pattern})', ''.join(CONSOLE.findall(text)), re.MULTILINE):
         if OF_PCAPS.search(command) and not shutil.which('tshark'):
             leave_out(1, f'{name}: {command}', "tshark isn't installed")
             continue
         shown = bash(folder, command, subprocess.STDOUT).stdout.decode(errors='backslashreplace')
+        if 'ANEW' in os.environ and not is_shown(shown, told):
+            text = text.replace(whole, first + shown)
+            told = shown
         yield f'{name}: {command}', not is_shown(shown, told) and f'{shown!r}, not {told!r}'
+    if 'ANEW' in os.environ:
+        with open(path, 'w', encoding='utf-8') as page:
+            page.write(text)
 
 
 def cases(folder, path, part='', *words):

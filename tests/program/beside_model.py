@@ -3,11 +3,11 @@
 
 Usage: tests/program/beside_model.py [--seed N] [--payloads N] [--files FILE.. --] [PROGRAM]; its last line is 'N passed, M failed, K skipped', the one
 before says what was compared. A case is a command with an input: those of tests/cases, also for the commands that read alike, the payloads of the
-examples of crates/nb_examples, the captures of examples/, the examples cut at each length, and captures and saved tables made by chance, until so
-many payloads (10,000) were shown. It prints what the model has, byte for byte, and ends as that says, with `--json` too, where the command takes
-it. A case is also each kind of front and each phrase of docs/FORMATS.md: there were some; and the two longest phrases are as long as that page has
-it, and none is longer; and each line by which a command of tests/cases was refused: `nbt help` has it. With --files there are the commands of
-these files of tests/cases alone.
+examples of crates/nb_examples, the captures of examples/, the examples cut at each length, saved tables drawn by lot, three merged in each order,
+and captures, saved tables and words made by chance, until so many payloads (10,000) were shown. It prints what the model has, byte for byte, and
+ends as that says, with `--json` too, where the command takes it. A case is also each kind of front and each phrase of docs/FORMATS.md: there were
+some; and the two longest phrases are as long as that page has it, and none is longer; and each line by which a command of tests/cases was refused:
+`nbt help` has it. With --files there are the commands of these files of tests/cases alone.
 """
 import argparse
 import collections
@@ -20,23 +20,23 @@ import subprocess
 import sys
 import tempfile
 
-sys.path[1:1] = [f'{sys.path[0]}/../{it}' for it in ('.', 'captures', 'lib')]
+TESTS = os.path.dirname(os.path.dirname(os.path.abspath(__file__)))
+sys.path[1:1] = [os.path.join(TESTS, it) for it in ('', 'captures', 'examples', 'lib', 'program')]
+from chance import capture_of, inputs_of, made_by_chance, merges
 from fuzz_inputs import ROOT, capture_lines, example_bytes
 from model.objects import SECTIONS
-from object_inputs import OPTIONS, Inputs, ServicePacket
+from object_inputs import OPTIONS
 from parts import check, finish
 from payloads import longest_phrases
 from printed import COMMANDS, Unknown, is_of_clap, wanted
 from samples import parts_in
 from seeds import first_unlike
 
-TESTS = os.path.join(ROOT, 'tests')
 SECONDS, LONGEST_PRINTED = 600, 1_000
 NUMBER = re.compile('[0-9]+')
 COMMAND = re.compile(rf'(?=.*\bnbt\b).*\b(?:{"|".join(COMMANDS)})\b')
 STATION = ['FRED<20>', 'JOE<00>', 'ANN<03>.A']
-LONGEST_PAYLOAD, LONGEST_EXAMPLE, IN_CAPTURE, FRONTS = 2_000, 400, 500, 10_000
-TABLES, BUILT = 3, 20
+LONGEST_EXAMPLE, IN_CAPTURE, FRONTS = 400, 500, 10_000
 RECORDER = f'''#!/bin/sh
 case $1 in
 {" | ".join(COMMANDS)})
@@ -55,8 +55,6 @@ KINDS = (
     'none of 137', '137 with items', '137 without', 'none of 138', '138 without names', '138 with source',
     '138 with both', '138 of no kind', 'none of 139', '139 of a kind', '139 of no kind',
 )
-# Flag words and codes that the standard has.
-OPERATIONS, OUTCOMES, CODES = (0, 0, 5, 5, 6, 7, 8, 9, 15), (0, 0, 0, 1, 2, 3, 4, 5, 6, 7, 8), (0x80, 0x81, 0x82, 0x83, 0x84, 0x8f)
 PHRASES = re.compile(r'^\| .* \| `([^`]+)` \|$', re.MULTILINE)
 BY = re.compile(r'[A-Z]+|[.*+?^$()\[\]{}|\\]')
 # The status of a node that has a unit and no names, which chance makes too seldom.
@@ -77,7 +75,7 @@ class Cases:
         command, *rest = [it for it in words if it != '--json']
         found = {}
         for form in ([], ['--json'])[:1 + ('--json' in OPTIONS.get(command, ()))]:
-            made = subprocess.run([self.program, command, *form, *rest], input=given, capture_output=True, timeout=SECONDS, check=False)
+            made = self.run([command, *form, *rest], given)
             try:
                 model = found['model'] = found.get('model') or wanted([command, *rest], given)
                 why = unlike(made, model, bool(form))
@@ -85,9 +83,15 @@ class Cases:
             except Unknown:
                 is_well = is_of_clap(made.returncode, made.stdout, made.stderr)
                 why = '' if is_well else f'clap ends with {made.returncode}, {made.stdout[:100]}, {made.stderr[:100]}'
-            well(why and f'nbt {shlex.join([command, *form, *rest])}: {why}, input {given[:300]!r}')
+            self.judge([command, *form, *rest], given, why)
         if 'model' in found and command == 'show':
             self.remember(rest, found['model'].objects)
+
+    def run(self, words, given):
+        return subprocess.run([self.program, *words], input=given, capture_output=True, timeout=SECONDS, check=False)
+
+    def judge(self, words, given, why):
+        well(why and f'nbt {shlex.join(words)}: {why}, input {given[:300]!r}')
 
     def remember(self, words, objects):
         self.compared['payloads'] += sum('port' in it for it in objects)
@@ -140,7 +144,7 @@ def recorded(cases, chosen):
         records, tools, files = (os.path.join(room, it) for it in ('records', 'bin', 'files'))
         for folder in (records, tools, files):
             os.mkdir(folder)
-        for tool, text in (('nbt', RECORDER), ('hostile', DEVICES)):
+        for tool, text in (('nbt', RECORDER), ('hostile', DEVICES), ('terminal', DEVICES)):
             with open(os.path.join(tools, tool), 'w', encoding='utf-8') as written:
                 written.write(text)
             os.chmod(written.name, 0o755)
@@ -170,11 +174,6 @@ def alike(words):
     return []
 
 
-def capture_of(payloads):
-    """A capture of payloads with their ports."""
-    return b''.join(b'%d 7 %b\n' % (port, payload.hex().encode() or b'empty') for port, payload in payloads)
-
-
 def samples(cases, payloads):
     """Each payload of the examples at each port, with comments between; the captures of examples/; and the examples cut at each length."""
     captures = [b'\n'.join(capture_lines())]
@@ -192,35 +191,6 @@ def samples(cases, payloads):
     cut = cases.rng.sample(cut, FRONTS)
     for at in range(0, FRONTS, IN_CAPTURE):
         cases.check(['show', '--partial'], capture_of(cut[at:at + IN_CAPTURE]))
-
-
-def likely(rng, port, payload):
-    """A payload, mostly with a flag word or a code that the standard has."""
-    changed = bytearray(payload)
-    if port == 137 and len(payload) >= 12 and rng.random() < 0.8:
-        word = rng.choice((0, 0x8000)) | rng.choice(OPERATIONS) << 11 | rng.randrange(128) << 4 | rng.choice(OUTCOMES)
-        changed[2:4] = word.to_bytes(2, 'big')
-    if port == 138 and payload[:1] == b'\x13' and len(payload) >= 11 or port == 139 and payload[:1] == b'\x83' and len(payload) >= 5:
-        changed[4 if port == 139 else 10] = rng.choice(CODES)
-    return port, bytes(changed)
-
-
-def made_by_chance(cases, inputs, count):
-    """Captures and saved tables made by chance, and payloads of which each phrase is said, until so many payloads were shown."""
-    before = cases.compared['payloads']
-    while cases.compared['payloads'] < before + count:
-        given = inputs.capture()
-        for command in ('show', 'replay', 'save'):
-            cases.check(inputs.words(command, given), given)
-        for _ in range(TABLES):
-            given = inputs.tables()
-            cases.check(inputs.words('list', given), given)
-        cases.check(inputs.words('merge', given), given)
-        cases.check(inputs.words('agree', given), given)
-        for _ in range(BUILT):
-            cases.check(inputs.maker.building(), b'')
-        told = [likely(cases.rng, 137, ServicePacket(cases.rng, inputs.traffic.name).made()) for _ in range(50)]
-        cases.check(['show', '--brief'], capture_of([*told, *(likely(cases.rng, *inputs.payload()) for _ in range(50))]))
 
 
 def phrases(cases):
@@ -264,8 +234,11 @@ def main():
         return cases.end()
     payloads = list(example_bytes())
     samples(cases, payloads)
+    merges(cases)
     cases.check(['show', '--brief'], capture_of([NO_NAMES]))
-    made_by_chance(cases, Inputs(cases.rng, [it for it in payloads if len(it) <= LONGEST_PAYLOAD], list(capture_lines())), given.payloads)
+    inputs, most = inputs_of(cases.rng), cases.compared['payloads'] + given.payloads
+    while cases.compared['payloads'] < most:
+        made_by_chance(cases, inputs)
     phrases(cases)
     for kind in KINDS:
         well('' if cases.compared[kind] else f'{kind}: there was none')

@@ -8,60 +8,10 @@ from process_inputs import COMMANDS, FRED, READING, captures, packet
 from process_runs import at_terminal, limited, lines_of, quiet_terminal, rest_of_terminal, run, start, starts, wait, with_errors_shown
 
 LOOK = b'a pcap or pcapng file: `nbt-look FILE` shows it, `nbt-pcap2cap FILE` makes a capture of it\n'
-PACKETS = ('query, status, registration, refresh, release, response, request, message, positive, negative, retarget, '
-           'keepalive, unique, group, broadcast, error, find, found, missing')
+# What a terminal shows of `nbt build nonsense` besides; tests/cases/terminal.txt has more of such lines.
+NO_PACKET = (b'arguments: WHAT is one of query, status, registration, refresh, release, response, request, message, positive, negative, retarget, '
+             b'keepalive, unique, group, broadcast, error, find, found, missing, and not nonsense\n')
 KEYED = ['10.0.0.5:138/0001', 'JOE<00>', 'FRED<20>']
-# What a field of a packet has to be.
-FIELDS = {
-    'ID': 'four hexadecimal digits, such as 0001', 'CODE': 'two hexadecimal digits, such as 82',
-    'TTL': 'a decimal number to 4294967295 without leading zeros, such as 300000', 'FLAGS': 'four hexadecimal digits, such as 0000',
-    'ADDRESS': 'four decimal numbers to 255 with dots between them, such as 10.0.0.5',
-    'PORT': 'a decimal number to 65535 without leading zeros, such as 139', 'KEY': 'ADDRESS:PORT/ID, such as 10.0.0.5:138/0001',
-    'HEX': 'two hexadecimal digits a byte, or `empty`, such as 00ff', 'TYPE': 'four hexadecimal digits, such as 0020',
-    'MOST': 'a decimal number to 65535 without leading zeros, such as 512',
-    'a name': 'two hexadecimal digits a byte, for TYPE 0002 those of a name, such as 00',
-}
-# The words after `build` of which one is refused as `arguments`: its place, its field, and whether it is repeated.
-WRONG = [
-    (['query', '1', 'FRED<20>'], 1, 'ID', True), (['query', '0x01', 'FRED'], 1, 'ID', True), (['negative', '8'], 1, 'CODE', True),
-    (['registration', '0001', 'FRED<20>', '01', '0000', '10.0.0.5'], 3, 'TTL', True),
-    (['release', '0001', 'FRED<20>', '0', '10.0.0.5'], 3, 'FLAGS', True), (['retarget', '10.0.0', '139'], 1, 'ADDRESS', True),
-    (['retarget', '10.0.0.5', '65536'], 2, 'PORT', True), (['error', '10.0.0.5/0001', '82'], 1, 'KEY', True),
-    (['message', '616'], 1, 'HEX', True), (['message', '6' * 41], 1, 'HEX', False), (['message', '\x1b[31m'], 1, 'HEX', False),
-    (['unique', *KEYED, '616263', 'some'], 5, 'MOST', True), (['response', '0001', '8500', 'FRED<20>', '20', '0', '00'], 4, 'TYPE', True),
-    (['response', '0001', '8500', 'FRED<20>', '0002', '0', '05'], 6, 'a name', True),
-]
-
-
-def wrong(words, place, field, is_repeated):
-    """What is said of a word that is refused."""
-    name = 'HEX' if field == 'a name' else field
-    return f'word {place} after {words[0]} is {name}, {FIELDS[field]}' + (f', and not {words[place]}' if is_repeated else '')
-
-
-# All that are refused so, with what is said.
-MISTAKES = [
-    (['nonsense'], f'WHAT is one of {PACKETS}, and not nonsense'), (['no\x1b[31m'], f'WHAT is one of {PACKETS}'),
-    (['Query', '0001', 'FRED<20>'], f'WHAT is one of {PACKETS}, and not Query'),
-    (['query', '0001'], 'words after query: 2 wanted ID NAME, and not 1'),
-    (['keepalive', '1'], 'words after keepalive: 0 wanted, and not 1'),
-    *((row[0], wrong(*row)) for row in WRONG),
-]
-# Words that give a file to a command, and how it says that files are read; nothing where it takes words, or they are no file.
-FILES = [
-    (['show', 'office.cap'], b'show reads standard input: nbt show <office.cap\n'),
-    (['save', '../taps/one-2.txt'], b'save reads standard input: nbt save <../taps/one-2.txt\n'),
-    (['show', '--brief', 'office.cap', '--json'], b'show reads standard input: nbt show --brief --json <office.cap\n'),
-    (['show', '--input-limit', 'show', 'show'], b''),
-    (['show', 'show'], b'show reads standard input: nbt show <show\n'),
-    (['merge', 'one', 'other', '--keys', '7'], b'merge reads standard input: cat one other | nbt merge --keys 7\n'),
-    (['agree', 'a b'], b"agree reads standard input: nbt agree <'a b'\n"),
-    (['agree', '$(id)', '~'], b"agree reads standard input: cat '$(id)' '~' | nbt agree\n"),
-    (['list', "it's"], b'list reads standard input: nbt list <FILE\n'),
-    (['list', '\x1b[31m'], b'list reads standard input: nbt list <FILE\n'),
-    (['list', ''], b"list reads standard input: nbt list <''\n"),
-    (['show', '--office.cap'], b''), (['show', '-x'], b''), (['bogus', 'file'], b''), (['name', 'A<20>', 'B<20>'], b''),
-]
 # What a pcap file begins with, in both byte orders, of microseconds and nanoseconds; and a pcapng file.
 PCAPS = ['a1b2c3d4', 'd4c3b2a1', 'a1b23c4d', '4d3cb2a1', '0a0d0d0a']
 
@@ -77,7 +27,7 @@ def meaning(errors):
 def shown(errors):
     """What a command prints at a terminal on standard error, that prints this otherwise."""
     if errors == b'nbt: arguments\n':
-        return errors + f'arguments: {MISTAKES[0][1]}\n'.encode()
+        return errors + NO_PACKET
     return errors + meaning(errors) if errors.startswith(b'nbt: ') else errors
 
 
@@ -132,15 +82,6 @@ def advised():
     yield ended == (3, b'', b'nbt: write\n' + meaning(b'nbt: write\n')), 'nbt name, a full output, errors at a terminal'
 
 
-def mistaken():
-    """Of words that are no packet's, which is wrong, and what was wanted."""
-    for words, said in MISTAKES:
-        name = f'nbt build {words}'
-        yield run(['build', *words]) == (1, b'', b'nbt: arguments\n'), name
-        wanted = f'nbt: arguments\narguments: {said}\n'.encode()
-        yield with_errors_shown(['build', *words]) == (1, b'', wanted), f'{name}, errors at a terminal'
-
-
 def looked():
     """Of an input that begins as a pcap file does, what shows it; not of one with fewer bytes of that."""
     for front in PCAPS:
@@ -179,21 +120,6 @@ def dropped():
         yield (status, errors) == (0, b''), f'nbt save, {name}'
         wanted = f'nbt: keys that ticks dropped: {count}\n'.encode() if count else b''
         yield with_errors_shown(['save'], given) == (0, output, wanted), f'nbt save, {name}, errors at a terminal'
-
-
-def given_files():
-    """A bad command line that gives a file to a command which reads none says at a terminal how it is read."""
-    for words, line in FILES:
-        status, output, errors = run(words)
-        name = f'nbt {words}'
-        yield (status, output) == (2, b'') and errors.startswith(b'error: ') and b'reads standard input' not in errors, name
-        yield with_errors_shown(words) == (2, b'', errors + line), f'{name}, errors at a terminal'
-
-
-def plain():
-    """What isn't a refusal is the same at a terminal: help, the version, and a bad command line."""
-    for words in (['--help'], ['help', 'save'], ['--version'], ['help', 'full'], ['bogus'], []):
-        yield with_errors_shown(words) == run(words), f'nbt {" ".join(words)}, errors at a terminal'
 
 
 def short_of_memory():

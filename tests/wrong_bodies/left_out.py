@@ -5,13 +5,12 @@ such a copy, with --allow-holes, says of these what it says in the crate, and ne
 """
 import re
 
-FUNCTION = re.compile(r'( *)(?:pub(?:\(\w+\))? )?fn (\w+)')
-BLOCK = re.compile(r'(?:pub(?:\(\w+\))? )?(?:impl|trait|macro_rules)\b')
+from sources import functions
+
+PLAIN = re.compile(r'( *)(?:pub(?:\(\w+\))? )?fn ')
 DECLARED = re.compile(r'^(?:pub(?:\(\w+\))? )?(?:struct|enum) (\w+)', re.MULTILINE)
 # The head of an `impl`: its parameters, its trait, where that has no arguments, and its type with what it is given.
-IMPL = re.compile(r'impl(?:<(.*?)>)? (?:(?:\w+::)*(\w+) for )?(\w+)(?:<([^<>]*)>)? (?:\{|where)')
-CLAUSE = re.compile(r' *(?:requires|ensures|ghost)\b')
-TEXT = re.compile(r'"(?:\\.|[^"\\])*"')
+IMPL = re.compile(r'impl(?:<(.*?)>)? (?:(?:\w+::)*(\w+) for )?(\w+)(?:<([^<>]*)>)?(?: where.*)?')
 PROOFS = ('Answers.antt', 'Invariants.antt', 'Proof.antt')
 
 
@@ -21,54 +20,36 @@ def module_of(path, src):
     return '::'.join(parts) if parts not in (('lib',), ('main',)) else ''
 
 
-def joined(module, *names):
-    """A path of a module and of names in it."""
-    return '::'.join(it for it in (module, *names) if it)
-
-
-def owner_of(line, module, modules):
-    """The path of the type whose methods follow a head of `impl`, with the trait's name; None for a head of another kind.
+def owner_of(block, module, modules):
+    """The path of the type whose methods stand in an `impl` of this head, with the trait's name; None for a head of another kind.
 
     `modules` has the module of each type of the crate: its own methods are named by that, and those of a trait by the module
     of the `impl`.
     """
-    met = IMPL.match(line)
+    met = IMPL.fullmatch(block)
     if not met or met[3] not in modules:
         return None
     parameters = {it.partition(':')[0] for it in (met[1] or '').split(', ')} | {"'_", ''}
     if not parameters.issuperset((met[4] or '').split(', ')):
         return None
-    return joined(module, met[3] + met[2]) if met[2] else joined(modules[met[3]], met[3])
-
-
-def body_of(lines, at, indent):
-    """The lines between which the body of a function stands, or None where it has none, or one that is empty."""
-    opened = 0
-    while opened or CLAUSE.match(lines[at]) or not lines[at].endswith(('{', '{}', ';')):
-        if opened or CLAUSE.match(lines[at]):
-            plain = TEXT.sub('', lines[at])
-            opened += plain.count('{') - plain.count('}')
-        at += 1
-    return (at + 1, lines.index(indent + '}', at)) if lines[at].endswith('{') else None
+    return (module, met[3] + met[2]) if met[2] else (modules[met[3]], met[3])
 
 
 def leave_out(path, src, modules, kept, lines_kept):
     """Leaves out the bodies of a file, but for those that are kept, and answers the paths of their functions."""
-    lines, module, owner, found, at = path.read_text(encoding='utf-8').split('\n'), module_of(path, src), '', [], 0
-    while at < len(lines):
-        if BLOCK.match(lines[at]):
-            owner = owner_of(lines[at], module, modules)
-        elif lines[at] == '}':
-            owner = ''
-        met = FUNCTION.match(lines[at])
-        body = met and owner is not None and body_of(lines, at, met[1])
-        if body:
-            name = joined(owner or module, met[2])
-            if name not in kept and lines_kept.isdisjoint(lines[body[0]:body[1]]):
-                lines[body[0]:body[1]] = [met[1] + '    loop {}']
-                found.append(name)
-        at = lines.index(met[1] + '}', body[0]) if body else at + 1
-    path.write_text('\n'.join(lines), encoding='utf-8')
+    text, module, found, pieces, at = path.read_text(encoding='utf-8'), module_of(path, src), [], [], 0
+    for it in functions(path):
+        plain = PLAIN.match(text, text.rindex('\n', 0, it.start) + 1)
+        owner = owner_of(it.block, module, modules) if it.block else (module,)
+        if not plain or not owner or not it.block and plain[1] or not it.body or not text[slice(*it.body)].strip() or it.start < at:
+            continue
+        start, at_end = it.body
+        name = '::'.join(filter(None, (*owner, it.name)))
+        if name not in kept and lines_kept.isdisjoint(text[start:at_end].split('\n')[1:-1]):
+            pieces += [text[at:start], f'\n{plain[1]}    loop {{}}\n{plain[1]}']
+            found.append(name)
+            at = at_end
+    path.write_text(''.join((*pieces, text[at:])), encoding='utf-8')
     return found
 
 

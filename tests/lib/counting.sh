@@ -34,7 +34,7 @@ ended() { "$timeout" -k 5 120 "$@"; }
 # least SCRIPT PART: how many cases a part of a script has at least, or `all` of it; 0 where tests/counts.txt doesn't say it.
 least() {
     awk -v script="$1" -v part="$2" '
-        $1 == script { for (i = 2; i < NF; i += 2) if (part == "all" || $i == part) sum += $(i + 1) }
+        $1 == script && (part == "all" || $2 == part) { sum += $3 }
         END { print sum + 0 }' "$here/counts.txt"
 }
 

@@ -19,8 +19,8 @@ def equal(given, wanted, what):
 def least():
     """How many cases each part of the script has at least."""
     with open(os.path.join(os.path.dirname(os.path.abspath(__file__)), '..', 'counts.txt'), encoding='utf-8') as lines:
-        rows = [line.split()[1:] for line in lines if line.startswith(os.path.basename(sys.argv[0]) + ' ')]
-    return {part: int(count) for row in rows for part, count in zip(row[::2], row[1::2])}
+        rows = [line.split() for line in lines if line.startswith(os.path.basename(sys.argv[0]) + ' ')]
+    return {part: int(count) for _, part, count in rows}
 
 
 def leave_out(count, what, why):

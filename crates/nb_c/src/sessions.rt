@@ -37,7 +37,6 @@ pub struct NbtSession {
 ///
 /// RFC 1002 section 4.3.
 #[unsafe(no_mangle)]
-#[tactic(auto, using(crate::proofs::AnswerLemmas::fills))]
 pub extern "C" fn nbt_session_read(bytes: &[u8], packet: &mut NbtSession, at: &mut usize) -> u32
     ensures { Fills NbtSession (Reads bytes.now) packet.old packet.new at.old at.new result }
 {
@@ -148,7 +147,6 @@ pub struct NbtSessionRetarget {
 ///
 /// RFC 1002 section 4.3.2.
 #[unsafe(no_mangle)]
-#[tactic(auto, using(crate::proofs::AnswerLemmas::fills))]
 pub extern "C" fn nbt_session_names(
     bytes: &[u8],
     names: &mut NbtSessionNames,
@@ -199,7 +197,6 @@ fn names_of(called: &LentName<'_>, calling: &LentName<'_>) -> NbtSessionNames
 ///
 /// RFC 1002 section 4.3.5.
 #[unsafe(no_mangle)]
-#[tactic(auto, using(crate::proofs::AnswerLemmas::fills))]
 pub extern "C" fn nbt_session_retarget(
     bytes: &[u8],
     retarget: &mut NbtSessionRetarget,

@@ -27,9 +27,9 @@ count() {
     fi
 }
 
-# ended COMMAND..: runs a command, whose status is 124 or 137 where it doesn't end within two minutes.
+# ended COMMAND..: runs a command, whose status is 124 or 137 where it doesn't end within two minutes, or within so many seconds as PATIENCE says.
 timeout=$(command -v timeout)
-ended() { "$timeout" -k 5 120 "$@"; }
+ended() { "$timeout" -k 5 "${PATIENCE:-120}" "$@"; }
 
 # least SCRIPT PART: how many cases a part of a script has at least, or `all` of it; 0 where tests/counts.txt doesn't say it.
 least() {

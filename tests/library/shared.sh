@@ -1,5 +1,7 @@
 # Read by tests/library.sh and tests/targets.sh: what both do with the library.
 top=$(realpath "$here/..")
+# Half a million rows take a minute and more; a slow machine has ten.
+PATIENCE=600
 strict=(-std=c11 -O1 -g -Wall -Wextra -Wpedantic -Werror "-I$top/include")
 sanitized=(-fsanitize=address,undefined -fno-sanitize-recover=all)
 # tests/library/calls.c, over the rows of calls.def.

@@ -27,7 +27,7 @@ count() {
     fi
 }
 
-# ended COMMAND..: runs a command, whose status is 124 or 137 where it doesn't end within two minutes, or within so many seconds as PATIENCE says.
+# ended COMMAND..: runs a command, whose status is 124 or 137 where it doesn't end within two minutes, or PATIENCE seconds.
 timeout=$(command -v timeout)
 ended() { "$timeout" -k 5 "${PATIENCE:-120}" "$@"; }
 

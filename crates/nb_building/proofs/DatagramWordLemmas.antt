@@ -1,8 +1,8 @@
 -- Words that name no packets of port 138.
 use Rattle.nb_building.proofs.Common.{◌≡◌, ◌≢◌, ◌<◌, ◌≤◌, ℕ, ◌+◌, ◌*◌, List, [], ◌∷◌, length, map, get_or, refl, sym, ap, ◌∙◌, subst, arith, Result, Ok, Err, codes, ◌==◌, if◌then◌else◌, slice_range, IfErr, range_with_len, length-map, get_or-map, DataText, NetbiosName, IsText, Unnamed, CodeText, KeyText, NamesDatagrams, NumberText, error, fragments, queries}
 use Rattle.nb_datagram.specs.declared.key.Key.{Key}
-use Rattle.nb_datagram.specs.declared.kind.Kind.{Kind}
-use Rattle.nb_datagram.specs.declared.kind.Kind.TheVariants.{Unique, Group, Broadcast}
+use Rattle.nb_datagram.specs.declared.key.Kind.{Kind}
+use Rattle.nb_datagram.specs.declared.key.Kind.TheVariants.{Unique, Group, Broadcast}
 use Rattle.nb_datagram.specs.declared.limits.TheConstants.{MAX_LENGTH}
 use Rattle.nb_datagram.specs.declared.packet.QueryKind.{QueryKind}
 use Rattle.nb_datagram.specs.declared.packet.QueryKind.TheVariants.{Request, Positive, Negative}

@@ -1,8 +1,8 @@
 -- Which port the packets that words name are of, by the first word.
 use Rattle.nb_building.proofs.Common.{◌≡◌, ◌⊎◌, inl, inr, ap, Bool, ℕ, List, get_or, Result, Ok, Err, refl, sym, ◌∙◌, arith, codes, ◌==◌, if◌then◌else◌, IfErr, ServicePacket, IsServiceBuilt, IsSessionBuilt, Names, NamesDatagrams, NamesService, NamesSession, query, status, registration, refresh, release, response, request, message, positive, negative, retarget, keepalive, fragments, error, queries, of_service, of_session, of_datagrams, Unnamed}
 use Rattle.nb_session.specs.Packet as session
-use Rattle.nb_datagram.specs.declared.kind.Kind.{Kind}
-use Rattle.nb_datagram.specs.declared.kind.Kind.TheVariants.{Unique}
+use Rattle.nb_datagram.specs.declared.key.Kind.{Kind}
+use Rattle.nb_datagram.specs.declared.key.Kind.TheVariants.{Unique}
 use Rattle.nb_datagram.specs.declared.packet.QueryKind.{QueryKind}
 use Rattle.nb_datagram.specs.declared.packet.QueryKind.TheVariants as query_kind
 use Rattle.nb_datagram.specs.FaultTexts.{kind_text}

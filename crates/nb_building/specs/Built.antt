@@ -28,7 +28,7 @@ use Rattle.nb_datagram.specs.Packet as datagram
 use Rattle.nb_datagram.specs.Pieces.{AreTooLong, pieces}
 use Rattle.nb_datagram.specs.FaultTexts.{kind_text}
 use Rattle.nb_text.specs.Words.{query_word}
-use Rattle.nb_names.specs.declared.pointers.Pointers.TheVariants.{Refused}
+use Rattle.nb_names.specs.declared.reading.Pointers.TheVariants.{Refused}
 use Rattle.nb_names.specs.Labels.{NameAt}
 use Rattle.nb_service.specs.declared.classes.TheConstants.{IN}
 use Rattle.nb_service.specs.declared.flags.TheConstants.NmFlags.{B}

@@ -3,13 +3,13 @@ use Rattle.std.specs.Prelude.{◌≡◌, ◌≢◌, ◌⊎◌, ◌++◌, ℕ, Li
 use Rattle.std.specs.List.{AllByRecursion}
 use Rattle.nb_names.specs.declared.hexadecimal.DigitsFault.{DigitsFault}
 use Rattle.nb_names.specs.declared.hexadecimal.DigitsFault.TheVariants.{BadDigits, NoMemory}
-use Rattle.nb_datagram.specs.declared.cut_fault.CutFault.{CutFault}
-use Rattle.nb_datagram.specs.declared.cut_fault.CutFault.TheVariants as cut_fault
+use Rattle.nb_datagram.specs.declared.fault.CutFault.{CutFault}
+use Rattle.nb_datagram.specs.declared.fault.CutFault.TheVariants as cut_fault
 use Rattle.nb_building.specs.declared.build_fault.BuildFault.{BuildFault}
 use Rattle.nb_building.specs.declared.build_fault.BuildFault.TheVariants.{Arguments, Memory, TooLong, ZeroPiece}
 use Rattle.nb_names.specs.Hexadecimal.{DataText}
 use Rattle.nb_names.specs.NameText.{IsText}
-use Rattle.nb_datagram.specs.declared.kind.Kind.{Kind}
+use Rattle.nb_datagram.specs.declared.key.Kind.{Kind}
 use Rattle.nb_datagram.specs.Fragment.{DatagramParts}
 use Rattle.nb_datagram.specs.Pieces.{AreTooLong}
 use Rattle.nb_datagram.specs.FaultTexts.{kind_text}

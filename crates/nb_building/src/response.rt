@@ -1,6 +1,6 @@
 //! A response of the name service from arguments.
 ghost use Rattle.std.specs.Prelude.{◌≡◌, ◌≢◌, ◌<◌, ℕ, List, [], ◌∷◌, map, codes, Err, IfErr, IfOk, MatchResult, Ok, length};
-ghost use Rattle.nb_names.specs.declared.pointers.Pointers.TheVariants.{Refused};
+ghost use Rattle.nb_names.specs.declared.reading.Pointers.TheVariants.{Refused};
 ghost use Rattle.nb_names.specs.Hexadecimal.{DataText};
 ghost use Rattle.nb_names.specs.Labels.{NameAt};
 ghost use Rattle.nb_names.specs.Name.{labels_of_name};

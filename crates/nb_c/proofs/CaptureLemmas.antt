@@ -2,8 +2,8 @@
 use Rattle.nb_c.proofs.Common.{◌≡◌, ℕ, List, Option, Some, None, Result, Ok, Err, inl, inr, ◌⊎◌, subst, Refusal, Memory}
 use Rattle.nb_member.specs.Capture.{HasValue, SaysNothing, IsMalformed, NeedsMemory, for_payload, Reads}
 use Rattle.nb_member.specs.declared.line.Line.{Line}
-use Rattle.nb_member.specs.declared.line_fault.LineFault.{LineFault}
-use Rattle.nb_member.specs.declared.line_fault.LineFault.TheVariants.{BadLine, NoMemory}
+use Rattle.nb_member.specs.declared.line.LineFault.{LineFault}
+use Rattle.nb_member.specs.declared.line.LineFault.TheVariants.{BadLine, NoMemory}
 use Rattle.nb_c.specs.Captures.{LineTold, line_told, line_answer, SaysLine, nothing, something, malformed, LineLent, WritesLine, HasPayload, TellsLine}
 
 -- the laws of the library that lines are read by

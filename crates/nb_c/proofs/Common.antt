@@ -8,11 +8,11 @@ pub use Rattle.nb_table.specs.Saved.{IsRead, IsReadAs, LoadFails, full, full_sou
 pub use Rattle.nb_names.specs.NameText.{IsBad, IsFaultOf, IsFormed, IsFront, IsHexDigit, IsText, Item, Items, ScopeText, are_letters, escaped, is_letter, more_items, more_labels, no_item, no_label, plain}
 pub use Rattle.nb_names.specs.declared.bytes.NoMemory.{NoMemory}
 pub use Rattle.std.specs.Prelude.{MatchOption, SomeIff, not, ⊤}
-pub use Rattle.nb_names.specs.declared.pointers.Pointers.TheVariants.{Followed, Refused}
+pub use Rattle.nb_names.specs.declared.reading.Pointers.TheVariants.{Followed, Refused}
 pub use Rattle.nb_service.proofs.ItemLemmas.{NameLaws, domain_no_fault, name_laws, one_domain_fault, read_is, read_is_ok, seen_extent, seen_fields, seen_name}
 pub use Rattle.nb_names.specs.Name.{NetbiosName, labels_of_name}
 pub use Rattle.nb_table.specs.Limits.{FewOfEach, Limits, TableValue}
-pub use Rattle.nb_names.specs.declared.text_fault.TextFault.{TextFault}
+pub use Rattle.nb_names.specs.declared.fault.TextFault.{TextFault}
 pub use Rattle.nb_datagram.specs.declared.key.Key.{Key}
 pub use Rattle.std.proofs.lemmas.List.{append-nil, drop-drop, drop-set-lt, drop-take, length-drop, length-set, length-take, length-take-le, take-append-drop, take-take, take_more_set}
 pub use Rattle.nb_datagram.specs.Packet.{IsPacket, Packet, QueryPacket, name_bytes, type_of}
@@ -23,9 +23,9 @@ pub use Rattle.nb_service.specs.Record.{ResourceData, ResourceRecord, of_bytes, 
 pub use Rattle.nb_names.specs.DomainName.{spelling}
 pub use Rattle.nb_service.specs.ServiceFaults.{DomainFails, PacketFails, domain_end, domain_name, item_count}
 pub use Rattle.std.proofs.lemmas.Bool.Decides.{nat_tests}
-pub use Rattle.nb_entries.specs.declared.load_fault.LoadFault.{LoadFault}
+pub use Rattle.nb_entries.specs.declared.saved.LoadFault.{LoadFault}
 pub use Rattle.nb_service.specs.Header.{HasHeader, PacketHeader, header_value}
-pub use Rattle.nb_c.specs.declared.refusal.Refusal.{Refusal}
-pub use Rattle.nb_c.specs.declared.refusal.Refusal.TheVariants.{Fault, FaultAt, Memory}
+pub use Rattle.nb_c.specs.declared.output.Refusal.{Refusal}
+pub use Rattle.nb_c.specs.declared.output.Refusal.TheVariants.{Fault, FaultAt, Memory}
 pub use Rattle.nb_c.specs.declared.statuses.TheConstants.{DONE, MORE, NAME_TRAILING_BYTES, NO_ROLE, SECOND, TRUNCATED}
 pub use Rattle.nb_c.specs.Outputs.{Alone, Answers, Does, DoesAtOnce, Ends, Filled, FilledAlone, Fills, FillsOrLacks, HasOne, Lent, MayLack, OrMemory, all_late, at_refused, none_late, of_memory, refused_status}

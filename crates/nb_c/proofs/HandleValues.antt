@@ -10,9 +10,9 @@ use Rattle.std_heap.specs.contracts.Global as heap
 use Rattle.std_heap.proofs.Global.TheLaws as heap_laws
 use Rattle.std_heap.specs.contracts.GlobalAllocator.TheImpl.{ghosts}
 use Rattle.nb_member.specs.Member.{new_member}
-use Rattle.nb_c.specs.contracts.parts.Parts as parts
+use Rattle.nb_c.specs.contracts.handle.Parts as parts
 use Rattle.nb_c.specs.contracts.handle.NbtStation as handle
-use Rattle.nb_c.specs.contracts.kept.Kept as kept
+use Rattle.nb_c.specs.contracts.handle.Kept as kept
 
 abbrev pub both : Val → Val → Val
 both v w = vstruct (vcons v (vcons w vnil))

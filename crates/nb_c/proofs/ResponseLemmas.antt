@@ -2,7 +2,7 @@
 use Rattle.nb_c.proofs.Common.{◌≡◌, ◌∙◌, ℕ, Bool, List, length, Result, Ok, Err, IfOk, refl, ap, subst, arith, ⊤, Refused, TextFault, NameAt, NoMemory, NetbiosName, ResourceData, ResourceRecord, Refusal, Memory, Fault, FaultAt, NAME_TRAILING_BYTES, NO_ROLE, HasOne, OrMemory, none_late, of_memory}
 use Rattle.nb_names.specs.declared.fault.NameFault.{NameFault}
 use Rattle.nb_names.specs.declared.fault.NameFault.TheVariants as names
-use Rattle.nb_names.specs.declared.text_fault.TextFault.TheVariants as texts
+use Rattle.nb_names.specs.declared.fault.TextFault.TheVariants as texts
 use Rattle.nb_names.specs.NameFaults.{FaultAt as NameFaultAt}
 use Rattle.nb_c.proofs.AnswerLemmas.{bytes_said, has_one_value}
 use Rattle.nb_c.proofs.NameLemmas.{TextLaws}

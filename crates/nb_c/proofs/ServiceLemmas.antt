@@ -1,11 +1,11 @@
 -- A payload of port 137 has one answer for its header, for its packet, and for each item.
 use Rattle.nb_c.proofs.Common.{◌≡◌, ◌∙◌, ℕ, ◌<◌, ◌≤◌, List, length, Option, Some, None, Result, Ok, Err, refl, ap, sym, subst, arith, MatchOption, PacketHeader, HasHeader, seen_extent, ServicePacket, HasOutline, PacketFails, item_count, Refusal, Alone, HasOne}
-use Rattle.nb_service.specs.declared.extent.Extent.{Extent}
+use Rattle.nb_service.specs.declared.record.Extent.{Extent}
 use Rattle.nb_service.specs.declared.fault.ServiceFault.{ServiceFault}
 use Rattle.nb_service.specs.declared.fault.ServiceFault.TheVariants.{Truncated}
-use Rattle.nb_service.specs.declared.fields.Fields.{Fields}
+use Rattle.nb_service.specs.declared.record.Fields.{Fields}
 use Rattle.nb_service.specs.declared.limits.TheConstants.{HEADER_LENGTH}
-use Rattle.nb_service.specs.declared.section.Section.{Section}
+use Rattle.nb_service.specs.declared.packet.Section.{Section}
 use Rattle.nb_service.specs.declared.seen.Seen.{Seen}
 use Rattle.nb_service.specs.Items.{PacketItem, asked, told, ItemAt, ItemFails, IsExtent, Sees}
 use Rattle.nb_service.proofs.WalkedLemmas.{fails_counted}

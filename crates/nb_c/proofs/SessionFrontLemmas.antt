@@ -1,6 +1,6 @@
 -- What stands at the front of what came over a connection has one answer.
 use Rattle.nb_c.proofs.Common.{◌≡◌, ℕ, ◌-◌, ◌≤◌, ◌<◌, List, length, Result, Ok, Err, refl, ap, arith, Refusal, FaultAt, MORE, Alone}
-use Rattle.nb_session.specs.declared.header.Header.{Header}
+use Rattle.nb_session.specs.declared.parsing.Header.{Header}
 use Rattle.nb_session.specs.declared.limits.TheConstants.{HEADER_LENGTH}
 use Rattle.nb_session.specs.Header.{HasHeader}
 use Rattle.nb_c.specs.declared.sessions.NbtSessionFront.{NbtSessionFront}

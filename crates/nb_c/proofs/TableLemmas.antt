@@ -3,7 +3,7 @@ use Rattle.nb_c.proofs.Common.{◌≡◌, ◌≢◌, ℕ, ◌≤◌, Bool, List,
 use Rattle.std.specs.FinMap as maps
 use Rattle.nb_entries.specs.Entry.{EntryValue}
 use Rattle.nb_entries.specs.SavedReading.{Outcome}
-use Rattle.nb_entries.specs.declared.load_fault.LoadFault.TheVariants as loads
+use Rattle.nb_entries.specs.declared.saved.LoadFault.TheVariants as loads
 use Rattle.nb_c.specs.Statuses.{load_refusal}
 use Rattle.nb_c.specs.Tables.{IsLoaded, OfTwo, first_fails, second_fails, both, follow_the_first, OfOne, not_read, read, widest, Joins, Merges}
 use Rattle.nb_table.specs.declared.fault.TableFault.{TableFault}

@@ -5,7 +5,7 @@ use Rattle.std.proofs.Math.Seq.{take-append_seam}
 use Rattle.std.proofs.lemmas.Str.{IsUtf8-from_ascii, IsAscii-append, IsAscii-take}
 use Rattle.std.proofs.lemmas.Str.Ascii.{IsAscii-nil, IsAscii-cons}
 use Rattle.nb_names.proofs.PushingLemmas.{plain_one}
-use Rattle.nb_names.specs.declared.text_fault.TextFault.TheVariants.{BadText, TooLong}
+use Rattle.nb_names.specs.declared.fault.TextFault.TheVariants.{BadText, TooLong}
 use Rattle.nb_c.specs.Statuses.{place_of}
 
 hex_ascii : (d : ℕ) → IsHexDigit d → d < 128

@@ -5,7 +5,7 @@ use Rattle.std.specs.List.{flat_map}
 use Rattle.nb_datagram.specs.Fragment.{DatagramParts}
 use Rattle.nb_datagram.specs.Packet.{type_of, name_bytes}
 use Rattle.nb_table.specs.declared.fault.TableFault.{TableFault}
-use Rattle.nb_entries.specs.declared.load_fault.LoadFault.{LoadFault}
+use Rattle.nb_entries.specs.declared.saved.LoadFault.{LoadFault}
 use Rattle.nb_table.specs.Contents.{Contents}
 use Rattle.nb_table.specs.Limits.{TableValue}
 use Rattle.nb_table.specs.Saved.{LoadFails, key_bytes}

@@ -3,9 +3,9 @@ use Rattle.std.specs.Prelude.{◌≡◌, ◌⊎◌, ◌<◌, ℕ, List, [], leng
 use Rattle.nb_member.specs.Capture.{HasValue, SaysNothing, IsMalformed}
 use Rattle.nb_member.specs.declared.line.Line.{Line}
 use Rattle.nb_member.specs.declared.line.Line.TheVariants.{Packet, Tick}
-use Rattle.nb_member.specs.declared.line_fault.LineFault.{LineFault}
-use Rattle.nb_c.specs.declared.captures.NbtLine.{NbtLine}
-use Rattle.nb_c.specs.declared.captures.TheConstants.{BLANK, PACKET, TICK}
+use Rattle.nb_member.specs.declared.line.LineFault.{LineFault}
+use Rattle.nb_c.specs.declared.showing.NbtLine.{NbtLine}
+use Rattle.nb_c.specs.declared.showing.TheConstants.{BLANK, PACKET, TICK}
 use Rattle.nb_c.specs.declared.statuses.TheConstants as statuses
 use Rattle.nb_c.specs.Outputs.{fits, put_into, put_status, refused_status}
 use Rattle.nb_c.specs.Statuses.{Refusal, Memory, Fault, line_refusal}

@@ -2,11 +2,11 @@
 use Rattle.std.specs.Prelude.{◌≡◌, ◌==◌, ◌+◌, ◌%◌, ℕ, Bool, nat_lt, min, List, ◌++◌, length, Option, Some, None, Result, Ok, Err, if◌then◌else◌}
 use Rattle.std.specs.Int.{w16, w32, to_be_bytes}
 use Rattle.std.specs.List.{flat_map}
-use Rattle.nb_names.specs.declared.text_fault.TextFault.{TextFault}
+use Rattle.nb_names.specs.declared.fault.TextFault.{TextFault}
 use Rattle.nb_names.specs.Name.{NetbiosName}
 use Rattle.nb_datagram.specs.declared.key.Key.{Key}
-use Rattle.nb_datagram.specs.declared.kind.Kind.{Kind}
-use Rattle.nb_datagram.specs.declared.kind.Kind.TheVariants.{Unique, Group, Broadcast}
+use Rattle.nb_datagram.specs.declared.key.Kind.{Kind}
+use Rattle.nb_datagram.specs.declared.key.Kind.TheVariants.{Unique, Group, Broadcast}
 use Rattle.nb_datagram.specs.declared.limits.TheConstants.{MAX_LENGTH, DIRECT_HEADER_LENGTH}
 use Rattle.nb_datagram.specs.declared.packet.Packet.TheVariants.{Direct, Error, Query}
 use Rattle.nb_datagram.specs.Fragment.{DatagramParts, FragmentParts}

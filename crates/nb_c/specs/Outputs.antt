@@ -2,8 +2,8 @@
 -- the place of a fault.
 use Rattle.std.specs.Prelude.{◌≡◌, ◌⊎◌, ℕ, Bool, true, false, nat_le, List, ◌++◌, length, drop, Result, Ok, Err, if◌then◌else◌, ⊤}
 use Rattle.nb_names.specs.declared.bytes.NoMemory.{NoMemory}
-use Rattle.nb_c.specs.declared.refusal.Refusal.{Refusal}
-use Rattle.nb_c.specs.declared.refusal.Refusal.TheVariants.{Memory, Fault, FaultAt}
+use Rattle.nb_c.specs.declared.output.Refusal.{Refusal}
+use Rattle.nb_c.specs.declared.output.Refusal.TheVariants.{Memory, Fault, FaultAt}
 use Rattle.nb_c.specs.declared.statuses.TheConstants.{DONE, NO_ROOM, NO_MEMORY}
 
 -- whether the bytes fit into a buffer

@@ -3,8 +3,8 @@
 -- pointers; places count from the front of its bytes.
 use Rattle.std.specs.Prelude.{◌≡◌, ◌≢◌, ◌<◌, ◌≤◌, ℕ, List, length, Result, Ok, Err, ◌==◌, nat_lt, if◌then◌else◌}
 use Rattle.nb_names.specs.declared.fault.NameFault.{NameFault}
-use Rattle.nb_names.specs.declared.pointers.Pointers.TheVariants.{Refused}
-use Rattle.nb_names.specs.declared.text_fault.TextFault.{TextFault}
+use Rattle.nb_names.specs.declared.reading.Pointers.TheVariants.{Refused}
+use Rattle.nb_names.specs.declared.fault.TextFault.{TextFault}
 use Rattle.nb_names.specs.Labels.{NameAt}
 use Rattle.nb_names.specs.Name.{NetbiosName, labels_of_name}
 use Rattle.nb_names.specs.NameFaults.{FaultAt as NameFaultAt}

@@ -3,7 +3,7 @@
 use Rattle.std.specs.Prelude.{◌≡◌, ◌⊎◌, ℕ, ◌+◌, nat_le, List, length, take, Option, Some, None, Result, Ok, Err, if◌then◌else◌, ◌<◌, min, [], ◌∷◌, ◌++◌, drop}
 use Rattle.std.specs.Int.{w32, from_be_bytes}
 use Rattle.std.specs.List.{slice_get}
-use Rattle.nb_names.specs.declared.pointers.Pointers.TheVariants.{Followed}
+use Rattle.nb_names.specs.declared.reading.Pointers.TheVariants.{Followed}
 use Rattle.nb_names.specs.DomainName.{spelling}
 use Rattle.nb_names.specs.Labels.{NameAt}
 use Rattle.nb_service.specs.declared.address_entry.AddressEntry.{AddressEntry}

@@ -3,12 +3,12 @@
 use Rattle.std.specs.Prelude.{◌≡◌, ℕ, ◌-◌, ◌<◌, ◌≤◌, List, length, is_some, Option, Some, None, Result, Ok, Err, if◌then◌else◌}
 use Rattle.nb_names.specs.DomainName.{spelling}
 use Rattle.nb_names.specs.NameText.{name_of_labels}
-use Rattle.nb_service.specs.declared.extent.Extent.{Extent}
+use Rattle.nb_service.specs.declared.record.Extent.{Extent}
 use Rattle.nb_service.specs.declared.fault.ServiceFault.{ServiceFault}
-use Rattle.nb_service.specs.declared.fields.Fields.{Fields}
+use Rattle.nb_service.specs.declared.record.Fields.{Fields}
 use Rattle.nb_service.specs.declared.limits.TheConstants.{HEADER_LENGTH}
-use Rattle.nb_service.specs.declared.section.Section.{Section}
-use Rattle.nb_service.specs.declared.section.Section.TheVariants.{Answer, Authority, Additional}
+use Rattle.nb_service.specs.declared.packet.Section.{Section}
+use Rattle.nb_service.specs.declared.packet.Section.TheVariants.{Answer, Authority, Additional}
 use Rattle.nb_service.specs.Header.{PacketHeader, HasHeader}
 use Rattle.nb_service.specs.Items.{PacketItem, section_of, fields_of, name_of, ItemAt, ItemFails, IsExtent}
 use Rattle.nb_service.specs.Packet.{HasOutline}

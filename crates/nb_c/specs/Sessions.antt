@@ -15,10 +15,10 @@ use Rattle.nb_c.specs.declared.sessions.NbtSession.{NbtSession}
 use Rattle.nb_c.specs.declared.statuses.TheConstants as statuses
 use Rattle.nb_c.specs.Names.{spelled_in_place}
 use Rattle.nb_c.specs.Statuses.{Refusal, Fault, FaultAt, session_refusal}
-use Rattle.nb_session.specs.declared.header.Header.{Header}
+use Rattle.nb_session.specs.declared.parsing.Header.{Header}
 use Rattle.nb_c.specs.declared.sessions.NbtSessionFront.{NbtSessionFront}
 use Rattle.nb_c.specs.declared.statuses.TheConstants.{MORE}
-use Rattle.nb_session.specs.declared.kind.Kind.{Kind}
+use Rattle.nb_session.specs.declared.packet.Kind.{Kind}
 
 -- answer_by told parsed: what is told of the packet that stands at the front, with the bytes it takes up, or why none does
 abbrev pub answer_by : {A : Type 0} → (Packet → ℕ → Result A Refusal) → Parsed → Result A Refusal

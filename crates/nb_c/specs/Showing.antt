@@ -3,7 +3,7 @@ use Rattle.std.specs.Prelude.{ℕ, List, Result, Ok, Err}
 use Rattle.nb_text.specs.SaysPacket.{IsSaid}
 use Rattle.nb_text.specs.Shown.{Shown}
 use Rattle.nb_text.specs.Tells.{IsObject}
-use Rattle.nb_c.specs.declared.refusal.Refusal.{Refusal}
+use Rattle.nb_c.specs.declared.output.Refusal.{Refusal}
 
 -- Only Is answer: a value is answered of which this holds, and no fault
 abbrev pub Only : (List ℕ → Type 0) → Result (List ℕ) Refusal → Type 0

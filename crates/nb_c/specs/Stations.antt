@@ -2,8 +2,8 @@
 use Rattle.std.specs.Prelude.{◌≡◌, ◌==◌, ◌⊎◌, ◌<◌, ◌≤◌, ◌+◌, ℕ, Bool, List, [], ◌∷◌, ◌++◌, length, drop, Contains, Option, Some, None, Result, Ok, Err}
 use Rattle.std.specs.Int.{w32, from_be_bytes}
 use Rattle.std.specs.List.{slice_split}
-use Rattle.nb_names.specs.declared.text_fault.TextFault.{TextFault}
-use Rattle.nb_names.specs.declared.text_fault.TextFault.TheVariants as texts
+use Rattle.nb_names.specs.declared.fault.TextFault.{TextFault}
+use Rattle.nb_names.specs.declared.fault.TextFault.TheVariants as texts
 use Rattle.nb_names.specs.Name.{NetbiosName}
 use Rattle.nb_datagram.specs.declared.fault.DatagramFault.{DatagramFault}
 use Rattle.nb_datagram.specs.declared.key.Key.{Key}
@@ -14,8 +14,8 @@ use Rattle.nb_datagram.specs.Packet.{type_of, name_bytes, packet_bytes}
 use Rattle.nb_table.specs.declared.fault.TableFault.{TableFault}
 use Rattle.nb_table.specs.declared.fault.TableFault.TheVariants as tables
 use Rattle.nb_member.specs.declared.limits.TheConstants.{MAX_NAMES}
-use Rattle.nb_member.specs.declared.member_fault.MemberFault.{MemberFault}
-use Rattle.nb_member.specs.declared.member_fault.MemberFault.TheVariants.{Packet, Table}
+use Rattle.nb_member.specs.declared.outcome.MemberFault.{MemberFault}
+use Rattle.nb_member.specs.declared.outcome.MemberFault.TheVariants.{Packet, Table}
 use Rattle.nb_member.specs.declared.outcome.Outcome.{Outcome}
 use Rattle.nb_member.specs.declared.outcome.Outcome.TheVariants.{Delivered, Unheard, Kept, Spoilt, Other}
 use Rattle.std.specs.FinMap as maps

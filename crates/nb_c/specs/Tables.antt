@@ -1,7 +1,7 @@
 -- What the calls on saved tables answer (our choice).
 use Rattle.std.specs.Prelude.{◌≡◌, ◌≢◌, ◌+◌, ℕ, Bool, true, false, nat_le, List, Result, Ok, Err, [], ◌∷◌, Option, Some, None}
-use Rattle.nb_entries.specs.declared.load_fault.LoadFault.{LoadFault}
-use Rattle.nb_entries.specs.declared.load_fault.LoadFault.TheVariants as loads
+use Rattle.nb_entries.specs.declared.saved.LoadFault.{LoadFault}
+use Rattle.nb_entries.specs.declared.saved.LoadFault.TheVariants as loads
 use Rattle.nb_table.specs.declared.fault.TableFault.{TableFault}
 use Rattle.nb_table.specs.declared.fault.TableFault.TheVariants as tables
 use Rattle.nb_table.specs.Contents.{Contents}

@@ -1,15 +1,14 @@
 //! Tables of other stations, taken in by a station.
 ghost use Rattle.std.specs.Prelude.{◌≡◌, ◌++◌, IfOk, OnOk, Ok, Err};
+ghost use Rattle.nb_table.specs.Saved.{key_bytes};
 ghost use Rattle.nb_c.specs.Absorbing.{Absorbed, AbsorbsInto, Hears, Joined, all_heard, heard_bytes};
 ghost use Rattle.nb_c.specs.Outputs.{Answers, OrMemory, all_late, lent};
 ghost use Rattle.nb_c.specs.Stations.{OnStation};
-ghost use Rattle.nb_c.specs.declared.refusal.Refusal.TheVariants.{Fault};
+ghost use Rattle.nb_c.specs.declared.output.Refusal.TheVariants.{Fault};
 ghost use Rattle.nb_c.specs.declared.statuses.TheConstants.{NO_STATION};
-ghost use Rattle.nb_table.specs.Saved.{key_bytes};
 
 use crate::handle::{NbtStation, put_back, taken};
-use crate::output::{answer_of, write_answer};
-use crate::refusal::{Refusal, load_refusal, table_refusal};
+use crate::output::{Refusal, answer_of, load_refusal, table_refusal, write_answer};
 use crate::statuses::{NO_ROLE, NO_STATION};
 use crate::tables::loaded;
 use nb_datagram::{Datagram, Datagrams, Key};

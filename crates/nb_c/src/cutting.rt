@@ -1,15 +1,14 @@
 //! Packets of the datagram service, written: datagrams cut into pieces, and packets without data.
 ghost use Rattle.std.specs.Prelude.{◌≡◌, ◌++◌, ◌≤◌, length, IfOk, OnOk, MatchOption, Ok};
 ghost use Rattle.std.specs.List.{flat_map};
-ghost use Rattle.nb_c.specs.Cutting.{Cuts, are_long, cut_answer, cut_names, key_from, key_of, kind_with, packet_of, packets_of, counted, Queries, error_packet, query_answer, query_with};
-ghost use Rattle.nb_c.specs.Outputs.{Does, OrMemory, none_late, lent};
 ghost use Rattle.nb_datagram.specs.declared.limits.TheConstants.{MAX_LENGTH};
 ghost use Rattle.nb_datagram.specs.declared.packet.Packet.TheVariants.{Query};
 ghost use Rattle.nb_datagram.specs.Packet.{packet_bytes};
+ghost use Rattle.nb_c.specs.Cutting.{Cuts, are_long, cut_answer, cut_names, key_from, key_of, kind_with, packet_of, packets_of, counted, Queries, error_packet, query_answer, query_with};
+ghost use Rattle.nb_c.specs.Outputs.{Does, OrMemory, none_late, lent};
 
 use crate::names::name_of_text;
-use crate::output::{answer_of, write_answer, write_bytes};
-use crate::refusal::{Refusal, text_refusal};
+use crate::output::{Refusal, answer_of, text_refusal, write_answer, write_bytes};
 use crate::statuses::{
     DESTINATION_TEXT, LONG_DATA, NO_ROLE, SOURCE_TEXT, UNKNOWN_TYPE, ZERO_PIECE,
 };
@@ -17,7 +16,7 @@ use nb_datagram::limits::{DIRECT_HEADER_LENGTH, MAX_LENGTH};
 use nb_datagram::{
     Datagram, ErrorPacket, Fragment, Key, Kind, Packet, Pieces, QueryKind, QueryPacket, cut, encode,
 };
-use nb_names::text_laws::{one_name, one_text_fault};
+use nb_names::laws::{one_name, one_text_fault};
 use nb_names::{Bytes, Name, NoMemory, TextFault};
 use std::alloc::Global;
 

@@ -1,14 +1,13 @@
 //! Packets of the datagram service, read, and what stands at the front of others.
 ghost use Rattle.std.specs.Prelude.{◌≡◌, ◌≤◌, length};
+ghost use Rattle.nb_names.specs.declared.limits.TheConstants.{MAX_SPELLING};
+ghost use Rattle.nb_datagram.specs.Packet.{name_bytes};
 ghost use Rattle.nb_c.specs.Datagrams.{Reads, places_of, header_places, fragment_places, error_places, query_places, ReadsFront, front_places, numbers, place_if, spelled_length};
 ghost use Rattle.nb_c.specs.declared.datagrams.NbtDatagram.{NbtDatagram};
 ghost use Rattle.nb_c.specs.Outputs.{Alone, Fills};
-ghost use Rattle.nb_datagram.specs.Packet.{name_bytes};
-ghost use Rattle.nb_names.specs.declared.limits.TheConstants.{MAX_SPELLING};
 ghost use Rattle.nb_c.specs.declared.datagrams.NbtDatagramFront.{NbtDatagramFront};
 
-use crate::output::fill;
-use crate::refusal::{Refusal, datagram_refusal};
+use crate::output::{Refusal, datagram_refusal, fill};
 use crate::statuses::TRUNCATED;
 use nb_datagram::laws::{one_datagram_fault, one_front, one_packet};
 use nb_datagram::limits::{DIRECT_HEADER_LENGTH, HEADER_LENGTH};

@@ -1,12 +1,12 @@
 //! A station as C holds it: a box behind a pointer, or none where the pointer is null.
 ghost use Rattle.std.specs.Prelude.{◌≡◌, MatchOption};
 ghost use Rattle.std.specs.declared.alloc.Global.{Global as Heap};
-ghost use Rattle.nb_c.specs.declared.kept.Kept.{Kept};
+ghost use Rattle.std.specs.Box.Ownership.{box_owns};
+ghost use Rattle.nb_c.specs.declared.handle.Kept.{Kept};
 ghost use Rattle.nb_c.specs.Handles.{kept_code, IsHere, IsNone, IsTold};
 
-use crate::kept::Kept;
-use crate::parts::Parts;
-use std::alloc::Global;
+use nb_member::Member;
+use std::alloc::{Allocator, Global};
 use std::marker::Model;
 use std::{mem, ptr};
 
@@ -22,7 +22,7 @@ impl Model for NbtStation {
     ghost use Rattle.std.specs.Box.Ownership.{box_owns};
     ghost use Rattle.std.specs.Ptr.{if_non_null};
     ghost use Rattle.std.specs.contracts.impls.GlobalAllocator.TheImpl.{ghosts};
-    ghost use Rattle.nb_c.specs.contracts.kept.Kept.{the_row};
+    ghost use Rattle.nb_c.specs.contracts.handle.Kept.{the_row};
 
     ghost also_owns = { λ h. if_non_null h.at
         (box_owns (ghosts.dealloc_token h.heap) the_row h.at h.value) };
@@ -93,4 +93,39 @@ pub(crate) fn put_back(station: &mut NbtStation, kept: Box<Kept>)
     ensures { (station.new.value ≡ kept.value) × IsHere station.new.at }
 {
     let_go(mem::replace(station, hide(Parts::of(kept))));
+}
+
+/// What is kept for a station between calls.
+#[derive(Drop)]
+pub struct Kept {
+    /// Its names, settings and table.
+    pub member: Member,
+}
+
+pub struct Parts<T, A: Allocator> {
+    pub(super) ptr: *mut T,
+    pub(super) alloc: A,
+    pub ghost value: { T },
+}
+
+impl<T, A: Allocator> Model for Parts<T, A> {
+    ghost also_owns = { λ p. box_owns (A.dealloc_token p.alloc) T.row p.ptr p.value };
+}
+
+impl<T, A: Allocator> Parts<T, A> {
+    pub fn of(b: Box<T, A>) -> Parts<T, A>
+    where
+        T: Drop,
+        ensures { result.value ≡ b.value }
+    {
+        let (ptr, alloc) = Box::into_raw_with_allocator(b);
+        Parts { ptr, alloc }
+    }
+
+    pub fn into_box(self) -> Box<T, A>
+        ensures { result.value ≡ self.value }
+    {
+        let Parts { ptr, alloc } = self;
+        unsafe { Box::from_raw(alloc, ptr) }
+    }
 }

@@ -2,16 +2,12 @@
 #![tactic(auto)]
 
 pub mod absorbing;
-pub mod captures;
 pub mod cutting;
 pub mod datagrams;
 mod handle;
-mod kept;
 pub mod laws;
 pub mod names;
 mod output;
-mod parts;
-mod refusal;
 pub mod service;
 pub mod service_entries;
 pub mod service_parts;

@@ -1,21 +1,21 @@
 //! Names: as texts, as spellings, and spelled out in place.
 ghost use Rattle.std.specs.Prelude.{◌≡◌, IfOk, ◌≤◌, ℕ, List, length};
-ghost use Rattle.nb_names.specs.NameText.{written, IsBad};
-ghost use Rattle.nb_c.specs.Names.{Spells, Tells, spelling_answer, IsRead, in_place, spelled_in_place};
-ghost use Rattle.nb_c.specs.Outputs.{Does, HasOne, OrMemory, none_late, lent};
 ghost use Rattle.std.specs.Str.{IsValidUpTo};
-ghost use Rattle.nb_c.specs.Statuses.{place_of};
+ghost use Rattle.nb_names.specs.NameText.{written, IsBad};
 ghost use Rattle.nb_names.specs.declared.limits.TheConstants.{MAX_SPELLING};
-ghost use Rattle.nb_names.specs.declared.pointers.Pointers.TheVariants.{Followed};
+ghost use Rattle.nb_names.specs.declared.reading.Pointers.TheVariants.{Followed};
 ghost use Rattle.nb_names.specs.Labels.{NameAt};
 ghost use Rattle.nb_names.specs.Skipped.{IsSkipped};
+ghost use Rattle.nb_c.specs.Names.{Spells, Tells, spelling_answer, IsRead, in_place, spelled_in_place};
+ghost use Rattle.nb_c.specs.Outputs.{Does, HasOne, OrMemory, none_late, lent};
+ghost use Rattle.nb_c.specs.Statuses.{place_of};
 
-use crate::output::{answer_of, write_answer};
-use crate::refusal::{Refusal, name_refusal, text_refusal};
+use crate::output::{Refusal, answer_of, name_refusal, text_refusal, write_answer};
 use crate::statuses::{NAME_TRAILING_BYTES, NO_ROLE};
-use nb_names::laws::{labels_tell_the_name, one_netbios_fault, one_reading};
+use nb_names::laws::{
+    labels_tell_the_name, one_name, one_netbios_fault, one_reading, one_text_fault,
+};
 use nb_names::limits::{LETTERS, MAX_SPELLING};
-use nb_names::text_laws::{one_name, one_text_fault};
 use nb_names::{
     Bytes, DomainName, Name, NameReader, NoMemory, Pointers, Skipped, TextFault, name_from_text,
     name_text, read_name, write_domain,

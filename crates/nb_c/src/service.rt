@@ -1,18 +1,16 @@
 //! Requests and responses of the name service, written.
 ghost use Rattle.std.specs.Prelude.{◌≡◌, IfOk, MatchResult, List, ℕ, Result, Ok, Err};
-ghost use Rattle.nb_c.specs.Outputs.{Does, OrMemory, none_late, lent, HasOne};
-ghost use Rattle.nb_c.specs.Responses.{Requests, entry_of, request_answer, requested, IsDomain, IsRdata, Responds, answer_of, response_answer, response_of};
 ghost use Rattle.nb_service.specs.Encoding.{packet_bytes};
 ghost use Rattle.nb_service.specs.Packet.{ServicePacket};
 ghost use Rattle.nb_service.specs.Views.{entry_bytes};
 ghost use Rattle.nb_service.specs.Record.{ResourceData};
+ghost use Rattle.nb_c.specs.Outputs.{Does, OrMemory, none_late, lent, HasOne};
+ghost use Rattle.nb_c.specs.Responses.{Requests, entry_of, request_answer, requested, IsDomain, IsRdata, Responds, answer_of, response_answer, response_of};
 
 use crate::names::name_of_text;
-use crate::output::{answer_of, write_answer};
-use crate::refusal::{Refusal, name_refusal, text_refusal};
+use crate::output::{Refusal, answer_of, name_refusal, text_refusal, write_answer};
 use crate::statuses::{LONG_DATA, NAME_TRAILING_BYTES, NO_ROLE, UNKNOWN_REQUEST};
-use nb_names::laws::{one_fault, one_reading};
-use nb_names::text_laws::{one_name, one_text_fault};
+use nb_names::laws::{one_fault, one_name, one_reading, one_text_fault};
 use nb_names::{Bytes, DomainName, Name, NoMemory, Pointers, TextFault, read_domain};
 use nb_service::classes::IN;
 use nb_service::limits::ENTRY_LENGTH;

@@ -1,13 +1,12 @@
 //! Questions and records of the name service, many by one call, with the names in their RDATA.
 ghost use Rattle.std.specs.Prelude.{◌≡◌, ◌<◌, ◌^◌, ℕ, List, length};
+ghost use Rattle.nb_service.specs.Header.{HasHeader, header_value};
 ghost use Rattle.nb_c.specs.declared.service_entries.NbtServiceEntry.{NbtServiceEntry};
 ghost use Rattle.nb_c.specs.ServiceParts.{FilledFront, FillsFront, ReadsEntries, ReadsEntry, ReadsServer, IsEntry, room_of, spelled_answer};
 ghost use Rattle.nb_c.specs.Outputs.{Alone};
-ghost use Rattle.nb_service.specs.Header.{HasHeader, header_value};
 
 use crate::names::spelled_in_place;
-use crate::output::refuse;
-use crate::refusal::{Refusal, service_refusal};
+use crate::output::{Refusal, refuse, service_refusal};
 use crate::service_parts::domain_by;
 use crate::service_reading::{NbtServiceItem, fill_item_of, one_item_answer};
 use crate::statuses::{DONE, OTHER_RDATA};

@@ -6,8 +6,7 @@ ghost use Rattle.nb_c.specs.declared.service_parts.NbtServiceUnit.{NbtServiceUni
 ghost use Rattle.nb_c.specs.Outputs.{Alone, Answers, DoesAtOnce, Fills, lent};
 ghost use Rattle.nb_c.specs.ServiceParts.{ReadsAddress, ReadsDomain, ReadsNode, ReadsUnit, address_numbers, node_numbers, part_answer, spelled_answer, unit_answer};
 
-use crate::output::{fill, put, refuse};
-use crate::refusal::{Refusal, name_refusal};
+use crate::output::{Refusal, fill, name_refusal, put, refuse};
 use crate::statuses::{NAME_RDATA, NO_PART, NO_ROLE, OTHER_RDATA, TRUNCATED};
 use nb_names::laws::{one_fault, one_reading};
 use nb_names::limits::NAME_LENGTH;

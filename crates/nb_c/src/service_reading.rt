@@ -1,18 +1,17 @@
 //! Payloads of the name service, read.
 ghost use Rattle.std.specs.Prelude.{◌≡◌, ◌≤◌, ◌++◌, ℕ, List};
-ghost use Rattle.nb_c.specs.declared.service_reading.NbtServiceHeader.{NbtServiceHeader};
-ghost use Rattle.nb_c.specs.declared.service_reading.NbtServiceItem.{NbtServiceItem};
-ghost use Rattle.nb_c.specs.Outputs.{Alone, FilledAlone, Fills, HasOne};
-ghost use Rattle.nb_c.specs.Services.{ReadsHeader, ReadsItem, ReadsPacket, header_numbers, netbios_number, numbers, section_number};
-ghost use Rattle.nb_names.specs.declared.pointers.Pointers.TheVariants.{Followed};
+ghost use Rattle.nb_names.specs.declared.reading.Pointers.TheVariants.{Followed};
 ghost use Rattle.nb_names.specs.DomainName.{spelling};
 ghost use Rattle.nb_names.specs.NameText.{are_letters};
 ghost use Rattle.nb_names.specs.Skipped.{IsSkipped};
 ghost use Rattle.nb_service.specs.Header.{HasHeader, header_value};
+ghost use Rattle.nb_c.specs.declared.service_reading.NbtServiceHeader.{NbtServiceHeader};
+ghost use Rattle.nb_c.specs.declared.service_reading.NbtServiceItem.{NbtServiceItem};
+ghost use Rattle.nb_c.specs.Outputs.{Alone, FilledAlone, Fills, HasOne};
+ghost use Rattle.nb_c.specs.Services.{ReadsHeader, ReadsItem, ReadsPacket, header_numbers, netbios_number, numbers, section_number};
 
 use crate::names::spell_domain;
-use crate::output::{fill, finish};
-use crate::refusal::{Refusal, service_refusal};
+use crate::output::{Refusal, fill, finish, service_refusal};
 use crate::statuses::NO_ITEM;
 use nb_names::NameReader;
 use nb_names::laws::one_reading;

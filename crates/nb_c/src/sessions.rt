@@ -1,16 +1,15 @@
 //! Packets of the session service: read, taken apart and written.
 ghost use Rattle.std.specs.Prelude.{◌≡◌, ◌++◌, ◌≤◌, List, ℕ, length, IfOk};
+ghost use Rattle.nb_session.specs.declared.limits.TheConstants.{MAX_MESSAGE};
 ghost use Rattle.nb_c.specs.declared.sessions.NbtSession.{NbtSession};
 ghost use Rattle.nb_c.specs.Outputs.{Alone, Fills, Does, HasOne, OrMemory, lent};
 ghost use Rattle.nb_c.specs.Sessions.{Reads, session_of, ReadsFront, numbers, ReadsNames, ReadsRetarget, names_answer, names_of, retarget_answer, Stands, Writes, follow_the_type, frame};
 ghost use Rattle.nb_c.specs.declared.sessions.NbtSessionFront.{NbtSessionFront};
 ghost use Rattle.nb_c.specs.declared.sessions.NbtSessionNames.{NbtSessionNames};
 ghost use Rattle.nb_c.specs.declared.sessions.NbtSessionRetarget.{NbtSessionRetarget};
-ghost use Rattle.nb_session.specs.declared.limits.TheConstants.{MAX_MESSAGE};
 
 use crate::names::spelled_in_place;
-use crate::output::{fill, write_answer};
-use crate::refusal::{Refusal, session_refusal};
+use crate::output::{Refusal, fill, session_refusal, write_answer};
 use crate::statuses::{BAD_LENGTH, MORE, OTHER_TYPE, UNKNOWN_TYPE};
 use nb_names::limits::MAX_SPELLING;
 use nb_names::{Bytes, LentName, NoMemory};

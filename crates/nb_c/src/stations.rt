@@ -1,21 +1,19 @@
 //! Stations: made of names, shown the clock, saved, listed and given back.
 ghost use Rattle.std.specs.Prelude.{◌≡◌, ◌≢◌, ◌⊎◌, Err, ◌+◌, ◌<◌, ◌++◌, ◌∷◌, Contains, MatchOption, length};
-ghost use denote.RawPtr.{null_ptr};
-ghost use Rattle.nb_c.specs.Outputs.{Answers, lent};
-ghost use Rattle.nb_c.specs.Stations.{Creates, OnStation, Ticks, Writes, Names, NamesText, is_space, texts_in};
-ghost use Rattle.nb_c.specs.declared.refusal.Refusal.TheVariants.{Fault};
-ghost use Rattle.nb_c.specs.declared.statuses.TheConstants.{DONE, NO_MEMORY, NO_STATION};
+ghost use Rattle.std.specs.Int.{w32, to_be_bytes};
+ghost use Rattle.std.specs.List.{slice_split};
 ghost use Rattle.nb_table.specs.Saved.{saved as saved_bytes};
 ghost use Rattle.nb_member.specs.Listing.{listing};
 ghost use Rattle.nb_member.specs.Member.{contents, new_member};
-ghost use Rattle.std.specs.Int.{w32, to_be_bytes};
-ghost use Rattle.std.specs.List.{slice_split};
+ghost use Rattle.nb_c.specs.Outputs.{Answers, lent};
+ghost use Rattle.nb_c.specs.Stations.{Creates, OnStation, Ticks, Writes, Names, NamesText, is_space, texts_in};
+ghost use Rattle.nb_c.specs.declared.output.Refusal.TheVariants.{Fault};
+ghost use Rattle.nb_c.specs.declared.statuses.TheConstants.{DONE, NO_MEMORY, NO_STATION};
+ghost use denote.RawPtr.{null_ptr};
 
-use crate::handle::{NbtStation, let_go, put_back, taken};
-use crate::kept::Kept;
+use crate::handle::{Kept, NbtStation, let_go, put_back, taken};
 use crate::names::name_of_text;
-use crate::output::{refuse, write_bytes};
-use crate::refusal::Refusal;
+use crate::output::{Refusal, refuse, write_bytes};
 use crate::statuses::{
     BAD_TEXT, DONE, LONG_TEXT, NAME_PRESENT, NO_MEMORY, NO_STATION, TOO_MANY_NAMES,
 };

@@ -1,16 +1,15 @@
 //! Saved tables: joined, listed and compared.
 ghost use Rattle.std.specs.Prelude.{◌≡◌, IfOk, IfErr};
-ghost use Rattle.nb_c.specs.Tables.{Joins, Lists, ListsObjects, Merges, OfOne, follow_the_first, listed_as, Compares, IsLeastDifference, Narrows, NarrowsBy, difference_of, lower_of, IsLoaded};
-ghost use Rattle.nb_c.specs.Outputs.{Does, OrMemory, none_late, lent, FillsOrLacks};
-ghost use Rattle.nb_member.specs.Listing.{listing};
 ghost use Rattle.std.specs.FinMap as maps;
-ghost use Rattle.nb_c.specs.declared.tables.NbtDifference.{NbtDifference};
 ghost use Rattle.nb_table.specs.Limits.{KeepsLimits};
 ghost use Rattle.nb_table.specs.Saved.{LoadFails};
+ghost use Rattle.nb_member.specs.Listing.{listing};
+ghost use Rattle.nb_c.specs.Tables.{Joins, Lists, ListsObjects, Merges, OfOne, follow_the_first, listed_as, Compares, IsLeastDifference, Narrows, NarrowsBy, difference_of, lower_of, IsLoaded};
+ghost use Rattle.nb_c.specs.Outputs.{Does, OrMemory, none_late, lent, FillsOrLacks};
+ghost use Rattle.nb_c.specs.declared.tables.NbtDifference.{NbtDifference};
 
 use crate::laws::{a_comparison_has_one_answer, a_merge_has_one_answer, a_table_has_one_list};
-use crate::output::{answer_of, fill, write_answer};
-use crate::refusal::{Refusal, load_refusal, table_refusal};
+use crate::output::{Refusal, answer_of, fill, load_refusal, table_refusal, write_answer};
 use crate::stations::LONGEST;
 use crate::statuses::{NO_ROLE, SECOND};
 use nb_datagram::Key;

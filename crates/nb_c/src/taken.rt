@@ -3,7 +3,7 @@ ghost use Rattle.std.specs.Prelude.{◌≡◌, length};
 ghost use Rattle.nb_c.specs.Stations.{of_key, of_other, of_delivered, of_unheard, of_refused, place_in};
 ghost use Rattle.nb_datagram.specs.Packet.{name_bytes};
 
-use crate::refusal::{Refusal, status_of};
+use crate::output::{Refusal, status_of};
 use nb_datagram::{Datagram, Key};
 
 /// A fragment, by which its datagram became neither whole nor spoilt.

@@ -1,7 +1,7 @@
 //! Payloads that a station takes, and what becomes of each. No memory is taken.
 ghost use Rattle.std.specs.Prelude.{◌≤◌, length, Err, ◌≡◌, ◌++◌, drop, Some};
 ghost use Rattle.nb_c.specs.Stations.{OnStation, Took, Tells, answer_told, lent_for, told_of, told_refused, delivered_bytes, error_bytes};
-ghost use Rattle.nb_c.specs.declared.refusal.Refusal.TheVariants.{Fault};
+ghost use Rattle.nb_c.specs.declared.output.Refusal.TheVariants.{Fault};
 ghost use Rattle.nb_c.specs.declared.statuses.TheConstants.{NO_STATION};
 ghost use Rattle.nb_c.specs.declared.taken.TheConstants.{TAKE_ROOM};
 ghost use Rattle.nb_datagram.specs.Packet.{packet_bytes, name_bytes};
@@ -10,7 +10,7 @@ ghost use Rattle.nb_names.specs.declared.limits.TheConstants.{MAX_SPELLING};
 ghost use Rattle.nb_datagram.specs.declared.limits.TheConstants.{MAX_LENGTH};
 
 use crate::handle::{self, NbtStation, put_back};
-use crate::refusal::{datagram_refusal, status_of, table_refusal};
+use crate::output::{datagram_refusal, status_of, table_refusal};
 use crate::statuses::{DONE, NO_ROOM, NO_STATION};
 use crate::taken::{
     KEPT, NbtTaken, SPOILT, TAKE_ROOM, of_delivered, of_key, of_other, of_refused, of_unheard,

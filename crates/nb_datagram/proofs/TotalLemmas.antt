@@ -3,7 +3,7 @@ use Rattle.std.proofs.Common.{◌≡◌, ◌==◌, cond, ◌⊎◌, ℕ, ◌+◌
 use Rattle.std.proofs.lemmas.Bool.{cases_lt}
 use Rattle.std.proofs.lemmas.Bool.Decides.{nat_tests}
 use Rattle.std.specs.Int.{w16, to_be_bytes}
-use Rattle.nb_names.specs.declared.pointers.Pointers.TheVariants.{Refused}
+use Rattle.nb_names.specs.declared.reading.Pointers.TheVariants.{Refused}
 use Rattle.nb_names.specs.DomainName.{spelling, AreBytes}
 use Rattle.nb_names.specs.Labels.{StandsAt, NumberAt}
 use Rattle.nb_names.specs.Name.{labels_of_name}
@@ -12,12 +12,12 @@ use Rattle.nb_names.proofs.LabelsLemmas.{stands_joined, stands_one, spelled_ther
 use Rattle.nb_names.proofs.TotalityLemmas.{named_or_fault}
 use Rattle.nb_datagram.specs.declared.fault.DatagramFault.{DatagramFault}
 use Rattle.nb_datagram.specs.declared.fault.DatagramFault.TheVariants.{Truncated, UnknownType, SourceName, DestinationName}
-use Rattle.nb_datagram.specs.declared.form.Form.{Form}
-use Rattle.nb_datagram.specs.declared.form.Form.TheVariants.{Direct, Error, Query}
-use Rattle.nb_datagram.specs.declared.header.Header.{Header}
+use Rattle.nb_datagram.specs.declared.decoding.Form.{Form}
+use Rattle.nb_datagram.specs.declared.decoding.Form.TheVariants.{Direct, Error, Query}
+use Rattle.nb_datagram.specs.declared.front.Header.{Header}
 use Rattle.nb_datagram.specs.declared.key.Key.{Key}
-use Rattle.nb_datagram.specs.declared.kind.Kind.{Kind}
-use Rattle.nb_datagram.specs.declared.kind.Kind.TheVariants.{Unique, Group, Broadcast}
+use Rattle.nb_datagram.specs.declared.key.Kind.{Kind}
+use Rattle.nb_datagram.specs.declared.key.Kind.TheVariants.{Unique, Group, Broadcast}
 use Rattle.nb_datagram.specs.declared.packet.QueryKind.TheVariants.{Request, Positive, Negative}
 use Rattle.nb_datagram.specs.Packet.{type_of, Packet, IsPacket}
 use Rattle.nb_datagram.specs.DatagramFaults.{HasType, in_source, in_destination, no_fields, no_data, in_names, PacketFails, no_header, no_type, no_code}

@@ -5,7 +5,7 @@ use Rattle.std.specs.Cmp.{unsigned_Decides}
 use Rattle.nb_names.specs.DecidedFacts.{bytes_decide, decided_both, decided_by_view}
 use Rattle.nb_names.specs.NameFacts.{name_eq_decides}
 use Rattle.nb_datagram.specs.declared.key.Key.{Key}
-use Rattle.nb_datagram.specs.declared.kind.Kind.{Kind}
+use Rattle.nb_datagram.specs.declared.key.Kind.{Kind}
 use Rattle.nb_datagram.specs.Fragment.{DatagramParts, FragmentParts}
 use Rattle.nb_datagram.specs.Equality.{key_eq, fragment_eq, datagram_eq}
 use Rattle.nb_datagram.specs.Packet.{type_of, same_kind, kind_of, kind_back}

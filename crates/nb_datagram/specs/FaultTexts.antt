@@ -3,14 +3,14 @@ use Rattle.std.specs.Prelude.{ℕ, List, [], ◌++◌, codes, Option, Some, None
 use Rattle.nb_names.specs.FaultTexts.{name_fault_place, name_fault_words, place_text}
 use Rattle.nb_datagram.specs.declared.fault.DatagramFault.{DatagramFault}
 use Rattle.nb_datagram.specs.declared.fault.DatagramFault.TheVariants.{Truncated, UnknownType, SourceName, DestinationName}
-use Rattle.nb_datagram.specs.declared.cut_fault.CutFault.{CutFault}
-use Rattle.nb_datagram.specs.declared.cut_fault.CutFault.TheVariants as cuts
+use Rattle.nb_datagram.specs.declared.fault.CutFault.{CutFault}
+use Rattle.nb_datagram.specs.declared.fault.CutFault.TheVariants as cuts
 use Rattle.std.specs.Fmt.{decimal}
 use Rattle.nb_names.specs.Addresses.{address_text}
 use Rattle.nb_names.specs.Hexadecimal.{word_text}
 use Rattle.nb_datagram.specs.declared.key.Key.{Key}
-use Rattle.nb_datagram.specs.declared.kind.Kind.{Kind}
-use Rattle.nb_datagram.specs.declared.kind.Kind.TheVariants.{Unique, Group, Broadcast}
+use Rattle.nb_datagram.specs.declared.key.Kind.{Kind}
+use Rattle.nb_datagram.specs.declared.key.Kind.TheVariants.{Unique, Group, Broadcast}
 
 -- which name is wrong in bytes that could not be decoded
 abbrev pub datagram_fault_subject : DatagramFault → List ℕ

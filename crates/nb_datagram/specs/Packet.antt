@@ -14,8 +14,8 @@ use Rattle.nb_datagram.specs.declared.packet.QueryPacket.{QueryPacket as QueryPa
 use Rattle.nb_datagram.specs.Fragment.{FragmentParts, named_length}
 use Rattle.nb_datagram.specs.Header.{header_bytes, IsKey, error_type, query_type}
 use Rattle.std.specs.Coded.{Coded, code_by, coded_ℕ}
-use Rattle.nb_datagram.specs.declared.kind.Kind.{Kind}
-use Rattle.nb_datagram.specs.declared.kind.Kind.TheVariants.{Unique, Group, Broadcast}
+use Rattle.nb_datagram.specs.declared.key.Kind.{Kind}
+use Rattle.nb_datagram.specs.declared.key.Kind.TheVariants.{Unique, Group, Broadcast}
 
 -- ---- the kinds of datagrams (RFC 1002 section 4.4.1, MSG_TYPE)
 

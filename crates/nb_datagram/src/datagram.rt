@@ -1,15 +1,17 @@
-//! Whole datagrams.
-ghost use Rattle.std.specs.Prelude.{◌≡◌, ◌≤◌, ◌<◌, length, MatchResult};
+//! Whole datagrams, their data, and the pieces into which they are cut.
+ghost use Rattle.std.specs.Prelude.{◌≡◌, ◌≤◌, ◌<◌, length, MatchResult, ◌↔◌, ◌+◌, min, IfOk, IsErrOf};
 ghost use Rattle.nb_datagram.specs.Fragment.{datagram_by};
 ghost use Rattle.nb_datagram.specs.declared.limits.TheConstants.{MAX_LENGTH};
+ghost use Rattle.nb_datagram.specs.Packet.{name_bytes};
+ghost use Rattle.nb_datagram.specs.Pieces.{piece_count, piece as piece_of, pieces as pieces_of, AreTooLong};
 
-use crate::fragment::LentFragment;
-use crate::key::Key;
-use crate::kind::Kind;
-use crate::limits::MAX_LENGTH;
-use crate::too_long::TooLong;
-use crate::user_data::UserData;
-use nb_names::{Bytes, LentName, Name};
+use crate::fault::{CutFault, TooLong};
+use crate::fragment::{Fragment, LentFragment};
+use crate::key::{Key, Kind};
+use crate::limits::{FIRST, MAX_LENGTH, MORE};
+use crate::packet::Pieces;
+use nb_names::{Bytes, LentName, Name, NameForm};
+use std::alloc::Global;
 use std::marker::Model;
 
 /// A datagram: its key, whom it is for, both names, and its data of at most 65,535 bytes.
@@ -169,4 +171,110 @@ impl Eq for Datagram {
     ghost use Rattle.nb_datagram.specs.EqualityFacts.{datagram_eq_decides};
 
     ghost laws = { decided datagram_eq datagram_eq_decides };
+}
+
+/// How many pieces of `most` bytes so many bytes have: at least one.
+fn count_pieces(size: usize, most: usize) -> usize
+    requires some { 1 ≤ most }
+    requires size { size ≤ MAX_LENGTH }
+    requires most { most ≤ MAX_LENGTH }
+    ensures { result ≡ piece_count size most }
+{
+    ((size + most - 1) / most).max(1)
+}
+
+/// The piece at a place among so many.
+fn piece<'a>(datagram: &'a Datagram, most: usize, place: usize, count: usize) -> Fragment<'a>
+    requires some { 1 ≤ most }
+    requires most { most ≤ MAX_LENGTH }
+    requires count { count ≡ piece_count (length datagram.now.bytes) most }
+    requires place { place < count }
+    requires short { length (name_bytes datagram.now.source)
+        + length (name_bytes datagram.now.destination)
+        + min (length datagram.now.bytes) most ≤ MAX_LENGTH }
+    ensures { result ≡ piece_of datagram.now most place }
+{
+    let bytes = datagram.bytes();
+    let start = place * most;
+    let end = bytes.len().min(start + most);
+    let first = if place == 0 { FIRST } else { 0 };
+    let more = if place + 1 < count { MORE } else { 0 };
+    Fragment::with_parts(
+        datagram.kind(),
+        first + more,
+        datagram.key(),
+        start as u16,
+        datagram.source().copied(),
+        datagram.destination().copied(),
+        &bytes[start..end],
+    )
+}
+
+/// Cuts a datagram into pieces of at most `most` bytes of data, in order. They borrow its data.
+///
+/// Each piece but the last has `most` bytes and M set; the first has F set. FLAGS has no other bit.
+/// A datagram without data has one piece.
+///
+/// # Errors
+///
+/// The first that applies, in [`CutFault`]'s order; the first two whatever memory there is.
+///
+/// The form of fragments is our choice, and departs from RFC 1002 section 5.3: each carries both
+/// names, and its offset is a place in the data.
+pub fn cut(alloc: Global, datagram: &Datagram, most: u16) -> Result<Pieces<'_>, CutFault>
+    ensures value { IfOk result (λ list. list ≡ pieces_of datagram.now most) }
+    ensures zero { IsErrOf result CutFault.ZeroPiece ↔ (most ≡ 0) }
+    ensures too_long { IsErrOf result CutFault.TooLong ↔
+        ((1 ≤ most) × AreTooLong datagram.now most) }
+{
+    if most == 0 {
+        return Err(CutFault::ZeroPiece);
+    }
+    let most = most as usize;
+    let size = datagram.bytes().len();
+    let names = datagram.source().spelled_len() + datagram.destination().spelled_len();
+    if names + size.min(most) > MAX_LENGTH {
+        return Err(CutFault::TooLong);
+    }
+    let count = count_pieces(size, most);
+    let mut pieces = Vec::new(alloc);
+    for place in 0..count {
+        pieces.push(piece(datagram, most, place, count))?;
+    }
+    Ok(Pieces::from_vec(pieces))
+}
+
+/// The data of a datagram: at most 65,535 bytes.
+#[derive(Drop)]
+pub struct UserData {
+    bytes: Bytes,
+}
+
+impl Model for UserData {
+    ghost use Rattle.std.specs.Prelude.{List, ℕ, ◌≤◌, length};
+    ghost use Rattle.nb_datagram.specs.declared.limits.TheConstants.{MAX_LENGTH};
+
+    ghost Value = { List ℕ };
+
+    ghost view = { λ d. d.bytes };
+
+    ghost invariant = { λ d. length d.bytes ≤ MAX_LENGTH };
+}
+
+impl UserData {
+    /// Data of these bytes, which are at most 65,535. No memory is taken.
+    pub fn new(bytes: Bytes) -> UserData
+        requires { length bytes ≤ MAX_LENGTH }
+        ensures { result ≡ bytes }
+    {
+        UserData { bytes }
+    }
+
+    /// The bytes.
+    pub fn as_slice(&self) -> &[u8]
+        ensures value { result.now ≡ self.now }
+        ensures within { length self.now ≤ MAX_LENGTH }
+    {
+        self.bytes.as_slice()
+    }
 }

@@ -1,17 +1,19 @@
 //! Packets, decoded.
-ghost use Rattle.std.specs.Prelude.{◌≡◌, ◌≤◌, ℕ, length, IfOk, IfErr, IsOkAnd};
+ghost use Rattle.std.specs.Prelude.{◌≡◌, ◌≤◌, ℕ, length, IfOk, IfErr, IsOkAnd, MatchOption};
 ghost use Rattle.nb_names.specs.Name.{NetbiosName};
 ghost use Rattle.nb_datagram.specs.DatagramFaults.{DirectFails, PacketFails};
-ghost use Rattle.nb_datagram.specs.Header.{error_type, query_type};
+ghost use Rattle.nb_datagram.specs.Header.{error_type, query_type, IsUnknownType};
 ghost use Rattle.nb_datagram.specs.Packet.{type_of, IsPacket};
-ghost use Rattle.nb_datagram.specs.Code.Reading.{HasHeader};
+ghost use Rattle.nb_datagram.specs.Code.Reading.{HasHeader, number_of};
 
 use crate::fault::DatagramFault;
-use crate::form::{Form, form_of};
 use crate::fragment::LentFragment;
-use crate::header::{Header, read_header};
-use crate::kind::Kind;
-use crate::limits::{DIRECT_HEADER_LENGTH, ERROR_LENGTH, HEADER_LENGTH};
+use crate::front::{Header, read_header};
+use crate::key::Kind;
+use crate::limits::{
+    BROADCAST, DIRECT_GROUP, DIRECT_HEADER_LENGTH, DIRECT_UNIQUE, ERROR_LENGTH, ERROR_TYPE,
+    HEADER_LENGTH, NEGATIVE_RESPONSE, POSITIVE_RESPONSE, QUERY_REQUEST,
+};
 use crate::packet::{ErrorPacket, LentPacket, LentQuery, Packet, QueryKind};
 use nb_names::numbers::number_16;
 use nb_names::read_lent_name;
@@ -165,5 +167,33 @@ pub fn decode<'a>(bytes: &'a [u8]) -> Result<(Packet<'a>, usize), DatagramFault>
     match decode_lent(bytes) {
         Ok((packet, used)) => Ok((packet.to_packet(), used)),
         Err(fault) => Err(fault),
+    }
+}
+
+/// What a packet is (RFC 1002 section 4.4.1, MSG_TYPE).
+#[derive(Clone, Copy, Debug, PartialEq, Eq)]
+pub(crate) enum Form {
+    /// A datagram, or a part of one.
+    Direct(Kind),
+    /// An error packet.
+    Error,
+    /// A query packet.
+    Query(QueryKind),
+}
+
+/// What packets of a MSG_TYPE are, if there are any.
+pub(crate) fn form_of(message_type: u8) -> Option<Form>
+    ensures { MatchOption result (IsUnknownType message_type)
+        (λ form. number_of form ≡ message_type) }
+{
+    match message_type {
+        DIRECT_UNIQUE => Some(Form::Direct(Kind::Unique)),
+        DIRECT_GROUP => Some(Form::Direct(Kind::Group)),
+        BROADCAST => Some(Form::Direct(Kind::Broadcast)),
+        ERROR_TYPE => Some(Form::Error),
+        QUERY_REQUEST => Some(Form::Query(QueryKind::Request)),
+        POSITIVE_RESPONSE => Some(Form::Query(QueryKind::Positive)),
+        NEGATIVE_RESPONSE => Some(Form::Query(QueryKind::Negative)),
+        _ => None,
     }
 }

@@ -1,9 +1,8 @@
 //! Packets, encoded.
 ghost use Rattle.std.specs.Prelude.{◌≡◌, ◌∷◌, ◌++◌, ℕ, List, length, IfOk, OnOk};
-ghost use Rattle.nb_datagram.specs.Header.{header_bytes};
-ghost use Rattle.nb_datagram.specs.Packet.{name_bytes, direct_bytes, packet_bytes, IsPacket};
+ghost use Rattle.nb_datagram.specs.Header.{header_bytes, IsKey};
+ghost use Rattle.nb_datagram.specs.Packet.{name_bytes, direct_bytes, packet_bytes, IsPacket, Fits, FitsDirect};
 
-use crate::fitting::packet_fits;
 use crate::fragment::Fragment;
 use crate::key::Key;
 use crate::limits::ERROR_TYPE;
@@ -91,4 +90,34 @@ pub fn encode(alloc: Global, packet: &Packet<'_>) -> Result<Bytes, NoMemory>
     // For the clause `read_again`; the call does nothing.
     packet_fits(packet);
     Ok(Bytes::from_vec(write_packet(alloc, packet)?))
+}
+
+/// A key's fields have room for it.
+fn key_fits(_key: Key)
+    ensures { IsKey _key }
+{}
+
+/// A fragment's fields have room for it.
+fn fragment_fits(fragment: &Fragment<'_>)
+    ensures { FitsDirect fragment.now }
+{
+    let _ = fragment.offset();
+    let _ = fragment.bytes();
+    let _ = fragment.source().bytes();
+    let _ = fragment.destination().bytes();
+    key_fits(fragment.key());
+}
+
+/// A packet's fields have room for it.
+pub(crate) fn packet_fits(packet: &Packet<'_>)
+    ensures { Fits packet.now }
+{
+    match packet {
+        Packet::Direct(fragment) => fragment_fits(fragment),
+        Packet::Error(error) => key_fits(error.key),
+        Packet::Query(query) => {
+            let _ = query.destination.bytes();
+            key_fits(query.key);
+        }
+    }
 }

@@ -1,8 +1,9 @@
-//! Why bytes begin with no packet.
+//! Why bytes begin with no packet, and why a datagram isn't cut.
 ghost use Rattle.std.specs.Prelude.{◌≡◌};
 ghost use Rattle.nb_datagram.specs.FaultTexts.{datagram_fault_place, datagram_fault_subject, datagram_fault_words};
 
 use nb_names::NameFault;
+use std::alloc::AllocFailed;
 use std::error::Error;
 use std::fmt;
 
@@ -80,3 +81,58 @@ impl fmt::Display for DatagramFault {
 }
 
 impl Error for DatagramFault {}
+
+/// Why a datagram isn't cut: the first of these that applies.
+#[derive(Clone, Copy, Debug, PartialEq, Eq)]
+pub enum CutFault {
+    /// Pieces of no bytes were asked for.
+    ZeroPiece,
+    /// One of the pieces would pass 65,535 bytes with its names.
+    TooLong,
+    /// Memory ran out.
+    NoMemory,
+}
+
+impl fmt::Display for CutFault {
+    ghost use Rattle.std.specs.Prelude.{Some};
+    ghost use Rattle.nb_datagram.specs.FaultTexts.{cut_fault_text};
+
+    ghost output = { λ fault. Some (cut_fault_text fault) };
+
+    fn fmt<W: fmt::Write>(&self, f: &mut fmt::Formatter<W>) -> fmt::Result {
+        match self {
+            CutFault::ZeroPiece => f.write_str("zero piece"),
+            CutFault::TooLong => f.write_str("too long"),
+            CutFault::NoMemory => f.write_str("memory"),
+        }
+    }
+}
+
+impl Error for CutFault {}
+
+impl<T: Drop> From<AllocFailed<T>> for CutFault {
+    ghost use Rattle.std.specs.Prelude.{◌≡◌};
+    ghost use Rattle.nb_datagram.specs.declared.fault.CutFault.TheVariants.{NoMemory};
+
+    ghost from_gives = { λ _ fault. fault ≡ NoMemory };
+
+    fn from(_e: AllocFailed<T>) -> CutFault {
+        CutFault::NoMemory
+    }
+}
+
+/// The bytes are more than the field that counts them can say: 65,535.
+#[derive(Clone, Copy, Debug, PartialEq, Eq)]
+pub struct TooLong;
+
+impl fmt::Display for TooLong {
+    ghost use Rattle.std.specs.Prelude.{Some, codes};
+
+    ghost output = { λ _. Some (codes "too long") };
+
+    fn fmt<W: fmt::Write>(&self, f: &mut fmt::Formatter<W>) -> fmt::Result {
+        f.write_str("too long")
+    }
+}
+
+impl Error for TooLong {}

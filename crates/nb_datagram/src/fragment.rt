@@ -3,10 +3,9 @@ ghost use Rattle.std.specs.Prelude.{◌≡◌, ◌≤◌, ◌<◌, ◌+◌, leng
 ghost use Rattle.nb_datagram.specs.Fragment.{named_length, has_more, is_first};
 ghost use Rattle.nb_datagram.specs.declared.limits.TheConstants.{MAX_LENGTH};
 
-use crate::key::Key;
-use crate::kind::Kind;
+use crate::fault::TooLong;
+use crate::key::{Key, Kind};
 use crate::limits::{FIRST, MAX_LENGTH, MORE};
-use crate::too_long::TooLong;
 use nb_names::{LentName, Name, NameForm};
 use std::marker::Model;
 

@@ -1,5 +1,11 @@
-//! Keys of datagrams.
+//! Keys and kinds of datagrams, and their texts.
+ghost use Rattle.std.specs.Prelude.{◌≡◌, ◌++◌, OnOk, string_bytes};
+ghost use Rattle.nb_names.specs.Growth.{OnlyAdds};
+ghost use Rattle.nb_datagram.specs.Packet.{type_of};
+ghost use Rattle.nb_datagram.specs.FaultTexts.{key_text, kind_text};
 
+use crate::limits::{BROADCAST, DIRECT_GROUP, DIRECT_UNIQUE};
+use nb_names::{NoMemory, push_address, push_decimal, push_word_digits};
 use std::cmp::Ordering;
 
 /// Which datagram a packet is of: its sender's address and port, and the identifier that the sender
@@ -54,5 +60,59 @@ impl PartialOrd for Key {
 
     fn partial_cmp(&self, other: &Self) -> Option<Ordering> {
         Some(self.cmp(other))
+    }
+}
+
+/// Whom a datagram is for (RFC 1002 section 4.4.1, MSG_TYPE 10 to 12).
+#[derive(Clone, Copy, Debug, PartialEq, Eq)]
+pub enum Kind {
+    /// One station: DIRECT_UNIQUE.
+    Unique,
+    /// The members of a group: DIRECT_GROUP.
+    Group,
+    /// All stations of a scope: BROADCAST.
+    Broadcast,
+}
+
+impl Kind {
+    /// The packet's MSG_TYPE.
+    pub fn message_type(self) -> u8
+        ensures { result ≡ type_of self }
+    {
+        match self {
+            Kind::Unique => DIRECT_UNIQUE,
+            Kind::Group => DIRECT_GROUP,
+            Kind::Broadcast => BROADCAST,
+        }
+    }
+}
+
+/// Adds a key, `ADDRESS:PORT/ID`: the address with dots and the port in decimal, the identifier as
+/// four hexadecimal digits.
+///
+/// # Errors
+///
+/// [`NoMemory`] where memory ran out; some of the text may then be added.
+///
+/// The form is our choice.
+pub fn push_key(key: Key, text: &mut String) -> Result<(), NoMemory>
+    ensures added { OnOk result (string_bytes text.new ≡ string_bytes text.old ++ key_text key) }
+    ensures front { OnlyAdds (string_bytes text.old) (string_bytes text.new) }
+{
+    push_address(key.ip, text)?;
+    text.push_str(":")?;
+    push_decimal(u64::from(key.port), text)?;
+    text.push_str("/")?;
+    push_word_digits(key.id, text)
+}
+
+/// The word for a kind: `unique`, `group` or `broadcast` (our choice).
+pub fn kind_name(kind: Kind) -> &'static str
+    ensures { result.now ≡ kind_text kind }
+{
+    match kind {
+        Kind::Unique => "unique",
+        Kind::Group => "group",
+        Kind::Broadcast => "broadcast",
     }
 }

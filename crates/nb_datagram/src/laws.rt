@@ -6,7 +6,7 @@ ghost use Rattle.std.specs.declared.cmp.Ordering.TheVariants.{Equal};
 ghost use Rattle.nb_names.specs.DomainName.{AreBytes};
 ghost use Rattle.nb_datagram.specs.declared.error_codes.TheConstants.{DESTINATION_NAME_NOT_PRESENT, INVALID_SOURCE_NAME_FORMAT, INVALID_DESTINATION_NAME_FORMAT};
 ghost use Rattle.nb_datagram.specs.declared.fault.DatagramFault.{DatagramFault};
-ghost use Rattle.nb_datagram.specs.declared.kind.Kind.TheVariants.{Unique, Group, Broadcast};
+ghost use Rattle.nb_datagram.specs.declared.key.Kind.TheVariants.{Unique, Group, Broadcast};
 ghost use Rattle.nb_datagram.specs.declared.front.Front.{Front};
 ghost use Rattle.nb_datagram.specs.declared.limits.TheConstants.{MAX_LENGTH, HEADER_LENGTH, ERROR_LENGTH, DIRECT_HEADER_LENGTH, MORE, FIRST};
 ghost use Rattle.nb_datagram.specs.declared.packet.QueryKind.TheVariants.{Request, Positive, Negative};

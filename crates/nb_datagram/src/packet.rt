@@ -1,11 +1,12 @@
-//! Packets of the datagram service.
+//! Packets of the datagram service, and lists of them.
 ghost use Rattle.std.specs.Prelude.{◌≡◌};
 ghost use Rattle.nb_datagram.specs.Header.{query_type};
 
+use crate::datagram::Datagram;
 use crate::fragment::Fragment;
 use crate::key::Key;
 use crate::limits::{NEGATIVE_RESPONSE, POSITIVE_RESPONSE, QUERY_REQUEST};
-use nb_names::{LentName, Name, NameForm};
+use nb_names::{Items, LentName, Name, NameForm};
 
 /// A packet of the datagram service (RFC 1002 section 4.4). Its names stand in the form `N`.
 ///
@@ -92,3 +93,12 @@ impl QueryKind {
         }
     }
 }
+
+/// A list of fragments, as the pieces into which a datagram is cut. Their data is lent.
+pub type Pieces<'a> = Items<Fragment<'a>>;
+
+/// A list of datagrams.
+pub type Datagrams = Items<Datagram>;
+
+/// A list of error packets.
+pub type ErrorPackets = Items<ErrorPacket>;

@@ -4,7 +4,7 @@ use Rattle.std.specs.Ordering.{nat_cmp}
 use Rattle.std.specs.FinMap as maps
 use Rattle.std.specs.Coded.{Coded, code_by, coded×, coded_ℕ, coded_option}
 use Rattle.nb_names.specs.Name.{NetbiosName, name_code}
-use Rattle.nb_datagram.specs.declared.kind.Kind.{Kind}
+use Rattle.nb_datagram.specs.declared.key.Kind.{Kind}
 use Rattle.nb_datagram.specs.Packet.{kind_code}
 use Rattle.nb_entries.specs.Maps.{Slot, Spoilt, Held}
 use Rattle.nb_entries.specs.Marks.{Marks, marks_code}

@@ -1,7 +1,7 @@
 -- Entries: what is known of one datagram, that is of one key (our choice).
 use Rattle.std.specs.Prelude.{◌≡◌, ◌&&◌, Bool, ℕ, true}
 use Rattle.nb_names.specs.Name.{NetbiosName, name_eq}
-use Rattle.nb_datagram.specs.declared.kind.Kind.{Kind}
+use Rattle.nb_datagram.specs.declared.key.Kind.{Kind}
 use Rattle.nb_datagram.specs.Packet.{same_kind}
 use Rattle.nb_datagram.specs.Fragment.{Core}
 use Rattle.nb_entries.specs.Maps.{Slot, join_slot, OnHeld, Spoilt, Held}

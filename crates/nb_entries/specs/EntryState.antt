@@ -1,7 +1,7 @@
 -- The state of a key, by its entry (our choice).
 use Rattle.std.specs.Prelude.{◌≡◌}
-use Rattle.nb_entries.specs.declared.state.State.{State}
-use Rattle.nb_entries.specs.declared.state.State.TheVariants.{Absent, Partial, Whole, Spoilt}
+use Rattle.nb_entries.specs.declared.outline.State.{State}
+use Rattle.nb_entries.specs.declared.outline.State.TheVariants.{Absent, Partial, Whole, Spoilt}
 use Rattle.nb_entries.specs.Maps.{Held, Spoilt as Clashed}
 use Rattle.nb_entries.specs.Entry.{EntryValue}
 use Rattle.nb_entries.specs.Whole.{IsWholeCover}

@@ -1,7 +1,7 @@
 -- The texts of the faults of saved entries and tables (our choice).
 use Rattle.std.specs.Prelude.{ℕ, List, ◌++◌, codes, decimal}
-use Rattle.nb_entries.specs.declared.load_fault.LoadFault.{LoadFault}
-use Rattle.nb_entries.specs.declared.load_fault.LoadFault.TheVariants as loads
+use Rattle.nb_entries.specs.declared.saved.LoadFault.{LoadFault}
+use Rattle.nb_entries.specs.declared.saved.LoadFault.TheVariants as loads
 
 -- the text of a fault of a saved table
 abbrev pub load_fault_text : LoadFault → List ℕ

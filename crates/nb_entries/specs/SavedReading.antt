@@ -4,15 +4,15 @@ use Rattle.std.specs.Prelude.{◌≡◌, ◌≢◌, ◌+◌, ◌<◌, ◌≤◌,
 use Rattle.std.specs.Int.{w16}
 use Rattle.nb_names.specs.declared.fault.NameFault.{NameFault}
 use Rattle.nb_names.specs.declared.fault.NameFault.TheVariants as names
-use Rattle.nb_names.specs.declared.pointers.Pointers.TheVariants.{Refused}
+use Rattle.nb_names.specs.declared.reading.Pointers.TheVariants.{Refused}
 use Rattle.nb_names.specs.Labels.{StandsAt, NameAt, NumberAt}
 use Rattle.nb_names.specs.Name.{NetbiosName, IsName, labels_of_name}
 use Rattle.nb_names.specs.NameFaults.{NetbiosFaultAt}
-use Rattle.nb_datagram.specs.declared.kind.Kind.{Kind}
+use Rattle.nb_datagram.specs.declared.key.Kind.{Kind}
 use Rattle.nb_datagram.specs.declared.limits.TheConstants.{MAX_LENGTH}
 use Rattle.nb_datagram.specs.Packet.{type_of}
-use Rattle.nb_entries.specs.declared.load_fault.LoadFault.{LoadFault}
-use Rattle.nb_entries.specs.declared.load_fault.LoadFault.TheVariants.{Truncated, NotCanonical}
+use Rattle.nb_entries.specs.declared.saved.LoadFault.{LoadFault}
+use Rattle.nb_entries.specs.declared.saved.LoadFault.TheVariants.{Truncated, NotCanonical}
 use Rattle.nb_entries.specs.declared.saved.SavedForm.{SavedForm}
 use Rattle.nb_entries.specs.declared.saved.SavedForm.TheVariants.{First, Second}
 use Rattle.nb_entries.specs.Maps.{Spoilt, Held}

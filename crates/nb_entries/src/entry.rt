@@ -15,8 +15,8 @@ mod reading;
 
 use crate::change::{Change, Handing};
 use crate::cover::CoverFacts;
+use crate::outline::State;
 use crate::slot::Slot;
-use crate::state::State;
 use nb_datagram::{Fragment, Kind, LentFragment, UserData};
 use nb_names::{KeptName, LentName, NoMemory};
 use std::alloc::Global;

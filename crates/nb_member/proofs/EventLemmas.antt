@@ -10,9 +10,9 @@ use Rattle.nb_table.specs.declared.fault.TableFault.{TableFault}
 use Rattle.nb_table.specs.declared.fault.TableFault.TheVariants.{MisplacedFirst, TooLong, FullSource, Full, NoMemory}
 use Rattle.nb_table.specs.Insert.{IsMisplaced, Passes}
 use Rattle.nb_table.specs.Limits.{Limits}
-use Rattle.nb_member.specs.declared.event.Event.{Event}
-use Rattle.nb_member.specs.declared.event.Event.TheVariants.{Packet, Tick}
-use Rattle.nb_member.specs.declared.member_fault.MemberFault.TheVariants as fault
+use Rattle.nb_member.specs.declared.outcome.Event.{Event}
+use Rattle.nb_member.specs.declared.outcome.Event.TheVariants.{Packet, Tick}
+use Rattle.nb_member.specs.declared.outcome.MemberFault.TheVariants as fault
 use Rattle.nb_member.specs.declared.settings.Settings.{Settings}
 use Rattle.nb_member.specs.Events.{limits_of, Saying, came, refused, another, clock, Says, fragment, misplaced, too_long, no_packet, error, query, tick, Say, none, more, HasBytes}
 use Rattle.nb_member.specs.Hearing.{refusal}

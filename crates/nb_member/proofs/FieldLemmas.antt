@@ -20,7 +20,7 @@ use Rattle.nb_telling.specs.Texts.{field_text, text_of}
 use Rattle.nb_telling.specs.Members.{AreMembers, AreParts, IsMember, nothing, member, list, both, no_part, range, words, parts}
 use Rattle.nb_member.specs.declared.outcome.Outcome.{Outcome}
 use Rattle.nb_member.specs.declared.outcome.Outcome.TheVariants.{Kept, Spoilt, Delivered, Unheard, Other}
-use Rattle.nb_member.specs.declared.member_fault.MemberFault.{MemberFault}
+use Rattle.nb_member.specs.declared.outcome.MemberFault.{MemberFault}
 use Rattle.nb_member.specs.Deliveries.{error_of}
 use Rattle.nb_member.specs.FaultTexts.{member_fault_place, member_fault_text}
 use Rattle.nb_member.specs.Listing.{end_text, key_line, known_text, more_ranges_text, more_text, partial_text, range_text, ranges_text}

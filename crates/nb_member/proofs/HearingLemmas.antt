@@ -6,8 +6,8 @@ use Rattle.std.proofs.lemmas.List.Elements.{Contains-append_right, Contains-appe
 use Rattle.nb_names.specs.Name.{NetbiosName, name_eq}
 use Rattle.nb_names.specs.DomainName.{domain_eq}
 use Rattle.nb_names.specs.NameFacts.{name_eq_decides, domain_eq_decides}
-use Rattle.nb_datagram.specs.declared.kind.Kind.{Kind}
-use Rattle.nb_datagram.specs.declared.kind.Kind.TheVariants.{Unique, Group, Broadcast}
+use Rattle.nb_datagram.specs.declared.key.Kind.{Kind}
+use Rattle.nb_datagram.specs.declared.key.Kind.TheVariants.{Unique, Group, Broadcast}
 use Rattle.nb_member.specs.Hearing.{holds, holds_scope, hears_as, HoldsScope, HearsAs}
 
 -- a name is in a list of one only where it is that one

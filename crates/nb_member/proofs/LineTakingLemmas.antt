@@ -6,9 +6,9 @@ use Rattle.nb_names.specs.Counted.{Counts}
 use Rattle.nb_names.specs.LineFacts.{any_cut}
 use Rattle.nb_names.specs.Lines.{CutInto, rest, with_rest}
 use Rattle.nb_member.specs.declared.line.Line as capture
-use Rattle.nb_member.specs.declared.line_read_fault.LineReadFault.TheVariants as unread
-use Rattle.nb_member.specs.declared.replay_fault.ReplayFault.{ReplayFault}
-use Rattle.nb_member.specs.declared.replay_fault.ReplayFault.TheVariants.{Line, Read, NoMemory}
+use Rattle.nb_member.specs.declared.line.LineReadFault.TheVariants as unread
+use Rattle.nb_member.specs.declared.replaying.ReplayFault.{ReplayFault}
+use Rattle.nb_member.specs.declared.replaying.ReplayFault.TheVariants.{Line, Read, NoMemory}
 use Rattle.nb_member.specs.Code.LineTurns.{LineFails, malformed as line_malformed, no_memory as line_unheld, not_taken as line_not_taken}
 use Rattle.nb_member.specs.LineReading.{ReadsLine, RoomValue, nothing_within}
 use Rattle.nb_member.specs.LineTaking.{TakesLine, TakesEach, none, more, EndsEarly, malformed, unread as not_read, no_memory, not_taken, TakesLines}

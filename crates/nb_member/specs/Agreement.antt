@@ -18,9 +18,9 @@ use Rattle.nb_table.specs.Limits.{FewOfEach}
 use Rattle.nb_table.specs.Conflict.{IsSpoilt}
 use Rattle.nb_table.specs.Sender.{HasPartsAlone, HasAll}
 use Rattle.nb_member.specs.declared.settings.Settings.{Settings}
-use Rattle.nb_member.specs.declared.event.Event.{Event}
-use Rattle.nb_member.specs.declared.run_report.RunReport.{RunReport}
-use Rattle.nb_member.specs.declared.run_report.RunStop.TheVariants.{NoMemory}
+use Rattle.nb_member.specs.declared.outcome.Event.{Event}
+use Rattle.nb_member.specs.declared.runs.RunReport.{RunReport}
+use Rattle.nb_member.specs.declared.runs.RunStop.TheVariants.{NoMemory}
 use Rattle.nb_member.specs.declared.pair.Pair.{Pair}
 use Rattle.nb_member.specs.Events.{Saying, came, refused, another, clock, Say}
 use Rattle.nb_member.specs.Live.{Timed, cores, live_after}

@@ -6,13 +6,13 @@ use Rattle.nb_names.specs.Hexadecimal.{DataText}
 use Rattle.nb_member.specs.declared.limits.TheConstants.{MAX_MOMENT_DIGITS, MAX_LINE}
 use Rattle.nb_member.specs.declared.line.Line.{Line}
 use Rattle.nb_member.specs.declared.line.Line.TheVariants.{Packet, Tick}
-use Rattle.nb_member.specs.declared.line_fault.LineFault.{LineFault}
-use Rattle.nb_member.specs.declared.line_fault.LineFault.TheVariants.{BadLine, NoMemory}
+use Rattle.nb_member.specs.declared.line.LineFault.{LineFault}
+use Rattle.nb_member.specs.declared.line.LineFault.TheVariants.{BadLine, NoMemory}
 use Rattle.std.specs.List.{flat_map}
 use Rattle.nb_names.specs.Ascii.{backslash}
 use Rattle.nb_names.specs.NameText.{digits_of}
-use Rattle.nb_member.specs.declared.comments.Comments.{Comments}
-use Rattle.nb_member.specs.declared.comments.Comments.TheVariants.{LeftOut, Printed}
+use Rattle.nb_member.specs.declared.comment_writing.Comments.{Comments}
+use Rattle.nb_member.specs.declared.comment_writing.Comments.TheVariants.{LeftOut, Printed}
 
 -- ---- characters
 

@@ -15,11 +15,11 @@ use Rattle.nb_datagram.specs.DatagramFaults.{PacketFails}
 use Rattle.nb_table.specs.declared.fault.TableFault.TheVariants.{MisplacedFirst, TooLong}
 use Rattle.nb_table.specs.Limits.{Limits}
 use Rattle.nb_table.specs.Insert.{IsMisplaced, Passes}
-use Rattle.nb_member.specs.declared.member_fault.MemberFault.{MemberFault}
+use Rattle.nb_member.specs.declared.outcome.MemberFault.{MemberFault}
 use Rattle.nb_member.specs.declared.settings.Settings.{Settings}
-use Rattle.nb_member.specs.declared.event.Event.{Event}
-use Rattle.nb_member.specs.declared.event.Event.TheVariants.{Packet, Tick}
-use Rattle.nb_member.specs.declared.member_fault.MemberFault.TheVariants as fault
+use Rattle.nb_member.specs.declared.outcome.Event.{Event}
+use Rattle.nb_member.specs.declared.outcome.Event.TheVariants.{Packet, Tick}
+use Rattle.nb_member.specs.declared.outcome.MemberFault.TheVariants as fault
 use Rattle.nb_member.specs.Hearing.{refusal}
 
 -- what an event says to a member: that a fragment came at a moment; that a payload is refused, and why; that

@@ -3,14 +3,14 @@ use Rattle.std.specs.Prelude.{ℕ, List, ◌++◌, codes, Option, None}
 use Rattle.std.specs.Fmt.{decimal}
 use Rattle.nb_member.specs.declared.local_names.AddFault.{AddFault}
 use Rattle.nb_member.specs.declared.local_names.AddFault.TheVariants as adding
-use Rattle.nb_member.specs.declared.line_fault.LineFault.{LineFault}
-use Rattle.nb_member.specs.declared.line_fault.LineFault.TheVariants.{BadLine, NoMemory}
-use Rattle.nb_member.specs.declared.replay_fault.ReplayFault.{ReplayFault}
-use Rattle.nb_member.specs.declared.replay_fault.ReplayFault.TheVariants as replaying
+use Rattle.nb_member.specs.declared.line.LineFault.{LineFault}
+use Rattle.nb_member.specs.declared.line.LineFault.TheVariants.{BadLine, NoMemory}
+use Rattle.nb_member.specs.declared.replaying.ReplayFault.{ReplayFault}
+use Rattle.nb_member.specs.declared.replaying.ReplayFault.TheVariants as replaying
 use Rattle.nb_datagram.specs.FaultTexts.{datagram_fault_place, datagram_fault_text}
 use Rattle.nb_table.specs.FaultTexts.{table_fault_text}
-use Rattle.nb_member.specs.declared.member_fault.MemberFault.{MemberFault}
-use Rattle.nb_member.specs.declared.member_fault.MemberFault.TheVariants.{Packet, Table}
+use Rattle.nb_member.specs.declared.outcome.MemberFault.{MemberFault}
+use Rattle.nb_member.specs.declared.outcome.MemberFault.TheVariants.{Packet, Table}
 
 -- the text of a line's fault
 abbrev pub line_fault_text : LineFault → List ℕ

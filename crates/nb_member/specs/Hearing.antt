@@ -11,8 +11,8 @@ use Rattle.std.specs.List.{list_any}
 use Rattle.std.specs.Int.{w16, from_be_bytes}
 use Rattle.nb_names.specs.Name.{NetbiosName, name_eq}
 use Rattle.nb_names.specs.DomainName.{domain_eq}
-use Rattle.nb_datagram.specs.declared.kind.Kind.{Kind}
-use Rattle.nb_datagram.specs.declared.kind.Kind.TheVariants.{Unique, Group, Broadcast}
+use Rattle.nb_datagram.specs.declared.key.Kind.{Kind}
+use Rattle.nb_datagram.specs.declared.key.Kind.TheVariants.{Unique, Group, Broadcast}
 use Rattle.nb_datagram.specs.declared.packet.ErrorPacket.{ErrorPacket}
 use Rattle.nb_datagram.specs.declared.error_codes.TheConstants.{DESTINATION_NAME_NOT_PRESENT, INVALID_SOURCE_NAME_FORMAT, INVALID_DESTINATION_NAME_FORMAT}
 use Rattle.nb_datagram.specs.declared.limits.TheConstants.{HEADER_LENGTH}

@@ -5,8 +5,8 @@ use Rattle.nb_names.specs.Counted.{Counts}
 use Rattle.nb_names.specs.Devices.{GrowTo, ShowsReadFault}
 use Rattle.nb_names.specs.Lines.{IsLine}
 use Rattle.nb_member.specs.declared.limits.TheConstants.{MAX_LINE, MAX_READ}
-use Rattle.nb_member.specs.declared.line_read_fault.LineReadFault.{LineReadFault}
-use Rattle.nb_member.specs.declared.line_read_fault.LineReadFault.TheVariants.{TooLong, Read, NoMemory}
+use Rattle.nb_member.specs.declared.line.LineReadFault.{LineReadFault}
+use Rattle.nb_member.specs.declared.line.LineReadFault.TheVariants.{TooLong, Read, NoMemory}
 use Rattle.nb_member.specs.declared.line_room.Standing.{Standing}
 use Rattle.nb_member.specs.declared.line_room.Standing.TheVariants as standing
 use denote.Ref.{Bor}

@@ -5,8 +5,8 @@ use Rattle.nb_names.specs.Devices.{ShowsUnread}
 use Rattle.nb_names.specs.Lines.{CutInto, with_rest}
 use Rattle.nb_member.specs.declared.limits.TheConstants.{MAX_LINE}
 use Rattle.nb_member.specs.declared.line.Line as capture
-use Rattle.nb_member.specs.declared.replay_fault.ReplayFault.{ReplayFault}
-use Rattle.nb_member.specs.declared.replay_fault.ReplayFault.TheVariants.{Line, Read, NoMemory}
+use Rattle.nb_member.specs.declared.replaying.ReplayFault.{ReplayFault}
+use Rattle.nb_member.specs.declared.replaying.ReplayFault.TheVariants.{Line, Read, NoMemory}
 use Rattle.nb_member.specs.Capture.{Reads}
 use Rattle.nb_member.specs.Replaying.{AreLines, ComesMalformed, IsWhole, looked_at}
 

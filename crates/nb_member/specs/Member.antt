@@ -10,7 +10,7 @@ use Rattle.nb_table.specs.Limits.{TableValue}
 use Rattle.nb_table.specs.Insert.{with_fragment}
 use Rattle.nb_table.specs.Contents.{Contents}
 use Rattle.nb_member.specs.declared.settings.Settings.{Settings}
-use Rattle.nb_member.specs.declared.event.Event.{Event}
+use Rattle.nb_member.specs.declared.outcome.Event.{Event}
 use Rattle.nb_member.specs.Live.{is_over, Timed, table_from, start_at, live}
 use Rattle.nb_member.specs.Events.{limits_of, Saying, Say}
 

@@ -2,10 +2,10 @@
 use Rattle.std.specs.Prelude.{ℕ, List, take, ◌≤◌, length, Option, ◌+◌, ◌<◌, ◌++◌, ◌∷◌, ◌≡◌, Result, Ok, Err}
 use Rattle.std.specs.Io.KnownBytes.{IsAtEnd, Appends, Consumes}
 use Rattle.nb_member.specs.declared.limits.TheConstants.{MAX_LINE}
-use Rattle.nb_member.specs.declared.comments.Comments.{Comments}
-use Rattle.nb_member.specs.declared.event.Event.{Event}
-use Rattle.nb_member.specs.declared.replay_fault.ReplayFault.{ReplayFault}
-use Rattle.nb_member.specs.declared.replay_fault.ReplayFault.TheVariants.{Line, Read, Write, NoMemory}
+use Rattle.nb_member.specs.declared.comment_writing.Comments.{Comments}
+use Rattle.nb_member.specs.declared.outcome.Event.{Event}
+use Rattle.nb_member.specs.declared.replaying.ReplayFault.{ReplayFault}
+use Rattle.nb_member.specs.declared.replaying.ReplayFault.TheVariants.{Line, Read, Write, NoMemory}
 use Rattle.nb_names.specs.Counted.{Counts}
 use Rattle.nb_names.specs.Devices.{ShowsUnread}
 use Rattle.nb_names.specs.Lines.{CutInto, with_rest}

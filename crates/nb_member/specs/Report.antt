@@ -14,13 +14,13 @@ use Rattle.nb_datagram.specs.declared.packet.Packet.TheVariants.{Error}
 use Rattle.nb_datagram.specs.Fragment.{DatagramParts}
 use Rattle.nb_datagram.specs.FaultTexts.{key_text, kind_text}
 use Rattle.nb_datagram.specs.Packet.{packet_bytes}
-use Rattle.nb_member.specs.declared.comments.Comments.{Comments}
+use Rattle.nb_member.specs.declared.comment_writing.Comments.{Comments}
 use Rattle.nb_member.specs.declared.outcome.Outcome.{Outcome}
 use Rattle.nb_member.specs.declared.outcome.Outcome.TheVariants.{Kept, Spoilt, Delivered, Unheard, Other}
-use Rattle.nb_member.specs.declared.member_fault.MemberFault.{MemberFault}
+use Rattle.nb_member.specs.declared.outcome.MemberFault.{MemberFault}
 use Rattle.nb_member.specs.declared.settings.Settings.{Settings}
-use Rattle.nb_member.specs.declared.event.Event.{Event}
-use Rattle.nb_member.specs.declared.event.Event.TheVariants as event
+use Rattle.nb_member.specs.declared.outcome.Event.{Event}
+use Rattle.nb_member.specs.declared.outcome.Event.TheVariants as event
 use Rattle.nb_member.specs.declared.line.Line.TheVariants.{Packet, Tick}
 use Rattle.nb_member.specs.FaultTexts.{member_fault_text}
 use Rattle.nb_member.specs.Deliveries.{error_of}

@@ -13,8 +13,8 @@ use Rattle.nb_member.specs.declared.outcome.Outcome.{Outcome}
 use Rattle.nb_member.specs.declared.outcome.Outcome.TheVariants.{Kept, Spoilt, Delivered, Unheard, Other}
 use Rattle.nb_member.specs.declared.line.Line as capture
 use Rattle.nb_member.specs.declared.line.Line.TheVariants.{Packet, Tick}
-use Rattle.nb_member.specs.declared.member_fault.MemberFault.{MemberFault}
-use Rattle.nb_member.specs.declared.member_fault.MemberFault.TheVariants.{Table}
+use Rattle.nb_member.specs.declared.outcome.MemberFault.{MemberFault}
+use Rattle.nb_member.specs.declared.outcome.MemberFault.TheVariants.{Table}
 use Rattle.nb_member.specs.FaultTexts.{member_fault_place, member_fault_text}
 use Rattle.nb_member.specs.Deliveries.{error_of}
 use Rattle.nb_member.specs.Member.{MemberValue, after_clock, contents, with_timed}

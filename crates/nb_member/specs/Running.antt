@@ -2,12 +2,12 @@
 use Rattle.std.specs.Prelude.{ℕ, ◌+◌, List, [], ◌∷◌, ◌≡◌, true, false, ⊤, Option, Some, None, take, drop, ◌≤◌, ◌++◌, length}
 use Rattle.nb_datagram.specs.declared.key.Key.{Key}
 use Rattle.nb_datagram.specs.Fragment.{FragmentParts}
-use Rattle.nb_member.specs.declared.event.Event.{Event}
+use Rattle.nb_member.specs.declared.outcome.Event.{Event}
 use Rattle.nb_member.specs.declared.settings.Settings.{Settings}
-use Rattle.nb_member.specs.declared.event.Event.TheVariants.{Packet, Tick}
-use Rattle.nb_member.specs.declared.run_report.RunStop.{RunStop}
-use Rattle.nb_member.specs.declared.run_report.RunStop.TheVariants.{Full, FullSource, NoMemory}
-use Rattle.nb_member.specs.declared.run_report.RunReport.{RunReport}
+use Rattle.nb_member.specs.declared.outcome.Event.TheVariants.{Packet, Tick}
+use Rattle.nb_member.specs.declared.runs.RunStop.{RunStop}
+use Rattle.nb_member.specs.declared.runs.RunStop.TheVariants.{Full, FullSource, NoMemory}
+use Rattle.nb_member.specs.declared.runs.RunReport.{RunReport}
 use Rattle.nb_member.specs.Events.{Saying, came, refused, another, clock, Says, Say}
 use Rattle.nb_member.specs.Live.{Timed, is_full, is_source_full, NoneFull, live_from, live}
 use Rattle.nb_member.specs.Deliveries.{deliveries, errors}

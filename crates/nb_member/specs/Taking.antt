@@ -24,8 +24,8 @@ use Rattle.nb_table.specs.Merging.{Fits, newly_handed}
 use Rattle.nb_member.specs.declared.outcome.Outcome.{Outcome}
 use Rattle.nb_member.specs.declared.outcome.Outcome.TheVariants.{Delivered, Unheard, Kept, Spoilt, Other}
 use Rattle.nb_member.specs.declared.settings.Settings.{Settings}
-use Rattle.nb_member.specs.declared.member_fault.MemberFault.{MemberFault}
-use Rattle.nb_member.specs.declared.member_fault.MemberFault.TheVariants.{Packet, Table}
+use Rattle.nb_member.specs.declared.outcome.MemberFault.{MemberFault}
+use Rattle.nb_member.specs.declared.outcome.MemberFault.TheVariants.{Packet, Table}
 use Rattle.nb_member.specs.Hearing.{hears, unheard, refusal}
 use Rattle.nb_member.specs.Member.{MemberValue, contents, with_timed, after_fragment, StandsOver, Moments, TimedValue}
 use Rattle.nb_member.specs.Events.{Saying, came, refused, another, clock}

@@ -6,7 +6,6 @@ ghost use Rattle.std.specs.List.{flat_map};
 ghost use Rattle.nb_names.specs.Growth.{OnlyAdds};
 ghost use Rattle.nb_member.specs.Capture.{blank_text, byte_text, comment_text, is_printable as is_printable_byte};
 
-use crate::comments::Comments;
 use nb_names::{NoMemory, push_digits};
 
 /// Adds what is printed of a line that is a comment or empty. Where comments are left out, and of
@@ -83,4 +82,14 @@ fn is_printable(byte: u8) -> bool
     ensures { result ≡ is_printable_byte byte }
 {
     b' ' <= byte && byte <= b'~'
+}
+
+/// Whether the comments of a capture are printed where its packets are shown or replayed (our
+/// choice).
+#[derive(Clone, Copy, Debug, PartialEq, Eq)]
+pub enum Comments {
+    /// Nothing is printed of them.
+    LeftOut,
+    /// Each is printed in its place, as [`push_comment`](crate::push_comment) has it.
+    Printed,
 }

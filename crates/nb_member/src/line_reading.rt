@@ -8,7 +8,7 @@ ghost use Rattle.nb_member.specs.LineReading.{ReadsLine, lent_line, IsOpen};
 ghost use Rattle.nb_member.specs.Code.LineSteps.{HandsFirst, IsFeedAt, handed_out, line_of_size, stopped_by, with_standing};
 
 use crate::limits::MAX_LINE;
-use crate::line_read_fault::LineReadFault;
+use crate::line::LineReadFault;
 use crate::line_room::{LineRoom, Standing};
 use memchr::memchr;
 use nb_names::Counted;

@@ -10,13 +10,11 @@ ghost use Rattle.nb_member.specs.Live.{Timed};
 ghost use Rattle.nb_member.specs.Member.{StandsOver};
 ghost use Rattle.nb_member.specs.ReportFields.{MayAct, TellsOutcome, result_fields};
 
-use crate::comment_writing::push_comment;
-use crate::comments::Comments;
+use crate::comment_writing::{Comments, push_comment};
 use crate::laws;
 use crate::line::Line;
 use crate::member::Member;
-use crate::member_fault::MemberFault;
-use crate::outcome::LentOutcome;
+use crate::outcome::{LentOutcome, MemberFault};
 use crate::report::{tell_delivered, tell_dropped, tell_outcome, tell_passed, tell_refused};
 use nb_names::{NoMemory, push_decimal};
 use nb_table::TableFault;

@@ -8,7 +8,7 @@ ghost use Rattle.nb_member.specs.Code.LineSteps.{Suits, let_go_of, with_standing
 mod moving;
 
 use crate::limits::MAX_READ;
-use crate::line_read_fault::LineReadFault;
+use crate::line::LineReadFault;
 use crate::line_room::moving::read_behind;
 use nb_names::Counted;
 use nb_names::limits::MAX_INPUT;

@@ -5,12 +5,10 @@ ghost use Rattle.nb_member.specs.LineTaking.{TakesLine, TakesLines};
 ghost use Rattle.nb_member.specs.Code.LineTurns.{LineFails};
 
 use crate::capture::capture_line_in;
-use crate::line::Line;
-use crate::line_fault::LineFault;
-use crate::line_read_fault::LineReadFault;
+use crate::line::{Line, LineFault, LineReadFault};
 use crate::line_reading::next_from;
 use crate::line_room::LineRoom;
-use crate::replay_fault::ReplayFault;
+use crate::replaying::ReplayFault;
 use nb_names::Counted;
 use std::alloc::Global;
 use std::io::Read;

@@ -1,22 +1,21 @@
 //! Members.
 ghost use Rattle.std.specs.Prelude.{◌≡◌, ◌+◌, Ok, Err, filter, IfOk, OnOk, IfErr, OnErr, MatchOption};
 ghost use Rattle.std.specs.FinMap as maps;
-ghost use Rattle.nb_member.specs.Events.{limits_of};
-ghost use Rattle.nb_member.specs.Member.{contents, new_member, with_timed, after_clock};
 ghost use Rattle.nb_datagram.specs.Fragment.{datagram_by};
 ghost use Rattle.nb_entries.specs.Change.{made_by};
 ghost use Rattle.nb_table.specs.Merging.{IsRefused};
+ghost use Rattle.nb_member.specs.Events.{limits_of};
+ghost use Rattle.nb_member.specs.Member.{contents, new_member, with_timed, after_clock};
 ghost use Rattle.nb_member.specs.Hearing.{hears};
 ghost use Rattle.nb_member.specs.Taking.{Absorbs, Previews, Takes, TakesFragment, handed, outcome_of};
 ghost use Rattle.nb_member.specs.Code.Members.{MeetsFull, BeginsFull, limit_of};
 ghost use Rattle.nb_member.specs.Code.Outcomes.{made_of, answer_of};
 ghost use Rattle.nb_member.specs.declared.outcome.Outcome.{Outcome};
-ghost use Rattle.nb_member.specs.declared.run_report.RunStop.{RunStop};
+ghost use Rattle.nb_member.specs.declared.runs.RunStop.{RunStop};
 
 use crate::local_names::LocalNames;
-use crate::member_fault::MemberFault;
-use crate::outcome::{Dropped, LentOutcome, Outcome};
-use crate::run_report::RunStop;
+use crate::outcome::{Dropped, LentOutcome, MemberFault, Outcome};
+use crate::runs::RunStop;
 use crate::settings::Settings;
 use crate::timed_table::TimedTable;
 use nb_datagram::{Datagrams, LentFragment, LentPacket, UserData, decode_lent};

@@ -1,8 +1,13 @@
-//! What a member answers to a payload, and to the clock.
+//! What happens to a member, and what it answers.
 ghost use Rattle.std.specs.Prelude.{◌≡◌};
 ghost use Rattle.nb_member.specs.Code.Outcomes.{made_of};
+ghost use Rattle.nb_member.specs.FaultTexts.{member_fault_place};
 
-use nb_datagram::{Datagram, ErrorPacket, Key, LentFragment, UserData};
+use nb_datagram::{Datagram, DatagramFault, ErrorPacket, Key, LentFragment, UserData};
+use nb_names::Bytes;
+use nb_table::TableFault;
+use std::error::Error;
+use std::fmt;
 
 /// What became of a payload that a member took.
 #[derive(Drop)]
@@ -53,4 +58,71 @@ impl<'a> LentOutcome<'a> {
 pub struct Dropped {
     /// How many keys.
     pub keys: u32,
+}
+
+/// What happens to a member: a payload comes to its port, or the clock is looked at.
+///
+/// Moments are in milliseconds, from whatever beginning the events have.
+#[derive(Debug, PartialEq, Eq, Drop)]
+pub enum Event {
+    /// A payload came.
+    Packet {
+        /// When it came.
+        moment: u64,
+        /// Its bytes.
+        payload: Bytes,
+    },
+    /// The clock was looked at.
+    Tick {
+        /// What it showed.
+        now: u64,
+    },
+}
+
+/// Why a member refuses a payload. It stays as it was.
+#[derive(Clone, Copy, Debug, PartialEq, Eq)]
+pub enum MemberFault {
+    /// The payload begins with no packet; with the error packet to answer, if there is one.
+    Packet(DatagramFault, Option<ErrorPacket>),
+    /// The table refuses the fragment.
+    Table(TableFault),
+}
+
+impl MemberFault {
+    /// The number with which its text ends, where it ends with one.
+    pub fn place(self) -> Option<usize>
+        ensures { result ≡ member_fault_place self }
+    {
+        match self {
+            MemberFault::Packet(fault, _) => fault.place(),
+            MemberFault::Table(_) => None,
+        }
+    }
+}
+
+impl fmt::Display for MemberFault {
+    ghost use Rattle.std.specs.Prelude.{Some};
+    ghost use Rattle.nb_member.specs.FaultTexts.{member_fault_text};
+
+    ghost output = { λ fault. Some (member_fault_text fault) };
+
+    fn fmt<W: fmt::Write>(&self, f: &mut fmt::Formatter<W>) -> fmt::Result {
+        match self {
+            MemberFault::Packet(fault, _) => write!(f, "{fault}"),
+            MemberFault::Table(fault) => write!(f, "{fault}"),
+        }
+    }
+}
+
+impl Error for MemberFault {}
+
+impl From<TableFault> for MemberFault {
+    ghost use Rattle.std.specs.Prelude.{◌≡◌};
+    ghost use Rattle.nb_member.specs.declared.outcome.MemberFault.TheVariants.{Table};
+
+    ghost from_gives = { λ fault made. made ≡ Table fault };
+
+    fn from(fault: TableFault) -> MemberFault {
+        MemberFault::Table(fault)
+    }
 }

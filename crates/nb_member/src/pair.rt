@@ -4,15 +4,14 @@ ghost use Rattle.nb_member.specs.Live.{cores};
 ghost use Rattle.nb_member.specs.Member.{new_member};
 ghost use Rattle.nb_member.specs.Running.{Runs};
 
-use crate::event::Event;
 use crate::laws::{
     a_senders_datagram_is_handed_over, an_event_says_one_thing, both_hand_over_the_same,
     the_same_fragments_make_the_same_table,
 };
 use crate::local_names::LocalNames;
 use crate::member::Member;
-use crate::run_report::RunReport;
-use crate::runs::run;
+use crate::outcome::Event;
+use crate::runs::{RunReport, run};
 use crate::settings::Settings;
 use std::alloc::Global;
 

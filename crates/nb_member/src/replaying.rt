@@ -2,20 +2,21 @@
 ghost use Rattle.std.specs.Prelude.{◌≡◌, Err};
 ghost use Rattle.nb_names.specs.declared.limits.TheConstants.{MAX_INPUT};
 ghost use Rattle.nb_names.specs.Devices.{ShowsWriteFault};
-ghost use Rattle.nb_member.specs.declared.comments.Comments.TheVariants.{LeftOut};
+ghost use Rattle.nb_member.specs.declared.comment_writing.Comments.TheVariants.{LeftOut};
 ghost use Rattle.nb_member.specs.Replaying.{ReplaysInput};
 
-use crate::capture_options::CaptureOptions;
-use crate::comments::Comments;
+use crate::capture::CaptureOptions;
+use crate::comment_writing::Comments;
 use crate::line::Line;
 use crate::line_reports::act_on;
 use crate::line_taking::{LineTaker, take_lines};
 use crate::member::Member;
-use crate::replay_fault::ReplayFault;
-use nb_names::Counted;
 use nb_names::limits::MAX_INPUT;
 use nb_names::output::write_whole;
+use nb_names::{Counted, NoMemory};
 use std::alloc::Global;
+use std::error::Error;
+use std::fmt;
 use std::io::{Read, Write};
 
 /// Replays a capture in a member: acts on its lines in order, and writes the report of them. The
@@ -147,7 +148,7 @@ struct Replayer<'a, W> {
 
 impl<'a, W: Write> LineTaker for Replayer<'a, W> {
     ghost use Rattle.std.specs.Prelude.{ℕ};
-    ghost use Rattle.nb_member.specs.declared.comments.Comments.{Comments};
+    ghost use Rattle.nb_member.specs.declared.comment_writing.Comments.{Comments};
     ghost use Rattle.nb_member.specs.Code.ReplayLines.{ReplayState, ReplaysLine, FailsReport};
 
     type Fault = ReplayFault;
@@ -170,5 +171,47 @@ impl<'a, W: Write> LineTaker for Replayer<'a, W> {
             Ok(()) => Ok(()),
             Err(_) => Err(ReplayFault::Write),
         }
+    }
+}
+
+/// Why a replay ended before it was done: the first that was met.
+#[derive(Clone, Copy, Debug, PartialEq, Eq)]
+pub enum ReplayFault {
+    /// The line with this number, the first being 1, is malformed.
+    Line(u64),
+    /// A read failed, reads were interrupted 1,024 times in a row, or the input is too long.
+    Read,
+    /// A write failed or took no byte, or writes were interrupted 1,024 times in a row.
+    Write,
+    /// Memory ran out.
+    NoMemory,
+}
+
+impl fmt::Display for ReplayFault {
+    ghost use Rattle.std.specs.Prelude.{Some};
+    ghost use Rattle.nb_member.specs.FaultTexts.{replay_fault_text};
+
+    ghost output = { λ fault. Some (replay_fault_text fault) };
+
+    fn fmt<W: fmt::Write>(&self, f: &mut fmt::Formatter<W>) -> fmt::Result {
+        match self {
+            ReplayFault::Line(number) => write!(f, "line {number}"),
+            ReplayFault::Read => f.write_str("read"),
+            ReplayFault::Write => f.write_str("write"),
+            ReplayFault::NoMemory => f.write_str("memory"),
+        }
+    }
+}
+
+impl Error for ReplayFault {}
+
+impl From<NoMemory> for ReplayFault {
+    ghost use Rattle.std.specs.Prelude.{◌≡◌};
+    ghost use Rattle.nb_member.specs.declared.replaying.ReplayFault.TheVariants as fault;
+
+    ghost from_gives = { λ _ made. made ≡ fault.NoMemory };
+
+    fn from(_fault: NoMemory) -> ReplayFault {
+        ReplayFault::NoMemory
     }
 }

@@ -3,11 +3,11 @@
 #![tactic(auto, using(nb_telling::proofs::FoldLemmas::told_both))]
 
 ghost use Rattle.std.specs.Prelude.{◌≡◌, ◌∷◌, ◌++◌, [], OnOk, fold, string_bytes};
-ghost use Rattle.nb_telling.specs.Telling.{Grows, Text, Data};
-ghost use Rattle.nb_datagram.specs.Fragment.{datagram_by};
-ghost use Rattle.nb_datagram.specs.FaultTexts.{key_text, kind_text};
 ghost use Rattle.nb_names.specs.NameText.{written};
 ghost use Rattle.nb_names.specs.Growth.{OnlyAdds};
+ghost use Rattle.nb_datagram.specs.Fragment.{datagram_by};
+ghost use Rattle.nb_datagram.specs.FaultTexts.{key_text, kind_text};
+ghost use Rattle.nb_telling.specs.Telling.{Grows, Text, Data};
 ghost use Rattle.nb_member.specs.Keys.{outcome_key, key_key, kind_key, source_key, destination_key, data_key};
 ghost use Rattle.nb_member.specs.declared.outcome.Outcome.TheVariants.{Delivered, Unheard};
 ghost use Rattle.nb_member.specs.Report.{parts_text};
@@ -15,8 +15,7 @@ ghost use Rattle.nb_member.specs.ReportFields.{dropped_fields, error_fields, out
 
 use crate::keys::{COUNT, DATA, DESTINATION, ERROR, KEY, KIND, OUTCOME, REFUSED, SOURCE};
 use crate::laws::texts_of_reports;
-use crate::member_fault::MemberFault;
-use crate::outcome::{Dropped, Outcome};
+use crate::outcome::{Dropped, MemberFault, Outcome};
 use nb_datagram::{
     Datagram, ErrorPacket, Key, Kind, LentFragment, Packet, UserData, encode, kind_name,
 };

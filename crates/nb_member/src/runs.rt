@@ -1,7 +1,7 @@
 //! Runs of events.
 ghost use Rattle.std.specs.Prelude.{◌≡◌, ◌<◌, ◌++◌, List, [], IsTrue, OnErr, vec_len, vec_capacity};
 ghost use Rattle.std.specs.Option.{option_to_list};
-ghost use Rattle.nb_member.specs.declared.event.Event.TheVariants as event;
+ghost use Rattle.nb_member.specs.declared.outcome.Event.TheVariants as event;
 ghost use Rattle.nb_member.specs.Deliveries.{delivery_in, error_in};
 ghost use Rattle.nb_member.specs.Code.Members.{KeepsStation};
 ghost use Rattle.nb_member.specs.Live.{Timed};
@@ -9,16 +9,13 @@ ghost use Rattle.nb_member.specs.Member.{StandsOver};
 ghost use Rattle.nb_member.specs.Running.{IsPayload, Runs};
 ghost use Rattle.nb_member.specs.Code.RunEvents.{noted, RunsEvent};
 
-use crate::event::Event;
 use crate::laws::{
     a_member_does_what_is_said, a_member_drops_what_the_clock_ends,
     an_answer_shows_what_is_handed_out,
 };
 use crate::member::Member;
-use crate::member_fault::MemberFault;
-use crate::outcome::Outcome;
-use crate::run_report::{RunReport, RunStop};
-use nb_datagram::{Datagram, Datagrams, ErrorPacket, ErrorPackets};
+use crate::outcome::{Event, MemberFault, Outcome};
+use nb_datagram::{Datagram, Datagrams, ErrorPacket, ErrorPackets, Key};
 use nb_table::TableFault;
 use std::alloc::Global;
 
@@ -184,4 +181,35 @@ fn add_if_any(errors: &mut Vec<ErrorPacket>, error: Option<ErrorPacket>)
     if let Some(error) = error {
         errors.push(error).unwrap();
     }
+}
+
+/// Why a run stopped before an event. That event changed nothing. Our choice.
+#[derive(Clone, Copy, Debug, PartialEq, Eq)]
+pub enum RunStop {
+    /// The event is a fragment of this key, which is new, and as many keys are held as may be, but
+    /// not of its address.
+    Full(Key),
+    /// Memory ran out, for the event or to note its answer, and the event isn't a fragment as at
+    /// `Full` or `FullSource`.
+    NoMemory,
+    /// The event is a fragment of this key, which is new, and as many keys of its address are held
+    /// as may be.
+    FullSource(Key),
+}
+
+/// What came of a run of events. Our choice.
+#[derive(Drop)]
+pub struct RunReport {
+    /// The datagrams that became whole and are heard, in order.
+    pub deliveries: Datagrams,
+    /// The error packets to answer, in order.
+    pub errors: ErrorPackets,
+    /// How many events were taken: all of them, or those before the one at which the run stopped.
+    pub taken: usize,
+    /// How many of these were refused: payloads that begin with no packet, and fragments that have
+    /// FIRST set elsewhere than at offset 0, haven't it set there, or reach past the longest
+    /// datagram.
+    pub refused: usize,
+    /// Why the run stopped, where it didn't take all events.
+    pub stop: Option<RunStop>,
 }

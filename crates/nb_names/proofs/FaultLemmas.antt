@@ -2,8 +2,8 @@
 use Rattle.std.proofs.Common.{◌≡◌, ◌≢◌, ℕ, ◌+◌, ◌<◌, ◌≤◌, List, [], ◌∷◌, ◌++◌, length, take, drop, max, refl, get_or, ap, sym, subst, ◌∙◌, arith, inl, inr, append_assoc, length-append, nat_lt, nat_le, nat_eq, if◌then◌else◌}
 use Rattle.std.proofs.lemmas.Bool.Decides.{nat_tests}
 use Rattle.std.proofs.lemmas.List.{take-append-le, drop-append-le, length-drop}
-use Rattle.nb_names.specs.declared.pointers.Pointers.{Pointers}
-use Rattle.nb_names.specs.declared.pointers.Pointers.TheVariants.{Followed, Refused}
+use Rattle.nb_names.specs.declared.reading.Pointers.{Pointers}
+use Rattle.nb_names.specs.declared.reading.Pointers.TheVariants.{Followed, Refused}
 use Rattle.nb_names.specs.declared.fault.NameFault.{NameFault}
 use Rattle.nb_names.specs.declared.fault.NameFault.TheVariants.{Truncated, ReservedLabel, PointerNotAllowed, BadPointer, TooLong, NotNetbios}
 use Rattle.nb_names.specs.DomainName.{spelling, IsLabel}

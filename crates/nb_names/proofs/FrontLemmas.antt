@@ -7,8 +7,8 @@ use Rattle.nb_names.specs.declared.text_steps.Added.{Added}
 use Rattle.nb_names.specs.declared.text_steps.Added.TheVariants.{FrontByte, Last, LabelByte, LabelEnd}
 use Rattle.nb_names.specs.NameText.{IsHexDigit, byte_of, Parts, IsFormed, IsFront, IsBad, IsText, IsFaultOf}
 use Rattle.nb_names.specs.Name.{NetbiosName}
-use Rattle.nb_names.specs.declared.text_fault.TextFault.{TextFault}
-use Rattle.nb_names.specs.declared.text_fault.TextFault.TheVariants.{BadText, TooLong}
+use Rattle.nb_names.specs.declared.fault.TextFault.{TextFault}
+use Rattle.nb_names.specs.declared.fault.TextFault.TheVariants.{BadText, TooLong}
 use Rattle.nb_names.specs.Hexadecimal.{pair_byte}
 use Rattle.nb_names.specs.Code.TextSteps.{Taken, nothing_taken, takes, second_digit, step, run, parts_of, finish, parts_read}
 use Rattle.nb_names.proofs.TextRunLemmas.{ended, run-append, run_on, second_digit-hex, parts_read-form}

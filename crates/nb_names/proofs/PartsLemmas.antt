@@ -8,7 +8,7 @@ use Rattle.nb_names.specs.declared.text_steps.Stage.{Stage}
 use Rattle.nb_names.specs.declared.text_steps.Stage.TheVariants.{Front, FrontEscape, FrontDigit, Suffix, SuffixDigit, SuffixEnd, Closed, LabelStart, Label, LabelEscape, LabelDigit}
 use Rattle.nb_names.specs.declared.text_steps.Added.{Added}
 use Rattle.nb_names.specs.declared.text_steps.Added.TheVariants.{Nothing, FrontByte, Last, LabelByte, LabelEnd}
-use Rattle.nb_names.specs.declared.text_fault.TextFault.{TextFault}
+use Rattle.nb_names.specs.declared.fault.TextFault.{TextFault}
 use Rattle.nb_names.specs.DomainName.{IsLabel}
 use Rattle.nb_names.specs.Name.{NetbiosName, IsScope}
 use Rattle.nb_names.specs.NameText.{Parts, FitsLimits, filled, name_of, IsText, IsFormed}

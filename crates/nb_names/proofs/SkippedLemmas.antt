@@ -1,7 +1,7 @@
 -- Names whose spelling stands in one run.
 use Rattle.std.proofs.Common.{◌≡◌, ℕ, ◌+◌, ◌-◌, ◌<◌, ◌≤◌, List, [], ◌∷◌, ◌++◌, length, take, drop, Option, unwrap_or, refl, ap, sym, subst, ◌∙◌, arith, append_assoc, append-nil, length-append}
-use Rattle.nb_names.specs.declared.pointers.Pointers.{Pointers}
-use Rattle.nb_names.specs.declared.pointers.Skipped.{Skipped}
+use Rattle.nb_names.specs.declared.reading.Pointers.{Pointers}
+use Rattle.nb_names.specs.declared.reading.Skipped.{Skipped}
 use Rattle.nb_names.specs.Code.Kept.{labels_of, IsSpelled}
 use Rattle.nb_names.specs.DomainName.{spelling}
 use Rattle.nb_names.specs.Labels.{StandsAt}

@@ -6,8 +6,8 @@
 -- reading goes round for ever.
 use Rattle.std.specs.Prelude.{◌≡◌, ℕ, ◌+◌, ◌/◌, ◌%◌, ◌<◌, ◌≤◌, ◌^◌, List, [], ◌∷◌, length, take, drop}
 use Rattle.nb_names.specs.declared.limits.TheConstants.{MAX_SPELLING}
-use Rattle.nb_names.specs.declared.pointers.Pointers.{Pointers}
-use Rattle.nb_names.specs.declared.pointers.Pointers.TheVariants.{Followed}
+use Rattle.nb_names.specs.declared.reading.Pointers.{Pointers}
+use Rattle.nb_names.specs.declared.reading.Pointers.TheVariants.{Followed}
 use Rattle.nb_names.specs.DomainName.{spelling, IsLabel}
 use Rattle.std.specs.Int.{Width, byte_len, to_be_bytes}
 

@@ -7,8 +7,8 @@ use Rattle.std.specs.Prelude.{◌≡◌, ◌==◌, ◌||◌, ◌&&◌, ℕ, ◌+
 use Rattle.std.specs.List.{flat_map, list_all}
 use Rattle.std.specs.Char.{digit_value, digit_char, is_ascii_graphic}
 use Rattle.nb_names.specs.declared.limits.TheConstants.{FRONT_LENGTH, LETTERS}
-use Rattle.nb_names.specs.declared.text_fault.TextFault.{TextFault}
-use Rattle.nb_names.specs.declared.text_fault.TextFault.TheVariants.{BadText, TooLong}
+use Rattle.nb_names.specs.declared.fault.TextFault.{TextFault}
+use Rattle.nb_names.specs.declared.fault.TextFault.TheVariants.{BadText, TooLong}
 use Rattle.nb_names.specs.Ascii.{space, dot, less_than, greater_than, letter_a, letter_p, backslash}
 use Rattle.nb_names.specs.Name.{NetbiosName, IsScope}
 

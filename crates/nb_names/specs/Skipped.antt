@@ -1,7 +1,7 @@
 -- What is answered of a name that is judged and not made (RFC 1002 section 4.1; what is answered is our choice).
 use Rattle.std.specs.Prelude.{◌≡◌, ℕ, ◌+◌, List, [], ◌∷◌, length}
-use Rattle.nb_names.specs.declared.pointers.Pointers.{Pointers}
-use Rattle.nb_names.specs.declared.pointers.Skipped.{Skipped}
+use Rattle.nb_names.specs.declared.reading.Pointers.{Pointers}
+use Rattle.nb_names.specs.declared.reading.Skipped.{Skipped}
 use Rattle.nb_names.specs.DomainName.{spelling}
 use Rattle.nb_names.specs.Labels.{StandsAt, NameAt}
 use Rattle.nb_names.specs.NameFaults.{OnWay}

@@ -1,4 +1,4 @@
-//! Domain names, held in place.
+//! Domain names, held in place or with spellings that are lent.
 ghost use Rattle.std.specs.Prelude.{◌≡◌, ◌≤◌, ◌<◌, ◌↔◌, [], ◌∷◌, length, slice_get, option_map, IsTrue, MatchOption, IfOk};
 ghost use Rattle.std.proofs.Common.{rules};
 ghost use Rattle.std.specs.Cmp.{partial_order_from_own_ties};
@@ -225,4 +225,67 @@ pub fn write_domain(alloc: Global, domain: &DomainName) -> Result<Bytes, NoMemor
     ensures bytes { IfOk result AreBytes }
 {
     Bytes::copy(alloc, domain.spelling())
+}
+
+/// A domain name whose spelling is lent, from a packet or from a [`DomainName`].
+#[derive(Drop)]
+pub struct LentDomain<'a> {
+    /// The spelling, its zero byte included.
+    bytes: &'a [u8],
+}
+
+impl<'a> Model for LentDomain<'a> {
+    ghost use Rattle.std.specs.Prelude.{ℕ, List};
+    ghost use Rattle.nb_names.specs.Code.Kept.{labels_of, IsSpelled};
+
+    ghost Value = { List (List ℕ) };
+
+    ghost view = { λ name. labels_of name.bytes.now };
+
+    ghost invariant = { λ name. IsSpelled name.bytes.now };
+}
+
+impl<'a> LentDomain<'a> {
+    /// The name with this spelling.
+    pub(crate) fn of_spelling(bytes: &'a [u8]) -> LentDomain<'a>
+        requires { IsSpelled bytes.now }
+        ensures { result ≡ labels_of bytes.entry.now }
+    {
+        LentDomain { bytes }
+    }
+
+    /// The spelling: the labels, each after its length, and a zero byte.
+    ///
+    /// RFC 1001 section 14.2.
+    pub fn spelling(&self) -> &'a [u8]
+        ensures value { result.now ≡ spelling self.now }
+        ensures domain { IsDomain self.now }
+    {
+        self.bytes
+    }
+
+    /// The name in place. No memory is taken.
+    pub fn to_domain(&self) -> DomainName
+        ensures { result ≡ self.now }
+    {
+        DomainName::of_spelling(self.bytes)
+    }
+
+    /// The first label, and the spelling of the labels after it.
+    pub(crate) fn split_first(&self) -> Option<(&'a [u8], &'a [u8])>
+        ensures split { MatchOption result (self.now ≡ [])
+            (λ split. (self.now ≡ split.0.now ∷ labels_of split.1.now) × IsSpelled split.1.now) }
+        ensures domain { IsDomain self.now }
+    {
+        split_label(self.bytes)
+    }
+}
+
+impl DomainName {
+    /// The same name, lent. No memory is taken.
+    pub fn lent(&self) -> LentDomain<'_>
+        ensures { result ≡ self.now }
+    {
+        LentDomain::of_spelling(self.spelling())
+    }
 }

@@ -6,7 +6,7 @@ ghost use Rattle.nb_names.specs.declared.limits.TheConstants.{MAX_INPUT};
 
 use crate::bytes::NoMemory;
 use crate::counted::{Counted, Told};
-use crate::device_fault::DeviceFault;
+use crate::fault::DeviceFault;
 use crate::limits::{MAX_INPUT, MAX_INTERRUPTS};
 use std::alloc::{AllocError, Global};
 use std::io::Read;

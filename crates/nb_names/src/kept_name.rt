@@ -4,9 +4,8 @@ ghost use Rattle.nb_names.specs.Code.Kept.{KeepsScope};
 ghost use Rattle.nb_names.specs.Name.{IsByteName};
 
 use crate::bytes::NoMemory;
-use crate::lent_name::LentName;
+use crate::lent_name::{LentName, NameForm};
 use crate::limits::NAME_LENGTH;
-use crate::name_form::NameForm;
 use std::alloc::Global;
 use std::marker::Model;
 

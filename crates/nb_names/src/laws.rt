@@ -1,19 +1,22 @@
 //! Laws of the definitions that the contracts cite. Each is proved; a call does nothing.
-ghost use Rattle.std.specs.Prelude.{◌≡◌, ◌≢◌, ◌↔◌, ◌⊎◌, ℕ, ◌+◌, ◌*◌, ◌/◌, ◌%◌, ◌<◌, ◌≤◌, List, [], ◌∷◌, ◌++◌, length, slice_index};
+ghost use Rattle.std.specs.Prelude.{◌≡◌, ◌≢◌, ◌↔◌, ◌⊎◌, ℕ, ◌+◌, ◌*◌, ◌/◌, ◌%◌, ◌<◌, ◌≤◌, List, [], ◌∷◌, ◌++◌, length, slice_index, IsTrue};
 ghost use Rattle.std.specs.List.{flat_map};
 ghost use Rattle.std.specs.Int.{w16, to_be_bytes};
 ghost use Rattle.nb_names.specs.declared.fault.NameFault.{NameFault};
 ghost use Rattle.nb_names.specs.declared.fault.NameFault.TheVariants.{Truncated};
 ghost use Rattle.nb_names.specs.declared.limits.TheConstants.{MAX_LABEL, MAX_SPELLING, MAX_SCOPE, NAME_LENGTH, FRONT_LENGTH, LETTERS, POINTED_OFFSETS, MAX_INPUT, MAX_INTERRUPTS};
-ghost use Rattle.nb_names.specs.declared.pointers.Pointers.{Pointers};
+ghost use Rattle.nb_names.specs.declared.reading.Pointers.{Pointers};
 ghost use Rattle.nb_names.specs.DomainName.{spelling, AreBytes, IsDomain};
 ghost use Rattle.nb_names.specs.FirstLevel.{letters, IsLetter};
 ghost use Rattle.nb_names.specs.Labels.{NameAt, StandsAt, pointer_bytes};
 ghost use Rattle.nb_names.specs.Name.{NetbiosName, IsName, IsNoName, labels_of_name};
 ghost use Rattle.nb_names.specs.NameFaults.{FaultAt, NetbiosFaultAt};
 ghost use Rattle.nb_names.specs.Skipped.{IsSkipped};
-ghost use Rattle.nb_names.specs.declared.pointers.Skipped.{Skipped};
+ghost use Rattle.nb_names.specs.declared.reading.Skipped.{Skipped};
 ghost use Rattle.nb_names.specs.Lines.{CutInto, HasLines};
+ghost use Rattle.nb_names.specs.Growth.{IsFrontOf, OnlyAdds};
+ghost use Rattle.nb_names.specs.NameText.{IsText, IsFaultOf, is_plain};
+ghost use Rattle.nb_names.specs.declared.fault.TextFault.{TextFault};
 
 /// The limits of the definitions, as numbers.
 pub fn numbers()
@@ -144,4 +147,30 @@ pub fn text_has_its_lines()
     ensures joined { (text : List ℕ) (lines : List (List ℕ)) → HasLines text lines →
         (flat_map (λ line. line ++ 10 ∷ []) lines ≡ text)
         ⊎ (flat_map (λ line. line ++ 10 ∷ []) lines ≡ text ++ 10 ∷ []) }
+{}
+
+/// A text is the text of one name.
+pub fn one_name()
+    ensures { (text : List ℕ) (a b : NetbiosName) → IsText a text → IsText b text → a ≡ b }
+{}
+
+/// A text has one fault at most, and none where it is a name's.
+pub fn one_text_fault()
+    ensures one { (text : List ℕ) (a b : TextFault) →
+        IsFaultOf text a → IsFaultOf text b → a ≡ b }
+    ensures none { (text : List ℕ) (name : NetbiosName) (fault : TextFault) →
+        IsText name text → ¬ IsFaultOf text fault }
+{}
+
+/// The bytes that stand for themselves are 21 to 7e in hexadecimal, but `.`, `<`, `>` and `\`.
+pub fn plain_bytes()
+    ensures { (byte : ℕ) → IsTrue (is_plain byte) ↔ ((33 ≤ byte) × (byte ≤ 126)
+        × (byte ≢ 46) × (byte ≢ 60) × (byte ≢ 62) × (byte ≢ 92)) }
+{}
+
+/// What only adds to a text leaves the text itself as a front of what it is then, and such a text
+/// was only added to.
+pub fn what_only_adds_keeps_the_text()
+    ensures kept { (old new : List ℕ) → OnlyAdds old new → IsFrontOf old new }
+    ensures only { (old new : List ℕ) → IsFrontOf old new → OnlyAdds old new }
 {}

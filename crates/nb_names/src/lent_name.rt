@@ -1,4 +1,4 @@
-//! NetBIOS names whose scopes are lent.
+//! NetBIOS names whose scopes are lent, and what the forms of a name have in common.
 #![tactic(auto, using(crate::specs::Growth::front_stays))]
 
 ghost use Rattle.std.specs.Prelude.{◌≡◌, ◌↔◌, ◌≤◌, ◌++◌, ℕ, length, string_bytes, IfOk, IfErr, IsOkAnd, IsTrue, OnOk};
@@ -11,18 +11,15 @@ ghost use Rattle.nb_names.specs.Labels.{NameAt};
 ghost use Rattle.nb_names.specs.Name.{NetbiosName, IsName, IsByteName, IsNoName, IsScope, labels_of_name, name_eq};
 ghost use Rattle.nb_names.specs.NameFaults.{NetbiosFaultAt};
 ghost use Rattle.nb_names.specs.NameText.{written};
-ghost use Rattle.nb_names.specs.declared.pointers.Pointers.TheVariants.{Refused};
+ghost use Rattle.nb_names.specs.declared.reading.Pointers.TheVariants.{Refused};
 
 use crate::bytes::NoMemory;
 use crate::domain_name::DomainName;
 use crate::fault::NameFault;
-use crate::first_level::bytes_of;
 use crate::limits::{LETTERS, NAME_LENGTH};
-use crate::name::{Name, NotNetbios};
-use crate::name_form::NameForm;
-use crate::pointers::Pointers;
-use crate::scope::Scope;
-use crate::spellings::{each_is_a_byte, split_label};
+use crate::name::{Name, NotNetbios, Scope};
+use crate::reading::Pointers;
+use crate::spellings::{bytes_of, each_is_a_byte, split_label};
 use crate::text_writing::push_parts;
 use crate::walking::{Passed, walk};
 use std::marker::Model;
@@ -218,4 +215,46 @@ pub fn push_lent_name(text: &mut String, name: &LentName<'_>) -> Result<(), NoMe
     ensures front { OnlyAdds (string_bytes text.old) (string_bytes text.new) }
 {
     push_parts(text, name.bytes(), name.scope_spelling())
+}
+
+/// A form of a name: in place as [`Name`](crate::Name), lent as [`LentName`], or kept as
+/// [`KeptName`](crate::KeptName). What holds names is generic over it.
+///
+/// RFC 1001 section 14.1.
+pub trait NameForm: Drop {
+    /// The name, whatever its form.
+    ghost name: { Self → NetbiosName };
+
+    /// The sixteen bytes.
+    fn bytes(&self) -> &[u8; NAME_LENGTH]
+        ensures value { result.now ≡ (name self.now).bytes }
+        ensures formed { IsByteName (name self.now) };
+
+    /// The spelling of the scope, its zero byte included. RFC 1001 section 14.2.
+    fn scope_spelling(&self) -> &[u8]
+        ensures value { result.now ≡ spelling (name self.now).scope }
+        ensures formed { IsByteName (name self.now) };
+
+    /// The same name, with its scope lent. No memory is taken.
+    final fn lent(&self) -> LentName<'_>
+        ensures value { result ≡ name self.now }
+        ensures formed { IsByteName result }
+    {
+        LentName::new(*self.bytes(), self.scope_spelling())
+    }
+
+    /// How many bytes the spelling of its labels has, its zero byte included.
+    final fn spelled_len(&self) -> usize
+        ensures value { result ≡ length (spelling (labels_of_name (name self.now))) }
+        ensures short { result ≤ 255 }
+    {
+        1 + LETTERS + self.scope_spelling().len()
+    }
+
+    /// Whether it is the same name as the other, byte for byte, whatever the form of that.
+    final fn is_same<N: NameForm>(&self, other: &N) -> bool
+        ensures { result ≡ name_eq (name self.now) (N.name other.now) }
+    {
+        self.bytes() == other.bytes() && self.scope_spelling() == other.scope_spelling()
+    }
 }

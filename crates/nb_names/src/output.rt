@@ -5,7 +5,7 @@ ghost use Rattle.nb_names.specs.Devices.{AppendsFront, GrowTo, ShowsWriteFault};
 ghost use Rattle.nb_names.specs.Hexadecimal.{digits_text};
 
 use crate::counted::{Counted, Told};
-use crate::device_fault::DeviceFault;
+use crate::fault::DeviceFault;
 use crate::limits::MAX_INTERRUPTS;
 use crate::parts_writing::put_digits;
 use std::io::Write;

@@ -5,12 +5,10 @@ ghost use Rattle.nb_names.specs.Name.{NetbiosName, IsName, IsByteName, labels_of
 ghost use Rattle.nb_names.specs.NameFaults.{FaultAt, NetbiosFaultAt};
 ghost use Rattle.nb_names.specs.Skipped.{IsSkipped};
 
-use crate::domain_name::DomainName;
+use crate::domain_name::{DomainName, LentDomain};
 use crate::fault::NameFault;
 use crate::length_byte::find_ends;
-use crate::lent_domain::LentDomain;
 use crate::name::Name;
-use crate::pointers::{Pointers, Skipped};
 use crate::walking::{Passed, walk};
 use std::marker::Model;
 
@@ -202,4 +200,33 @@ impl<'a, 'r> NameReader<'a, 'r> {
         let (name, _) = self.read_domain(at, pointers).unwrap();
         name
     }
+}
+
+/// Whether label pointers are followed where a name is read.
+///
+/// Name service packets have pointers, session and datagram packets none (RFC 1002 section 4.1).
+#[derive(Clone, Copy, Debug, PartialEq, Eq)]
+pub enum Pointers {
+    /// A pointer is followed.
+    Followed,
+    /// A pointer is a fault.
+    Refused,
+}
+
+/// Where a name stands that was judged and not made. Offsets count from the packet's first byte.
+///
+/// A name is read in runs of labels: a pointer ends each of them but the last, which ends in a zero
+/// byte.
+///
+/// RFC 1002 section 4.1.
+#[derive(Clone, Copy, Debug, PartialEq, Eq)]
+pub struct Skipped {
+    /// The offset that follows the name.
+    pub next: usize,
+    /// How many bytes the spelling of its labels has, its zero byte included.
+    pub spelled_len: usize,
+    /// Where the last run begins: at the name itself, where no pointer is in it.
+    pub run: usize,
+    /// The offset after the zero byte of the last run.
+    pub run_end: usize,
 }

@@ -1,12 +1,15 @@
 //! Reading the text of a NetBIOS name, which stands for one or has a fault.
-ghost use Rattle.std.specs.Prelude.{◌≡◌, IfOk, IfErr, IfSome, IfNone, IsOkAnd, MatchOption};
+ghost use Rattle.std.specs.Prelude.{◌≡◌, IfOk, IfErr, IfSome, IfNone, IsOkAnd, MatchOption, OnSome};
 ghost use Rattle.nb_names.specs.Name.{NetbiosName, IsByteName};
-ghost use Rattle.nb_names.specs.NameText.{IsText, IsFormed, IsBad, IsFaultOf};
+ghost use Rattle.nb_names.specs.NameText.{IsText, IsFormed, IsBad, IsFaultOf, name_of, FitsLimits};
+ghost use Rattle.nb_names.specs.Code.TextSteps.{nothing_taken, takes, parts_of};
+ghost use Rattle.nb_names.specs.Code.Kept.{taken_of, FitsSoFar};
 
-use crate::collected::Collected;
-use crate::name::Name;
-use crate::text_fault::TextFault;
+use crate::fault::TextFault;
+use crate::limits::{FRONT_LENGTH, MAX_LABEL, NAME_LENGTH};
+use crate::name::{Name, Scope};
 use crate::text_steps::{Added, Stage, step_of};
+use arrayvec::ArrayVec;
 
 /// The name that the bytes of a text stand for.
 ///
@@ -89,4 +92,75 @@ pub fn name_from_text(text: &str) -> Result<Name, TextFault>
     ensures fault { IfErr result (IsFaultOf text.now) }
 {
     name_from_bytes(text.as_bytes())
+}
+
+/// What a reading of a name's text has taken so far, within the limits.
+#[derive(Drop)]
+pub(crate) struct Collected {
+    /// The bytes before `<`.
+    front: ArrayVec<u8, FRONT_LENGTH>,
+    /// The byte after it.
+    last: u8,
+    /// The labels that have ended.
+    scope: Scope,
+    /// The bytes of the one that hasn't.
+    label: ArrayVec<u8, MAX_LABEL>,
+}
+
+impl Collected {
+    /// Nothing so far.
+    pub(crate) fn new() -> Self
+        ensures { taken_of result ≡ nothing_taken }
+    {
+        Collected {
+            front: ArrayVec::new(),
+            last: 0,
+            scope: Scope::empty(),
+            label: ArrayVec::new(),
+        }
+    }
+
+    /// Takes what a byte adds, unless that passes a limit.
+    pub(crate) fn take(&mut self, added: Added) -> Option<()>
+        ensures taken { OnSome result (taken_of self.new ≡ takes (taken_of self.old) added) }
+        ensures none { IfNone result (¬ FitsSoFar (takes (taken_of self.old) added)) }
+    {
+        match added {
+            Added::Nothing => Some(()),
+            Added::FrontByte(byte) => self.front.try_push(byte).ok(),
+            Added::Last(byte) => {
+                self.last = byte;
+                Some(())
+            }
+            Added::LabelByte(byte) => self.label.try_push(byte).ok(),
+            Added::LabelEnd => self.end_label(),
+        }
+    }
+
+    /// Ends the label, unless the scope has no room for it.
+    fn end_label(&mut self) -> Option<()>
+        ensures taken { OnSome result
+            (taken_of self.new ≡ takes (taken_of self.old) Added.LabelEnd) }
+        ensures none { IfNone result (¬ FitsSoFar (takes (taken_of self.old) Added.LabelEnd)) }
+    {
+        match self.scope.push(self.label.as_slice()) {
+            Ok(()) => {
+                self.label.clear();
+                Some(())
+            }
+            Err(_) => None,
+        }
+    }
+
+    /// The name that was taken.
+    pub(crate) fn into_name(self) -> Name
+        ensures name { result ≡ name_of (parts_of (taken_of self)) }
+        ensures limits { FitsLimits (parts_of (taken_of self)) }
+        ensures bytes { IsByteName result }
+    {
+        let mut bytes = [b' '; NAME_LENGTH];
+        bytes[..self.front.len()].copy_from_slice(self.front.as_slice());
+        bytes[FRONT_LENGTH] = self.last;
+        Name::new(bytes, self.scope)
+    }
 }

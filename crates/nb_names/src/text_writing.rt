@@ -2,22 +2,20 @@
 #![tactic(auto, using(crate::specs::Growth::front_stays))]
 
 ghost use Rattle.std.specs.Prelude.{◌≡◌, ◌++◌, ◌∷◌, [], ℕ, List, IfOk, OnOk, IsTrue, length, string_bytes};
-ghost use Rattle.nb_names.specs.declared.limits.TheConstants.{NAME_LENGTH};
 ghost use Rattle.std.specs.List.{AllByRecursion, list_all};
 ghost use Rattle.std.specs.Str.{IsAscii};
+ghost use Rattle.nb_names.specs.declared.limits.TheConstants.{NAME_LENGTH};
 ghost use Rattle.nb_names.specs.Growth.{OnlyAdds};
 ghost use Rattle.nb_names.specs.Ascii.{dot, less_than, greater_than};
 ghost use Rattle.nb_names.specs.DomainName.{AreBytes, IsLabel, spelling};
 ghost use Rattle.nb_names.specs.NameText.{IsText, written, bytes_written, domain_written, trimmed, digits_of, item_of, items_of, scope_text_of, labels_written, is_plain as is_plain_byte};
 
 use crate::bytes::NoMemory;
-use crate::domain_name::DomainName;
-use crate::first_level::bytes_of;
-use crate::lent_domain::LentDomain;
+use crate::domain_name::{DomainName, LentDomain};
 use crate::limits::{FRONT_LENGTH, LETTERS, MAX_SPELLING, NAME_LENGTH};
 use crate::name::Name;
 use crate::parts_writing::{pair_of, push_ascii};
-use crate::spellings::split_label;
+use crate::spellings::{bytes_of, split_label};
 use crate::text_steps::is_plain;
 use arrayvec::ArrayVec;
 use std::alloc::Global;

@@ -11,7 +11,7 @@ use crate::domain_name::DomainName;
 use crate::fault::NameFault;
 use crate::length_byte::{LengthByte, end_from, length_byte_at};
 use crate::limits::MAX_SPELLING;
-use crate::pointers::{Pointers, Skipped};
+use crate::reading::{Pointers, Skipped};
 
 /// Where the domain name stands that is at an offset of a packet, of whose chains of pointers ends
 /// are known. Its labels are taken on the way.

@@ -1,8 +1,8 @@
 -- Where a question or a record stands, no other does, and it has no fault.
 use Rattle.std.proofs.Common.{◌≡◌, ◌≢◌, ℕ, ◌+◌, ◌<◌, List, length, take, drop, Result, Ok, Err, IsOk, IsOkAnd, refl, ap, sym, subst, ◌∙◌, arith}
 use Rattle.std.specs.Int.{w16, w32}
-use Rattle.nb_names.specs.declared.pointers.Pointers.{Pointers}
-use Rattle.nb_names.specs.declared.pointers.Pointers.TheVariants.{Followed}
+use Rattle.nb_names.specs.declared.reading.Pointers.{Pointers}
+use Rattle.nb_names.specs.declared.reading.Pointers.TheVariants.{Followed}
 use Rattle.nb_names.specs.declared.fault.NameFault.{NameFault}
 use Rattle.nb_names.specs.Labels.{NameAt, NumberAt}
 use Rattle.nb_names.specs.NameFaults.{FaultAt}
@@ -10,11 +10,11 @@ use Rattle.nb_names.specs.Skipped.{IsSkipped}
 use Rattle.nb_service.specs.declared.fault.ServiceFault.{ServiceFault}
 use Rattle.nb_service.specs.declared.fault.ServiceFault.TheVariants.{Name}
 use Rattle.nb_service.specs.declared.kinds.TheConstants.{NS}
-use Rattle.nb_service.specs.declared.question.Question.{Question}
+use Rattle.nb_service.specs.declared.record.Question.{Question}
 use Rattle.nb_service.specs.Record.{ResourceData, of_bytes, of_domain, ResourceRecord, IsRdataOf}
 use Rattle.nb_service.specs.Packet.{QuestionAt, RdataAt, bytes_there, domain_there, RecordAt}
 use Rattle.nb_service.specs.ServiceFaults.{QuestionFails, question_name, question_cut, RdataBegins, DomainFails, domain_name, domain_end, RecordFails, record_name, record_cut, rdata_cut, rdata_fails}
-use Rattle.nb_service.specs.declared.fields.Fields.{Fields}
+use Rattle.nb_service.specs.declared.record.Fields.{Fields}
 use Rattle.nb_service.specs.declared.seen.Seen.{Seen}
 use Rattle.nb_service.specs.Items.{PacketItem, asked, told, fields_of, name_of, Reaches, IsExtent, SeesQuestion, SeesRecord, Sees}
 use Rattle.nb_names.specs.PacketFacts.{stands_same, one_number_16, one_number_32, within_16}

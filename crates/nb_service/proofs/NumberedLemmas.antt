@@ -2,12 +2,12 @@
 use Rattle.std.proofs.Common.{◌≡◌, ◌<◌, ◌≤◌, inl, inr, ℕ, ◌+◌, List, [], ◌∷◌, ◌++◌, length, map, refl, ap, sym, subst, ◌∙◌, arith, length-append}
 use Rattle.std.proofs.lemmas.Bool.{cases_lt}
 use Rattle.std.proofs.lemmas.List.{length-map}
-use Rattle.nb_service.specs.declared.extent.Extent.{Extent}
+use Rattle.nb_service.specs.declared.record.Extent.{Extent}
 use Rattle.nb_service.specs.declared.fault.ServiceFault.{ServiceFault}
 use Rattle.nb_service.specs.declared.limits.TheConstants.{HEADER_LENGTH}
-use Rattle.nb_service.specs.declared.question.Question.{Question}
-use Rattle.nb_service.specs.declared.section.Section.{Section}
-use Rattle.nb_service.specs.declared.section.Section.TheVariants.{Answer, Authority, Additional}
+use Rattle.nb_service.specs.declared.record.Question.{Question}
+use Rattle.nb_service.specs.declared.packet.Section.{Section}
+use Rattle.nb_service.specs.declared.packet.Section.TheVariants.{Answer, Authority, Additional}
 use Rattle.nb_service.specs.Header.{PacketHeader, HasHeader}
 use Rattle.nb_service.specs.Items.{PacketItem, asked, told, IsRecordOf, ItemAt, question_there, record_there, ItemFails, question_fails, record_fails, IsExtent, ItemsAt, no_item, one_more, HasItems, items_of}
 use Rattle.nb_service.specs.Record.{ResourceRecord}

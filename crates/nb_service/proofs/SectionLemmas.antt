@@ -5,7 +5,7 @@ use Rattle.nb_service.specs.Packet.{Row, none, more, RdataAt, bytes_there, domai
 use Rattle.nb_service.specs.ServiceFaults.{RowFails}
 use Rattle.std.proofs.lemmas.List.{take-append-drop, take-take, take_at, drop_at, drop-drop}
 use Rattle.nb_names.specs.Labels.{StandsAt, NameAt}
-use Rattle.nb_names.specs.declared.pointers.Pointers.TheVariants.{Followed}
+use Rattle.nb_names.specs.declared.reading.Pointers.TheVariants.{Followed}
 use Rattle.nb_service.specs.Record.{ResourceData, of_domain, ResourceRecord}
 
 -- ---- rows joined

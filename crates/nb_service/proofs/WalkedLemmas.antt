@@ -3,10 +3,10 @@ use Rattle.std.proofs.Common.{◌≡◌, ℕ, zero, suc, ◌+◌, ◌-◌, ◌<�
 use Rattle.std.proofs.lemmas.List.{take-append-drop, length-take-le}
 use Rattle.nb_service.specs.declared.fault.ServiceFault.{ServiceFault}
 use Rattle.nb_service.specs.declared.limits.TheConstants.{HEADER_LENGTH}
-use Rattle.nb_service.specs.declared.question.Question.{Question}
-use Rattle.nb_service.specs.declared.section.Section.{Section}
-use Rattle.nb_service.specs.declared.section.Section.TheVariants.{Answer, Authority, Additional}
-use Rattle.nb_service.specs.declared.walking.Walked.{Walked}
+use Rattle.nb_service.specs.declared.record.Question.{Question}
+use Rattle.nb_service.specs.declared.packet.Section.{Section}
+use Rattle.nb_service.specs.declared.packet.Section.TheVariants.{Answer, Authority, Additional}
+use Rattle.nb_service.specs.declared.seeing.Walked.{Walked}
 use Rattle.nb_service.specs.Code.Steps.{RowOf}
 use Rattle.nb_service.specs.Header.{PacketHeader, HasHeader}
 use Rattle.nb_service.specs.Items.{PacketItem, asked, told, IsRecordOf, ItemAt, question_there, record_there, ItemFails, question_fails, record_fails, ItemsAt, no_item, one_more, items_of, Walks, EndsWith, walked_of}

@@ -9,7 +9,7 @@ use Rattle.std.specs.List.{AllByRecursion, flat_map}
 use Rattle.nb_names.specs.DomainName.{spelling, domain_eq, IsDomain}
 use Rattle.nb_names.specs.Labels.{pointer_bytes}
 use Rattle.nb_service.specs.declared.limits.TheConstants.{HEADER_LENGTH}
-use Rattle.nb_service.specs.declared.question.Question.{Question}
+use Rattle.nb_service.specs.declared.record.Question.{Question}
 use Rattle.nb_service.specs.Header.{PacketHeader}
 use Rattle.nb_service.specs.Record.{ResourceData, of_bytes, of_domain, ResourceRecord, IsRdataOf}
 use Rattle.nb_service.specs.Packet.{ServicePacket, header_of, records_of}

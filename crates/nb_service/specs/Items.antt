@@ -4,21 +4,21 @@
 -- Our choice: of bytes that begin with no packet the items are those that stand whole, one after another, before the first
 -- that doesn't.
 use Rattle.std.specs.Prelude.{◌≡◌, ℕ, ◌+◌, ◌<◌, ◌≤◌, List, [], ◌∷◌, ◌++◌, length, map, Option, Some, None, ◌-◌, min}
-use Rattle.nb_names.specs.declared.pointers.Pointers.TheVariants.{Followed}
+use Rattle.nb_names.specs.declared.reading.Pointers.TheVariants.{Followed}
 use Rattle.nb_names.specs.Skipped.{IsSkipped}
-use Rattle.nb_service.specs.declared.extent.Extent.{Extent}
+use Rattle.nb_service.specs.declared.record.Extent.{Extent}
 use Rattle.nb_service.specs.declared.fault.ServiceFault.{ServiceFault}
-use Rattle.nb_service.specs.declared.fields.Fields.{Fields}
+use Rattle.nb_service.specs.declared.record.Fields.{Fields}
 use Rattle.nb_service.specs.declared.limits.TheConstants.{HEADER_LENGTH}
-use Rattle.nb_service.specs.declared.question.Question.{Question}
-use Rattle.nb_service.specs.declared.section.Section.{Section}
+use Rattle.nb_service.specs.declared.record.Question.{Question}
+use Rattle.nb_service.specs.declared.packet.Section.{Section}
 use Rattle.nb_service.specs.declared.seen.Seen.{Seen}
-use Rattle.nb_service.specs.declared.section.Section.TheVariants.{Answer, Authority, Additional}
+use Rattle.nb_service.specs.declared.packet.Section.TheVariants.{Answer, Authority, Additional}
 use Rattle.nb_service.specs.Header.{PacketHeader, HasHeader}
 use Rattle.nb_service.specs.Record.{ResourceRecord}
 use Rattle.nb_service.specs.Packet.{QuestionAt, RecordAt, ServicePacket, header_of, IsPacket}
 use Rattle.nb_service.specs.ServiceFaults.{QuestionFails, RdataBegins, RecordFails, item_count, PacketFails}
-use Rattle.nb_service.specs.declared.walking.Walked.{Walked}
+use Rattle.nb_service.specs.declared.seeing.Walked.{Walked}
 use Rattle.nb_service.specs.Code.Steps.{RowOf}
 
 -- an item: a question, or a record of a section

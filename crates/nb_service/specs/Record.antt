@@ -2,8 +2,8 @@
 use Rattle.std.specs.Prelude.{◌≡◌, ◌≢◌, ℕ, ◌≤◌, List, length}
 use Rattle.nb_service.specs.declared.kinds.TheConstants.{NS}
 use Rattle.nb_service.specs.declared.limits.TheConstants.{MAX_RDATA}
-use Rattle.nb_service.specs.declared.rdata.Rdata.{Rdata}
-use Rattle.nb_service.specs.declared.rdata.Rdata.TheVariants.{Bytes, Domain}
+use Rattle.nb_service.specs.declared.record.Rdata.{Rdata}
+use Rattle.nb_service.specs.declared.record.Rdata.TheVariants.{Bytes, Domain}
 
 -- the RDATA of a record: bytes, or the labels of a domain name
 pub data ResourceData : Type 0 where

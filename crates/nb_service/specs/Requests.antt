@@ -6,12 +6,12 @@ use Rattle.std.specs.Prelude.{ℕ, ◌+◌, ◌*◌, ◌^◌, Bool, true, false,
 use Rattle.nb_names.specs.Name.{NetbiosName, labels_of_name}
 use Rattle.nb_service.specs.declared.classes.TheConstants.{IN}
 use Rattle.nb_service.specs.declared.kinds.TheConstants.{NB, NBSTAT}
-use Rattle.nb_service.specs.declared.question.Question.{Question}
+use Rattle.nb_service.specs.declared.record.Question.{Question}
 use Rattle.nb_service.specs.Record.{of_bytes, record_of, ResourceRecord}
 use Rattle.nb_service.specs.Packet.{ServicePacket}
 use Rattle.nb_service.specs.declared.limits.TheConstants.{MAX_ENTRIES}
-use Rattle.nb_service.specs.declared.section.Section.{Section}
-use Rattle.nb_service.specs.declared.section.Section.TheVariants.{Answer, Authority, Additional}
+use Rattle.nb_service.specs.declared.packet.Section.{Section}
+use Rattle.nb_service.specs.declared.packet.Section.TheVariants.{Answer, Authority, Additional}
 
 -- ---- packets built part by part
 

@@ -6,8 +6,7 @@ ghost use Rattle.nb_service.specs.Views.{AreEntries, HasEntries, entry_bytes, en
 
 use crate::kinds::NB;
 use crate::pieces::{Piece, Pieces};
-use crate::rdata::Rdata;
-use crate::record::Record;
+use crate::record::{Rdata, Record};
 
 /// An entry of NB_FLAGS and an address, in bytes (RFC 1002 section 4.2.13).
 pub const ENTRY_LENGTH: usize = 6;

@@ -6,9 +6,7 @@ use crate::classes::IN;
 use crate::kinds::{NB, NBSTAT};
 use crate::limits::ENTRY_LENGTH;
 use crate::packet::{Packet, Questions, no_item, one_item};
-use crate::question::Question;
-use crate::rdata::Rdata;
-use crate::record::Record;
+use crate::record::{Question, Rdata, Record};
 use nb_names::{Name, NoMemory};
 use std::alloc::Global;
 

@@ -4,7 +4,7 @@ ghost use Rattle.nb_service.specs.Header.{header_value};
 ghost use Rattle.nb_service.specs.Packet.{ServicePacket, header_of, IsPacket, HasOutline, HasSections, QuestionAt, RecordAt};
 ghost use Rattle.nb_service.specs.ServiceFaults.{item_count, PacketFails, IsRefused};
 ghost use Rattle.nb_service.specs.Items.{Walks};
-ghost use Rattle.nb_service.specs.declared.question.Question.{Question as QuestionValue};
+ghost use Rattle.nb_service.specs.declared.record.Question.{Question as QuestionValue};
 ghost use Rattle.nb_service.specs.Code.Steps.{HasRow, RowOf};
 ghost use Rattle.nb_service.specs.Record.{ResourceRecord};
 
@@ -13,8 +13,7 @@ use crate::header::{Header, read_header};
 use crate::laws::{one_packet, one_service_fault, sections_in_order};
 use crate::limits::{HEADER_LENGTH, SHORT_PACKET};
 use crate::packet::{Packet, Questions, Records};
-use crate::seeing::{see_question, see_record};
-use crate::walking::{Walked, walk};
+use crate::seeing::{Walked, see_question, see_record, walk};
 use nb_names::limits::POINTED_OFFSETS;
 use nb_names::{NameReader, NoMemory};
 use std::alloc::Global;

@@ -1,17 +1,15 @@
 //! Packets, encoded.
 ghost use Rattle.std.specs.Prelude.{◌≡◌, ◌++◌, ◌<◌, ◌^◌, ℕ, List, length, OnOk, IfOk};
-ghost use Rattle.nb_service.specs.Encoding.{header_bytes, packet_bytes, is_pointed, name_bytes, question_bytes, record_bytes, IsQuestion, IsRecord};
-ghost use Rattle.nb_service.specs.Packet.{header_of, IsPacket};
 ghost use Rattle.std.specs.Int.{w16, w32, to_be_bytes};
 ghost use Rattle.std.specs.List.{AllByRecursion, flat_map};
 ghost use Rattle.nb_names.specs.DomainName.{IsDomain};
+ghost use Rattle.nb_service.specs.Encoding.{header_bytes, packet_bytes, is_pointed, name_bytes, question_bytes, record_bytes, IsQuestion, IsRecord};
+ghost use Rattle.nb_service.specs.Packet.{header_of, IsPacket};
 
 use crate::laws::encoding_is_read;
 use crate::limits::HEADER_LENGTH;
 use crate::packet::Packet;
-use crate::question::Question;
-use crate::rdata::Rdata;
-use crate::record::Record;
+use crate::record::{Question, Rdata, Record};
 use nb_names::{Bytes, DomainName, NoMemory};
 use std::alloc::Global;
 

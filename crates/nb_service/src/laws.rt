@@ -1,21 +1,21 @@
 //! Laws of the definitions that the contracts cite. Each is proved; a call does nothing.
 ghost use Rattle.std.specs.Prelude.{◌≡◌, ◌≢◌, ◌↔◌, IsTrue, ℕ, ◌+◌, ◌*◌, ◌/◌, ◌%◌, ◌<◌, ◌≤◌, List, [], ◌∷◌, ◌++◌, length};
 ghost use Rattle.std.specs.List.{AllByRecursion, flat_map};
-ghost use Rattle.nb_names.specs.declared.pointers.Pointers.TheVariants.{Followed};
+ghost use Rattle.nb_names.specs.declared.reading.Pointers.TheVariants.{Followed};
 ghost use Rattle.nb_names.specs.Labels.{NameAt};
 ghost use Rattle.nb_service.specs.declared.address_entry.AddressEntry.{AddressEntry};
 ghost use Rattle.nb_service.specs.declared.address_entry.TheConstants.{ENTRY_LENGTH};
 ghost use Rattle.nb_service.specs.declared.classes.TheConstants.{IN};
 ghost use Rattle.nb_service.specs.declared.kinds.TheConstants.{A, NS, NULL, NB, NBSTAT};
 ghost use Rattle.nb_service.specs.declared.limits.TheConstants.{HEADER_LENGTH, MAX_ENTRIES, MAX_RDATA};
-ghost use Rattle.nb_service.specs.declared.extent.Extent.{Extent};
+ghost use Rattle.nb_service.specs.declared.record.Extent.{Extent};
 ghost use Rattle.nb_service.specs.declared.fault.ServiceFault.{ServiceFault};
 ghost use Rattle.nb_service.specs.declared.flags.TheConstants.NmFlags.{AA, TC, RD, RA, B};
 ghost use Rattle.nb_service.specs.declared.flags.TheConstants.NodeFlags.{G, DRG, CNF, ACT, PRM};
 ghost use Rattle.nb_service.specs.declared.node_name.NodeName.{NodeName};
 ghost use Rattle.nb_service.specs.declared.node_name.TheConstants.{NODE_NAME_LENGTH, UNIT_ID_LENGTH};
 ghost use Rattle.nb_service.specs.Encoding.{packet_bytes, IsWritable};
-ghost use Rattle.nb_service.specs.declared.question.Question.{Question};
+ghost use Rattle.nb_service.specs.declared.record.Question.{Question};
 ghost use Rattle.nb_service.specs.Equality.{question_eq, record_eq, packet_eq};
 ghost use Rattle.nb_service.specs.Header.{nm_bits, node_bits, opcode_of, rcode_of, PacketHeader, HasHeader};
 ghost use Rattle.nb_service.specs.Items.{PacketItem, IsExtent, ItemAt, ItemFails, ItemsAt, HasItems, items_of};

@@ -8,8 +8,7 @@ ghost use Rattle.nb_service.specs.Views.{HasStatus, IsStatus, after_count, node_
 use crate::flags::{NodeFlags, node_flags_of};
 use crate::kinds::NBSTAT;
 use crate::pieces::{Piece, Pieces};
-use crate::rdata::Rdata;
-use crate::record::Record;
+use crate::record::{Rdata, Record};
 use nb_names::limits::NAME_LENGTH;
 use std::marker::Model;
 

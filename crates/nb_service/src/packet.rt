@@ -6,9 +6,7 @@ ghost use Rattle.nb_service.specs.Header.{opcode_of, rcode_of, nm_bits, nm_bits_
 use crate::fault::PushFault;
 use crate::flags::{NmFlags, nm_flags_of, opcode, rcode};
 use crate::limits::MAX_ENTRIES;
-use crate::question::Question;
-use crate::record::Record;
-use crate::section::Section;
+use crate::record::{Question, Record};
 use nb_names::{Items, NoMemory};
 use std::alloc::Global;
 use std::marker::Model;
@@ -245,4 +243,15 @@ pub(crate) fn add<T: Drop>(list: &mut Items<T>, item: T) -> Result<(), PushFault
     }
     list.push(item)?;
     Ok(())
+}
+
+/// A section of a packet that has records (RFC 1002 section 4.2.1.1).
+#[derive(Clone, Copy, Debug, PartialEq, Eq)]
+pub enum Section {
+    /// The records that answer the questions.
+    Answer,
+    /// The records about name servers.
+    Authority,
+    /// The records that are given besides.
+    Additional,
 }

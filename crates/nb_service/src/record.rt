@@ -1,11 +1,11 @@
-//! Resource records.
+//! Questions and resource records.
 ghost use Rattle.std.specs.Prelude.{◌≡◌, ◌≢◌, ◌<◌, ◌↔◌, length, IfOk, IsErrOf};
 ghost use Rattle.nb_service.specs.Record.{of_bytes, of_domain, record_of, rdata_of, IsRdataOf};
+ghost use Rattle.nb_service.specs.Equality.{rdata_eq};
 
 use crate::fault::RecordFault;
 use crate::kinds::NS;
 use crate::limits::MAX_RDATA;
-use crate::rdata::Rdata;
 use nb_names::DomainName;
 use std::marker::Model;
 
@@ -150,4 +150,85 @@ impl<'a> Eq for Record<'a> {
     ghost use Rattle.nb_service.specs.EqualityFacts.{record_eq_decides};
 
     ghost laws = { decided record_eq record_eq_decides };
+}
+
+/// The RDATA of a record (RFC 1002 section 4.2.1.3).
+#[derive(Debug, Drop)]
+pub enum Rdata<'a> {
+    /// Bytes, of any kind of record but NS.
+    Bytes(&'a [u8]),
+    /// A domain name, of a record of kind NS.
+    Domain(DomainName),
+}
+
+impl<'a> Rdata<'a> {
+    /// Whether the bytes are equal, or the names.
+    pub(crate) fn is_same(&self, other: &Rdata<'_>) -> bool
+        ensures { result ≡ rdata_eq (rdata_of self.now) (rdata_of other.now) }
+    {
+        match (self, other) {
+            (Rdata::Bytes(bytes), Rdata::Bytes(others)) => *bytes == *others,
+            (Rdata::Domain(name), Rdata::Domain(other)) => name == other,
+            _ => false,
+        }
+    }
+}
+
+/// How far an item reaches in the bytes of its packet. Offsets count from the packet's first byte.
+#[derive(Clone, Copy, Debug, PartialEq, Eq)]
+pub struct Extent {
+    /// Where its RDATA begins; of a question, which has none, where it ends.
+    pub rdata: usize,
+    /// Where it ends, and its RDATA with it: the offset of the next item.
+    pub next: usize,
+}
+
+/// What stands in an item beside its names and its RDATA, and how far it reaches (RFC 1002 sections
+/// 4.2.1.2 and 4.2.1.3).
+#[derive(Clone, Copy, Debug, PartialEq, Eq)]
+pub struct Fields {
+    /// The kind of record, or of what is asked for; [`crate::kinds`] names some.
+    pub kind: u16,
+    /// The class; [`crate::classes`] names one.
+    pub class: u16,
+    /// The time to live, in seconds; 0 of a question.
+    pub ttl: u32,
+    /// How far the item reaches.
+    pub extent: Extent,
+}
+
+/// A question (RFC 1002 section 4.2.1.2).
+#[derive(Debug, Drop)]
+pub struct Question {
+    /// The name asked for.
+    pub name: DomainName,
+    /// The kind of record asked for; [`crate::kinds`] names some.
+    pub kind: u16,
+    /// The class; [`crate::classes`] names one.
+    pub class: u16,
+}
+
+impl PartialEq for Question {
+    ghost use Rattle.std.specs.Prelude.{◌≡◌};
+    ghost use Rattle.std.specs.Cmp.{decided, partial_equiv_from_equiv};
+    ghost use Rattle.nb_service.specs.Equality.{question_eq};
+    ghost use Rattle.nb_service.specs.EqualityFacts.{question_eq_decides};
+
+    ghost eq = { question_eq };
+
+    ghost laws = { partial_equiv_from_equiv (decided question_eq question_eq_decides) };
+
+    fn eq(&self, other: &Self) -> bool
+        ensures { result ≡ question_eq self.now other.now }
+    {
+        self.name == other.name && self.kind == other.kind && self.class == other.class
+    }
+}
+
+impl Eq for Question {
+    ghost use Rattle.std.specs.Cmp.{decided};
+    ghost use Rattle.nb_service.specs.Equality.{question_eq};
+    ghost use Rattle.nb_service.specs.EqualityFacts.{question_eq_decides};
+
+    ghost laws = { decided question_eq question_eq_decides };
 }

@@ -5,9 +5,9 @@ use Rattle.nb_names.specs.Labels.{StandsAt}
 use Rattle.std.specs.Int.{w16, to_be_bytes}
 use Rattle.nb_names.specs.PacketFacts.{stands_same, stands_in_all, stands_in_front, one_number_16, within_16}
 use Rattle.nb_names.proofs.LabelsLemmas.{stands_joined}
-use Rattle.nb_session.specs.declared.header.Header.{Header}
-use Rattle.nb_session.specs.declared.kind.Kind.{Kind}
-use Rattle.nb_session.specs.declared.kind.Kind.TheVariants.{Message, Request, Positive, Negative, Retarget, Keepalive}
+use Rattle.nb_session.specs.declared.parsing.Header.{Header}
+use Rattle.nb_session.specs.declared.packet.Kind.{Kind}
+use Rattle.nb_session.specs.declared.packet.Kind.TheVariants.{Message, Request, Positive, Negative, Retarget, Keepalive}
 use Rattle.nb_session.specs.Header.{type_of, header_bytes, HasHeader, body_length, IsGood}
 
 -- ---- bytes

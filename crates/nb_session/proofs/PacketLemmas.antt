@@ -1,7 +1,7 @@
 -- The bytes of a packet have a good header, and are those of no other packet.
 use Rattle.std.proofs.Common.{◌≡◌, ℕ, ◌+◌, ◌*◌, ◌/◌, ◌%◌, ◌<◌, ◌≤◌, List, [], ◌∷◌, ◌++◌, length, refl, ap, sym, subst, ◌∙◌, arith, length-append, take, drop, append_assoc, append-nil}
 use Rattle.std.specs.Int.{w16, to_be_bytes, from_be_bytes}
-use Rattle.nb_names.specs.declared.pointers.Pointers.TheVariants.{Refused}
+use Rattle.nb_names.specs.declared.reading.Pointers.TheVariants.{Refused}
 use Rattle.nb_names.specs.DomainName.{spelling}
 use Rattle.nb_names.specs.FirstLevel.{letters}
 use Rattle.nb_names.specs.Labels.{StandsAt, NameAt}
@@ -10,9 +10,9 @@ use Rattle.nb_names.specs.NameFacts.{spelling-some, fronts_same}
 use Rattle.nb_names.proofs.FirstLevelLemmas.{length-letters}
 use Rattle.nb_names.proofs.LabelsLemmas.{one_reading, spelling_read, stands_joined, spelled_there}
 use Rattle.nb_names.proofs.NameLemmas.{name_domain, one_name}
-use Rattle.nb_session.specs.declared.header.Header.{Header}
-use Rattle.nb_session.specs.declared.kind.Kind.{Kind}
-use Rattle.nb_session.specs.declared.kind.Kind.TheVariants.{Request as request, Message as message, Positive as positive, Negative as negative, Retarget as retarget, Keepalive as keepalive}
+use Rattle.nb_session.specs.declared.parsing.Header.{Header}
+use Rattle.nb_session.specs.declared.packet.Kind.{Kind}
+use Rattle.nb_session.specs.declared.packet.Kind.TheVariants.{Request as request, Message as message, Positive as positive, Negative as negative, Retarget as retarget, Keepalive as keepalive}
 use Rattle.nb_session.specs.declared.packet.Packet.TheVariants.{Message, Request, Positive, Negative, Retarget, Keepalive}
 use Rattle.nb_session.specs.Header.{type_of, MayHave, header_bytes, HasHeader, body_length, packet_length, IsGood}
 use Rattle.nb_session.specs.Packet.{Packet, kind_of, body_of, IsFormed, IsPacket}

@@ -4,9 +4,9 @@ use Rattle.std.proofs.lemmas.List.{length-take-le, take_at, take_all, take-appen
 use Rattle.std.specs.Io.KnownBytes.{Consumes}
 use Rattle.std.proofs.KnownBytes.{Consumes-trans}
 use Rattle.nb_session.specs.declared.fault.SessionFault.{SessionFault}
-use Rattle.nb_session.specs.declared.header.Header.{Header}
-use Rattle.nb_session.specs.declared.kind.Kind.{Kind}
-use Rattle.nb_session.specs.declared.kind.Kind.TheVariants.{Request}
+use Rattle.nb_session.specs.declared.parsing.Header.{Header}
+use Rattle.nb_session.specs.declared.packet.Kind.{Kind}
+use Rattle.nb_session.specs.declared.packet.Kind.TheVariants.{Request}
 use Rattle.nb_session.specs.declared.parsing.Parsed.TheVariants.{Refused}
 use Rattle.nb_session.specs.Code.{TakesPart}
 use Rattle.nb_session.specs.Header.{HasHeader, IsGood, body_length, packet_length}

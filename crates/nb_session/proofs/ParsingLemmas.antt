@@ -2,16 +2,16 @@
 use Rattle.std.proofs.Common.{◌≡◌, ℕ, ◌-◌, ◌<◌, ◌≤◌, List, ◌++◌, length, take, drop, refl, ap, sym, subst, ◌∙◌, arith, length-append, ◌⊎◌, inl, inr}
 use Rattle.std.proofs.lemmas.List.{take_at, take_all, take_rest, length-take-le}
 use Rattle.std.proofs.lemmas.Bool.{cases_lt}
-use Rattle.nb_names.specs.declared.pointers.Pointers.TheVariants.{Refused as refused}
+use Rattle.nb_names.specs.declared.reading.Pointers.TheVariants.{Refused as refused}
 use Rattle.nb_names.specs.Labels.{NameAt}
 use Rattle.nb_names.specs.Name.{NetbiosName, labels_of_name}
 use Rattle.nb_names.proofs.FaultLemmas.{one_netbios, no_netbios}
 use Rattle.nb_names.proofs.LabelsLemmas.{one_reading}
 use Rattle.nb_session.specs.declared.fault.SessionFault.{SessionFault}
 use Rattle.nb_session.specs.declared.fault.SessionFault.TheVariants.{Name, TrailingBytes}
-use Rattle.nb_session.specs.declared.header.Header.{Header}
-use Rattle.nb_session.specs.declared.kind.Kind.{Kind}
-use Rattle.nb_session.specs.declared.kind.Kind.TheVariants.{Request as request}
+use Rattle.nb_session.specs.declared.parsing.Header.{Header}
+use Rattle.nb_session.specs.declared.packet.Kind.{Kind}
+use Rattle.nb_session.specs.declared.packet.Kind.TheVariants.{Request as request}
 use Rattle.nb_session.specs.declared.packet.Packet.TheVariants.{Message, Request, Positive, Negative, Retarget, Keepalive}
 use Rattle.nb_session.specs.declared.parsing.Parsed.TheVariants.{Whole, More, Refused}
 use Rattle.nb_session.specs.Header.{MayHave, HasHeader, body_length, packet_length, IsGood}

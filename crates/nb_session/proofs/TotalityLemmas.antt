@@ -3,7 +3,7 @@ use Rattle.std.proofs.Common.{◌≡◌, ◌≢◌, ◌⊎◌, inl, inr, ℕ, �
 use Rattle.std.proofs.lemmas.Bool.{cases_lt, cases_eq}
 use Rattle.std.proofs.lemmas.List.{length-take-le, take_all, take-append-drop, drop_more}
 use Rattle.std.specs.Int.{w16, to_be_bytes}
-use Rattle.nb_names.specs.declared.pointers.Pointers.TheVariants.{Refused as refused}
+use Rattle.nb_names.specs.declared.reading.Pointers.TheVariants.{Refused as refused}
 use Rattle.nb_names.specs.DomainName.{AreBytes}
 use Rattle.nb_names.specs.PacketFacts.{All-take, All-drop, number_there}
 use Rattle.nb_names.proofs.LabelsLemmas.{next_within, stands_joined}
@@ -12,9 +12,9 @@ use Rattle.nb_names.specs.Labels.{StandsAt}
 use Rattle.nb_names.specs.Name.{labels_of_name}
 use Rattle.nb_session.specs.declared.fault.SessionFault.{SessionFault}
 use Rattle.nb_session.specs.declared.fault.SessionFault.TheVariants.{UnknownType, ReservedFlags, BadLength, Name, TrailingBytes}
-use Rattle.nb_session.specs.declared.header.Header.{Header}
-use Rattle.nb_session.specs.declared.kind.Kind.{Kind}
-use Rattle.nb_session.specs.declared.kind.Kind.TheVariants.{Message as message, Request as request, Positive as positive, Negative as negative, Retarget as retarget, Keepalive as keepalive}
+use Rattle.nb_session.specs.declared.parsing.Header.{Header}
+use Rattle.nb_session.specs.declared.packet.Kind.{Kind}
+use Rattle.nb_session.specs.declared.packet.Kind.TheVariants.{Message as message, Request as request, Positive as positive, Negative as negative, Retarget as retarget, Keepalive as keepalive}
 use Rattle.nb_session.specs.declared.packet.Packet.TheVariants.{Message, Request, Positive, Negative, Retarget, Keepalive}
 use Rattle.nb_session.specs.declared.parsing.Parsed.TheVariants.{Whole, More, Refused}
 use Rattle.nb_session.specs.Cutting.{no_packet, one_more, BeginsWithNone, IsCut}

@@ -5,8 +5,8 @@ use Rattle.std.specs.Prelude.{◌≡◌, ℕ, ◌<◌, ◌≤◌, ◌^◌, List,
 use Rattle.std.specs.Int.{w16, to_be_bytes}
 use Rattle.nb_names.specs.DomainName.{spelling}
 use Rattle.nb_names.specs.Name.{NetbiosName, IsName, labels_of_name}
-use Rattle.nb_session.specs.declared.kind.Kind.{Kind}
-use Rattle.nb_session.specs.declared.kind.Kind.TheVariants.{Message as message, Request as request, Positive as positive, Negative as negative, Retarget as retarget, Keepalive as keepalive}
+use Rattle.nb_session.specs.declared.packet.Kind.{Kind}
+use Rattle.nb_session.specs.declared.packet.Kind.TheVariants.{Message as message, Request as request, Positive as positive, Negative as negative, Retarget as retarget, Keepalive as keepalive}
 use Rattle.nb_session.specs.declared.limits.TheConstants.{MAX_MESSAGE}
 use Rattle.nb_session.specs.declared.packet.Packet.{Packet as PacketOf}
 use Rattle.nb_session.specs.declared.packet.Packet.TheVariants.{Message, Request, Positive, Negative, Retarget, Keepalive}

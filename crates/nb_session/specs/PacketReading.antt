@@ -2,8 +2,8 @@
 use Rattle.std.specs.Prelude.{◌≡◌, ℕ, ◌+◌, ◌≤◌, ◌<◌, List, [], length, take, Option, Some, None, Result, Ok, Err}
 use Rattle.std.specs.Io.KnownBytes.{IsAtEnd}
 use Rattle.nb_names.specs.Counted.{Counts}
-use Rattle.nb_session.specs.declared.header.Header.{Header}
-use Rattle.nb_session.specs.declared.kind.Kind.{Kind}
+use Rattle.nb_session.specs.declared.parsing.Header.{Header}
+use Rattle.nb_session.specs.declared.packet.Kind.{Kind}
 use Rattle.nb_session.specs.declared.limits.TheConstants.{HEADER_LENGTH, MAX_PACKET, MAX_INTERRUPTS}
 use Rattle.nb_session.specs.declared.packet_reading.ReadFault.{ReadFault}
 use Rattle.nb_session.specs.declared.packet_reading.ReadFault.TheVariants.{Refused, EndInside, Device, TooManyInterrupts, NoMemory}

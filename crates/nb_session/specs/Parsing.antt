@@ -4,16 +4,16 @@
 -- Our choice: the header is judged as soon as it is there, before more is asked for; its faults come in the
 -- order of the cases here, and before those of the body.
 use Rattle.std.specs.Prelude.{◌≡◌, ℕ, ◌-◌, ◌<◌, ◌≤◌, List, length, take, Option, Some, None}
-use Rattle.nb_names.specs.declared.pointers.Pointers.TheVariants.{Refused as refused}
+use Rattle.nb_names.specs.declared.reading.Pointers.TheVariants.{Refused as refused}
 use Rattle.nb_names.specs.declared.fault.NameFault.{NameFault}
 use Rattle.nb_names.specs.Labels.{NameAt}
 use Rattle.nb_names.specs.Name.{NetbiosName, IsName, labels_of_name}
 use Rattle.nb_names.specs.NameFaults.{NetbiosFaultAt}
 use Rattle.nb_session.specs.declared.fault.SessionFault.{SessionFault}
 use Rattle.nb_session.specs.declared.fault.SessionFault.TheVariants.{UnknownType, ReservedFlags, BadLength, Name, TrailingBytes}
-use Rattle.nb_session.specs.declared.header.Header.{Header}
-use Rattle.nb_session.specs.declared.kind.Kind.{Kind}
-use Rattle.nb_session.specs.declared.kind.Kind.TheVariants.{Request}
+use Rattle.nb_session.specs.declared.parsing.Header.{Header}
+use Rattle.nb_session.specs.declared.packet.Kind.{Kind}
+use Rattle.nb_session.specs.declared.packet.Kind.TheVariants.{Request}
 use Rattle.nb_session.specs.declared.limits.TheConstants.{HEADER_LENGTH}
 use Rattle.nb_session.specs.declared.parsing.Parsed.{Parsed as ParsedOf}
 use Rattle.nb_session.specs.declared.parsing.Parsed.TheVariants.{Whole, More, Refused}

@@ -2,8 +2,8 @@
 ghost use Rattle.std.specs.Prelude.{◌≡◌, ◌-◌, ◌<◌, ◌≤◌, ℕ, List, ◌++◌, length, take};
 ghost use Rattle.nb_names.specs.DomainName.{AreBytes};
 ghost use Rattle.nb_session.specs.declared.fault.SessionFault.{SessionFault};
-ghost use Rattle.nb_session.specs.declared.header.Header.{Header};
-ghost use Rattle.nb_session.specs.declared.kind.Kind.TheVariants.{Message, Request, Positive, Negative, Retarget, Keepalive};
+ghost use Rattle.nb_session.specs.declared.parsing.Header.{Header};
+ghost use Rattle.nb_session.specs.declared.packet.Kind.TheVariants.{Message, Request, Positive, Negative, Retarget, Keepalive};
 ghost use Rattle.nb_session.specs.declared.limits.TheConstants.{HEADER_LENGTH, MAX_MESSAGE, MAX_PACKET, MIN_REQUEST, MAX_REQUEST, MAX_INTERRUPTS};
 ghost use Rattle.nb_session.specs.declared.parsing.Parsed.TheVariants.{Whole, More, Refused};
 ghost use Rattle.nb_session.specs.Cutting.{ArePackets, IsCut, History};

@@ -3,22 +3,16 @@
 
 mod encoding;
 mod fault;
-mod header;
-mod kind;
 pub mod laws;
 pub mod limits;
 mod packet;
-mod packet_bytes;
 mod packet_reading;
 mod parsing;
 mod stream;
 
-pub use encoding::encode;
+pub use encoding::{PacketBytes, encode};
 pub use fault::SessionFault;
-pub use header::{Header, front_header};
-pub use kind::Kind;
-pub use packet::{LentPacket, MessageData, Packet, TooLong};
-pub use packet_bytes::PacketBytes;
+pub use packet::{Kind, LentPacket, MessageData, Packet, TooLong};
 pub use packet_reading::{ReadFault, Room, read_lent_packet, read_packet};
-pub use parsing::{LentParsed, Parsed, parse, parse_lent};
+pub use parsing::{Header, LentParsed, Parsed, front_header, parse, parse_lent};
 pub use stream::{FeedFault, Next, Stream};

@@ -7,10 +7,9 @@ ghost use Rattle.nb_session.specs.Code.{Fills, Shows};
 ghost use Rattle.nb_session.specs.declared.limits.TheConstants.{HEADER_LENGTH, MAX_PACKET};
 
 use crate::fault::SessionFault;
-use crate::header::read_header;
 use crate::limits::{HEADER_LENGTH, MAX_INTERRUPTS};
 use crate::packet::{LentPacket, Packet};
-use crate::parsing::read_packet_of;
+use crate::parsing::{read_header, read_packet_of};
 use nb_names::{Counted, Told};
 use std::alloc::{AllocError, Global};
 use std::io::Read;

@@ -5,8 +5,8 @@ ghost use Rattle.std.specs.Io.BufRead.{Rests};
 ghost use Rattle.nb_session.specs.contracts.stream.Stream.{the_row};
 ghost use Rattle.nb_session.specs.Stream.{Feeds, Takes, running};
 
+use crate::encoding::PacketBytes;
 use crate::fault::SessionFault;
-use crate::packet_bytes::PacketBytes;
 use crate::parsing::{Parsed, parse_lent};
 use std::alloc::{AllocError, Global};
 use std::marker::Model;

@@ -4,8 +4,8 @@ use Rattle.std.specs.FinMap as maps
 use Rattle.nb_datagram.specs.declared.key.Key.{Key}
 use Rattle.nb_datagram.specs.Fragment.{DatagramParts, FragmentParts, Core, core_of, reach}
 use Rattle.nb_entries.specs.declared.change.Change.TheVariants.{Whole, Same, Grown, Spoilt as Spoils}
-use Rattle.nb_entries.specs.declared.state.State.{State}
-use Rattle.nb_entries.specs.declared.state.State.TheVariants.{Absent, Partial, Spoilt as IsSpoilt, Whole as IsWholly}
+use Rattle.nb_entries.specs.declared.outline.State.{State}
+use Rattle.nb_entries.specs.declared.outline.State.TheVariants.{Absent, Partial, Spoilt as IsSpoilt, Whole as IsWholly}
 use Rattle.nb_entries.specs.declared.slot.Slot.TheVariants.{Spoilt, Held}
 use Rattle.nb_entries.specs.Entry.{EntryFacts, EntryValue, FactsFit, facts_agree, facts_of, facts_together, join_entry, AreShort, IsShort}
 use Rattle.nb_table.specs.Contents.{Contents, table_of, IsWholeAt, datagram_at, newly_whole}

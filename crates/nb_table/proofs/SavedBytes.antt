@@ -23,7 +23,7 @@ use Rattle.std.proofs.lemmas.Option.{none-some, same_Some}
 use Rattle.std.specs.Ordering.{eq_by_cmp}
 use Rattle.nb_entries.specs.Shared.MapsLemmas.{one_key}
 use Rattle.std.specs.Int.{w32, to_be_bytes, w16, from_be_bytes}
-use Rattle.nb_datagram.specs.declared.kind.Kind.TheVariants.{Group}
+use Rattle.nb_datagram.specs.declared.key.Kind.TheVariants.{Group}
 use Rattle.nb_datagram.specs.Packet.{type_of, name_bytes}
 use Rattle.nb_entries.specs.declared.saved.SavedForm.{SavedForm}
 use Rattle.nb_entries.specs.declared.saved.SavedForm.TheVariants.{First, Second}

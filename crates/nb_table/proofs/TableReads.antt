@@ -4,8 +4,8 @@ use Rattle.std.proofs.lemmas.Option.{none-some, same_Some}
 use Rattle.std.specs.FinMap as maps
 use Rattle.nb_datagram.specs.declared.key.Key.{Key}
 use Rattle.nb_datagram.specs.Key.{same_key, key_cmp_total}
-use Rattle.nb_entries.specs.declared.state.State.{State}
-use Rattle.nb_entries.specs.declared.state.State.TheVariants.{Absent, Partial, Whole, Spoilt}
+use Rattle.nb_entries.specs.declared.outline.State.{State}
+use Rattle.nb_entries.specs.declared.outline.State.TheVariants.{Absent, Partial, Whole, Spoilt}
 use Rattle.nb_entries.specs.declared.slot.Slot.TheVariants.{Held, Spoilt as Clashed}
 use Rattle.nb_entries.specs.Entry.{EntryValue}
 use Rattle.nb_table.specs.Contents.{Contents}

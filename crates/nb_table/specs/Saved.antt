@@ -17,9 +17,9 @@ use Rattle.nb_entries.specs.Maps.{OnHeld}
 use Rattle.std.specs.declared.cmp.Ordering.TheVariants.{Less}
 use Rattle.nb_names.specs.Labels.{StandsAt, NumberAt}
 use Rattle.nb_datagram.specs.Key.{key_cmp}
-use Rattle.nb_entries.specs.declared.load_fault.LoadFault.TheVariants.{BadMagic, TooLong, FullSource, Full, NoMemory}
+use Rattle.nb_entries.specs.declared.saved.LoadFault.TheVariants.{BadMagic, TooLong, FullSource, Full, NoMemory}
 use Rattle.nb_entries.specs.SavedReading.{Field, Gives, Judged, Outcome, Then, entry_at}
-use Rattle.nb_entries.specs.declared.load_fault.LoadFault.{LoadFault}
+use Rattle.nb_entries.specs.declared.saved.LoadFault.{LoadFault}
 use Rattle.nb_table.specs.Limits.{FewOfEach, Limits}
 use Rattle.nb_table.specs.Merging.{AllShort}
 

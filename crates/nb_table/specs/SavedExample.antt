@@ -2,7 +2,7 @@
 use Rattle.std.specs.Prelude.{ℕ, List, [], ◌∷◌, ◌++◌, codes, Option, Some}
 use Rattle.std.specs.FinMap as maps
 use Rattle.nb_datagram.specs.declared.key.Key.{Key}
-use Rattle.nb_datagram.specs.declared.kind.Kind.TheVariants.{Group}
+use Rattle.nb_datagram.specs.declared.key.Kind.TheVariants.{Group}
 use Rattle.nb_datagram.specs.Key.{key_cmp}
 use Rattle.nb_entries.specs.declared.slot.Slot.TheVariants.{Held}
 use Rattle.nb_entries.specs.Entry.{EntryFacts}

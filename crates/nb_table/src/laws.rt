@@ -17,7 +17,7 @@ ghost use Rattle.nb_entries.specs.Entry.{EntryFacts, join_entry};
 ghost use Rattle.nb_table.specs.Conflict.{IsSpoilt, PastEnd, Conflict, keyed};
 ghost use Rattle.nb_table.specs.Contents.{Contents, IsTableOf, HasByte, HasEnd, HasPromise, table_of, entry_at, IsWholeAt, datagram_at};
 ghost use Rattle.nb_table.specs.Join.{join, IsTable, SameCores};
-ghost use Rattle.nb_entries.specs.declared.state.State.{State};
+ghost use Rattle.nb_entries.specs.declared.outline.State.{State};
 ghost use Rattle.nb_entries.specs.Change.{Change};
 ghost use Rattle.nb_table.specs.Change.{IsChange};
 ghost use Rattle.nb_table.specs.State.{IsState};
@@ -30,7 +30,7 @@ ghost use Rattle.nb_table.specs.declared.fault.TableFault.TheVariants.{Full, Ful
 ghost use Rattle.nb_table.specs.Insert.{Refuses, with_fragment};
 ghost use Rattle.nb_table.specs.Saved.{IsReadAs, LoadFails};
 ghost use Rattle.nb_table.specs.Refusals.{IsNew, below};
-ghost use Rattle.nb_entries.specs.declared.load_fault.LoadFault.TheVariants as faults;
+ghost use Rattle.nb_entries.specs.declared.saved.LoadFault.TheVariants as faults;
 
 mod saved;
 

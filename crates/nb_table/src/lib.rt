@@ -7,7 +7,6 @@ mod join;
 mod keys;
 pub mod laws;
 mod saved;
-mod sources;
 mod table;
 
 pub use fault::TableFault;

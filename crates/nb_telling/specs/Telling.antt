@@ -1,5 +1,5 @@
 -- What sinks are given, and what they keep.
-use Rattle.nb_telling.specs.declared.field_key.FieldKey.{FieldKey as GivenKey}
+use Rattle.nb_telling.specs.declared.sink.FieldKey.{FieldKey as GivenKey}
 use Rattle.std.specs.Prelude.{ℕ, List, [], ◌∷◌, Option, None, Some}
 
 -- ---- what is told of a thing, as of a packet (our choice): a list of fields, in order

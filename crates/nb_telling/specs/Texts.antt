@@ -4,7 +4,7 @@ use Rattle.std.specs.Fmt.{decimal}
 use Rattle.std.specs.List.{flat_map}
 use Rattle.nb_names.specs.Hexadecimal.{data_text, digits_text}
 use Rattle.nb_telling.specs.Telling.{Field, Text, Number, Digits, Data, Set, Known, Range, Words, At, Begins, Ends, Part, PartEnds, LineEnds}
-use Rattle.nb_telling.specs.declared.flag.Flag.{Flag}
+use Rattle.nb_telling.specs.declared.sink.Flag.{Flag}
 
 -- ---- sets as text (our choice)
 

@@ -8,10 +8,8 @@ ghost use Rattle.nb_telling.specs.Members.{AreMembers, IsJson};
 ghost use Rattle.nb_telling.specs.Texts.{names_of};
 ghost use Rattle.nb_telling.specs.Tokens.{tokens_of};
 
-use crate::field_key::FieldKey;
-use crate::flag::Flag;
 use crate::shows::Shows;
-use crate::sink::Sink;
+use crate::sink::{FieldKey, Flag, Sink};
 use json::Writer;
 use nb_names::{NoMemory, ascii_str, push_digits, push_shown};
 use std::alloc::Global;

@@ -2,17 +2,11 @@
 //! text, another JSON.
 #![tactic(auto)]
 
-mod field_key;
-mod flag;
 mod json_sink;
-mod places;
 mod shows;
 mod sink;
 mod text_sink;
 
-pub use field_key::FieldKey;
-pub use flag::Flag;
 pub use json_sink::{JsonRoom, JsonSink};
-pub use places::tell_place;
 pub use shows::Shows;
-pub use sink::Sink;
+pub use sink::{FieldKey, Flag, Sink, tell_place};

@@ -1,10 +1,8 @@
-//! What fields are reported to.
-ghost use Rattle.std.specs.Prelude.{◌≡◌, IfSome, OnOk};
-ghost use Rattle.nb_telling.specs.Telling.{Field, Text, Number, Digits, Data, Set, Known, Range, Words, At, Begins, Ends, Part, PartEnds, LineEnds, Grows, key_of};
+//! What fields are reported to, their keys, flags and places.
+ghost use Rattle.std.specs.Prelude.{◌≡◌, IfSome, OnOk, fold};
+ghost use Rattle.nb_telling.specs.Telling.{Field, Text, Number, Digits, Data, Set, Known, Range, Words, At, Begins, Ends, Part, PartEnds, LineEnds, Grows, key_of, place_fields};
 ghost use Rattle.nb_telling.specs.Texts.{names_of};
 
-use crate::field_key::FieldKey;
-use crate::flag::Flag;
 use crate::shows::Shows;
 use nb_names::NoMemory;
 use std::fmt::Display;
@@ -114,4 +112,38 @@ pub trait Sink {
     fn line_ends(&mut self) -> Result<(), NoMemory>
         ensures told { OnOk result (seen self.new ≡ after (seen self.old) LineEnds) }
         ensures front { Grows is_front (seen self.old) (seen self.new) };
+}
+
+/// A key: under which name a field stands in an object, and what stands before its value in text.
+#[derive(Clone, Copy, Debug)]
+pub struct FieldKey {
+    /// The name.
+    pub name: &'static str,
+    /// What stands before the value, as ` ttl=`; it may be empty.
+    pub lead: &'static str,
+}
+
+/// A flag that a set may have.
+#[derive(Clone, Copy, Debug)]
+pub struct Flag {
+    /// Its name.
+    pub name: &'static str,
+    /// Whether the set has it.
+    pub is_set: bool,
+}
+
+/// Tells the place of a fault, where it has one.
+///
+/// # Errors
+///
+/// [`NoMemory`] where memory ran out. What the sink had is still its front.
+pub fn tell_place<S: Sink>(place: Option<usize>, sink: &mut S) -> Result<(), NoMemory>
+    ensures told { OnOk result
+        (S.seen sink.new ≡ fold S.after (S.seen sink.old) (place_fields place)) }
+    ensures front { Grows S.is_front (S.seen sink.old) (S.seen sink.new) }
+{
+    match place {
+        Some(place) => sink.at(place as u64),
+        None => Ok(()),
+    }
 }

@@ -1,7 +1,7 @@
 -- What stands in bytes is bytes. Pieces of lines: what may stand amid a line, and where lines end.
 use Rattle.std.proofs.Common.{ℕ, zero, suc, List, [], ◌∷◌, ◌++◌, length, drop, subst, arith, ◌≡◌, ◌<◌, Bool, true, false, if◌then◌else◌, Option, Some, None, refl, sym, ap, ◌∙◌, append_assoc, codes}
 use Rattle.std.specs.List.{AllByRecursion, flat_map, list_all}
-use Rattle.nb_names.specs.declared.pointers.Pointers.{Pointers}
+use Rattle.nb_names.specs.declared.reading.Pointers.{Pointers}
 use Rattle.nb_names.specs.DomainName.{spelling, AreBytes, AreByteLabels}
 use Rattle.nb_names.specs.Labels.{StandsAt, LabelsAt, ends, goes_on, leads_to}
 use Rattle.nb_names.specs.Name.{NetbiosName, IsName, IsByteName, labels_of_name}

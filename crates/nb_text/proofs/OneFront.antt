@@ -2,8 +2,8 @@
 use Rattle.std.proofs.Common.{◌≡◌, inl, inr, ℕ, ◌<◌, ◌≤◌, List, [], ◌∷◌, ◌++◌, length, map, None, refl, sym, ap, ap₂, ◌∙◌, arith}
 use Rattle.nb_service.specs.declared.fault.ServiceFault.{ServiceFault}
 use Rattle.nb_service.specs.Header.{PacketHeader, HasHeader}
-use Rattle.nb_service.specs.declared.question.Question.{Question}
-use Rattle.nb_service.specs.declared.section.Section.TheVariants.{Answer, Authority, Additional}
+use Rattle.nb_service.specs.declared.record.Question.{Question}
+use Rattle.nb_service.specs.declared.packet.Section.TheVariants.{Answer, Authority, Additional}
 use Rattle.nb_service.specs.Items.{PacketItem, HasItems, asked, told, items_of}
 use Rattle.nb_service.specs.Packet as service
 use Rattle.nb_service.specs.Packet.{ServicePacket}
@@ -14,7 +14,7 @@ use Rattle.nb_datagram.specs.declared.front.Front.{Front}
 use Rattle.nb_datagram.specs.DatagramFaults as datagram_faults
 use Rattle.nb_datagram.specs.Fronts.{HasFront, LacksHeader}
 use Rattle.nb_datagram.specs.Packet as datagrams
-use Rattle.nb_session.specs.declared.header.Header.{Header}
+use Rattle.nb_session.specs.declared.parsing.Header.{Header}
 use Rattle.nb_session.specs.Packet.{Packet as SessionPacket}
 use Rattle.nb_session.specs.declared.parsing.Parsed.TheVariants.{Whole}
 use Rattle.nb_session.specs.Header as sessions

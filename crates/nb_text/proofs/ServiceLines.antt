@@ -6,9 +6,9 @@ use Rattle.nb_names.specs.DomainName.{AreBytes}
 use Rattle.nb_names.specs.Hexadecimal.{data_text, word_text}
 use Rattle.nb_names.specs.Labels.{NameAt}
 use Rattle.nb_names.specs.NameText.{labels_written}
-use Rattle.nb_names.specs.declared.pointers.Pointers.TheVariants.{Followed}
+use Rattle.nb_names.specs.declared.reading.Pointers.TheVariants.{Followed}
 use Rattle.nb_names.proofs.LabelsLemmas.{IsDomain-read}
-use Rattle.nb_service.specs.declared.question.Question.{Question}
+use Rattle.nb_service.specs.declared.record.Question.{Question}
 use Rattle.nb_service.specs.Header.{opcode_of, rcode_of, PacketHeader}
 use Rattle.nb_service.specs.Packet.{ServicePacket, header_of, IsPacket, QuestionAt, RecordAt, RdataAt, bytes_there, domain_there, Row, none, more}
 use Rattle.nb_service.specs.Record.{ResourceData, of_bytes, of_domain, ResourceRecord}

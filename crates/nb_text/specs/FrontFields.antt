@@ -9,7 +9,7 @@ use Rattle.nb_datagram.specs.declared.front.Front.{Front}
 use Rattle.nb_datagram.specs.FaultTexts.{key_text}
 use Rattle.nb_service.specs.Header.{PacketHeader}
 use Rattle.nb_service.specs.Packet.{ServicePacket}
-use Rattle.nb_session.specs.declared.header.Header.{Header}
+use Rattle.nb_session.specs.declared.parsing.Header.{Header}
 use Rattle.nb_session.specs.Header.{body_length}
 use Rattle.nb_telling.specs.Telling.{Field, FieldKey, Text, Number, Digits, Words, LineEnds}
 use Rattle.nb_text.specs.Keys.{key_named, kind_key, id_key, packet_type_key}

@@ -5,12 +5,12 @@ use Rattle.std.specs.List.{flat_map}
 use Rattle.nb_names.specs.Addresses.{address_text}
 use Rattle.nb_names.specs.Hexadecimal.{digits_text}
 use Rattle.nb_names.specs.NameText.{labels_written, written}
-use Rattle.nb_names.specs.declared.pointers.Pointers.TheVariants.{Followed}
+use Rattle.nb_names.specs.declared.reading.Pointers.TheVariants.{Followed}
 use Rattle.nb_names.specs.Skipped.{IsSkipped}
 use Rattle.nb_service.specs.declared.fault.ServiceFault.{ServiceFault}
 use Rattle.nb_service.specs.declared.fault.ServiceFault.TheVariants as faults
 use Rattle.nb_service.specs.declared.kinds.TheConstants.{NBSTAT}
-use Rattle.nb_service.specs.declared.question.Question.{Question}
+use Rattle.nb_service.specs.declared.record.Question.{Question}
 use Rattle.nb_service.specs.declared.seen.Seen.{Seen}
 use Rattle.nb_service.specs.FaultTexts.{service_fault_place, service_fault_subject, service_fault_words}
 use Rattle.nb_service.specs.declared.flags.TheConstants.NodeFlags.{G}
@@ -19,11 +19,11 @@ use Rattle.nb_service.specs.Packet.{ServicePacket, records_of}
 use Rattle.nb_service.specs.Record.{ResourceData, of_bytes, of_domain, ResourceRecord}
 use Rattle.nb_text.specs.declared.brief.form.Ending.{Ending}
 use Rattle.nb_text.specs.declared.brief.form.Ending.TheVariants as endings
-use Rattle.nb_text.specs.declared.brief.told.Few.{Few}
-use Rattle.nb_text.specs.declared.brief.told.Listed.{Listed}
-use Rattle.nb_text.specs.declared.brief.told.Listed.TheVariants as items
-use Rattle.nb_text.specs.declared.brief.told.Told.{Told}
-use Rattle.nb_text.specs.declared.brief.told.TheConstants.{MOST_LISTED}
+use Rattle.nb_text.specs.declared.brief.services.Few.{Few}
+use Rattle.nb_text.specs.declared.brief.services.Listed.{Listed}
+use Rattle.nb_text.specs.declared.brief.services.Listed.TheVariants as items
+use Rattle.nb_text.specs.declared.brief.services.Told.{Told}
+use Rattle.nb_text.specs.declared.brief.services.TheConstants.{MOST_LISTED}
 use Rattle.nb_text.specs.declared.codes.TheConstants.{FMT_ERR, SRV_ERR, NAM_ERR, IMP_ERR, RFS_ERR, ACT_ERR, CFT_ERR}
 use Rattle.nb_text.specs.Forms.{form_of, is_type}
 use Rattle.nb_text.specs.Said.{commas, counts_in, refused_said}

@@ -4,7 +4,7 @@ use Rattle.nb_names.specs.Addresses.{address_text}
 use Rattle.nb_names.specs.NameText.{written}
 use Rattle.nb_session.specs.Packet.{Packet}
 use Rattle.nb_session.specs.declared.packet.Packet.TheVariants.{Message, Request, Positive, Negative, Retarget, Keepalive}
-use Rattle.nb_session.specs.declared.kind.Kind.TheVariants as kinds
+use Rattle.nb_session.specs.declared.packet.Kind.TheVariants as kinds
 use Rattle.nb_session.specs.Parsing.{Parsed}
 use Rattle.nb_session.specs.declared.parsing.Parsed.TheVariants.{Whole, More, Refused}
 use Rattle.nb_session.specs.FaultTexts.{session_fault_place, session_fault_text}

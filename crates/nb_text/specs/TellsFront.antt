@@ -12,7 +12,7 @@ use Rattle.nb_datagram.specs.declared.front.Front.{Front}
 use Rattle.nb_datagram.specs.DatagramFaults as datagram_faults
 use Rattle.nb_datagram.specs.Fronts.{HasFront, LacksHeader}
 use Rattle.nb_datagram.specs.Packet as datagrams
-use Rattle.nb_session.specs.declared.header.Header.{Header}
+use Rattle.nb_session.specs.declared.parsing.Header.{Header}
 use Rattle.nb_session.specs.Packet.{Packet as SessionPacket}
 use Rattle.nb_session.specs.declared.parsing.Parsed.TheVariants.{Whole}
 use Rattle.nb_session.specs.Header.{HasHeader}

@@ -14,8 +14,8 @@ use Rattle.nb_service.specs.Header.{node_bits, ont_of}
 use Rattle.nb_service.specs.Record.{ResourceData, of_bytes, of_domain}
 use Rattle.nb_service.specs.Views.{StatusParts, entries_of_data, status_of_data}
 use Rattle.nb_telling.specs.Telling.{Field, FieldKey, Text, Number, Digits, Set, Part, PartEnds, LineEnds}
-use Rattle.nb_text.specs.declared.brief.told.Listed.{Listed}
-use Rattle.nb_text.specs.declared.brief.told.Listed.TheVariants as items
+use Rattle.nb_text.specs.declared.brief.services.Listed.{Listed}
+use Rattle.nb_text.specs.declared.brief.services.Listed.TheVariants as items
 use Rattle.nb_text.specs.Fields.{list_fields, word_field}
 use Rattle.nb_text.specs.Keys.{key_named, key_of, name_key}
 use Rattle.nb_text.specs.Lines.{line_end}

@@ -4,10 +4,10 @@ use Rattle.std.specs.Prelude.{ℕ, ◌==◌, Bool, not, List, [], ◌∷◌, cod
 use Rattle.std.specs.Fmt.{decimal}
 use Rattle.nb_service.specs.declared.flags.TheConstants.NmFlags.{AA, TC, RD, RA, B}
 use Rattle.nb_service.specs.Header.{nm_bits}
-use Rattle.nb_session.specs.declared.kind.Kind.{Kind as SessionKind}
-use Rattle.nb_session.specs.declared.kind.Kind.TheVariants as sessions
+use Rattle.nb_session.specs.declared.packet.Kind.{Kind as SessionKind}
+use Rattle.nb_session.specs.declared.packet.Kind.TheVariants as sessions
 use Rattle.nb_session.specs.Header as session_types
-use Rattle.nb_datagram.specs.declared.kind.Kind.TheVariants.{Unique, Group, Broadcast}
+use Rattle.nb_datagram.specs.declared.key.Kind.TheVariants.{Unique, Group, Broadcast}
 use Rattle.nb_datagram.specs.declared.packet.QueryKind.{QueryKind}
 use Rattle.nb_datagram.specs.declared.packet.QueryKind.TheVariants.{Request, Positive, Negative}
 use Rattle.nb_datagram.specs.Header.{error_type, query_type}

@@ -7,9 +7,8 @@ ghost use Rattle.nb_text.specs.SaysPacket.{AddsSaid};
 mod datagrams;
 mod form;
 mod pieces;
-mod services;
+pub mod services;
 mod sessions;
-pub mod told;
 
 use crate::brief::datagrams::push_datagram;
 use crate::brief::services::push_service;

@@ -1,9 +1,12 @@
 //! The numbers of operations and results, and the words for these and for kinds of packets.
-
 ghost use Rattle.std.specs.Prelude.{◌≡◌, option_map};
-ghost use Rattle.nb_text.specs.Words.{datagram_word, operation_word, query_word, rcode_word, session_word};
+ghost use Rattle.nb_telling.specs.Texts.{names_of};
+ghost use Rattle.nb_text.specs.Words.{datagram_word, operation_word, query_word, rcode_word, session_word, is_set, names_set, packet_flags};
 
+use bitflags::{Flag as Named, Flags};
 use nb_datagram::{Kind, QueryKind, kind_name};
+use nb_service::NmFlags;
+use nb_telling::Flag;
 
 // OPCODEs (RFC 1002 section 4.2.1.1). That 8 is a refresh too, and 15 the registration of a host of
 // several addresses, is our choice.
@@ -124,5 +127,30 @@ pub fn session_name(packet_type: u8) -> Option<&'static str>
         0x84 => Some(RETARGET),
         0x85 => Some(KEEPALIVE),
         _ => None,
+    }
+}
+
+/// The flags of a packet, and which of them are set in its flag word.
+pub fn packet_flags_of(word: u16) -> [Flag; 5]
+    ensures { names_of result ≡ names_set packet_flags word }
+{
+    [
+        packet_flag(&NmFlags::FLAGS[0], word),
+        packet_flag(&NmFlags::FLAGS[1], word),
+        packet_flag(&NmFlags::FLAGS[2], word),
+        packet_flag(&NmFlags::FLAGS[3], word),
+        packet_flag(&NmFlags::FLAGS[4], word),
+    ]
+}
+
+/// A flag of packets, and whether it is set in a word.
+#[inline(always)]
+fn packet_flag(flag: &Named<NmFlags>, word: u16) -> Flag
+    ensures named { result.name.now ≡ flag.now.name.now }
+    ensures set { result.is_set ≡ is_set word flag.now.value.0 }
+{
+    Flag {
+        name: flag.name(),
+        is_set: word & flag.value().bits() != 0,
     }
 }

@@ -1,5 +1,4 @@
 //! A datagram service packet, told to a sink.
-
 ghost use Rattle.std.specs.Prelude.{◌≡◌, ◌∷◌, [], ◌++◌, OnOk, fold};
 ghost use Rattle.nb_names.specs.NameText.{written};
 ghost use Rattle.nb_datagram.specs.FaultTexts.{kind_text};
@@ -9,9 +8,8 @@ ghost use Rattle.nb_text.specs.Keys.{key_named};
 ghost use Rattle.nb_text.specs.Tells.{IsTold};
 
 use crate::codes::{ERROR, query_name};
-use crate::faults::tell_refusal;
 use crate::keys::field_key;
-use crate::words::{tell_byte, tell_kind, tell_number, tell_used};
+use crate::words::{tell_byte, tell_kind, tell_number, tell_refusal, tell_used};
 use nb_datagram::{ErrorPacket, Key, LentFragment, LentPacket, LentQuery, decode_lent, kind_name};
 use nb_names::NoMemory;
 use nb_telling::Sink;

@@ -1,16 +1,27 @@
 //! What the front of a payload says, told to a sink, and its text.
 #![tactic(auto, using(nb_names::specs::Growth::front_stays))]
 
-ghost use Rattle.std.specs.Prelude.{◌≡◌, ◌≢◌, ◌++◌, ℕ, List, OnOk, fold, string_bytes};
+ghost use Rattle.std.specs.Prelude.{◌≡◌, ◌≢◌, ◌++◌, ℕ, List, OnOk, fold, string_bytes, ◌∷◌, [], Some, None, option_map};
 ghost use Rattle.nb_names.specs.Growth.{OnlyAdds};
-ghost use Rattle.nb_telling.specs.Telling.{Field, Grows};
+ghost use Rattle.nb_session.specs.Parsing.{Parsed as ParsedValue, Parses, taken_by};
+ghost use Rattle.nb_datagram.specs.declared.fault.DatagramFault.{DatagramFault};
+ghost use Rattle.nb_datagram.specs.DatagramFaults.{PacketFails};
+ghost use Rattle.nb_datagram.specs.FaultTexts.{key_text};
+ghost use Rattle.nb_telling.specs.Telling.{Field, Grows, Digits, Text, key_of};
 ghost use Rattle.nb_text.specs.TellsFront.{FrontOf, IsFrontTold, ShowsFront};
+ghost use Rattle.nb_text.specs.FrontFields.{datagram_front_fields, fragment_front_fields, session_front_fields, standing_name, type_field};
+ghost use Rattle.nb_text.specs.Keys.{key_named};
+ghost use Rattle.nb_text.specs.Words.{datagram_word, session_word};
 
-use crate::packet_fronts::{tell_datagram_front, tell_session_front};
+use crate::codes::{datagram_name, session_name};
+use crate::keys::field_key;
 use crate::services::tell_service;
 use crate::showing::tell_packet;
-use nb_names::NoMemory;
-use nb_telling::Sink;
+use crate::words::{tell_byte, tell_kind, tell_number};
+use nb_datagram::{FragmentFront, Front, decode_lent, read_front};
+use nb_names::{LentName, NoMemory};
+use nb_session::{Header, Parsed, front_header, parse_lent};
+use nb_telling::{FieldKey, Sink};
 
 /// Tells what the front of a payload that came to a port says to a sink, field by field: what
 /// [`tell_packet`] tells, and where the payload begins with no packet then what still stands there.
@@ -68,4 +79,154 @@ pub fn push_front(port: u16, payload: &[u8], text: &mut String) -> Result<(), No
     ensures front { OnlyAdds (string_bytes text.old) (string_bytes text.new) }
 {
     tell_front(port, payload, text)
+}
+
+/// Tells what still stands at the front of a payload of port 138; nothing of one that begins with a
+/// packet.
+pub fn tell_datagram_front<S: Sink>(payload: &[u8], sink: &mut S) -> Result<(), NoMemory>
+    ensures told { OnOk result ((more : List Field) × FrontOf payload.now 138 more
+        × (S.seen sink.new ≡ fold S.after (S.seen sink.old) more)) }
+    ensures front { Grows S.is_front (S.seen sink.old) (S.seen sink.new) }
+{
+    match decode_lent(payload) {
+        Ok(_) => Ok(()),
+        Err(_) => tell_refused_datagram(payload, sink),
+    }
+}
+
+/// Tells what still stands at the front of a payload of port 138 that begins with no packet.
+fn tell_refused_datagram<S: Sink>(payload: &[u8], sink: &mut S) -> Result<(), NoMemory>
+    requires { (fault : DatagramFault) × PacketFails payload.now fault }
+    ensures told { OnOk result ((more : List Field) × FrontOf payload.now 138 more
+        × (S.seen sink.new ≡ fold S.after (S.seen sink.old) more)) }
+    ensures front { Grows S.is_front (S.seen sink.old) (S.seen sink.new) }
+{
+    match read_front(payload) {
+        Some(front) => tell_datagram_line(&front, sink),
+        None => Ok(()),
+    }
+}
+
+/// Tells the line of what still stands at the front of a payload of port 138.
+fn tell_datagram_line<S: Sink>(front: &Front<'_>, sink: &mut S) -> Result<(), NoMemory>
+    ensures told { OnOk result
+        (S.seen sink.new ≡ fold S.after (S.seen sink.old) (datagram_front_fields front.now)) }
+    ensures front { Grows S.is_front (S.seen sink.old) (S.seen sink.new) }
+{
+    sink.words("  ")?;
+    tell_datagram_header(front, sink)?;
+    tell_fragment_front(&front.fragment, sink)?;
+    sink.line_ends()
+}
+
+/// Tells the ten bytes with which all packets of port 138 begin.
+fn tell_datagram_header<S: Sink>(front: &Front<'_>, sink: &mut S) -> Result<(), NoMemory>
+    ensures told { OnOk result (S.seen sink.new ≡ fold S.after (S.seen sink.old)
+        (type_field (datagram_word front.now.message_type) front.now.message_type
+        ∷ Digits (key_named "flags") (front.now.flags ∷ [])
+        ∷ Text (key_named "key") (key_text front.now.key) ∷ [])) }
+    ensures front { Grows S.is_front (S.seen sink.old) (S.seen sink.new) }
+{
+    tell_type(datagram_name(front.message_type), front.message_type, sink)?;
+    tell_byte(field_key!("flags"), front.flags, sink)?;
+    sink.shown(field_key!("key"), &front.key)
+}
+
+/// Tells what stands after the ten bytes with which all packets of port 138 begin.
+fn tell_fragment_front<S: Sink>(
+    fragment: &Option<FragmentFront<'_>>,
+    sink: &mut S,
+) -> Result<(), NoMemory>
+    ensures told { OnOk result
+        (S.seen sink.new ≡ fold S.after (S.seen sink.old) (fragment_front_fields fragment.now)) }
+    ensures front { Grows S.is_front (S.seen sink.old) (S.seen sink.new) }
+{
+    match fragment {
+        Some(front) => tell_fragment(front, sink),
+        None => Ok(()),
+    }
+}
+
+/// Tells the rest of a fragment's header, and the names that stand whole.
+fn tell_fragment<S: Sink>(front: &FragmentFront<'_>, sink: &mut S) -> Result<(), NoMemory>
+    ensures told { OnOk result (S.seen sink.new
+        ≡ fold S.after (S.seen sink.old) (fragment_front_fields (Some front.now))) }
+    ensures front { Grows S.is_front (S.seen sink.old) (S.seen sink.new) }
+{
+    tell_number(field_key!("offset"), front.offset, sink)?;
+    tell_standing_name(field_key!("source"), &front.source, sink)?;
+    tell_standing_name(field_key!("destination"), &front.destination, sink)
+}
+
+/// Tells a name, where it stands whole.
+fn tell_standing_name<S: Sink>(
+    key: FieldKey,
+    name: &Option<LentName<'_>>,
+    sink: &mut S,
+) -> Result<(), NoMemory>
+    ensures told { OnOk result
+        (S.seen sink.new ≡ fold S.after (S.seen sink.old) (standing_name (key_of key) name.now)) }
+    ensures front { Grows S.is_front (S.seen sink.old) (S.seen sink.new) }
+{
+    match name {
+        Some(name) => sink.shown(key, name),
+        None => Ok(()),
+    }
+}
+
+/// Tells what still stands at the front of a payload of port 139; nothing of one that begins with a
+/// packet.
+pub fn tell_session_front<S: Sink>(payload: &[u8], sink: &mut S) -> Result<(), NoMemory>
+    ensures told { OnOk result ((port : ℕ) → port ≢ 137 → port ≢ 138 →
+        (more : List Field) × FrontOf payload.now port more
+        × (S.seen sink.new ≡ fold S.after (S.seen sink.old) more)) }
+    ensures front { Grows S.is_front (S.seen sink.old) (S.seen sink.new) }
+{
+    match parse_lent(payload) {
+        Parsed::Whole(..) => Ok(()),
+        Parsed::More(_) => tell_session_header(payload, sink),
+        Parsed::Refused(_) => tell_session_header(payload, sink),
+    }
+}
+
+/// Tells what still stands at the front of a payload of port 139 that begins with no whole packet.
+fn tell_session_header<S: Sink>(payload: &[u8], sink: &mut S) -> Result<(), NoMemory>
+    requires { (parsed : ParsedValue) × Parses payload.now parsed × (taken_by parsed ≡ None) }
+    ensures told { OnOk result ((port : ℕ) → port ≢ 137 → port ≢ 138 →
+        (more : List Field) × FrontOf payload.now port more
+        × (S.seen sink.new ≡ fold S.after (S.seen sink.old) more)) }
+    ensures front { Grows S.is_front (S.seen sink.old) (S.seen sink.new) }
+{
+    match front_header(payload) {
+        Some(header) => tell_session_line(&header, sink),
+        None => Ok(()),
+    }
+}
+
+/// Tells the line of a session packet's header.
+fn tell_session_line<S: Sink>(header: &Header, sink: &mut S) -> Result<(), NoMemory>
+    ensures told { OnOk result
+        (S.seen sink.new ≡ fold S.after (S.seen sink.old) (session_front_fields header.now)) }
+    ensures front { Grows S.is_front (S.seen sink.old) (S.seen sink.new) }
+{
+    sink.words("  ")?;
+    tell_type(session_name(header.packet_type), header.packet_type, sink)?;
+    sink.number(field_key!("length"), header.body_length() as u64)?;
+    sink.line_ends()
+}
+
+/// Tells what a packet is, by its word where its type has one, else by its type.
+fn tell_type<S: Sink>(
+    word: Option<&'static str>,
+    packet_type: u8,
+    sink: &mut S,
+) -> Result<(), NoMemory>
+    ensures told { OnOk result (S.seen sink.new ≡ S.after (S.seen sink.old)
+        (type_field (option_map (λ word. word.now) word.entry) packet_type)) }
+    ensures front { Grows S.is_front (S.seen sink.old) (S.seen sink.new) }
+{
+    match word {
+        Some(word) => tell_kind(word, sink),
+        None => tell_byte(field_key!("type", "type="), packet_type, sink),
+    }
 }

@@ -9,24 +9,24 @@ ghost use Rattle.nb_service.specs.declared.flags.TheConstants.NmFlags.{AA, TC, R
 ghost use Rattle.nb_service.specs.declared.flags.TheConstants.NodeFlags.{G, DRG, CNF, ACT, PRM};
 ghost use Rattle.nb_service.specs.Header.{nm_bits, node_bits, ont_of, opcode_of, rcode_of};
 ghost use Rattle.nb_service.specs.Packet.{ServicePacket, IsPacket as IsServicePacket};
+ghost use Rattle.nb_service.specs.declared.fault.ServiceFault.{ServiceFault};
+ghost use Rattle.nb_service.specs.FaultTexts.{service_fault_place, service_fault_text};
 ghost use Rattle.nb_session.specs.Packet.{Packet as SessionPacket};
 ghost use Rattle.nb_session.specs.declared.parsing.Parsed.TheVariants.{Whole};
 ghost use Rattle.nb_session.specs.Parsing.{Parsed, Parses};
+ghost use Rattle.nb_session.specs.declared.fault.SessionFault.{SessionFault};
+ghost use Rattle.nb_session.specs.FaultTexts.{session_fault_place, session_fault_text};
 ghost use Rattle.nb_datagram.specs.declared.key.Key.{Key};
 ghost use Rattle.nb_datagram.specs.declared.packet.QueryKind.TheVariants.{Request, Positive, Negative};
 ghost use Rattle.nb_datagram.specs.Header.{IsKey};
 ghost use Rattle.nb_datagram.specs.Packet.{Packet as DatagramPacket, IsPacket as IsDatagramPacket};
 ghost use Rattle.nb_datagram.specs.FaultTexts.{key_text, datagram_fault_place, datagram_fault_text};
+ghost use Rattle.nb_datagram.specs.declared.fault.DatagramFault.{DatagramFault};
 ghost use Rattle.nb_telling.specs.Telling.{Field};
 ghost use Rattle.nb_telling.specs.Members.{AreMembers};
 ghost use Rattle.nb_telling.specs.Texts.{text_of};
 ghost use Rattle.nb_text.specs.DatagramFields.{datagram_fields};
 ghost use Rattle.nb_text.specs.DatagramText.{datagram_text};
-ghost use Rattle.nb_service.specs.declared.fault.ServiceFault.{ServiceFault};
-ghost use Rattle.nb_service.specs.FaultTexts.{service_fault_place, service_fault_text};
-ghost use Rattle.nb_session.specs.declared.fault.SessionFault.{SessionFault};
-ghost use Rattle.nb_session.specs.FaultTexts.{session_fault_place, session_fault_text};
-ghost use Rattle.nb_datagram.specs.declared.fault.DatagramFault.{DatagramFault};
 ghost use Rattle.nb_text.specs.FaultEnds.{IsPlaceIn};
 ghost use Rattle.nb_text.specs.Fields.{AreLines, IsWord, refused_fields};
 ghost use Rattle.nb_text.specs.Lines.{refused_text};
@@ -39,22 +39,15 @@ ghost use Rattle.nb_text.specs.Shown.{Shown};
 ghost use Rattle.nb_text.specs.Tells.{Tells};
 ghost use Rattle.nb_text.specs.Views.{name_flags};
 ghost use Rattle.nb_text.specs.Words.{flag, operation_word, packet_flags, query_word, rcode_word, set_text};
+ghost use Rattle.nb_text.specs.TellsFront.{TellsFront};
 
-mod endings;
-mod fronts;
 mod phrases;
-mod responses;
 mod texts;
 
-pub use endings::{codes_in_words, refusals_in_words, relays_in_words};
-pub use fronts::{fronts_are_members, fronts_of_packets, one_front};
 use nb_datagram::laws as datagrams;
 use nb_service::laws as names;
 use nb_session::laws as sessions;
-pub use phrases::{
-    datagrams_in_words, names_in_words, numbers, requests_in_words, sessions_in_words,
-};
-pub use responses::{answers_in_words, outcomes_in_words, redirects_in_words};
+pub use phrases::{answers_in_words, codes_in_words, datagrams_in_words, names_in_words, numbers, outcomes_in_words, redirects_in_words, refusals_in_words, relays_in_words, requests_in_words, sessions_in_words};
 pub use texts::{lines_of_datagrams, lines_of_names, lines_of_sessions};
 
 /// A payload has one text for a port, one list of fields, and one phrase.
@@ -220,4 +213,40 @@ pub fn words_for_flags()
         ∷ flag (codes "PRM") (node_bits PRM) ∷ [] }
     ensures fields { (word : ℕ) → (opcode_of word ≡ word / 2048 % 16) × (rcode_of word ≡ word % 16)
         × (ont_of word ≡ word / 8192 % 4) }
+{}
+
+/// What the front of a payload says is one list of fields for a port.
+pub fn one_front()
+    ensures { (payload : List ℕ) (port : ℕ) (fields others : List Field) →
+        TellsFront payload port fields → TellsFront payload port others → fields ≡ others }
+{
+    names::one_packet();
+    names::one_service_fault();
+    names::one_header();
+    names::one_list_of_items();
+    datagrams::one_packet();
+    datagrams::one_datagram_fault();
+    datagrams::one_front();
+    sessions::one_answer();
+    sessions::one_header();
+}
+
+/// Of a payload that begins with a packet the front says what the packet's fields say.
+pub fn fronts_of_packets()
+    ensures names { (payload : List ℕ) (packet : ServicePacket) (used : ℕ) →
+        IsServicePacket payload packet used →
+        TellsFront payload 137 (service_fields packet used) }
+    ensures datagrams { (payload : List ℕ) (packet : DatagramPacket) (used : ℕ) →
+        IsDatagramPacket payload packet used →
+        TellsFront payload 138 (datagram_fields packet used) }
+    ensures sessions { (payload : List ℕ) (port : ℕ) (packet : SessionPacket) (used : ℕ) →
+        port ≢ 137 → port ≢ 138 → Parses payload (Whole packet used) →
+        TellsFront payload port (session_fields (Whole packet used)) }
+{}
+
+/// The fields of what the front of a payload says are members of an object: lists in them stand in
+/// parts of lists at most.
+pub fn fronts_are_members()
+    ensures { (payload : List ℕ) (port : ℕ) (fields : List Field) →
+        TellsFront payload port fields → AreMembers 2 fields }
 {}

@@ -4,14 +4,9 @@
 mod brief;
 mod codes;
 mod datagrams;
-mod faults;
-mod flags;
 mod fronts;
 pub mod keys;
 pub mod laws;
-mod objects;
-mod packet_fronts;
-mod questions;
 mod records;
 mod services;
 mod sessions;
@@ -21,5 +16,4 @@ mod words;
 
 pub use brief::push_brief;
 pub use fronts::{push_front, tell_front};
-pub use objects::packet_object;
-pub use showing::{push_packet, tell_packet};
+pub use showing::{packet_object, push_packet, tell_packet};

@@ -1,5 +1,4 @@
 //! A name service packet, told to a sink.
-
 ghost use Rattle.std.specs.Prelude.{◌≡◌, ◌∷◌, Bool, None, Some, OnOk, fold};
 ghost use Rattle.nb_service.specs.Header.{PacketHeader, header_value};
 ghost use Rattle.nb_service.specs.Items.{Walks};
@@ -10,13 +9,10 @@ ghost use Rattle.nb_text.specs.Fields.{word_field};
 ghost use Rattle.nb_text.specs.ServiceFields.{count_fields, header_fields, lists_fields, state_fields};
 ghost use Rattle.nb_text.specs.TellsFront.{ServiceTold};
 
-use crate::codes::{operation_name, rcode_name};
-use crate::faults::tell_refusal;
-use crate::flags::packet_flags_of;
+use crate::codes::{operation_name, packet_flags_of, rcode_name};
 use crate::keys::field_key;
-use crate::questions::tell_questions;
-use crate::records::tell_section;
-use crate::words::{tell_named, tell_number, tell_used, tell_word};
+use crate::records::{tell_questions, tell_section};
+use crate::words::{tell_named, tell_number, tell_refusal, tell_used, tell_word};
 use nb_names::limits::POINTED_OFFSETS;
 use nb_names::{NameReader, NoMemory};
 use nb_service::limits::{HEADER_LENGTH, SHORT_PACKET};

@@ -1,5 +1,4 @@
 //! A session packet, told to a sink.
-
 ghost use Rattle.std.specs.Prelude.{◌≡◌, ◌≢◌, ◌++◌, ℕ, OnOk, fold};
 ghost use Rattle.nb_telling.specs.Telling.{Grows};
 ghost use Rattle.nb_text.specs.Fields.{used_fields};
@@ -7,9 +6,8 @@ ghost use Rattle.nb_text.specs.SessionFields.{parts_fields, session_fields};
 ghost use Rattle.nb_text.specs.Tells.{IsTold};
 
 use crate::codes::{KEEPALIVE, MESSAGE, NEGATIVE, POSITIVE, REQUEST, RETARGET};
-use crate::faults::tell_refusal;
 use crate::keys::field_key;
-use crate::words::{tell_byte, tell_kind, tell_number, tell_used};
+use crate::words::{tell_byte, tell_kind, tell_number, tell_refusal, tell_used};
 use nb_names::{LentName, NoMemory};
 use nb_session::{LentPacket, LentParsed, Packet, Parsed, parse_lent};
 use nb_telling::Sink;

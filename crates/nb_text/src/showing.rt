@@ -1,18 +1,19 @@
-//! A payload told to a sink, and its text.
+//! A payload told to a sink, its text, and its JSON object.
 #![tactic(auto, using(nb_names::specs::Growth::front_stays))]
 
-ghost use Rattle.std.specs.Prelude.{OnOk, string_bytes};
+ghost use Rattle.std.specs.Prelude.{OnOk, string_bytes, IfOk};
 ghost use Rattle.nb_names.specs.Growth.{OnlyAdds};
 ghost use Rattle.nb_telling.specs.Telling.{Grows};
+ghost use Rattle.nb_telling.specs.Members.{IsJson};
 ghost use Rattle.nb_text.specs.Shown.{AddsShown};
-ghost use Rattle.nb_text.specs.Tells.{IsTold};
+ghost use Rattle.nb_text.specs.Tells.{IsTold, IsObject};
 
 use crate::datagrams::tell_datagram;
-use crate::laws::texts_of_fields;
+use crate::laws::{fields_are_members, texts_of_fields};
 use crate::services::tell_service;
 use crate::sessions::tell_session;
 use nb_names::NoMemory;
-use nb_telling::Sink;
+use nb_telling::{JsonRoom, JsonSink, Sink};
 
 /// Tells a payload that came to a port to a sink, field by field: the packet that it begins with,
 /// or why it begins with none.
@@ -63,4 +64,23 @@ pub fn push_packet(port: u16, payload: &[u8], text: &mut String) -> Result<(), N
     // The law that the fields' text is the packet's; the call does nothing.
     texts_of_fields();
     tell_packet(port, payload, text)
+}
+
+/// The JSON object (RFC 8259) of a payload that came to a port, in the room: its members are the
+/// fields that [`tell_packet`] tells.
+///
+/// # Errors
+///
+/// [`NoMemory`] where memory ran out.
+///
+/// The form is our choice.
+pub fn packet_object(port: u16, payload: &[u8], room: JsonRoom) -> Result<JsonRoom, NoMemory>
+    ensures object { IfOk result (λ made. IsObject payload.now port made) }
+    ensures json { IfOk result (λ made. IsJson made) }
+{
+    // The law that makes the fields members; the call does nothing.
+    fields_are_members();
+    let mut sink = JsonSink::begin(room)?;
+    tell_packet(port, payload, &mut sink)?;
+    sink.end()
 }

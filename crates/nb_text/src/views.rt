@@ -4,7 +4,7 @@ ghost use Rattle.std.specs.Prelude.{◌≡◌, ◌++◌, List, OnOk, fold, lengt
 ghost use Rattle.std.specs.List.{flat_map};
 ghost use Rattle.nb_service.specs.Record.{of_bytes};
 ghost use Rattle.nb_telling.specs.Telling.{Field, Grows};
-ghost use Rattle.nb_text.specs.declared.brief.told.Listed.{Listed};
+ghost use Rattle.nb_text.specs.declared.brief.services.Listed.{Listed};
 ghost use Rattle.nb_text.specs.Fields.{list_fields};
 ghost use Rattle.nb_text.specs.ServiceSaid.{few, first};
 ghost use Rattle.nb_text.specs.Views.{fields_by, flags_by, listed_by, parts_in, units_by};
@@ -12,7 +12,7 @@ ghost use Rattle.nb_text.specs.Views.{fields_by, flags_by, listed_by, parts_in, 
 mod entries;
 mod status;
 
-use crate::brief::told::{Few, Listed};
+use crate::brief::services::{Few, Listed};
 use crate::views::entries::tell_entries;
 use crate::views::status::tell_status;
 use nb_names::NoMemory;

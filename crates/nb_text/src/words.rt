@@ -1,16 +1,16 @@
 //! Numbers told, by their words where they have some, and what lines end with.
-
-ghost use Rattle.std.specs.Prelude.{◌≡◌, ◌∷◌, [], OnOk, fold, option_map};
+ghost use Rattle.std.specs.Prelude.{◌≡◌, ◌∷◌, [], OnOk, fold, option_map, IfSome};
 ghost use Rattle.nb_service.specs.Header.{ont_of};
 ghost use Rattle.nb_telling.specs.Telling.{Digits, LineEnds, Number, PartEnds, Text, Grows, key_of};
 ghost use Rattle.nb_text.specs.Keys.{key_named, kind_key};
-ghost use Rattle.nb_text.specs.Fields.{used_fields, word_field};
+ghost use Rattle.nb_text.specs.Fields.{used_fields, word_field, refused_fields};
 ghost use Rattle.nb_text.specs.ServiceFields.{named_field};
 
 use crate::keys::{KIND, field_key};
 use nb_names::NoMemory;
 use nb_service::ont;
-use nb_telling::{FieldKey, Sink};
+use nb_telling::{FieldKey, Sink, tell_place};
+use std::fmt::Display;
 
 /// Tells a number by its name, where it has one.
 #[inline(always)]
@@ -99,5 +99,20 @@ pub fn tell_used<S: Sink>(used: usize, sink: &mut S) -> Result<(), NoMemory>
     ensures front { Grows S.is_front (S.seen sink.old) (S.seen sink.new) }
 {
     sink.number(field_key!("used"), used as u64)?;
+    sink.line_ends()
+}
+
+/// Tells a fault, and its place where it has one.
+pub fn tell_refusal<F: Display + Drop, S: Sink>(
+    fault: F,
+    place: Option<usize>,
+    sink: &mut S,
+) -> Result<(), NoMemory>
+    ensures told { OnOk result (IfSome (F.output fault) (λ shown.
+        S.seen sink.new ≡ fold S.after (S.seen sink.old) (refused_fields shown place))) }
+    ensures front { Grows S.is_front (S.seen sink.old) (S.seen sink.new) }
+{
+    sink.displayed(field_key!("refused", "refused "), fault)?;
+    tell_place(place, sink)?;
     sink.line_ends()
 }

@@ -13,7 +13,7 @@ use Rattle.nbt.specs.Commands.{Picks, Ran, RanBy, Streams, no_memory, ran, with_
 use Rattle.std.proofs.Math.ListN.{get_or}
 use Rattle.nbt.specs.FaultTexts.{status_after}
 use Rattle.nbt.specs.Refusals.{AsksRefusal}
-use Rattle.nbt.specs.declared.subcommand.Subcommand.{Subcommand}
+use Rattle.nbt.specs.declared.command_forms.Subcommand.{Subcommand}
 
 -- clap's functions say of this command line which subcommand is entered
 pub nbt_is_simple : is_simple nbt_app ≡ true

@@ -22,6 +22,6 @@ pub use Rattle.nb_table.specs.Limits.{TableValue}
 pub use Rattle.nb_names.specs.Lines.{HasLines, IsLine, with_rest}
 pub use Rattle.nbt.specs.declared.fault.Fault.{Fault}
 pub use Rattle.nbt.specs.declared.fault.Fault.TheVariants.{Arguments, Full, FullSource, Line, Memory, NoTables, Read, TooManyNames, TwoTablesWanted, Write}
-pub use Rattle.nbt.specs.declared.status.Status.{Status}
-pub use Rattle.nbt.specs.declared.status.Status.TheVariants.{BadUsage, Done, Failed, Refused}
+pub use Rattle.nbt.specs.declared.fault.Status.{Status}
+pub use Rattle.nbt.specs.declared.fault.Status.TheVariants.{BadUsage, Done, Failed, Refused}
 pub use Rattle.nbt.specs.declared.settings.Capacity.{Capacity}

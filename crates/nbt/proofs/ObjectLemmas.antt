@@ -11,7 +11,7 @@ use Rattle.nb_text.specs.Keys.{kind_key}
 use Rattle.nb_text.specs.SaysPacket.{IsSaid}
 use Rattle.nb_text.specs.Tells.{IsTold, Tells}
 use Rattle.nb_text.specs.TellsFront.{TellsFront, IsFrontTold}
-use Rattle.nb_member.specs.declared.member_fault.MemberFault.{MemberFault}
+use Rattle.nb_member.specs.declared.outcome.MemberFault.{MemberFault}
 use Rattle.nb_member.specs.declared.outcome.Outcome.{Outcome}
 use Rattle.nb_member.specs.ListingFields.{IsObject}
 use Rattle.nb_member.specs.Shared.ObjectLemmas.{adds, told_object}

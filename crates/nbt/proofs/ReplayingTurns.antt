@@ -2,10 +2,10 @@
 use Rattle.nbt.proofs.Common.{◌≡◌, ◌≢◌, ◌<◌, ◌+◌, ◌++◌, ◌∷◌, inl, inr, ℕ, List, [], length, get_or, map, take, drop, Bor, Option, Result, Ok, Err, IfErr, refl, sym, ap, subst, ◌∙◌, map-append, take_more, take-append-drop, drop_more, Consumes, MemberValue, new_member, Stands, key_cmp, Counts, ShowsUnread, ShowsWriteFault, Keeps-same, Capacity, Fault, Arguments, TooManyNames, Line, Read, Write, Memory}
 use Rattle.std.specs.FinMap as maps
 use Rattle.nb_names.specs.Name.{NetbiosName}
-use Rattle.nb_member.specs.declared.event.Event.{Event}
-use Rattle.nb_member.specs.declared.replay_fault.ReplayFault.{ReplayFault}
-use Rattle.nb_member.specs.declared.replay_fault.ReplayFault.TheVariants as replay
-use Rattle.nb_member.specs.declared.capture_options.CaptureOptions.{CaptureOptions}
+use Rattle.nb_member.specs.declared.outcome.Event.{Event}
+use Rattle.nb_member.specs.declared.replaying.ReplayFault.{ReplayFault}
+use Rattle.nb_member.specs.declared.replaying.ReplayFault.TheVariants as replay
+use Rattle.nb_member.specs.declared.capture.CaptureOptions.{CaptureOptions}
 use Rattle.nb_member.specs.Live.{live}
 use Rattle.nb_member.specs.Replaying.{Replays}
 use Rattle.nb_member.specs.Events.{none as none_said}

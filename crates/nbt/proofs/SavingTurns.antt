@@ -2,8 +2,8 @@
 use Rattle.nbt.proofs.Common.{◌≡◌, ◌≢◌, ℕ, List, Option, Some, None, Result, Ok, Err, IfErr, refl, subst, Consumes, IfErr-at_err, Counts, ShowsUnread, with_rest, TableValue, Key, PacketLine, Tick, MemberValue, Capacity, Fault, FullSource, Full, Memory, Read, Write}
 use Rattle.nb_table.specs.declared.fault.TableFault.TheVariants as tables
 use Rattle.nb_member.specs.declared.line.Line.{Line}
-use Rattle.nb_member.specs.declared.member_fault.MemberFault.{MemberFault}
-use Rattle.nb_member.specs.declared.member_fault.MemberFault.TheVariants.{Table}
+use Rattle.nb_member.specs.declared.outcome.MemberFault.{MemberFault}
+use Rattle.nb_member.specs.declared.outcome.MemberFault.TheVariants.{Table}
 use Rattle.nb_member.specs.LineTaking.{TakesEach, EndsEarly, malformed, unread, no_memory, not_taken, TakesLines}
 use Rattle.nb_member.specs.Taking.{Takes}
 use Rattle.nbt.specs.Reported.{of_replay}

@@ -2,8 +2,8 @@
 use Rattle.std.specs.Prelude.{◌≡◌, ◌⊎◌, ℕ, List, [], ◌∷◌, ◌++◌, Option, Some, true, codes, ◌≢◌}
 use Rattle.std.specs.Fmt.{decimal}
 use Rattle.nbt.specs.declared.limits.TheConstants.{KEYS, MOST_INPUT, MOST_KEYS}
-use Rattle.nbt.specs.declared.subcommand.Subcommand.{Subcommand}
-use Rattle.nbt.specs.declared.subcommand.Subcommand.TheVariants as commands
+use Rattle.nbt.specs.declared.command_forms.Subcommand.{Subcommand}
+use Rattle.nbt.specs.declared.command_forms.Subcommand.TheVariants as commands
 use Rattle.clap.specs.Words.{App, Rule, Text, new_app, new_rule, with_rule, with_subcommand}
 use Rattle.clap.specs.Simple.{on_top}
 use Rattle.clap.specs.declared.builder.action.ArgAction.TheVariants.{Set, SetTrue, Append}
@@ -14,10 +14,10 @@ use Rattle.clap.specs.Faults.{fault_of}
 use Rattle.clap.specs.Kinds.{IsAmong}
 use Rattle.clap.specs.declared.error.kind.ErrorKind.{ErrorKind}
 use Rattle.clap.specs.declared.error.kind.ErrorKind.TheVariants.{DisplayHelp, DisplayVersion, OutOfMemory}
-use Rattle.nbt.specs.declared.clap_answer.ClapAnswer.{ClapAnswer}
-use Rattle.nbt.specs.declared.clap_answer.ClapAnswer.TheVariants.{Asked, Misused, NoMemory}
-use Rattle.nbt.specs.declared.status.Status.{Status}
-use Rattle.nbt.specs.declared.status.Status.TheVariants.{Done, BadUsage, Failed}
+use Rattle.nbt.specs.declared.command_line.ClapAnswer.{ClapAnswer}
+use Rattle.nbt.specs.declared.command_line.ClapAnswer.TheVariants.{Asked, Misused, NoMemory}
+use Rattle.nbt.specs.declared.fault.Status.{Status}
+use Rattle.nbt.specs.declared.fault.Status.TheVariants.{Done, BadUsage, Failed}
 
 -- an option that is given or not
 abbrev pub flag_rule : Text → Rule

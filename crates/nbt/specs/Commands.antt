@@ -17,8 +17,8 @@ use Rattle.nb_text.specs.TellsFront.{ShowsFront}
 use Rattle.nbt.specs.declared.fault.Fault.{Fault}
 use Rattle.nbt.specs.declared.fault.Fault.TheVariants.{Arguments, Read, Write}
 use Rattle.nbt.specs.declared.settings.Capacity.{Capacity}
-use Rattle.nbt.specs.declared.status.Status.{Status}
-use Rattle.nbt.specs.declared.status.Status.TheVariants.{BadUsage, Done, Failed}
+use Rattle.nbt.specs.declared.fault.Status.{Status}
+use Rattle.nbt.specs.declared.fault.Status.TheVariants.{BadUsage, Done, Failed}
 use Rattle.nbt.specs.Building.{Builds}
 use Rattle.nbt.specs.CommandLine.{IsCommand, nbt_app}
 use Rattle.nbt.specs.FaultTexts.{status_after}

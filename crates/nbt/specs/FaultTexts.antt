@@ -4,13 +4,13 @@ use Rattle.std.specs.Fmt.{decimal}
 use Rattle.nb_names.specs.FaultTexts.{name_fault_text}
 use Rattle.nb_names.specs.TextFaults.{text_fault_text}
 use Rattle.nb_entries.specs.FaultTexts.{load_fault_text}
-use Rattle.nb_entries.specs.declared.load_fault.LoadFault.TheVariants as loads
+use Rattle.nb_entries.specs.declared.saved.LoadFault.TheVariants as loads
 use Rattle.nb_building.specs.FaultTexts.{build_fault_text}
 use Rattle.nb_building.specs.declared.build_fault.BuildFault.TheVariants as builds
 use Rattle.nbt.specs.declared.fault.Fault.{Fault}
 use Rattle.nbt.specs.declared.fault.Fault.TheVariants.{Text, Name, BadHex, TrailingBytes, Build, Arguments, TooLong, Line, FullSource, Full, TooManyNames, Load, NoTables, TwoTablesWanted, Read, Write, Memory}
-use Rattle.nbt.specs.declared.status.Status.{Status}
-use Rattle.nbt.specs.declared.status.Status.TheVariants.{Refused, Failed}
+use Rattle.nbt.specs.declared.fault.Status.{Status}
+use Rattle.nbt.specs.declared.fault.Status.TheVariants.{Refused, Failed}
 
 -- what is reported of a fault, after `nbt: `
 abbrev pub fault_text : Fault → List ℕ

@@ -8,8 +8,8 @@ use Rattle.nb_text.specs.Keys.{kind_key}
 use Rattle.nb_text.specs.SaysPacket.{IsSaid}
 use Rattle.nb_text.specs.Tells.{Tells}
 use Rattle.nb_text.specs.TellsFront.{TellsFront}
-use Rattle.nb_member.specs.declared.comments.Comments.{Comments}
-use Rattle.nb_member.specs.declared.comments.Comments.TheVariants.{LeftOut, Printed}
+use Rattle.nb_member.specs.declared.comment_writing.Comments.{Comments}
+use Rattle.nb_member.specs.declared.comment_writing.Comments.TheVariants.{LeftOut, Printed}
 use Rattle.nb_member.specs.declared.line.Line as capture
 use Rattle.nb_member.specs.declared.line.Line.TheVariants.{Packet, Tick}
 use Rattle.nb_member.specs.Capture.{byte_text}

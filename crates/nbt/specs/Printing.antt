@@ -1,7 +1,7 @@
 -- What the program prints for names, and why it refuses them (our choice). A line ends with a line feed, 10.
 use Rattle.std.specs.Prelude.{◌≡◌, ◌≢◌, ◌<◌, ℕ, List, [], ◌∷◌, ◌++◌, length, Option, Result, Ok, Err, IfErr}
 use Rattle.std.specs.Io.KnownBytes.{Appends, Keeps}
-use Rattle.nb_names.specs.declared.pointers.Pointers.TheVariants.{Refused}
+use Rattle.nb_names.specs.declared.reading.Pointers.TheVariants.{Refused}
 use Rattle.nb_names.specs.Counted.{Counts}
 use Rattle.nb_names.specs.Devices.{AppendsFront, ShowsWriteFault}
 use Rattle.nb_names.specs.DomainName.{spelling}

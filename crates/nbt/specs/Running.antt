@@ -5,7 +5,7 @@ use Rattle.clap.specs.Words.{Text, takes}
 use Rattle.nb_names.specs.Counted.{Counts, no_calls}
 use Rattle.nbt.specs.declared.errors.Audience.{Audience}
 use Rattle.nbt.specs.declared.errors.Audience.TheVariants.{Programs}
-use Rattle.nbt.specs.declared.status.Status.{Status}
+use Rattle.nbt.specs.declared.fault.Status.{Status}
 use Rattle.nbt.specs.CommandLine.{AreMisused, AreAlone, nbt_app}
 use Rattle.nbt.specs.Commands.{RanBy}
 use Rattle.nbt.specs.Refusals.{AsksRefusal}

@@ -7,7 +7,7 @@ use Rattle.nb_datagram.specs.declared.key.Key.{Key}
 use Rattle.nb_table.specs.declared.fault.TableFault.TheVariants as tables
 use Rattle.nb_member.specs.declared.line.Line.{Line}
 use Rattle.nb_member.specs.declared.line.Line.TheVariants.{Packet as PacketLine}
-use Rattle.nb_member.specs.declared.member_fault.MemberFault.TheVariants.{Table}
+use Rattle.nb_member.specs.declared.outcome.MemberFault.TheVariants.{Table}
 use Rattle.nb_member.specs.LineTaking.{EndsEarly}
 use Rattle.nb_member.specs.Member.{MemberValue}
 use Rattle.nb_member.specs.Taking.{Takes}

@@ -4,9 +4,9 @@ use Rattle.std.specs.Str.Parse.{IsNumeral, digits_value, without_leading_plus}
 use Rattle.clap.specs.Words.{found_of, one_text}
 use Rattle.clap.specs.declared.parser.matches.ArgMatches.{ArgMatches}
 use Rattle.nb_names.specs.declared.limits.TheConstants.{MAX_INPUT}
-use Rattle.nb_member.specs.declared.comments.Comments.{Comments}
-use Rattle.nb_member.specs.declared.comments.Comments.TheVariants.{LeftOut, Printed}
-use Rattle.nb_member.specs.declared.capture_options.CaptureOptions.{CaptureOptions}
+use Rattle.nb_member.specs.declared.comment_writing.Comments.{Comments}
+use Rattle.nb_member.specs.declared.comment_writing.Comments.TheVariants.{LeftOut, Printed}
+use Rattle.nb_member.specs.declared.capture.CaptureOptions.{CaptureOptions}
 use Rattle.nb_member.specs.declared.settings.Settings.{Settings}
 use Rattle.nbt.specs.declared.settings.Capacity.{Capacity}
 

@@ -1,8 +1,8 @@
 -- The exit statuses of the program (our choice): 0 done, 1 refused input, 2 a bad command line, 3 a device or
 -- memory failed.
 use Rattle.std.specs.Prelude.{ℕ}
-use Rattle.nbt.specs.declared.status.Status.{Status}
-use Rattle.nbt.specs.declared.status.Status.TheVariants.{Done, Refused, BadUsage, Failed}
+use Rattle.nbt.specs.declared.fault.Status.{Status}
+use Rattle.nbt.specs.declared.fault.Status.TheVariants.{Done, Refused, BadUsage, Failed}
 
 -- the number of a status
 abbrev pub code_of : Status → ℕ

@@ -9,7 +9,7 @@ use Rattle.nb_names.specs.Hexadecimal.{HexText}
 use Rattle.nb_names.specs.Lines.{HasLines}
 use Rattle.nb_table.specs.declared.fault.TableFault.{TableFault}
 use Rattle.nb_table.specs.declared.fault.TableFault.TheVariants as tables
-use Rattle.nb_entries.specs.declared.load_fault.LoadFault.TheVariants as loads
+use Rattle.nb_entries.specs.declared.saved.LoadFault.TheVariants as loads
 use Rattle.nb_table.specs.Contents.{Contents}
 use Rattle.nb_table.specs.Join.{join, joined_all, AreTaken}
 use Rattle.nb_table.specs.Limits.{KeepsLimits, Limits, TableValue}
@@ -18,8 +18,8 @@ use Rattle.nb_table.specs.Merging.{Fits, IsRefused}
 use Rattle.nbt.specs.declared.settings.Capacity.{Capacity}
 use Rattle.nbt.specs.declared.fault.Fault.{Fault}
 use Rattle.nbt.specs.declared.fault.Fault.TheVariants.{Arguments, TooLong, Line, FullSource, Full, Load, NoTables, TwoTablesWanted, Read, Write, Memory}
-use Rattle.nbt.specs.declared.status.Status.{Status}
-use Rattle.nbt.specs.declared.status.Status.TheVariants.{Done, Refused}
+use Rattle.nbt.specs.declared.fault.Status.{Status}
+use Rattle.nbt.specs.declared.fault.Status.TheVariants.{Done, Refused}
 use Rattle.nbt.specs.Differences.{differences}
 use Rattle.nbt.specs.Printing.{PrintsFront, PrintsLine, line}
 use Rattle.nbt.specs.Settings.{HasNoCapacity, most_keys}

@@ -1,4 +1,6 @@
 //! The program's commands: the arguments of each, and what the help says of them.
+ghost use Rattle.std.specs.Prelude.{◌≡◌, IfNone, IfSome, Some};
+ghost use Rattle.nbt.specs.CommandLine.{IsCommand, word_of};
 
 use crate::help::{
     AGREE_HELP, BUILD_HELP, LIST_HELP, MERGE_HELP, NAME_HELP, REPLAY_HELP, SAVE_HELP, SHOW_HELP,
@@ -153,3 +155,35 @@ pub const FORMS: [CommandForm; 8] = [
         after: AGREE_HELP,
     },
 ];
+
+/// A command of the program, called by its word in lower case.
+pub enum Subcommand {
+    Name,
+    Show,
+    Build,
+    Replay,
+    Save,
+    Merge,
+    List,
+    Agree,
+}
+
+impl Subcommand {
+    /// The command that a word names.
+    pub fn named(word: &str) -> Option<Subcommand>
+        ensures found { IfSome result (λ command. word.now ≡ word_of command) }
+        ensures unknown { IfNone result (¬ IsCommand (Some word.now)) }
+    {
+        match word {
+            "name" => Some(Subcommand::Name),
+            "show" => Some(Subcommand::Show),
+            "build" => Some(Subcommand::Build),
+            "replay" => Some(Subcommand::Replay),
+            "save" => Some(Subcommand::Save),
+            "merge" => Some(Subcommand::Merge),
+            "list" => Some(Subcommand::List),
+            "agree" => Some(Subcommand::Agree),
+            _ => None,
+        }
+    }
+}

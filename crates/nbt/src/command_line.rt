@@ -10,6 +10,7 @@ use crate::command_forms::{Argument, CommandForm, FORMS};
 use crate::help::STATUSES;
 use crate::limits::{KEYS_HELP, KEYS_WORD, MOST_KEYS};
 use clap::builder::ValueParser;
+use clap::error::ErrorKind;
 use clap::{Arg, ArgAction, Command};
 use std::alloc::{AllocError, Global};
 
@@ -162,4 +163,29 @@ fn keys<'a>(alloc: Global) -> Arg<'a>
     ensures local { result.global ≡ false }
 {
     number(alloc, "keys", "N", KEYS_HELP, MOST_KEYS).default_value(KEYS_WORD)
+}
+
+/// What is asked for, or wrong, where clap has no matches of the words.
+pub enum ClapAnswer {
+    /// The help or the version is asked for: clap's text is the output.
+    Asked,
+    /// The words are no command line of the program: clap's text says why.
+    Misused,
+    /// Memory ran out.
+    NoMemory,
+}
+
+impl ClapAnswer {
+    ghost use Rattle.nbt.specs.CommandLine.{answer_to};
+
+    /// The answer that goes with a kind of clap's error.
+    pub fn to(kind: ErrorKind) -> ClapAnswer
+        ensures { result ≡ answer_to kind }
+    {
+        match kind {
+            ErrorKind::DisplayHelp | ErrorKind::DisplayVersion => ClapAnswer::Asked,
+            ErrorKind::OutOfMemory => ClapAnswer::NoMemory,
+            _ => ClapAnswer::Misused,
+        }
+    }
 }

@@ -6,11 +6,11 @@ use crate::advice::{print_advice, refusal_of};
 use crate::commands::build::words_of;
 use crate::errors::Errors;
 use crate::fault::Fault;
-use crate::given_files::input_line;
 use crate::mistakes::mistake_line;
 use crate::output::Output;
 use crate::refusals::refusals;
 use clap::{ArgMatches, Error};
+use nb_names::NoMemory;
 use std::alloc::Global;
 use std::io::Write;
 
@@ -99,4 +99,143 @@ fn packet_words<'a>(matches: &'a ArgMatches<'_>) -> Option<(&'a str, &'a [&'a st
     let (_, build) = matches.subcommand()?;
     let what = build.get_str("WHAT")?;
     Some((what, words_of(build)))
+}
+
+/// The commands that read standard input, and take no words but options.
+const READERS: [&str; 5] = ["show", "save", "merge", "list", "agree"];
+
+/// How a command reads the files that these words give it, as a line; an empty text where they give
+/// it none, or `error` says something else.
+///
+/// # Errors
+///
+/// [`Fault::Memory`] where memory ran out.
+pub fn input_line(alloc: Global, words: &[String], error: &Error) -> Result<String, Fault> {
+    let mut line = String::new(alloc);
+    let mut said = String::new(alloc);
+    write!(said, "{error}")?;
+    if let Some(start) = first_file(words, said.as_str()) {
+        push_reading(words, start, end_of(words, start), &mut line)?;
+    }
+    Ok(line)
+}
+
+/// The place of the first file, where clap's text says that it is unexpected.
+fn first_file(words: &[String], said: &str) -> Option<usize> {
+    let command = words.get(1)?;
+    let given = unexpected(said)?;
+    if given.starts_with('-') || !READERS.contains(&command.as_str()) {
+        return None;
+    }
+    place_of(words, given)
+}
+
+/// The word that clap's text says is unexpected.
+fn unexpected(said: &str) -> Option<&str> {
+    let (_, rest) = said.split_once("unexpected argument '")?;
+    let (word, _) = rest.split_once("' found")?;
+    Some(word)
+}
+
+/// The place of a word after the command, where it stands there once: of two, one may be an
+/// option's value.
+fn place_of(words: &[String], given: &str) -> Option<usize> {
+    let mut found = None;
+    for (place, word) in words.iter().enumerate() {
+        if place > 1 && word.as_str() == given {
+            if found.is_some() {
+                return None;
+            }
+            found = Some(place);
+        }
+    }
+    found
+}
+
+/// The place after the files that begin at this one: files end where an option begins.
+fn end_of(words: &[String], start: usize) -> usize {
+    let mut end = start;
+    for (place, word) in words.iter().enumerate() {
+        if place == end && !word.as_str().starts_with('-') {
+            end = place + 1;
+        }
+    }
+    end
+}
+
+/// Says how the command reads the files from one place up to another.
+fn push_reading(
+    words: &[String],
+    start: usize,
+    end: usize,
+    line: &mut String,
+) -> Result<(), NoMemory> {
+    if let Some(command) = words.get(1) {
+        line.push_str(command.as_str())?;
+    }
+    line.push_str(" reads standard input: ")?;
+    if end.saturating_sub(start) == 1 {
+        push_command(words, start, end, line)?;
+        push_files(" <", words, start, end, line)?;
+    } else {
+        line.push_str("cat")?;
+        push_files(" ", words, start, end, line)?;
+        line.push_str(" | ")?;
+        push_command(words, start, end, line)?;
+    }
+    line.push_str("\n")?;
+    Ok(())
+}
+
+/// Adds the command line without its files.
+fn push_command(
+    words: &[String],
+    start: usize,
+    end: usize,
+    line: &mut String,
+) -> Result<(), NoMemory> {
+    line.push_str("nbt")?;
+    for (place, word) in words.iter().enumerate() {
+        if place > 0 && (place < start || place >= end) {
+            line.push_str(" ")?;
+            push_word(word.as_str(), line)?;
+        }
+    }
+    Ok(())
+}
+
+/// Adds the files, each after a lead.
+fn push_files(
+    lead: &str,
+    words: &[String],
+    start: usize,
+    end: usize,
+    line: &mut String,
+) -> Result<(), NoMemory> {
+    for (place, word) in words.iter().enumerate() {
+        if place >= start && place < end {
+            line.push_str(lead)?;
+            push_word(word.as_str(), line)?;
+        }
+    }
+    Ok(())
+}
+
+/// Adds a word as a shell takes it, or `FILE` for one that a terminal doesn't show.
+fn push_word(word: &str, line: &mut String) -> Result<(), NoMemory> {
+    if !word.is_empty() && word.bytes().all(|byte| is_plain(byte)) {
+        line.push_str(word)?;
+    } else if word.bytes().all(|byte| byte.is_ascii_graphic() && byte != b'\'' || byte == b' ') {
+        line.push_str("'")?;
+        line.push_str(word)?;
+        line.push_str("'")?;
+    } else {
+        line.push_str("FILE")?;
+    }
+    Ok(())
+}
+
+/// Whether a byte of a word means nothing else to a shell.
+fn is_plain(byte: u8) -> bool {
+    byte.is_ascii_alphanumeric() || b"%+,-./:=@_".contains(&byte)
 }

@@ -4,7 +4,7 @@ ghost use Rattle.nb_member.specs.declared.line.Line.TheVariants.{Packet, Tick};
 ghost use Rattle.nb_telling.specs.Telling.{Number, Text as Said};
 ghost use Rattle.nbt.specs.CommandLine.{keys_rule};
 ghost use Rattle.nbt.specs.declared.limits.TheConstants.{KEYS, MOST_INPUT, MOST_KEYS};
-ghost use Rattle.nbt.specs.declared.status.Status.TheVariants.{Done, Refused, BadUsage, Failed};
+ghost use Rattle.nbt.specs.declared.fault.Status.TheVariants.{Done, Refused, BadUsage, Failed};
 ghost use Rattle.nbt.specs.Objects.{bare_key, head_fields};
 ghost use Rattle.nbt.specs.Status.{code_of};
 

@@ -2,43 +2,33 @@
 #![tactic(auto)]
 
 mod advice;
-mod clap_answer;
 mod command_forms;
 mod command_line;
 mod commands;
-mod differences;
 mod errors;
 mod fault;
-mod flushing;
 mod forms;
-mod fronts;
-mod given_files;
 mod help;
 mod hints;
-mod joining_input;
 pub mod laws;
 mod limits;
 mod mistakes;
 mod objects;
 mod output;
 mod payload_text;
-mod phrases;
 mod printing_lines;
 mod program;
 mod refusals;
 mod settings;
 mod signature;
-mod status;
 mod streams;
-mod subcommand;
 mod tables;
 mod telling;
 mod texts;
 
 use crate::errors::{Audience, Errors};
 use crate::fault::Fault;
-use crate::flushing::{FlushingInput, SharedOutput};
-use crate::output::Output;
+use crate::output::{FlushingInput, Output, SharedOutput};
 use crate::program::{report, run};
 use crate::signature::{Signature, SignatureInput};
 use crate::streams::{Call, run_for};

@@ -15,7 +15,7 @@ use std::io::{Read, Write};
 /// What is printed of a line of a capture: its text, or its object.
 pub trait LineText {
     ghost use Rattle.std.specs.Prelude.{ℕ, List, Option};
-    ghost use Rattle.nb_member.specs.declared.comments.Comments.{Comments};
+    ghost use Rattle.nb_member.specs.declared.comment_writing.Comments.{Comments};
     ghost use Rattle.nb_member.specs.declared.line.Line.{Line};
 
     // What stands from line to line.
@@ -62,7 +62,7 @@ struct PrintedLines<'a, 'b, W, T> {
 impl<'a, 'b, W: Write, T: LineText> LineTaker for PrintedLines<'a, 'b, W, T> {
     ghost use Rattle.std.specs.Prelude.{ℕ};
     ghost use Rattle.nb_names.specs.Counted.{CountedOf};
-    ghost use Rattle.nb_member.specs.declared.comments.Comments.{Comments};
+    ghost use Rattle.nb_member.specs.declared.comment_writing.Comments.{Comments};
     ghost use Rattle.nbt.specs.Code.PrintedLines.{PrintsOn, IsUnprinted};
 
     type Fault = Fault;

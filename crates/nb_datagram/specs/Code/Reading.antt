@@ -1,9 +1,9 @@
 -- What the code's own functions say of a packet while it is read.
 use Rattle.std.specs.Prelude.{ℕ, ◌≤◌, List, length}
 use Rattle.nb_names.specs.Labels.{StandsAt}
-use Rattle.nb_datagram.specs.declared.form.Form.{Form}
-use Rattle.nb_datagram.specs.declared.form.Form.TheVariants.{Direct, Error, Query}
-use Rattle.nb_datagram.specs.declared.header.Header.{Header}
+use Rattle.nb_datagram.specs.declared.decoding.Form.{Form}
+use Rattle.nb_datagram.specs.declared.decoding.Form.TheVariants.{Direct, Error, Query}
+use Rattle.nb_datagram.specs.declared.front.Header.{Header}
 use Rattle.nb_datagram.specs.declared.limits.TheConstants.{HEADER_LENGTH}
 use Rattle.nb_datagram.specs.Packet.{type_of}
 use Rattle.nb_datagram.specs.Header.{header_bytes, IsKey, error_type, query_type}

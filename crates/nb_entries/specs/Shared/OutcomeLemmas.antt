@@ -1,16 +1,16 @@
 -- A reading of a saved entry has one outcome.
 use Rattle.std.proofs.Common.{◌≡◌, ◌+◌, ◌<◌, ◌≤◌, ℕ, suc, zero, List, [], ◌∷◌, length, Option, None, Some, Ok, Err, refl, sym, ap, subst, ◌∙◌, arith}
 use Rattle.std.specs.Int.{w16}
-use Rattle.nb_names.specs.declared.pointers.Pointers.TheVariants.{Refused}
+use Rattle.nb_names.specs.declared.reading.Pointers.TheVariants.{Refused}
 use Rattle.nb_names.specs.Labels.{StandsAt, NumberAt}
 use Rattle.nb_names.specs.Name.{labels_of_name}
 use Rattle.nb_names.specs.PacketFacts.{stands_same, one_number_16}
 use Rattle.nb_names.proofs.FaultLemmas.{one_netbios, no_netbios}
 use Rattle.nb_names.proofs.LabelsLemmas.{one_reading}
 use Rattle.nb_names.proofs.NameLemmas.{one_name}
-use Rattle.nb_datagram.specs.declared.kind.Kind.{Kind}
+use Rattle.nb_datagram.specs.declared.key.Kind.{Kind}
 use Rattle.nb_datagram.specs.Packet.{type_of, kind_of, kind_back}
-use Rattle.nb_entries.specs.declared.load_fault.LoadFault.{LoadFault}
+use Rattle.nb_entries.specs.declared.saved.LoadFault.{LoadFault}
 use Rattle.nb_entries.specs.declared.saved.SavedForm.{SavedForm}
 use Rattle.nb_entries.specs.declared.saved.SavedForm.TheVariants.{First, Second}
 use Rattle.nb_entries.specs.Maps.{Spoilt, Held}

@@ -6,14 +6,14 @@ use Rattle.std.specs.Int.{w16, to_be_bytes}
 use Rattle.std.specs.List.{concat, list_all, AllByRecursion}
 use Rattle.std.specs.Ordering.{nat_cmp}
 use Rattle.std.specs.FinMap as maps
-use Rattle.nb_names.specs.declared.pointers.Pointers.TheVariants.{Refused}
+use Rattle.nb_names.specs.declared.reading.Pointers.TheVariants.{Refused}
 use Rattle.nb_names.specs.DomainName.{spelling, IsDomain}
 use Rattle.nb_names.specs.FirstLevel.{letters}
 use Rattle.nb_names.specs.Name.{NetbiosName, IsName, labels_of_name}
 use Rattle.nb_names.specs.PacketFacts.{stands_fits}
 use Rattle.nb_names.proofs.FirstLevelLemmas.{length-letters}
 use Rattle.nb_names.proofs.LabelsLemmas.{stands_before, stands_behind, spelled_stands}
-use Rattle.nb_datagram.specs.declared.kind.Kind.{Kind}
+use Rattle.nb_datagram.specs.declared.key.Kind.{Kind}
 use Rattle.nb_datagram.specs.declared.limits.TheConstants.{MAX_LENGTH}
 use Rattle.nb_datagram.specs.Packet.{type_of, name_bytes}
 use Rattle.nb_entries.specs.declared.saved.SavedForm.{SavedForm}

@@ -8,13 +8,11 @@ ghost use Rattle.nb_entries.specs.Code.CoverFacts.{with_bytes};
 ghost use Rattle.nb_entries.specs.Runs.{AreApart, run_end, map_of_runs};
 ghost use Rattle.nb_entries.specs.Code.Rows.{value_of, run_at, kept_values, AreFilled};
 
-mod each_run;
 mod growing;
 mod inserting;
 mod reading;
-mod searching;
 
-pub(crate) use each_run::EachRun;
+pub(crate) use growing::EachRun;
 pub(crate) use inserting::add_run;
 use nb_names::NoMemory;
 use std::alloc::Global;

@@ -13,7 +13,7 @@ use super::{ByteSink, SavedForm};
 use crate::cover::CoverFacts;
 use crate::cover::marks::Marks;
 use crate::entry::{Entry, EntryFacts};
-use crate::load_fault::LoadFault;
+use crate::saved::LoadFault;
 use crate::slot::Slot;
 use nb_datagram::Kind;
 use nb_datagram::limits::MAX_LENGTH;

@@ -11,7 +11,7 @@ ghost use Rattle.nb_entries.specs.declared.saved.SavedForm.TheVariants.{Second};
 
 use super::{ByteSink, SavedForm};
 use crate::cover::marks::Marks;
-use crate::load_fault::LoadFault;
+use crate::saved::LoadFault;
 use nb_datagram::Kind;
 use nb_names::numbers::{number_16, number_32};
 use nb_names::{LentName, NameFault, read_lent_name};

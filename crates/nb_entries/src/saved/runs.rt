@@ -9,7 +9,7 @@ ghost use Rattle.nb_entries.specs.SavedReading.{run_at, runs_at};
 
 use super::fields::{read_bytes, read_number};
 use crate::cover::runs::{Kept, Runs, add_run};
-use crate::load_fault::LoadFault;
+use crate::saved::LoadFault;
 use nb_names::NoMemory;
 use nb_names::numbers::number_16;
 use std::alloc::Global;

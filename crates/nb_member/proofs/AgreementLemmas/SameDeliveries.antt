@@ -19,7 +19,7 @@ use Rattle.nb_member.specs.Events.{Saying}
 use Rattle.nb_member.specs.Live.{table_from, live, cores}
 use Rattle.nb_member.specs.Deliveries.{deliveries}
 use Rattle.nb_member.specs.Agreement.{of_key, heard, whole_of, HandsOverOnce, HandOverTheSame, HandsOverTheSenders, valid, NoneDropped, GiveTheSame}
-use Rattle.nb_member.specs.declared.event.Event.{Event}
+use Rattle.nb_member.specs.declared.outcome.Event.{Event}
 use Rattle.nb_member.specs.declared.pair.Pair.{Pair}
 use Rattle.nb_member.proofs.AgreementLemmas.SameTable.{BothDid}
 use Rattle.nb_entries.specs.Shared.MapsLemmas.{none_from}

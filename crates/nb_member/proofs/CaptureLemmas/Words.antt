@@ -10,7 +10,7 @@ use Rattle.std.proofs.lemmas.List.Elements.{contains_decides, Decides-contains, 
 pub use Rattle.nb_names.specs.LineFacts.{one_split}
 use Rattle.nb_member.specs.declared.line.Line.{Line}
 use Rattle.nb_member.specs.declared.line.Line.TheVariants.{Packet, Tick}
-use Rattle.nb_member.specs.declared.line_fault.LineFault.{LineFault}
+use Rattle.nb_member.specs.declared.line.LineFault.{LineFault}
 use Rattle.nb_member.specs.Code.LineTurns.{line_fault_of}
 use Rattle.nb_names.specs.declared.hexadecimal.DigitsFault.{DigitsFault}
 use Rattle.nb_names.specs.declared.hexadecimal.DigitsFault.TheVariants.{BadDigits, NoMemory}

@@ -13,7 +13,7 @@ use Rattle.nb_table.specs.Change.{IsChange}
 use Rattle.nb_table.specs.Contents.{Contents, newly_whole, datagram_at}
 use Rattle.nb_entries.specs.Entry.{EntryValue}
 use Rattle.nb_entries.specs.Whole.{datagram_of, newly}
-use Rattle.nb_member.specs.declared.member_fault.MemberFault.{MemberFault}
+use Rattle.nb_member.specs.declared.outcome.MemberFault.{MemberFault}
 use Rattle.nb_member.specs.declared.outcome.Outcome.{Outcome}
 use Rattle.nb_member.specs.declared.outcome.Outcome.TheVariants.{Delivered, Unheard}
 use Rattle.nb_member.specs.declared.settings.Settings.{Settings}

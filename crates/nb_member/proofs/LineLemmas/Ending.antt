@@ -9,8 +9,8 @@ use Rattle.nb_names.specs.Counted.{Counts}
 use Rattle.nb_member.specs.declared.limits.TheConstants.{MAX_LINE}
 use Rattle.nb_member.specs.Code.LineSteps.{IsFeedAt, HandsFirst, ReadsBehind, ReadsMore, let_go_of, handed_out, line_of_size, stopped_by, with_bytes, with_standing}
 use Rattle.nb_member.specs.LineReading.{IsTooLong, ReadsLine, RoomValue, IsOpen, ManyCalls, no_call, one_more}
-use Rattle.nb_member.specs.declared.line_read_fault.LineReadFault.{LineReadFault}
-use Rattle.nb_member.specs.declared.line_read_fault.LineReadFault.TheVariants.{Read, TooLong, NoMemory}
+use Rattle.nb_member.specs.declared.line.LineReadFault.{LineReadFault}
+use Rattle.nb_member.specs.declared.line.LineReadFault.TheVariants.{Read, TooLong, NoMemory}
 use Rattle.nb_member.proofs.LineLemmas.Seeking.{IsSeeking, empty_is, seeking_first, turn_unreadable, turn_unheld, turn_none, turn_last}
 use Rattle.nb_member.specs.declared.line_reading.First.TheVariants as first
 use Rattle.nb_member.specs.declared.line_room.Standing.TheVariants as standing

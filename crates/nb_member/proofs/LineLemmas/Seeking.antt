@@ -6,8 +6,8 @@ use Rattle.std.proofs.lemmas.List.Elements.{Contains-append_left}
 use Rattle.std.proofs.lemmas.List.{append-nil, length-append, length-take-le, take_at, take_all, drop_all}
 use Rattle.nb_names.specs.Counted.{Counts}
 use Rattle.nb_member.specs.declared.line_reading.First.TheVariants as first
-use Rattle.nb_member.specs.declared.line_read_fault.LineReadFault.{LineReadFault}
-use Rattle.nb_member.specs.declared.line_read_fault.LineReadFault.TheVariants.{Read, TooLong, NoMemory}
+use Rattle.nb_member.specs.declared.line.LineReadFault.{LineReadFault}
+use Rattle.nb_member.specs.declared.line.LineReadFault.TheVariants.{Read, TooLong, NoMemory}
 use Rattle.nb_member.specs.declared.line_room.Standing.{Standing}
 use Rattle.nb_member.specs.declared.line_room.Standing.TheVariants as standing
 use Rattle.nb_names.specs.Devices.{GrowTo}

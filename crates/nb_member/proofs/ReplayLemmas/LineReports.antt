@@ -3,12 +3,12 @@ use Rattle.std.proofs.Common.{◌≡◌, ◌≢◌, ◌+◌, ◌++◌, ◌∷◌
 use Rattle.std.specs.Prelude.{codes}
 use Rattle.std.specs.FinMap as maps
 use Rattle.std.specs.Fmt.{decimal}
-use Rattle.nb_member.specs.declared.comments.Comments.{Comments}
-use Rattle.nb_member.specs.declared.event.Event.TheVariants as event
+use Rattle.nb_member.specs.declared.comment_writing.Comments.{Comments}
+use Rattle.nb_member.specs.declared.outcome.Event.TheVariants as event
 use Rattle.nb_member.specs.declared.line.Line.{Line as Value}
 use Rattle.nb_member.specs.declared.line.Line.TheVariants.{Packet, Tick}
-use Rattle.nb_member.specs.declared.member_fault.MemberFault.{MemberFault}
-use Rattle.nb_member.specs.declared.member_fault.MemberFault.TheVariants as member_fault
+use Rattle.nb_member.specs.declared.outcome.MemberFault.{MemberFault}
+use Rattle.nb_member.specs.declared.outcome.MemberFault.TheVariants as member_fault
 use Rattle.nb_datagram.specs.Fragment.{FragmentParts}
 use Rattle.nb_member.specs.declared.outcome.Outcome.{Outcome}
 use Rattle.nb_member.specs.Code.ReplayLines.{MayReportLine, ReportsLine, WritesOutcome}

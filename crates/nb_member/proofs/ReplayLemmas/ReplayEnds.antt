@@ -5,10 +5,10 @@ use Rattle.std.proofs.lemmas.List.{append-nil, take-append-drop}
 use Rattle.nb_names.specs.DeviceFacts.{Appends-more, Appends-kept, fails_from}
 use Rattle.nb_names.specs.Counted.{Counts}
 use Rattle.nb_names.specs.Devices.{ShowsUnread, ShowsWriteFault}
-use Rattle.nb_member.specs.declared.comments.Comments.{Comments}
-use Rattle.nb_member.specs.declared.event.Event.{Event}
-use Rattle.nb_member.specs.declared.replay_fault.ReplayFault.{ReplayFault}
-use Rattle.nb_member.specs.declared.replay_fault.ReplayFault.TheVariants.{Line, Read, Write, NoMemory}
+use Rattle.nb_member.specs.declared.comment_writing.Comments.{Comments}
+use Rattle.nb_member.specs.declared.outcome.Event.{Event}
+use Rattle.nb_member.specs.declared.replaying.ReplayFault.{ReplayFault}
+use Rattle.nb_member.specs.declared.replaying.ReplayFault.TheVariants.{Line, Read, Write, NoMemory}
 use Rattle.nb_member.specs.Code.ReplayLines.{ReplayState, ReplaysLine, FailsReport, HasNoWholeReport}
 use Rattle.nb_member.specs.Code.Members.{KeepsStation}
 use Rattle.nb_member.specs.LineTaking.{TakesEach, TakesLines, StopsAt, EndsEarly, malformed, unread, no_memory, not_taken}

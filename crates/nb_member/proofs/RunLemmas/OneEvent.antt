@@ -11,14 +11,14 @@ use Rattle.nb_datagram.specs.declared.packet.Packet.TheVariants.{Direct, Error, 
 use Rattle.nb_datagram.specs.Fragment.{FragmentParts, DatagramParts}
 use Rattle.nb_table.specs.declared.fault.TableFault.{TableFault}
 use Rattle.nb_table.specs.declared.fault.TableFault.TheVariants as table_fault
-use Rattle.nb_member.specs.declared.event.Event.{Event}
-use Rattle.nb_member.specs.declared.event.Event.TheVariants.{Packet, Tick}
-use Rattle.nb_member.specs.declared.member_fault.MemberFault.{MemberFault}
-use Rattle.nb_member.specs.declared.member_fault.MemberFault.TheVariants as fault
+use Rattle.nb_member.specs.declared.outcome.Event.{Event}
+use Rattle.nb_member.specs.declared.outcome.Event.TheVariants.{Packet, Tick}
+use Rattle.nb_member.specs.declared.outcome.MemberFault.{MemberFault}
+use Rattle.nb_member.specs.declared.outcome.MemberFault.TheVariants as fault
 use Rattle.nb_member.specs.declared.outcome.Outcome.{Outcome}
-use Rattle.nb_member.specs.declared.run_report.RunReport.{RunReport}
-use Rattle.nb_member.specs.declared.run_report.RunStop.{RunStop}
-use Rattle.nb_member.specs.declared.run_report.RunStop.TheVariants.{Full, FullSource, NoMemory}
+use Rattle.nb_member.specs.declared.runs.RunReport.{RunReport}
+use Rattle.nb_member.specs.declared.runs.RunStop.{RunStop}
+use Rattle.nb_member.specs.declared.runs.RunStop.TheVariants.{Full, FullSource, NoMemory}
 use Rattle.nb_member.specs.declared.settings.Settings.{Settings}
 use Rattle.nb_member.proofs.TakingLemmas.FullKeys.{stops_at, meets_none}
 use Rattle.nb_member.proofs.RunLemmas.RunSoFar.{RanOver, ran_none, ran_more, runs_from}

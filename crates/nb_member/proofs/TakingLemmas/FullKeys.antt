@@ -10,7 +10,7 @@ use Rattle.nb_table.specs.declared.fault.TableFault.{TableFault}
 use Rattle.nb_table.specs.declared.fault.TableFault.TheVariants as table_fault
 use Rattle.nb_table.specs.Insert.{Passes, Takes as TableTakes, Refuses}
 use Rattle.nb_table.specs.Limits.{Limits}
-use Rattle.nb_member.specs.declared.event.Event.TheVariants.{Packet}
+use Rattle.nb_member.specs.declared.outcome.Event.TheVariants.{Packet}
 use Rattle.nb_member.specs.declared.settings.Settings.{Settings}
 use Rattle.nb_member.specs.Events as saying
 use Rattle.nb_member.proofs.EventLemmas.{SaysOf, of_packet, of_fault, says_by}
@@ -21,8 +21,8 @@ use Rattle.nb_member.specs.Live.{Timed, HasRoom, is_full, is_source_full}
 use Rattle.nb_member.specs.Member.{MemberValue, contents, StandsOver}
 use Rattle.nb_member.specs.Running.{MeetsLimit, StopsAt}
 use Rattle.nb_member.specs.Code.Members.{IsFullAs, MeetsFull, BeginsFull, limit_of}
-use Rattle.nb_member.specs.declared.run_report.RunStop.{RunStop}
-use Rattle.nb_member.specs.declared.run_report.RunStop.TheVariants.{Full, FullSource, NoMemory}
+use Rattle.nb_member.specs.declared.runs.RunStop.{RunStop}
+use Rattle.nb_member.specs.declared.runs.RunStop.TheVariants.{Full, FullSource, NoMemory}
 
 passes_is : (l : Limits) (settings : Settings) (f : FragmentParts) → l ≡ limits_of settings → Passes (limits_of settings) f → Passes l f
 passes_is l settings f limits v = subst (λ (x : Limits). Passes x f) (sym limits) v

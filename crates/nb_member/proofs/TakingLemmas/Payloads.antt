@@ -11,9 +11,9 @@ use Rattle.nb_table.specs.Contents.{Contents, table_of}
 use Rattle.nb_table.specs.Insert.{Passes}
 use Rattle.nb_table.specs.Join.{join}
 use Rattle.nb_table.specs.Limits.{Limits, IsFull, IsFullSource}
-use Rattle.nb_member.specs.declared.event.Event.TheVariants.{Packet}
-use Rattle.nb_member.specs.declared.member_fault.MemberFault.{MemberFault}
-use Rattle.nb_member.specs.declared.member_fault.MemberFault.TheVariants as fault
+use Rattle.nb_member.specs.declared.outcome.Event.TheVariants.{Packet}
+use Rattle.nb_member.specs.declared.outcome.MemberFault.{MemberFault}
+use Rattle.nb_member.specs.declared.outcome.MemberFault.TheVariants as fault
 use Rattle.nb_member.specs.declared.outcome.Outcome.{Outcome}
 use Rattle.nb_member.specs.declared.settings.Settings.{Settings}
 use Rattle.nb_member.specs.Events as saying

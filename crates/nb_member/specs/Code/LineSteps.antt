@@ -4,12 +4,12 @@ use Rattle.std.specs.Io.KnownBytes.{Consumes, Keeps, IsAtEnd}
 use Rattle.nb_names.specs.Counted.{Counts}
 use Rattle.nb_names.specs.Devices.{GrowTo, ShowsReadFault}
 use Rattle.nb_names.specs.Lines.{IsLine}
-use Rattle.nb_names.specs.declared.device_fault.DeviceFault.{DeviceFault}
+use Rattle.nb_names.specs.declared.fault.DeviceFault.{DeviceFault}
 use Rattle.nb_member.specs.declared.limits.TheConstants.{MAX_HELD, MAX_LINE, MAX_READ}
 use Rattle.nb_member.specs.declared.line_reading.First.{First}
 use Rattle.nb_member.specs.declared.line_reading.First.TheVariants.{Line, TooLong, Open}
-use Rattle.nb_member.specs.declared.line_read_fault.LineReadFault.{LineReadFault}
-use Rattle.nb_member.specs.declared.line_read_fault.LineReadFault.TheVariants as fault
+use Rattle.nb_member.specs.declared.line.LineReadFault.{LineReadFault}
+use Rattle.nb_member.specs.declared.line.LineReadFault.TheVariants as fault
 use Rattle.nb_member.specs.declared.line_room.Standing.{Standing}
 use Rattle.nb_member.specs.declared.line_room.Standing.TheVariants as standing
 use Rattle.nb_member.specs.LineReading.{RoomValue, IsOpen, IsTooLong}

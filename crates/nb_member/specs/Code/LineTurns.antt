@@ -3,10 +3,10 @@ use Rattle.std.specs.Prelude.{◌≡◌, ℕ, List, Option, Ok}
 use Rattle.nb_names.specs.declared.hexadecimal.DigitsFault.{DigitsFault}
 use Rattle.nb_names.specs.declared.hexadecimal.DigitsFault.TheVariants as digits
 use Rattle.nb_member.specs.declared.line.Line as capture
-use Rattle.nb_member.specs.declared.line_fault.LineFault.{LineFault}
-use Rattle.nb_member.specs.declared.line_fault.LineFault.TheVariants as lines
-use Rattle.nb_member.specs.declared.replay_fault.ReplayFault.{ReplayFault}
-use Rattle.nb_member.specs.declared.replay_fault.ReplayFault.TheVariants.{Line, NoMemory}
+use Rattle.nb_member.specs.declared.line.LineFault.{LineFault}
+use Rattle.nb_member.specs.declared.line.LineFault.TheVariants as lines
+use Rattle.nb_member.specs.declared.replaying.ReplayFault.{ReplayFault}
+use Rattle.nb_member.specs.declared.replaying.ReplayFault.TheVariants.{Line, NoMemory}
 use Rattle.nb_member.specs.Capture.{IsMalformed, Reads}
 
 -- what is answered of a line whose payload's word is refused

@@ -11,8 +11,8 @@ use Rattle.nb_table.specs.declared.fault.TableFault.{TableFault}
 use Rattle.nb_table.specs.declared.fault.TableFault.TheVariants as table_fault
 use Rattle.nb_table.specs.Limits.{IsFull, IsFullSource, TableValue}
 use Rattle.nb_table.specs.Insert.{Passes}
-use Rattle.nb_member.specs.declared.run_report.RunStop.{RunStop}
-use Rattle.nb_member.specs.declared.run_report.RunStop.TheVariants.{Full, FullSource, NoMemory}
+use Rattle.nb_member.specs.declared.runs.RunStop.{RunStop}
+use Rattle.nb_member.specs.declared.runs.RunStop.TheVariants.{Full, FullSource, NoMemory}
 use Rattle.nb_member.specs.declared.settings.Settings.{Settings}
 use Rattle.nb_member.specs.Member.{TimedValue, MemberValue, contents, Moments, begun}
 use Rattle.std.specs.FinMap as maps

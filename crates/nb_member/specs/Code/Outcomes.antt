@@ -1,7 +1,7 @@
 -- Outcomes in whose datagram the names are lent (our choice).
 use Rattle.std.specs.Prelude.{Result, Ok, Err}
 use Rattle.nb_datagram.specs.Fragment.{datagram_by}
-use Rattle.nb_member.specs.declared.member_fault.MemberFault.{MemberFault}
+use Rattle.nb_member.specs.declared.outcome.MemberFault.{MemberFault}
 use Rattle.nb_member.specs.declared.outcome.LentOutcome.{LentOutcome}
 use Rattle.nb_member.specs.declared.outcome.LentOutcome.TheVariants as lent
 use Rattle.nb_member.specs.declared.outcome.Outcome.{Outcome}

@@ -5,11 +5,11 @@ use Rattle.nb_names.specs.Counted.{CountedOf}
 use Rattle.nb_names.specs.Devices.{AppendsFront, GrowTo, ShowsWriteFault}
 use Rattle.nb_telling.specs.Telling.{Field}
 use Rattle.nb_telling.specs.Texts.{text_of}
-use Rattle.nb_member.specs.declared.comments.Comments.{Comments}
-use Rattle.nb_member.specs.declared.event.Event.{Event}
+use Rattle.nb_member.specs.declared.comment_writing.Comments.{Comments}
+use Rattle.nb_member.specs.declared.outcome.Event.{Event}
 use Rattle.nb_member.specs.declared.line.Line.{Line as Value}
-use Rattle.nb_member.specs.declared.replay_fault.ReplayFault.{ReplayFault}
-use Rattle.nb_member.specs.declared.replay_fault.ReplayFault.TheVariants.{Read, Write, NoMemory}
+use Rattle.nb_member.specs.declared.replaying.ReplayFault.{ReplayFault}
+use Rattle.nb_member.specs.declared.replaying.ReplayFault.TheVariants.{Read, Write, NoMemory}
 use Rattle.nb_member.specs.Live.{Timed}
 use Rattle.nb_member.specs.Member.{MemberValue, StandsOver}
 use Rattle.nb_member.specs.Report.{ReportOfLine, numbered}

@@ -4,12 +4,12 @@ use Rattle.nb_names.specs.Name.{NetbiosName}
 use Rattle.nb_datagram.specs.declared.packet.ErrorPacket.{ErrorPacket}
 use Rattle.nb_datagram.specs.Fragment.{DatagramParts}
 use Rattle.nb_table.specs.declared.fault.TableFault.TheVariants as table_fault
-use Rattle.nb_member.specs.declared.member_fault.MemberFault.{MemberFault}
-use Rattle.nb_member.specs.declared.member_fault.MemberFault.TheVariants.{Packet, Table}
+use Rattle.nb_member.specs.declared.outcome.MemberFault.{MemberFault}
+use Rattle.nb_member.specs.declared.outcome.MemberFault.TheVariants.{Packet, Table}
 use Rattle.nb_member.specs.declared.outcome.Outcome.{Outcome}
-use Rattle.nb_member.specs.declared.run_report.RunStop.{RunStop}
-use Rattle.nb_member.specs.declared.run_report.RunStop.TheVariants.{Full, FullSource, NoMemory}
-use Rattle.nb_member.specs.declared.event.Event.{Event}
+use Rattle.nb_member.specs.declared.runs.RunStop.{RunStop}
+use Rattle.nb_member.specs.declared.runs.RunStop.TheVariants.{Full, FullSource, NoMemory}
+use Rattle.nb_member.specs.declared.outcome.Event.{Event}
 use Rattle.nb_member.specs.declared.settings.Settings.{Settings}
 use Rattle.nb_member.specs.Deliveries.{made_by, errors_by}
 use Rattle.nb_member.specs.Hearing.{hears}

@@ -11,8 +11,8 @@ use Rattle.nb_names.specs.DeviceFacts.{Consumes-more, Consumes-nil, grows_on, cu
 use Rattle.nb_names.specs.LineFacts.{any_cut}
 use Rattle.nb_names.specs.Lines.{IsLine, CutInto, rest, line, with_rest}
 use Rattle.nb_member.specs.declared.limits.TheConstants.{MAX_LINE}
-use Rattle.nb_member.specs.declared.line_read_fault.LineReadFault.{LineReadFault}
-use Rattle.nb_member.specs.declared.line_read_fault.LineReadFault.TheVariants.{Read}
+use Rattle.nb_member.specs.declared.line.LineReadFault.{LineReadFault}
+use Rattle.nb_member.specs.declared.line.LineReadFault.TheVariants.{Read}
 use Rattle.nb_member.specs.declared.line_room.Standing.{Standing}
 use Rattle.nb_member.specs.declared.line_room.Standing.TheVariants as standing
 use Rattle.nb_member.specs.Capture.{IsMalformed}

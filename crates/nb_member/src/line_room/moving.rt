@@ -5,7 +5,7 @@ ghost use Rattle.nb_member.specs.Code.LineSteps.{ReadsBehind, ReadsInto};
 
 use super::wanted_of;
 use crate::limits::MAX_READ;
-use crate::line_read_fault::LineReadFault;
+use crate::line::LineReadFault;
 use nb_names::input::read_some;
 use nb_names::{Counted, DeviceFault, NoMemory};
 use std::io::Read;

@@ -3,7 +3,7 @@ use Rattle.std.specs.Prelude.{◌≡◌, ◌≢◌, ℕ, List, [], ◌≤◌, le
 use Rattle.nb_names.specs.DomainName.{spelling, IsDomain}
 use Rattle.nb_names.specs.Name.{IsByteName, IsScope}
 use Rattle.nb_names.specs.declared.limits.TheConstants.{FRONT_LENGTH, MAX_LABEL}
-use Rattle.nb_names.specs.declared.collected.Collected.{Collected}
+use Rattle.nb_names.specs.declared.text_reading.Collected.{Collected}
 use Rattle.nb_names.specs.Code.TextSteps.{Taken}
 use Rattle.nb_names.specs.declared.length_byte.LengthByte.{LengthByte}
 use Rattle.nb_names.specs.declared.length_byte.LengthByte.TheVariants.{Cut, End, Label, Reserved, Pointer}

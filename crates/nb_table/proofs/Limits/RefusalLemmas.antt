@@ -15,7 +15,7 @@ use Rattle.nb_datagram.specs.declared.key.Key.{Key}
 use Rattle.nb_datagram.specs.Fragment.{FragmentParts, core_of}
 use Rattle.nb_datagram.specs.Key.{key_cmp, key_cmp_total, key_cmp_exact}
 use Rattle.nb_table.specs.declared.fault.TableFault.TheVariants.{Full}
-use Rattle.nb_entries.specs.declared.load_fault.LoadFault.TheVariants as faults
+use Rattle.nb_entries.specs.declared.saved.LoadFault.TheVariants as faults
 use Rattle.nb_entries.specs.declared.slot.Slot.TheVariants.{Held}
 use Rattle.nb_entries.specs.Maps.{joined_onto}
 use Rattle.nb_entries.specs.Entry.{EntryValue, facts_of, join_entry}

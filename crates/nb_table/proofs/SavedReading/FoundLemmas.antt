@@ -13,11 +13,11 @@ use Rattle.nb_entries.specs.SavedReading.{gives, goes_on, whole, good, stops, en
 use Rattle.nb_entries.specs.Shared.FoundLemmas.{Spells, entry_found, spells_none, spells_then}
 use Rattle.std.proofs.lemmas.List.Folds.{list_all-append}
 use Rattle.std.specs.List.{list_all, starts_with}
-use Rattle.nb_entries.specs.declared.load_fault.LoadFault.{LoadFault}
+use Rattle.nb_entries.specs.declared.saved.LoadFault.{LoadFault}
 use Rattle.std.specs.Cmp.{unsigned_Decides}
 use Rattle.std.specs.Cmp.Lexicographic.{pointwise_decides}
 use Rattle.std.proofs.lemmas.Bool.{true≢false}
-use Rattle.nb_entries.specs.declared.load_fault.LoadFault.TheVariants.{NotCanonical}
+use Rattle.nb_entries.specs.declared.saved.LoadFault.TheVariants.{NotCanonical}
 use Rattle.nb_table.specs.Code.SavedTables.{AreJudged, IsJudged}
 use Rattle.nb_names.specs.PacketFacts.{stands_same, one_number_16, one_number_32}
 use Rattle.nb_names.proofs.LabelsLemmas.{stands_before, stands_behind}

@@ -4,8 +4,8 @@ use Rattle.std.proofs.lemmas.Bool.{true≢false, ltb-true, lt-ltb, and_from, and
 use Rattle.std.specs.Prelude.{Decides, IsTrue}
 use Rattle.std.specs.FinMap as maps
 use Rattle.nb_datagram.specs.declared.key.Key.{Key}
-use Rattle.nb_entries.specs.declared.load_fault.LoadFault.{LoadFault}
-use Rattle.nb_entries.specs.declared.load_fault.LoadFault.TheVariants.{TooLong, FullSource, Full, NoMemory}
+use Rattle.nb_entries.specs.declared.saved.LoadFault.{LoadFault}
+use Rattle.nb_entries.specs.declared.saved.LoadFault.TheVariants.{TooLong, FullSource, Full, NoMemory}
 use Rattle.nb_entries.specs.declared.saved.SavedForm.{SavedForm}
 use Rattle.nb_table.specs.Contents.{Contents}
 use Rattle.nb_entries.specs.Entry.{EntryValue}

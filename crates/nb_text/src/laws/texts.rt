@@ -4,7 +4,7 @@ ghost use Rattle.nb_service.specs.Record.{of_bytes, of_domain, record_of};
 ghost use Rattle.nb_session.specs.declared.packet.Packet.TheVariants as sessions;
 ghost use Rattle.nb_session.specs.declared.parsing.Parsed.TheVariants.{More, Refused, Whole};
 ghost use Rattle.nb_session.specs.declared.fault.SessionFault.TheVariants.{TrailingBytes};
-ghost use Rattle.nb_datagram.specs.declared.kind.Kind.TheVariants.{Broadcast, Group, Unique};
+ghost use Rattle.nb_datagram.specs.declared.key.Kind.TheVariants.{Broadcast, Group, Unique};
 ghost use Rattle.nb_datagram.specs.declared.packet.Packet.TheVariants.{Direct, Error, Query};
 ghost use Rattle.nb_datagram.specs.declared.packet.QueryKind.TheVariants.{Request};
 ghost use Rattle.nb_datagram.specs.FaultTexts.{kind_text};

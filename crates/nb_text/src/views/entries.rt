@@ -5,7 +5,7 @@ ghost use Rattle.nb_service.specs.Record.{of_bytes};
 ghost use Rattle.nb_telling.specs.Telling.{Grows};
 ghost use Rattle.nb_text.specs.Views.{entries_view};
 
-use crate::brief::told::Listed;
+use crate::brief::services::Listed;
 use crate::keys::field_key;
 use crate::views::{ViewPart, ViewParts, tell_list};
 use crate::words::{end_part, tell_owner};

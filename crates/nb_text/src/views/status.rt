@@ -7,7 +7,7 @@ ghost use Rattle.nb_telling.specs.Texts.{names_of};
 ghost use Rattle.nb_text.specs.Views.{name_flags, status_view};
 ghost use Rattle.nb_text.specs.Words.{is_set, names_set};
 
-use crate::brief::told::Listed;
+use crate::brief::services::Listed;
 use crate::keys::field_key;
 use crate::views::{ViewPart, ViewParts, first_unit, tell_list};
 use crate::words::{end_part, tell_owner};

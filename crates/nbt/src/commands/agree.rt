@@ -1,22 +1,28 @@
 //! `nbt agree`: whether two saved tables are the same.
-ghost use Rattle.std.specs.Prelude.{◌≡◌, ◌≢◌, ◌⊎◌, IfOk, IfErr};
-ghost use Rattle.std.specs.Io.KnownBytes.{Keeps};
+ghost use Rattle.std.specs.Prelude.{◌≡◌, ◌≢◌, ◌⊎◌, IfOk, IfErr, ◌++◌, true, codes, OnOk, string_bytes};
+ghost use Rattle.std.specs.Io.KnownBytes.{Keeps, Appends};
+ghost use Rattle.std.specs.FinMap as maps;
 ghost use Rattle.nb_names.specs.declared.limits.TheConstants.{MAX_INPUT};
+ghost use Rattle.nb_names.specs.Devices.{AppendsFront};
+ghost use Rattle.nb_datagram.specs.Key.{key_cmp};
 ghost use Rattle.nbt.specs.Input.{WasCut};
 ghost use Rattle.nbt.specs.Commands.{AgreeCommand, streams};
-ghost use Rattle.nbt.specs.Tables.{CompareFails, ComparesTables, FailsOn, Tells, TellsFront};
-ghost use Rattle.nbt.specs.Printing.{ExplainsWrite};
+ghost use Rattle.nbt.specs.Tables.{CompareFails, ComparesTables, FailsOn, Tells, TellsFront, difference_text};
+ghost use Rattle.nbt.specs.Printing.{ExplainsWrite, line};
+ghost use Rattle.nbt.specs.Differences.{differing, line_where, lines_of_keys, two_lines};
+ghost use Rattle.nbt.specs.Code.Marks.{marked, with_mark};
 
-use crate::differences::print_differences;
-use crate::fault::Fault;
+use crate::fault::{Fault, Status};
 use crate::output::Output;
 use crate::settings::{Capacity, is_given};
-use crate::status::Status;
 use crate::tables::{count_lines, tables_of, whole_input};
 use clap::ArgMatches;
-use nb_names::Counted;
-use nb_table::Table;
+use nb_datagram::Key;
+use nb_member::push_key_line;
+use nb_names::{Counted, NoMemory};
+use nb_table::{State, Table};
 use std::alloc::Global;
+use std::collections::BTreeMap;
 use std::io::{Read, Write};
 
 /// `nbt agree [--list]`: reads two saved tables in hexadecimal, a line each, and prints whether
@@ -120,4 +126,127 @@ fn tell_same<W: Write>(
         output.print(b"different\n")?;
     }
     Ok(Status::Refused)
+}
+
+/// Prints that two tables differ, and of each key at which they do, ascending, what either has:
+/// `1 ` and `2 ` with the line that `nbt list` prints of it, or `absent`.
+///
+/// # Errors
+///
+/// [`Fault::Memory`] where memory ran out; nothing is printed then. [`Fault::Write`] where the
+/// output failed.
+pub fn print_differences<W: Write>(
+    alloc: Global,
+    one: &Table,
+    other: &Table,
+    output: &mut Output<W>,
+) -> Result<(), Fault>
+    ensures printed { OnOk result (Appends (W.contents output.old.inner)
+        (W.contents output.new.inner)
+        (difference_text true one.now.contents other.now.contents)) }
+    ensures fault { IfErr result (λ fault. (fault ≡ Fault.Memory) ⊎ (fault ≡ Fault.Write)) }
+    ensures err { IfErr result (λ fault. fault ≢ Fault.Write →
+        Keeps (W.contents output.old.inner) (W.contents output.new.inner)) }
+    ensures write { IfErr result (λ fault. fault ≡ Fault.Write →
+        AppendsFront (W.contents output.old.inner) (W.contents output.new.inner)
+        (difference_text true one.now.contents other.now.contents)) }
+    ensures why { ExplainsWrite result output.old.counts output.new.counts }
+{
+    let lines = differences_of(alloc, one, other)?;
+    output.print(lines.as_bytes())
+}
+
+/// The lines for two tables that differ.
+fn differences_of(alloc: Global, one: &Table, other: &Table) -> Result<String, NoMemory>
+    ensures { IfOk result (λ lines. string_bytes lines
+        ≡ difference_text true one.now.contents other.now.contents) }
+{
+    let keys = differing_keys(alloc, one, other)?;
+    let mut lines = String::new(alloc);
+    push_differences(&keys, one, other, &mut lines)?;
+    Ok(lines)
+}
+
+/// Adds that two tables differ, and what either has at each of these keys.
+fn push_differences(
+    keys: &BTreeMap<Key, ()>,
+    one: &Table,
+    other: &Table,
+    text: &mut String,
+) -> Result<(), NoMemory>
+    ensures { OnOk result (string_bytes text.new ≡ string_bytes text.old
+        ++ (line (codes "different") ++ lines_of_keys one.now.contents other.now.contents
+        (maps.keys (maps.from_entries {R = key_cmp} keys.now.entries)))) }
+{
+    text.push_str("different\n")?;
+    for key in keys.keys() {
+        push_two_lines(one, other, *key, text)?;
+    }
+    Ok(())
+}
+
+/// The keys at which two tables differ.
+fn differing_keys(alloc: Global, one: &Table, other: &Table) -> Result<BTreeMap<Key, ()>, NoMemory>
+    ensures { IfOk result (λ keys. maps.keys (maps.from_entries {R = key_cmp} keys.entries)
+        ≡ differing one.now.contents other.now.contents) }
+{
+    let mut keys = BTreeMap::new(alloc);
+    mark_each(&mut keys, one, one, other)?;
+    mark_each(&mut keys, other, one, other)?;
+    Ok(keys)
+}
+
+/// Marks those of a table's keys at which two tables differ.
+fn mark_each(
+    marks: &mut BTreeMap<Key, ()>,
+    held: &Table,
+    one: &Table,
+    other: &Table,
+) -> Result<(), NoMemory>
+    ensures { OnOk result (maps.from_entries {R = key_cmp} marks.new.entries
+        ≡ marked one.now.contents other.now.contents
+        (maps.from_entries {R = key_cmp} marks.old.entries) (maps.keys held.now.contents)) }
+{
+    for key in held.keys() {
+        mark(marks, key, one, other)?;
+    }
+    Ok(())
+}
+
+/// Marks a key, if two tables differ at it.
+fn mark(marks: &mut BTreeMap<Key, ()>, key: Key, one: &Table, other: &Table) -> Result<(), NoMemory>
+    ensures { OnOk result (maps.from_entries {R = key_cmp} marks.new.entries
+        ≡ with_mark one.now.contents other.now.contents
+        (maps.from_entries {R = key_cmp} marks.old.entries) key) }
+{
+    if one.same_at(other, &key) {
+        return Ok(());
+    }
+    marks.insert(key, ())?;
+    Ok(())
+}
+
+/// Adds what either table has at a key.
+fn push_two_lines(one: &Table, other: &Table, key: Key, text: &mut String) -> Result<(), NoMemory>
+    ensures { OnOk result (string_bytes text.new
+        ≡ string_bytes text.old ++ two_lines one.now.contents other.now.contents key) }
+{
+    text.push_str("1 ")?;
+    push_held(one, key, text)?;
+    text.push_str("2 ")?;
+    push_held(other, key, text)
+}
+
+/// Adds the line of a key, or that it isn't held.
+fn push_held(table: &Table, key: Key, text: &mut String) -> Result<(), NoMemory>
+    ensures { OnOk result (string_bytes text.new ≡ string_bytes text.old
+        ++ line_where table.now.contents key (maps.get table.now.contents key)) }
+{
+    match table.state(&key) {
+        State::Absent => {
+            text.push_str("absent\n")?;
+            Ok(())
+        }
+        _ => push_key_line(table, key, text),
+    }
 }

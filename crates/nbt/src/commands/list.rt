@@ -4,9 +4,9 @@ ghost use Rattle.nbt.specs.Objects.{listed_as};
 ghost use Rattle.nbt.specs.Printing.{ExplainsWrite, PrintsText};
 
 use crate::fault::Fault;
-use crate::joining_input::joined_input;
 use crate::output::Output;
 use crate::settings::is_given;
+use crate::tables::joined_input;
 use clap::ArgMatches;
 use nb_member::{list_keys, list_objects};
 use nb_names::Counted;

@@ -2,8 +2,8 @@
 ghost use Rattle.nbt.specs.Commands.{MergeCommand, streams};
 
 use crate::fault::Fault;
-use crate::joining_input::joined_input;
 use crate::output::Output;
+use crate::tables::joined_input;
 use clap::ArgMatches;
 use nb_names::Counted;
 use std::alloc::Global;

@@ -6,11 +6,9 @@ ghost use Rattle.nbt.specs.Settings.{IsGiven};
 ghost use Rattle.nbt.specs.Showing.{IsBrief};
 
 use crate::fault::Fault;
-use crate::fronts::Fronts;
 use crate::objects::Objects;
 use crate::output::Output;
-use crate::payload_text::PayloadText;
-use crate::phrases::Phrases;
+use crate::payload_text::{Fronts, PayloadText, Phrases};
 use crate::printing_lines::print_lines;
 use crate::settings::{is_given, options_of};
 use crate::telling::{LineFields, Packets};

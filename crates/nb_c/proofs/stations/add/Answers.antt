@@ -1,5 +1,5 @@
 use Rattle.nb_c.proofs.Common.{◌≡◌, ◌+◌, List, length, Err, subst, arith, NetbiosName, IsFaultOf, TextFault}
-use Rattle.nb_names.specs.declared.text_fault.TextFault.TheVariants.{BadText, TooLong}
+use Rattle.nb_names.specs.declared.fault.TextFault.TheVariants.{BadText, TooLong}
 use Rattle.nb_member.specs.declared.local_names.AddFault.{AddFault}
 use Rattle.nb_member.specs.declared.local_names.AddFault.TheVariants.{Present, TooMany, NoMemory}
 use Rattle.nb_member.specs.Hearing.{Adds}

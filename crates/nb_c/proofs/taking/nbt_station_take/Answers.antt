@@ -1,5 +1,5 @@
 use Rattle.nb_c.proofs.Common.{ap, sym, ◌∙◌}
-use Rattle.nb_c.specs.declared.kept.Kept.{Kept}
+use Rattle.nb_c.specs.declared.handle.Kept.{Kept}
 use Rattle.nb_c.proofs.ObjectLemmas.{station_done}
 use Rattle.nb_c.proofs.taking.nbt_station_take.Goals as goal
 

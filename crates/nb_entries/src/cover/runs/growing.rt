@@ -1,15 +1,17 @@
-//! A row of runs, which grow in place.
-ghost use Rattle.std.specs.Prelude.{◌≡◌, ◌+◌, ◌<◌, ◌≤◌, ◌++◌, length, take, drop, OnOk, OnErr};
+//! Rows of runs: one that grows in place, and the runs of several, one after the other.
+ghost use Rattle.std.specs.Prelude.{◌≡◌, ◌+◌, ◌<◌, ◌≤◌, ◌++◌, length, take, drop, OnOk, OnErr, []};
 ghost use Rattle.std.specs.Vec.{vec_capacity, vec_len};
 ghost use Rattle.nb_entries.specs.Runs.{AreApart};
 ghost use Rattle.nb_entries.specs.declared.cover.runs.growing.TheConstants.{FEW};
-ghost use Rattle.nb_entries.specs.Code.Rows.{value_of, values_of, run_at, grown, Meet, Agree, IsPut};
+ghost use Rattle.nb_entries.specs.Code.Rows.{value_of, values_of, run_at, grown, Meet, Agree, IsPut, kept_runs, kept_values, AreFilled, IsFrom};
 
-use super::Run;
-use super::searching::{first_from, past_to};
+use super::inserting::{first_from, past_to, row_to};
+use super::{Kept, Run};
 use arrayvec::ArrayVec;
 use nb_names::NoMemory;
 use std::alloc::Global;
+use std::marker::Model;
+use std::slice::from_ref;
 
 /// How many bytes are moved by way of the stack: `rotate_right` clears four times as many for its
 /// room, whatever it moves.
@@ -110,4 +112,92 @@ pub(super) fn insert_bytes(
     join(&mut runs[first], whole.start(), whole.bytes())?;
     drop_runs(runs, first + 1, past);
     Ok(())
+}
+
+/// The runs of rows that are left, in order.
+#[derive(Drop)]
+pub(crate) struct EachRun<'a> {
+    row: &'a [Run],
+    rows: &'a [Vec<Run>],
+}
+
+impl<'a> Model for EachRun<'a> {
+    ghost use Rattle.std.specs.Prelude.{◌++◌, List};
+    ghost use Rattle.nb_entries.specs.Code.Rows.{runs_in, NoneEmpty};
+    ghost use Rattle.nb_entries.specs.declared.cover.runs.Run.{Run};
+
+    ghost Value = { List Run };
+
+    ghost view = { λ e. e.row.now ++ runs_in e.rows.now };
+
+    ghost invariant = { λ e. NoneEmpty e.rows.now };
+}
+
+impl<'a> EachRun<'a> {
+    /// No runs.
+    pub(crate) fn none() -> EachRun<'a>
+        ensures { result ≡ [] }
+    {
+        EachRun {
+            row: &[],
+            rows: &[],
+        }
+    }
+
+    /// The runs that are kept.
+    pub(crate) fn of(kept: &'a Kept) -> EachRun<'a>
+        requires { AreFilled kept.now }
+        ensures { result ≡ kept_runs kept.now }
+    {
+        match kept {
+            Kept::One(run) => EachRun {
+                row: from_ref(run),
+                rows: &[],
+            },
+            Kept::Many(rows) => EachRun { row: &[], rows },
+        }
+    }
+
+    /// The runs from the first one on that ends at a place or after it.
+    pub(crate) fn from(kept: &'a Kept, place: usize) -> EachRun<'a>
+        requires some { AreFilled kept.now }
+        requires apart { AreApart (kept_values kept.now) }
+        ensures { IsFrom (kept_values kept.now) place (values_of result) }
+    {
+        let rows = match kept {
+            Kept::One(run) if run.end() < place => return EachRun::none(),
+            Kept::One(_) => return EachRun::of(kept),
+            Kept::Many(rows) => rows.as_slice(),
+        };
+        match rows[row_to(rows, place)..].split_first() {
+            Some((row, rest)) => EachRun {
+                row: &row[first_from(row, place)..],
+                rows: rest,
+            },
+            None => EachRun::none(),
+        }
+    }
+}
+
+impl<'a> Iterator for EachRun<'a> {
+    type Item = &'a Run;
+
+    ghost use Rattle.std.specs.Prelude.{length};
+    ghost use Rattle.std.specs.Iterator.{at_most};
+    ghost use Rattle.std.specs.Map.Iter.{TakesFirst, deref};
+
+    ghost next_gives = { TakesFirst deref };
+
+    ghost remaining = { λ e. at_most (length e) };
+
+    fn next(&mut self) -> Option<&'a Run> {
+        if self.row.is_empty() {
+            let (row, rest) = self.rows.split_first()?;
+            self.row = row.as_slice();
+            self.rows = rest;
+        }
+        let (run, rest) = self.row.split_first()?;
+        self.row = rest;
+        Some(run)
+    }
 }

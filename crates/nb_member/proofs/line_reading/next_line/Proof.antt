@@ -35,8 +35,8 @@ use Rattle.std.proofs.option.Option.TheLaws.{the_row_laws as option_laws}
 use Rattle.std.proofs.result.Result.TheLaws.{the_row_laws as result_laws}
 use Rattle.std.specs.declared.io.traits.Read
 use Rattle.nb_names.specs.contracts.counted.Counted.{the_row as Counted}
-use Rattle.nb_member.proofs.line_read_fault.LineReadFault.TheLaws.{the_row_laws as fault_laws}
-use Rattle.nb_member.specs.contracts.line_read_fault.LineReadFault.{the_row as F}
+use Rattle.nb_member.proofs.line.LineReadFault.TheLaws.{the_row_laws as fault_laws}
+use Rattle.nb_member.specs.contracts.line.LineReadFault.{the_row as F}
 use Rattle.nb_member.specs.contracts.line_room.LineRoom.{the_row as Room}
 use Rattle.nb_member.specs.contracts.line_reading.next_line as f
 use Rattle.nb_member.proofs.line_reading.next_line.Statement.{statement}

@@ -1,6 +1,6 @@
 use Rattle.std.proofs.Common.{◌≡◌, ◌∙◌, ◌++◌, List, subst}
 use Rattle.std.specs.List.{AllByRecursion}
-use Rattle.nb_service.specs.declared.question.Question.{Question}
+use Rattle.nb_service.specs.declared.record.Question.{Question}
 use Rattle.nb_service.specs.Record.{ResourceRecord}
 use Rattle.nb_service.specs.Encoding.{packet_bytes, IsQuestion, IsRecord, IsWritable}
 use Rattle.nb_service.proofs.EncodingLemmas.{all_append, packet_written}

@@ -1,5 +1,5 @@
 use Rattle.std.proofs.Common.{◌≡◌, ℕ, List, Option, refl, subst}
-use Rattle.nb_service.specs.declared.section.Section.{Section}
+use Rattle.nb_service.specs.declared.packet.Section.{Section}
 use Rattle.nb_service.specs.declared.seen.Seen.{Seen}
 use Rattle.nb_service.specs.Header.{header_value}
 use Rattle.nb_service.specs.Items.{PacketItem, asked, told, question_there, record_there, question_fails, record_fails, Sees, section_of}

@@ -1,7 +1,7 @@
 use Rattle.std.proofs.Common.{◌≡◌, ◌≤◌, ℕ, ◌+◌, List, length, refl, ap, subst, arith}
 use Rattle.std.proofs.lemmas.Result.{err_from_is_err_and}
 use Rattle.std.specs.Int.{w16, w32}
-use Rattle.nb_names.specs.declared.pointers.Pointers.TheVariants.{Followed}
+use Rattle.nb_names.specs.declared.reading.Pointers.TheVariants.{Followed}
 use Rattle.nb_names.specs.Labels.{NameAt, NumberAt}
 use Rattle.nb_service.specs.ServiceFaults.{RdataBegins, DomainFails, RecordFails, record_name, record_cut, rdata_cut, rdata_fails}
 use Rattle.nb_service.specs.declared.fault.ServiceFault.{ServiceFault}

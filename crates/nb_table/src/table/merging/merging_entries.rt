@@ -13,7 +13,7 @@ ghost use Rattle.nb_table.specs.Merging.{AllShort, newly_handed};
 ghost use Rattle.nb_table.specs.Code.Each.{joined_each, handed, handed_at, with_entry, taken_back};
 
 use super::others::{Other, Others};
-use super::taking_in::{put_noted, take_back};
+use super::{put_noted, take_back};
 use crate::entries::Entries;
 use nb_datagram::{Datagram, Datagrams, Key};
 use nb_entries::{Entry, Handing};

@@ -1,7 +1,7 @@
 use Rattle.std.proofs.Common.{◌≡◌, ◌∷◌, [], ℕ, List, fold, refl, ap, ◌∙◌}
 use Rattle.std.proofs.lemmas.Result.{on_ok_weaker}
 use Rattle.nb_names.specs.NameText.{labels_written}
-use Rattle.nb_service.specs.declared.fields.Fields.{Fields}
+use Rattle.nb_service.specs.declared.record.Fields.{Fields}
 use Rattle.nb_service.specs.declared.kinds.TheConstants.{NS}
 use Rattle.nb_service.specs.Record.{ResourceRecord, of_bytes, of_domain}
 use Rattle.nb_telling.specs.Telling.{Data, LineEnds, Text}

@@ -1,7 +1,7 @@
 use Rattle.nbt.proofs.Common.{Keeps-same}
 use Rattle.nbt.proofs.CommandRows.{ended_so, entered_another, entered_as, entered_nothing}
 use Rattle.nbt.specs.Commands.{streams, name, show, build, replay, save, merge, list, agree, other}
-use Rattle.nbt.specs.declared.subcommand.Subcommand.TheVariants as commands
+use Rattle.nbt.specs.declared.command_forms.Subcommand.TheVariants as commands
 use Rattle.nbt.proofs.program.run_command.Goals as goal
 
 pub returns-in_default-clause-ran : goal.returns-in_default-clause-ran

@@ -1,5 +1,5 @@
 use Rattle.std.proofs.Common.{◌≢◌, arith}
-use Rattle.nb_datagram.specs.declared.kind.Kind.TheVariants.{Unique, Group, Broadcast}
+use Rattle.nb_datagram.specs.declared.key.Kind.TheVariants.{Unique, Group, Broadcast}
 use Rattle.nb_datagram.specs.Packet.{type_of}
 use Rattle.nb_entries.specs.SavedReading.{goes_on, known, unknown}
 use Rattle.nb_entries.proofs.SavedReading.{stopped}

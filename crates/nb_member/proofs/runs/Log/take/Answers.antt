@@ -1,6 +1,6 @@
 use Rattle.std.proofs.Common.{sym, ap, ◌∙◌, subst, refl, false}
-use Rattle.nb_member.specs.declared.event.Event.{Event}
-use Rattle.nb_member.specs.declared.event.Event.TheVariants.{Packet}
+use Rattle.nb_member.specs.declared.outcome.Event.{Event}
+use Rattle.nb_member.specs.declared.outcome.Event.TheVariants.{Packet}
 use Rattle.nb_member.proofs.RunLemmas.OneEvent.{clock_step}
 use Rattle.nb_member.proofs.runs.Log.take.Goals as goal
 use Rattle.nb_member.specs.Code.RunEvents.{HandedOut, HasTaken, RunsEvent}

@@ -1,8 +1,8 @@
 use Rattle.std.proofs.Common.{List, sym, ap, ◌++◌, ◌∙◌, subst, Err}
 use Rattle.nb_datagram.specs.declared.packet.ErrorPacket.{ErrorPacket}
 use Rattle.nb_datagram.specs.Fragment.{DatagramParts}
-use Rattle.nb_member.specs.declared.event.Event.TheVariants.{Packet}
-use Rattle.nb_member.specs.declared.run_report.RunStop.{RunStop}
+use Rattle.nb_member.specs.declared.outcome.Event.TheVariants.{Packet}
+use Rattle.nb_member.specs.declared.runs.RunStop.{RunStop}
 use Rattle.nb_member.proofs.RunLemmas.OneEvent.{StepsKnown, payload_step, no_room_step}
 use Rattle.nb_member.proofs.runs.Log.take_packet.Goals as goal
 use Rattle.nb_member.specs.Deliveries.{delivery_in, error_in}

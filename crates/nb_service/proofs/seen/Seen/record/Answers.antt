@@ -1,5 +1,5 @@
 use Rattle.std.proofs.Common.{◌∙◌, ap}
-use Rattle.nb_service.specs.declared.fields.Fields.{Fields}
+use Rattle.nb_service.specs.declared.record.Fields.{Fields}
 use Rattle.nb_service.proofs.ItemLemmas.{data_fits, seen_rdata}
 use Rattle.nb_service.proofs.seen.Seen.record.Goals as goal
 

@@ -1,6 +1,6 @@
 use Rattle.std.proofs.Common.{List, [], ◌∷◌, ◌++◌, None, arith, subst, sym, ◌∙◌}
 use Rattle.nb_service.specs.declared.limits.TheConstants.{HEADER_LENGTH}
-use Rattle.nb_service.specs.declared.question.Question.{Question}
+use Rattle.nb_service.specs.declared.record.Question.{Question}
 use Rattle.nb_service.specs.Packet.{QuestionAt, RecordAt}
 use Rattle.nb_service.proofs.ItemLemmas.{read_is_ok, read_is}
 use Rattle.nb_text.specs.ServiceSaid.{IsAbout, about_first}

@@ -1,8 +1,0 @@
-use Rattle.std.proofs.Common.{not, Some, rules}
-use Rattle.std.proofs.lemmas.Fn.{filter_same}
-use Rattle.nb_member.proofs.starts.keep_running.Goals as goal
-use Rattle.nb_member.specs.Live.{is_over}
-
-pub returns : goal.returns
-returns c =
-    filter_same _ (λ e. not (is_over c.args.now (Some e.1))) _ (λ e b f' t. search rules) _ _ c.retain.ensures.filtered

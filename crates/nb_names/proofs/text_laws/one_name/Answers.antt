@@ -1,5 +1,0 @@
-use Rattle.nb_names.proofs.PartsLemmas.{one_name_of}
-use Rattle.nb_names.proofs.text_laws.one_name.Goals as goal
-
-pub returns : goal.returns
-returns c = one_name_of

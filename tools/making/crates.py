@@ -7,13 +7,13 @@ CONSTANT = re.compile(r'const (\w+)(?:: \w+)? = (\w+(?: \+ \w+)*);')
 # A row of words: the status of a fault in a role.
 IN_ROLE = re.compile(r'\(\s*(\w+?)(?:_TEXT)? \+ ((?:NAME_|TABLE_)?(\w+)),\s*"')
 # By enumeration the files with its constants. Those that have other names there stand below.
-FILES = {'status': 'nb_c/src/statuses.rt', 'line_kind': 'nb_c/src/captures.rt', 'outcome': 'nb_c/src/taken.rt', 'record_type': 'nb_service/src/kinds.rt',
+FILES = {'status': 'nb_c/src/statuses.rt', 'line_kind': 'nb_c/src/showing.rt', 'outcome': 'nb_c/src/taken.rt', 'record_type': 'nb_service/src/kinds.rt',
          'datagram_flag': 'nb_datagram/src/limits.rt', 'datagram_type': 'nb_datagram/src/limits.rt', 'word': 'nb_service/src/flags.rt',
          'name_flag': 'nb_service/src/flags.rt', 'operation': 'nb_text/src/codes.rt', 'result_code': 'nb_text/src/codes.rt'}
 NAMES = {'UNIQUE': 'DIRECT_UNIQUE', 'GROUP': 'DIRECT_GROUP', 'ERROR': 'ERROR_TYPE', 'FIND': 'QUERY_REQUEST', 'FOUND': 'POSITIVE_RESPONSE',
          'MISSING': 'NEGATIVE_RESPONSE'}
 # Those that are arms of a `match`, whose default has the other.
-ARMS = {'session_type': ('nb_session/src/kind.rt', r'Kind::(?P<name>\w+) => (?P<number>0x\w+),'),
+ARMS = {'session_type': ('nb_session/src/packet.rt', r'Kind::(?P<name>\w+) => (?P<number>0x\w+),'),
         'section': ('nb_c/src/service_reading.rt', r'Section::(?P<name>\w+)\) => (?P<number>\d)'),
         'request': ('nb_c/src/service.rt', r'(?P<number>\d) => (?P<name>\w+?)(?:_request)?\(alloc')}
 LIMITS = {'MOST_LINE': ('nb_member/src/limits.rt', 'MAX_LINE'), 'MOST_DATAGRAM': ('nb_datagram/src/limits.rt', 'MAX_LENGTH'),

@@ -47,7 +47,11 @@ mod texts;
 use nb_datagram::laws as datagrams;
 use nb_service::laws as names;
 use nb_session::laws as sessions;
-pub use phrases::{answers_in_words, codes_in_words, datagrams_in_words, names_in_words, numbers, outcomes_in_words, redirects_in_words, refusals_in_words, relays_in_words, requests_in_words, sessions_in_words};
+pub use phrases::{
+    answers_in_words, codes_in_words, datagrams_in_words, names_in_words, numbers,
+    outcomes_in_words, redirects_in_words, refusals_in_words, relays_in_words, requests_in_words,
+    sessions_in_words,
+};
 pub use texts::{lines_of_datagrams, lines_of_names, lines_of_sessions};
 
 /// A payload has one text for a port, one list of fields, and one phrase.

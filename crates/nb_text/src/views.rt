@@ -1,25 +1,25 @@
-//! The views of RDATA: what the RDATA of records of one kind says, to a sink and in a phrase.
-
+//! The views of RDATA: what the RDATA of records of one kind says, to a sink and in a phrase. Each has
+//! its parts here: the address entries of kind NB, and the node status of kind NBSTAT.
 ghost use Rattle.std.specs.Prelude.{◌≡◌, ◌++◌, List, OnOk, fold, length, map, slice_get};
 ghost use Rattle.std.specs.List.{flat_map};
 ghost use Rattle.nb_service.specs.Record.{of_bytes};
 ghost use Rattle.nb_telling.specs.Telling.{Field, Grows};
+ghost use Rattle.nb_telling.specs.Texts.{names_of};
 ghost use Rattle.nb_text.specs.declared.brief.services.Listed.{Listed};
 ghost use Rattle.nb_text.specs.Fields.{list_fields};
 ghost use Rattle.nb_text.specs.ServiceSaid.{few, first};
-ghost use Rattle.nb_text.specs.Views.{fields_by, flags_by, listed_by, parts_in, units_by};
-
-mod entries;
-mod status;
+ghost use Rattle.nb_text.specs.Views.{fields_by, flags_by, listed_by, parts_in, units_by, entries_view, name_flags, status_view};
+ghost use Rattle.nb_text.specs.Words.{is_set, names_set};
 
 use crate::brief::services::{Few, Listed};
-use crate::views::entries::tell_entries;
-use crate::views::status::tell_status;
-use nb_names::NoMemory;
+use crate::keys::field_key;
+use crate::words::{end_part, tell_owner};
+use bitflags::{Flag as Named, Flags};
+use nb_names::{Name, NoMemory, Scope};
 use nb_service::kinds::{A, NB, NBSTAT};
 use nb_service::limits::UNIT_ID_LENGTH;
-use nb_service::{AddressEntries, NodeStatus};
-use nb_telling::Sink;
+use nb_service::{AddressEntries, AddressEntry, NodeFlags, NodeName, NodeStatus};
+use nb_telling::{Flag, Sink};
 
 /// Tells what RDATA of this kind and these bytes says.
 pub fn tell_view<S: Sink>(kind: u16, bytes: &[u8], sink: &mut S) -> Result<(), NoMemory>
@@ -145,5 +145,126 @@ fn list_each<P: ViewParts>(parts: &Option<P>, listed: &mut Few)
         for place in 0..parts.count() {
             listed.list(parts.part_at(place).unwrap().item());
         }
+    }
+}
+
+/// Tells the list of the entries that RDATA of kind NB is, where it has the form.
+pub fn tell_entries<S: Sink>(bytes: &[u8], sink: &mut S) -> Result<(), NoMemory>
+    ensures told { OnOk result (S.seen sink.new
+        ≡ fold S.after (S.seen sink.old) (entries_view.fields (of_bytes bytes.now))) }
+    ensures front { Grows S.is_front (S.seen sink.old) (S.seen sink.new) }
+{
+    tell_list("entries", &AddressEntries::of_rdata(NB, bytes), sink)
+}
+
+impl<'a> ViewParts for AddressEntries<'a> {
+    type Part = AddressEntry;
+
+    ghost parts = { λ entries. entries };
+
+    fn count(&self) -> usize {
+        self.len()
+    }
+
+    fn part_at(&self, place: usize) -> Option<AddressEntry> {
+        self.get(place)
+    }
+}
+
+impl ViewPart for AddressEntry {
+    ghost use Rattle.nb_text.specs.Views.{address_listed, entry_fields};
+
+    ghost fields = { entry_fields };
+
+    ghost listed = { address_listed };
+
+    fn tell<S: Sink>(self, sink: &mut S) -> Result<(), NoMemory> {
+        sink.part("    entry")?;
+        tell_owner(self.flags, sink)?;
+        sink.shown(field_key!("address"), &self.address)?;
+        end_part(sink)
+    }
+
+    fn item(self) -> Listed {
+        Listed::Address(self.address)
+    }
+}
+
+/// Tells the node status that RDATA of kind NBSTAT is: a list of its names, which is empty where
+/// the RDATA hasn't the form, and the unit where there is one.
+pub fn tell_status<S: Sink>(bytes: &[u8], sink: &mut S) -> Result<(), NoMemory>
+    ensures told { OnOk result (S.seen sink.new
+        ≡ fold S.after (S.seen sink.old) (status_view.fields (of_bytes bytes.now))) }
+    ensures front { Grows S.is_front (S.seen sink.old) (S.seen sink.new) }
+{
+    tell_list("names", &NodeStatus::of_rdata(NBSTAT, bytes), sink)?;
+    match first_unit(NBSTAT, bytes) {
+        Some(unit) => {
+            sink.digits(field_key!("unit", "    unit="), &unit)?;
+            sink.line_ends()
+        }
+        None => Ok(()),
+    }
+}
+
+impl<'a> ViewParts for NodeStatus<'a> {
+    type Part = NodeName;
+
+    ghost parts = { λ status. status.names };
+
+    fn count(&self) -> usize {
+        self.len()
+    }
+
+    fn part_at(&self, place: usize) -> Option<NodeName> {
+        self.get(place)
+    }
+}
+
+impl ViewPart for NodeName {
+    ghost use Rattle.nb_text.specs.Views.{name_listed, node_name_fields};
+
+    ghost fields = { node_name_fields };
+
+    ghost listed = { name_listed };
+
+    fn tell<S: Sink>(self, sink: &mut S) -> Result<(), NoMemory> {
+        sink.part("    name")?;
+        sink.shown(
+            field_key!("name", " "),
+            &Name::new(self.bytes, Scope::empty()),
+        )?;
+        tell_owner(self.flags, sink)?;
+        sink.set(field_key!("set"), &name_flags_of(self.flags))?;
+        end_part(sink)
+    }
+
+    fn item(self) -> Listed {
+        Listed::NodeName(self.bytes)
+    }
+}
+
+/// The flags of a node's name, and which of them are set in its word.
+fn name_flags_of(word: u16) -> [Flag; 5]
+    ensures { names_of result ≡ names_set name_flags word }
+{
+    [
+        name_flag(&NodeFlags::FLAGS[0], word),
+        name_flag(&NodeFlags::FLAGS[1], word),
+        name_flag(&NodeFlags::FLAGS[2], word),
+        name_flag(&NodeFlags::FLAGS[3], word),
+        name_flag(&NodeFlags::FLAGS[4], word),
+    ]
+}
+
+/// A flag of nodes' names, and whether it is set in a word.
+#[inline(always)]
+fn name_flag(flag: &Named<NodeFlags>, word: u16) -> Flag
+    ensures named { result.name.now ≡ flag.now.name.now }
+    ensures set { result.is_set ≡ is_set word flag.now.value.0 }
+{
+    Flag {
+        name: flag.name(),
+        is_set: word & flag.value().bits() != 0,
     }
 }

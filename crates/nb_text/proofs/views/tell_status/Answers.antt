@@ -8,7 +8,7 @@ use Rattle.nb_telling.proofs.FoldLemmas.{and_then}
 use Rattle.nb_text.specs.Fields.{list_fields}
 use Rattle.nb_text.specs.Views.{node_name_fields, parts_in, unit_fields}
 use Rattle.nb_text.proofs.ViewLemmas.{names_found, unit_told}
-use Rattle.nb_text.proofs.views.status.tell_status.Goals as goal
+use Rattle.nb_text.proofs.views.tell_status.Goals as goal
 
 pub returns-in_ok-digits-in-Some-clause-told : goal.returns-in_ok-digits-in-Some-clause-told
 returns-in_ok-digits-in-Some-clause-told g c =

@@ -8,9 +8,9 @@ use Rattle.nb_entries.specs.Entry.{EntryFacts, EntryValue, FactsFit, facts_toget
 use Rattle.nb_entries.specs.Shared.EntryLemmas.{facts_agree_of}
 use Rattle.nb_entries.specs.Code.CoverFacts.{Holds}
 use Rattle.nb_entries.specs.Whole.{bytes_to, datagram_with, datagram_of, newly}
-use Rattle.nb_entries.specs.declared.change.Handing.{Handing}
-use Rattle.nb_entries.specs.declared.change.Handing.TheVariants.{Over, Kept}
-use Rattle.nb_entries.specs.declared.change.Change.TheVariants.{Whole}
+use Rattle.nb_entries.specs.declared.outline.Handing.{Handing}
+use Rattle.nb_entries.specs.declared.outline.Handing.TheVariants.{Over, Kept}
+use Rattle.nb_entries.specs.declared.outline.Change.TheVariants.{Whole}
 use Rattle.nb_entries.specs.Change.{KeyChange, made_by, grown_to, handed_by, told_by}
 use Rattle.nb_entries.specs.Shared.CoverLemmas.{together_held}
 use Rattle.nb_entries.specs.Shared.WholeLemmas.{below_found}

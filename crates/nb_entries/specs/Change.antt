@@ -2,10 +2,10 @@
 use Rattle.std.specs.Prelude.{◌≡◌, ◌≢◌, ℕ, List, Option, Some, None, option_and_then}
 use Rattle.nb_datagram.specs.declared.key.Key.{Key}
 use Rattle.nb_datagram.specs.Fragment.{DatagramParts, datagram_by, FragmentParts}
-use Rattle.nb_entries.specs.declared.change.Change.{Change as ChangeOf}
-use Rattle.nb_entries.specs.declared.change.Change.TheVariants.{Spoilt, Whole, Same, Grown}
-use Rattle.nb_entries.specs.declared.change.Handing.{Handing}
-use Rattle.nb_entries.specs.declared.change.Handing.TheVariants.{Over, Kept}
+use Rattle.nb_entries.specs.declared.outline.Change.{Change as ChangeOf}
+use Rattle.nb_entries.specs.declared.outline.Change.TheVariants.{Spoilt, Whole, Same, Grown}
+use Rattle.nb_entries.specs.declared.outline.Handing.{Handing}
+use Rattle.nb_entries.specs.declared.outline.Handing.TheVariants.{Over, Kept}
 use Rattle.nb_entries.specs.Maps.{Spoilt as Clashed}
 use Rattle.nb_entries.specs.Entry.{EntryValue}
 use Rattle.nb_entries.specs.Whole.{datagram_of, newly}

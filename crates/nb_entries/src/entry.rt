@@ -13,9 +13,8 @@ mod growing;
 mod joining;
 mod reading;
 
-use crate::change::{Change, Handing};
 use crate::cover::CoverFacts;
-use crate::outline::State;
+use crate::outline::{Change, Handing, State};
 use crate::slot::Slot;
 use nb_datagram::{Fragment, Kind, LentFragment, UserData};
 use nb_names::{KeptName, LentName, NoMemory};

@@ -1,7 +1,6 @@
 //! Entries: what is known of one datagram, and its saved form. No table is known here.
 #![tactic(auto)]
 
-mod change;
 mod cover;
 mod entry;
 pub mod laws;
@@ -10,10 +9,9 @@ mod ranges;
 pub mod saved;
 mod slot;
 
-pub use change::{Change, Handing};
 pub use cover::{Cover, CoverFacts};
 pub use entry::{Entry, EntryFacts};
-pub use outline::{Outline, State};
+pub use outline::{Change, Handing, Outline, State};
 pub use ranges::{PlaceRange, Ranges};
 pub use saved::LoadFault;
 pub use slot::{Facts, Slot};

@@ -10,7 +10,7 @@ use Rattle.nb_datagram.specs.declared.packet.Packet.TheVariants.{Direct, Error, 
 use Rattle.nb_datagram.specs.Fragment.{DatagramParts, FragmentParts}
 use Rattle.nb_datagram.specs.DatagramFaults.{PacketFails}
 use Rattle.nb_datagram.specs.Packet.{QueryPacket, IsPacket}
-use Rattle.nb_entries.specs.declared.change.Change.TheVariants as change
+use Rattle.nb_entries.specs.declared.outline.Change.TheVariants as change
 use Rattle.nb_table.specs.declared.fault.TableFault.{TableFault}
 use Rattle.nb_table.specs.declared.fault.TableFault.TheVariants.{Full, FullSource}
 use Rattle.nb_entries.specs.Change.{Change}

@@ -3,7 +3,7 @@ use Rattle.std.proofs.Common.{◌≡◌, Option, Some, None, refl, sym, ◌∙�
 use Rattle.std.specs.FinMap as maps
 use Rattle.nb_datagram.specs.declared.key.Key.{Key}
 use Rattle.nb_datagram.specs.Fragment.{DatagramParts, FragmentParts, Core, core_of, reach}
-use Rattle.nb_entries.specs.declared.change.Change.TheVariants.{Whole, Same, Grown, Spoilt as Spoils}
+use Rattle.nb_entries.specs.declared.outline.Change.TheVariants.{Whole, Same, Grown, Spoilt as Spoils}
 use Rattle.nb_entries.specs.declared.outline.State.{State}
 use Rattle.nb_entries.specs.declared.outline.State.TheVariants.{Absent, Partial, Spoilt as IsSpoilt, Whole as IsWholly}
 use Rattle.nb_entries.specs.declared.slot.Slot.TheVariants.{Spoilt, Held}

@@ -3,8 +3,8 @@ use Rattle.std.specs.Prelude.{◌≡◌, ◌≢◌, Some, None}
 use Rattle.std.specs.FinMap as maps
 use Rattle.nb_datagram.specs.declared.key.Key.{Key}
 use Rattle.nb_datagram.specs.Fragment.{FragmentParts}
-use Rattle.nb_entries.specs.declared.change.Handing.{Handing}
-use Rattle.nb_entries.specs.declared.change.Change.TheVariants.{Spoilt, Whole, Same, Grown}
+use Rattle.nb_entries.specs.declared.outline.Handing.{Handing}
+use Rattle.nb_entries.specs.declared.outline.Change.TheVariants.{Spoilt, Whole, Same, Grown}
 use Rattle.nb_entries.specs.declared.slot.Slot.TheVariants.{Spoilt as Clashed}
 use Rattle.nb_table.specs.Contents.{Contents, newly_whole}
 use Rattle.nb_entries.specs.Change.{Change, DataChange, made_by, told_by}

@@ -8,8 +8,7 @@ ghost use Rattle.nb_telling.specs.Members.{AreMembers, IsJson};
 ghost use Rattle.nb_telling.specs.Texts.{names_of};
 ghost use Rattle.nb_telling.specs.Tokens.{tokens_of};
 
-use crate::shows::Shows;
-use crate::sink::{FieldKey, Flag, Sink};
+use crate::sink::{FieldKey, Flag, Shows, Sink};
 use json::Writer;
 use nb_names::{NoMemory, ascii_str, push_digits, push_shown};
 use std::alloc::Global;

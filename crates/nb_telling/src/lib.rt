@@ -3,10 +3,8 @@
 #![tactic(auto)]
 
 mod json_sink;
-mod shows;
 mod sink;
 mod text_sink;
 
 pub use json_sink::{JsonRoom, JsonSink};
-pub use shows::Shows;
-pub use sink::{FieldKey, Flag, Sink, tell_place};
+pub use sink::{FieldKey, Flag, Shows, Sink, tell_place};

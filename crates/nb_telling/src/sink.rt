@@ -1,10 +1,14 @@
-//! What fields are reported to, their keys, flags and places.
-ghost use Rattle.std.specs.Prelude.{◌≡◌, IfSome, OnOk, fold};
+//! What fields are reported to, their keys, flags and places, and values that have a text.
+ghost use Rattle.std.specs.Prelude.{◌≡◌, IfSome, OnOk, fold, ◌++◌, ℕ, List, string_bytes};
+ghost use Rattle.nb_names.specs.Growth.{OnlyAdds};
 ghost use Rattle.nb_telling.specs.Telling.{Field, Text, Number, Digits, Data, Set, Known, Range, Words, At, Begins, Ends, Part, PartEnds, LineEnds, Grows, key_of, place_fields};
 ghost use Rattle.nb_telling.specs.Texts.{names_of};
 
-use crate::shows::Shows;
-use nb_names::NoMemory;
+use nb_datagram::{Key, push_key};
+use nb_names::{
+    DomainName, LentDomain, LentName, Name, NoMemory, push_address, push_domain, push_lent_name,
+    push_name,
+};
 use std::fmt::Display;
 
 /// What fields are reported to, one after the other.
@@ -145,5 +149,81 @@ pub fn tell_place<S: Sink>(place: Option<usize>, sink: &mut S) -> Result<(), NoM
     match place {
         Some(place) => sink.at(place as u64),
         None => Ok(()),
+    }
+}
+
+/// A value whose text is added to another, with no copy in between.
+pub trait Shows {
+    /// Its text.
+    ghost shown: { Self → List ℕ };
+
+    /// Adds its text.
+    ///
+    /// # Errors
+    ///
+    /// [`NoMemory`] where memory ran out; some of the text may then be added.
+    fn push_to(&self, text: &mut String) -> Result<(), NoMemory>
+        ensures added { OnOk result
+            (string_bytes text.new ≡ string_bytes text.old ++ shown self.now) }
+        ensures front { OnlyAdds (string_bytes text.old) (string_bytes text.new) };
+}
+
+impl Shows for Name {
+    ghost use Rattle.nb_names.specs.NameText.{written};
+
+    ghost shown = { written };
+
+    fn push_to(&self, text: &mut String) -> Result<(), NoMemory> {
+        push_name(text, self)
+    }
+}
+
+impl<'a> Shows for LentName<'a> {
+    ghost use Rattle.nb_names.specs.NameText.{written};
+
+    ghost shown = { written };
+
+    fn push_to(&self, text: &mut String) -> Result<(), NoMemory> {
+        push_lent_name(text, self)
+    }
+}
+
+impl Shows for DomainName {
+    ghost use Rattle.nb_names.specs.NameText.{labels_written};
+
+    ghost shown = { labels_written };
+
+    fn push_to(&self, text: &mut String) -> Result<(), NoMemory> {
+        push_domain(text, &self.lent())
+    }
+}
+
+impl<'a> Shows for LentDomain<'a> {
+    ghost use Rattle.nb_names.specs.NameText.{labels_written};
+
+    ghost shown = { labels_written };
+
+    fn push_to(&self, text: &mut String) -> Result<(), NoMemory> {
+        push_domain(text, self)
+    }
+}
+
+impl Shows for [u8; 4] {
+    ghost use Rattle.nb_names.specs.Addresses.{address_text};
+
+    ghost shown = { address_text };
+
+    fn push_to(&self, text: &mut String) -> Result<(), NoMemory> {
+        push_address(*self, text)
+    }
+}
+
+impl Shows for Key {
+    ghost use Rattle.nb_datagram.specs.FaultTexts.{key_text};
+
+    ghost shown = { key_text };
+
+    fn push_to(&self, text: &mut String) -> Result<(), NoMemory> {
+        push_key(*self, text)
     }
 }

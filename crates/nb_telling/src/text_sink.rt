@@ -5,8 +5,7 @@ ghost use Rattle.std.specs.Prelude.{◌≡◌, ◌++◌, OnOk, string_bytes};
 ghost use Rattle.nb_names.specs.Growth.{OnlyAdds};
 ghost use Rattle.nb_telling.specs.Texts.{joined, names_of};
 
-use crate::shows::Shows;
-use crate::sink::{FieldKey, Flag, Sink};
+use crate::sink::{FieldKey, Flag, Shows, Sink};
 use nb_names::{Bytes, NoMemory, push_data, push_decimal, push_digits, push_shown};
 use std::fmt::Display;
 

@@ -5,7 +5,7 @@ ghost use Rattle.nbt.specs.FaultTexts.{fault_line};
 
 use crate::fault::Fault;
 use crate::output::Output;
-use crate::signature::Signature;
+use crate::streams::Signature;
 use std::cell::Cell;
 use std::io;
 use std::io::Write;

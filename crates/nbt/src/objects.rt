@@ -6,8 +6,7 @@ ghost use Rattle.nb_telling.specs.Telling.{Number, Text, key_of};
 ghost use Rattle.nb_member.specs.ListingFields.{IsObject};
 ghost use Rattle.nbt.specs.Objects.{CommentObject, ObjectOf, PrintsComment, arrival_fields, bare_key, comment_fields, comment_key, comment_of, head_fields, line_key};
 
-use crate::printing_lines::LineText;
-use crate::telling::LineFields;
+use crate::printing_lines::{LineFields, LineText};
 use nb_member::{Comments, Line, push_comment_bytes};
 use nb_names::NoMemory;
 use nb_telling::{FieldKey, JsonRoom, JsonSink, Sink};

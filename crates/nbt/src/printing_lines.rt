@@ -1,14 +1,20 @@
-//! Printing something of each line of a capture, as it comes.
+//! Printing something of each line of a capture, as it comes, and the fields of such lines.
 ghost use Rattle.std.specs.Prelude.{◌≡◌, ℕ, List, Err, OnOk};
 ghost use Rattle.std.specs.Io.KnownBytes.{Consumes};
 ghost use Rattle.nb_names.specs.Devices.{ShowsUnread};
 ghost use Rattle.nbt.specs.Showing.{Shows, TellsLine};
 ghost use Rattle.nbt.specs.Printing.{ExplainsWrite};
+ghost use Rattle.nbt.specs.Objects.{TellsFields};
 
 use crate::fault::Fault;
 use crate::output::Output;
-use nb_member::{CaptureOptions, Comments, Line, LineTaker, take_lines};
+use nb_member::laws::fields_are_members as outcomes_are_members;
+use nb_member::{CaptureOptions, Comments, Line, LineTaker, Member, take_lines, tell_line};
 use nb_names::{Counted, NoMemory};
+use nb_telling::Sink;
+use nb_text::keys::KIND;
+use nb_text::laws::fields_are_members;
+use nb_text::tell_packet;
 use std::alloc::Global;
 use std::io::{Read, Write};
 
@@ -115,4 +121,78 @@ pub fn print_lines<R: Read, W: Write, T: LineText + Drop>(
     };
     take_lines(alloc, options.most, input, &mut printed)?;
     Ok(())
+}
+
+/// The fields of what each line of a capture says.
+pub trait LineFields {
+    ghost use Rattle.std.specs.Prelude.{List};
+    ghost use Rattle.nb_member.specs.declared.line.Line.{Line};
+    ghost use Rattle.nb_telling.specs.Telling.{Field};
+
+    // What stands from line to line.
+    ghost State: { Type 0 };
+
+    ghost state: { Self → State };
+
+    // Which fields are told of what a line says, and what stands then.
+    ghost are_fields: { Line → State → State → List Field → Type 0 };
+
+    /// Tells the fields of what a line says.
+    ///
+    /// # Errors
+    ///
+    /// [`NoMemory`] where memory ran out.
+    fn tell<S: Sink>(&mut self, said: &Line, sink: &mut S) -> Result<(), NoMemory>
+        ensures told { OnOk result
+            (TellsFields (are_fields said.now (state self.old) (state self.new)) S.after
+            (S.seen sink.old) (S.seen sink.new)) };
+}
+
+/// The packets.
+#[derive(Drop)]
+pub struct Packets;
+
+impl LineFields for Packets {
+    ghost use Rattle.nbt.specs.Objects.{PacketFields};
+
+    ghost State = { Unit {0} };
+
+    ghost state = { λ s. tt };
+
+    ghost are_fields = { PacketFields };
+
+    fn tell<S: Sink>(&mut self, said: &Line, sink: &mut S) -> Result<(), NoMemory> {
+        // The law that makes the fields members; the call does nothing.
+        fields_are_members();
+        match said {
+            Line::Packet { port, payload, .. } => tell_packet(*port, payload.as_slice(), sink),
+            Line::Tick { .. } => sink.text(KIND, "tick"),
+        }
+    }
+}
+
+/// What a member makes of them.
+#[derive(Drop)]
+pub struct Outcomes {
+    /// Memory for error packets comes from here.
+    pub alloc: Global,
+    /// The member.
+    pub member: Member,
+}
+
+impl LineFields for Outcomes {
+    ghost use Rattle.nb_member.specs.Member.{MemberValue};
+    ghost use Rattle.nb_member.specs.ReportFields.{OutcomeFields};
+
+    ghost State = { MemberValue };
+
+    ghost state = { λ s. s.member };
+
+    ghost are_fields = { OutcomeFields };
+
+    fn tell<S: Sink>(&mut self, said: &Line, sink: &mut S) -> Result<(), NoMemory> {
+        // The law that makes the fields members; the call does nothing.
+        outcomes_are_members();
+        tell_line(self.alloc, said, &mut self.member, sink)
+    }
 }

@@ -10,7 +10,7 @@ ghost use Rattle.nb_entries.specs.Whole.{bytes_to, datagram_with, newly, datagra
 ghost use Rattle.nb_entries.specs.Change.{Tells, handed_by, grown_to as grown};
 
 use super::EntryFacts;
-use crate::change::{Change, Handing};
+use crate::outline::{Change, Handing};
 use nb_datagram::{LentFragment, UserData};
 use nb_names::NoMemory;
 use std::alloc::Global;

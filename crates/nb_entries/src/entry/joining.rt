@@ -8,9 +8,9 @@ ghost use Rattle.nb_entries.specs.Change.{handed_by, whole_by};
 ghost use Rattle.nb_entries.specs.Code.CoverFacts.{IsPart};
 
 use super::{Entry, EntryFacts};
-use crate::change::{Change, Handing};
 use crate::cover::CoverFacts;
 use crate::cover::marks::Marks;
+use crate::outline::{Change, Handing};
 use crate::slot::{Facts, Slot};
 use nb_datagram::limits::{MAX_LENGTH, MORE};
 use nb_datagram::{Datagram, Key, LentFragment};

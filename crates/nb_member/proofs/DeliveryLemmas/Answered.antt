@@ -7,7 +7,7 @@ use Rattle.nb_names.specs.Name.{NetbiosName}
 use Rattle.nb_datagram.specs.declared.key.Key.{Key}
 use Rattle.nb_datagram.specs.declared.packet.ErrorPacket.{ErrorPacket}
 use Rattle.nb_datagram.specs.Fragment.{DatagramParts, FragmentParts}
-use Rattle.nb_entries.specs.declared.change.Change.TheVariants as change
+use Rattle.nb_entries.specs.declared.outline.Change.TheVariants as change
 use Rattle.nb_entries.specs.Change.{Change, whole_by as made_whole}
 use Rattle.nb_table.specs.Change.{IsChange}
 use Rattle.nb_table.specs.Contents.{Contents, newly_whole, datagram_at}

@@ -23,8 +23,8 @@ use Rattle.nb_table.proofs.Limits.GroupLemmas.{held_every, fit_held, few_join}
 use Rattle.std.specs.Cmp.{eq_by_cmp_equiv}
 use Rattle.std.specs.FinMap.Entries.{below_all}
 use Rattle.nb_datagram.specs.Fragment.{DatagramParts}
-use Rattle.nb_entries.specs.declared.change.Handing.{Handing}
-use Rattle.nb_entries.specs.declared.change.Handing.TheVariants.{Over}
+use Rattle.nb_entries.specs.declared.outline.Handing.{Handing}
+use Rattle.nb_entries.specs.declared.outline.Handing.TheVariants.{Over}
 use Rattle.nb_entries.specs.Whole.{datagram_of, newly}
 use Rattle.nb_entries.specs.Change.{handed_by}
 use Rattle.nb_entries.specs.Shared.WholeLemmas.{newly_same}

@@ -12,7 +12,7 @@ use Rattle.nb_entries.specs.contracts.entry.EntryFacts.{the_row as facts_row}
 use Rattle.nb_entries.specs.contracts.slot.Slot.{the_row as slot_row}
 use Rattle.std.specs.List.{cons_option}
 use Rattle.nb_datagram.specs.Fragment.{DatagramParts}
-use Rattle.nb_entries.specs.declared.change.Handing.{Handing}
+use Rattle.nb_entries.specs.declared.outline.Handing.{Handing}
 use Rattle.nb_entries.specs.Whole.{newly, datagram_of}
 use Rattle.nb_entries.specs.Change.{handed_by}
 use Rattle.std.specs.Io.KnownBytes.{Appends}

@@ -1,7 +1,7 @@
 //! Tables merged.
 ghost use Rattle.std.specs.Prelude.{◌≡◌, IfOk, IfErr, OnOk, OnErr, map, take, slice_get, Some};
 ghost use Rattle.std.specs.FinMap as maps;
-ghost use Rattle.nb_entries.specs.declared.change.Handing.TheVariants.{Over};
+ghost use Rattle.nb_entries.specs.declared.outline.Handing.TheVariants.{Over};
 ghost use Rattle.nb_table.specs.Join.{join, IsTable, joined_all, AreTaken};
 ghost use Rattle.nb_table.specs.Limits.{with_contents, TableValue};
 ghost use Rattle.nb_table.specs.Merging.{Fits, IsRefused, newly_handed};

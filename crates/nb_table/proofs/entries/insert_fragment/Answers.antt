@@ -6,7 +6,7 @@ use Rattle.nb_datagram.specs.Fragment.{FragmentParts, core_of}
 use Rattle.nb_entries.specs.Maps.{joined_onto}
 use Rattle.nb_entries.specs.declared.slot.Slot.TheVariants.{Held}
 use Rattle.nb_entries.specs.Entry.{EntryValue, facts_of, join_entry}
-use Rattle.nb_entries.specs.declared.change.Handing.{Handing}
+use Rattle.nb_entries.specs.declared.outline.Handing.{Handing}
 use Rattle.nb_entries.specs.Change.{DataChange, KeyChange, Tells}
 use Rattle.nb_datagram.specs.Key.{key_cmp_total, key_cmp_exact}
 use Rattle.nb_table.proofs.Joins.{put_same}

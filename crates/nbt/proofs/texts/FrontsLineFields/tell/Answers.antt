@@ -1,6 +1,6 @@
 use Rattle.nbt.proofs.Common.{ap, sym, ◌∙◌, on_ok_weaker, Packet}
 use Rattle.nbt.proofs.ObjectLemmas.{front_told, tick_told}
-use Rattle.nbt.proofs.payload_text.FrontsLineFields.tell.Goals as goal
+use Rattle.nbt.proofs.texts.FrontsLineFields.tell.Goals as goal
 
 pub returns-in-Packet : goal.returns-in-Packet
 returns-in-Packet g c =

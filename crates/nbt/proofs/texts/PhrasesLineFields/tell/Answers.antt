@@ -2,7 +2,7 @@ use Rattle.nbt.proofs.Common.{ℕ, List, ◌++◌, ap, ap₂, subst, sym, ◌∙
 use Rattle.nb_telling.specs.Telling.{FieldKey, Text}
 use Rattle.nb_text.specs.SaysPacket.{IsSaid}
 use Rattle.nbt.proofs.ObjectLemmas.{phrased_told, tick_told}
-use Rattle.nbt.proofs.payload_text.PhrasesLineFields.tell.Goals as goal
+use Rattle.nbt.proofs.texts.PhrasesLineFields.tell.Goals as goal
 
 pub returns-in_ok-text-in-Packet : goal.returns-in_ok-text-in-Packet
 returns-in_ok-text-in-Packet g c =

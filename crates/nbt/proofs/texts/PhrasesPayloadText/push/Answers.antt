@@ -1,6 +1,6 @@
 use Rattle.nbt.proofs.Common.{◌++◌, ◌∙◌, ap, append_assoc, refl, string_bytes}
 use Rattle.nb_text.specs.Lines.{line_end}
-use Rattle.nbt.proofs.payload_text.PhrasesPayloadText.push.Goals as goal
+use Rattle.nbt.proofs.texts.PhrasesPayloadText.push.Goals as goal
 
 pub returns : goal.returns
 returns c =

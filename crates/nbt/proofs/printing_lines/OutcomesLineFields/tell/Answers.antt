@@ -1,6 +1,6 @@
 use Rattle.nbt.proofs.Common.{on_ok_weaker}
 use Rattle.nbt.proofs.ObjectLemmas.{outcome_told}
-use Rattle.nbt.proofs.telling.OutcomesLineFields.tell.Goals as goal
+use Rattle.nbt.proofs.printing_lines.OutcomesLineFields.tell.Goals as goal
 
 pub returns : goal.returns
 returns g c =

@@ -1,6 +1,6 @@
 use Rattle.nbt.proofs.Common.{ap, sym, ◌∙◌, on_ok_weaker, Packet}
 use Rattle.nbt.proofs.ObjectLemmas.{packet_told, tick_told}
-use Rattle.nbt.proofs.telling.PacketsLineFields.tell.Goals as goal
+use Rattle.nbt.proofs.printing_lines.PacketsLineFields.tell.Goals as goal
 
 pub returns-in-Packet : goal.returns-in-Packet
 returns-in-Packet g c =

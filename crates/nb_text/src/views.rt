@@ -1,5 +1,5 @@
-//! The views of RDATA: what the RDATA of records of one kind says, to a sink and in a phrase. Each has
-//! its parts here: the address entries of kind NB, and the node status of kind NBSTAT.
+//! The views of RDATA: what the RDATA of records of one kind says, to a sink and in a phrase. Each
+//! has its parts here: the address entries of kind NB, and the node status of kind NBSTAT.
 ghost use Rattle.std.specs.Prelude.{◌≡◌, ◌++◌, List, OnOk, fold, length, map, slice_get};
 ghost use Rattle.std.specs.List.{flat_map};
 ghost use Rattle.nb_service.specs.Record.{of_bytes};

@@ -12,7 +12,7 @@ use Rattle.nb_service.proofs.SectionLemmas.{one_row, no_row, one_row_fault}
 use Rattle.nb_service.proofs.ItemLemmas.{NameLaws, single_question, single_record}
 use Rattle.nb_service.specs.declared.fault.ServiceFault.TheVariants.{NoMemory}
 use Rattle.nb_service.specs.Record.{ResourceRecord}
-use Rattle.nb_service.specs.Code.Steps.{RowOf, HasRow}
+use Rattle.nb_service.specs.Code.Steps.{RowOf}
 
 pub one_header : (packet : List ℕ) (h g : PacketHeader) → HasHeader packet h → HasHeader packet g → h ≡ g
 one_header packet h g a b = λ i. record {

@@ -5,7 +5,7 @@ use Rattle.std.proofs.lemmas.List.{append_assoc, append-nil}
 use Rattle.std.specs.Fmt.{decimal}
 use Rattle.json.specs.Token.{Token, begin_object, end_object, string}
 use Rattle.json.specs.Json as json
-use Rattle.json.specs.Json.{Json, Items, no_items, item, Members, no_members, member, value, if_last, max_depth}
+use Rattle.json.specs.Json.{Json, Items, no_items, item, no_members, member, value, if_last, max_depth}
 use Rattle.json.specs.Lex.{tokens}
 use Rattle.json.specs.Print.{print}
 use Rattle.json.specs.Tree.{json_tokens, items_tokens, members_tokens, depth, items_depth, members_depth}

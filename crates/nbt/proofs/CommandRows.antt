@@ -1,5 +1,5 @@
 -- The subcommand that clap entered, by the rows of its matches.
-use Rattle.nbt.proofs.Common.{◌≡◌, ◌≤◌, ◌<◌, ℕ, [], ◌∷◌, inl, inr, length, map, codes, arith, true, refl, sym, ap, subst, ◌∙◌, Bor, List, Option, Some, None, IfSome, Result, ◌≢◌, HasMatchesOf, Text, found_of, is_simple, rows_of, subcommand_name_of, subcommand_of, subcommand_rows_of, takes, subcommand_rows, App, ArgMatches, Box, option_map, Err, Keeps, Fault, Status, BadUsage, Failed}
+use Rattle.nbt.proofs.Common.{◌≡◌, ◌≤◌, ◌<◌, ℕ, [], ◌∷◌, inl, inr, length, map, codes, arith, true, refl, sym, ap, subst, ◌∙◌, Bor, List, Option, Some, None, IfSome, Result, ◌≢◌, HasMatchesOf, Text, found_of, is_simple, rows_of, subcommand_name_of, subcommand_of, subcommand_rows_of, takes, subcommand_rows, App, ArgMatches, Box, option_map, Keeps, Fault, Status, BadUsage, Failed}
 use Rattle.std.specs.Fmt.{digits}
 use Rattle.clap.specs.Words.{Row}
 use Rattle.clap.proofs.OnLiterals.{clap_on_literals}

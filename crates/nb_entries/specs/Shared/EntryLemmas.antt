@@ -1,7 +1,6 @@
 -- Entries agree where kinds and names are the same and covers agree, and their union is one in the sense
 -- of SlotLemmas.
 use Rattle.std.proofs.Common.{◌≡◌, true, refl, sym, ◌∙◌}
-use Rattle.std.specs.FinMap as maps
 use Rattle.nb_entries.specs.Maps.{Spoilt, Held, OnHeld}
 use Rattle.nb_entries.specs.Cover.{CoverValue, covers_agree, join_cover, IsCover}
 use Rattle.nb_entries.specs.Entry.{EntryFacts, FactsFit, EntryValue, facts_agree, facts_together, join_entry, AreEntryFacts, IsEntry}

@@ -9,7 +9,7 @@ IN_ROLE = re.compile(r'\(\s*(\w+?)(?:_TEXT)? \+ ((?:NAME_|TABLE_)?(\w+)),\s*"')
 # By enumeration the files with its constants. Those that have other names there stand below.
 FILES = {'status': 'nb_c/src/statuses.rt', 'line_kind': 'nb_c/src/showing.rt', 'outcome': 'nb_c/src/taken.rt', 'record_type': 'nb_service/src/kinds.rt',
          'datagram_flag': 'nb_datagram/src/limits.rt', 'datagram_type': 'nb_datagram/src/limits.rt', 'word': 'nb_service/src/flags.rt',
-         'name_flag': 'nb_service/src/flags.rt', 'operation': 'nb_text/src/codes.rt', 'result_code': 'nb_text/src/codes.rt'}
+         'name_flag': 'nb_service/src/flags.rt', 'operation': 'nb_text/src/words.rt', 'result_code': 'nb_text/src/words.rt'}
 NAMES = {'UNIQUE': 'DIRECT_UNIQUE', 'GROUP': 'DIRECT_GROUP', 'ERROR': 'ERROR_TYPE', 'FIND': 'QUERY_REQUEST', 'FOUND': 'POSITIVE_RESPONSE',
          'MISSING': 'NEGATIVE_RESPONSE'}
 # Those that are arms of a `match`, whose default has the other.

@@ -1,7 +1,7 @@
 -- Words that name no packets of port 137.
 use Rattle.nb_building.proofs.Common.{◌≡◌, ◌≢◌, Bool, ℕ, List, [], ◌∷◌, get_or, Result, Ok, Err, sym, ap, ◌∙◌, subst, codes, w16, from_be_bytes, to_be_bytes, IfErr, DataText, NetbiosName, IsText, ServicePacket, ResourceData, ResourceRecord, EntryTexts, IsServiceBuilt, NamesService, NumberText, WordText, query, refresh, registration, release, response, status, HasRdata, Unnamed}
 use Rattle.std.proofs.lemmas.Nat.{from_be_bytes-to_be_bytes_2}
-use Rattle.nb_service.specs.declared.address_entry.AddressEntry.{AddressEntry}
+use Rattle.nb_service.specs.declared.views.AddressEntry.{AddressEntry}
 use Rattle.nb_building.specs.declared.build_fault.BuildFault.{BuildFault}
 use Rattle.nb_building.specs.declared.build_fault.BuildFault.TheVariants.{Memory}
 use Rattle.nb_building.proofs.UnnamedLemmas.{one_data, one_hex}

@@ -10,7 +10,7 @@ use Rattle.nb_names.specs.DomainName.{AreBytes}
 use Rattle.nb_names.specs.Hexadecimal.{HexText, DataText}
 use Rattle.nb_names.specs.Name.{NetbiosName, labels_of_name}
 use Rattle.nb_names.specs.NameText.{IsText}
-use Rattle.nb_service.specs.declared.address_entry.AddressEntry.{AddressEntry}
+use Rattle.nb_service.specs.declared.views.AddressEntry.{AddressEntry}
 use Rattle.nb_service.specs.Encoding as service
 use Rattle.nb_service.specs.Packet.{ServicePacket}
 use Rattle.nb_service.specs.Record.{ResourceData, of_bytes, of_domain, record_of}

@@ -1,6 +1,6 @@
 //! Name service packets from arguments.
 ghost use Rattle.std.specs.Prelude.{◌≡◌, ◌≢◌, ◌⊎◌, ℕ, map, codes, IfErr, IfOk, MatchResult, Ok};
-ghost use Rattle.nb_service.specs.declared.address_entry.AddressEntry as entries;
+ghost use Rattle.nb_service.specs.declared.views.AddressEntry as entries;
 ghost use Rattle.nb_service.specs.Packet.{ServicePacket};
 ghost use Rattle.nb_service.specs.Encoding.{packet_bytes};
 ghost use Rattle.nb_building.specs.Built.{EntryTexts, IsServiceBuilt, NumberText};

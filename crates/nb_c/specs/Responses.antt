@@ -19,7 +19,7 @@ use Rattle.nb_c.specs.declared.service.Answered.{Answered}
 use Rattle.nb_c.specs.declared.statuses.TheConstants.{LONG_DATA, NAME_TRAILING_BYTES, NO_ROLE, UNKNOWN_REQUEST}
 use Rattle.nb_c.specs.Statuses.{Refusal, Fault, FaultAt, text_refusal, name_refusal}
 use Rattle.std.specs.Int.{w32, to_be_bytes}
-use Rattle.nb_service.specs.declared.address_entry.AddressEntry.{AddressEntry}
+use Rattle.nb_service.specs.declared.views.AddressEntry.{AddressEntry}
 use Rattle.nb_service.specs.Packet.{ServicePacket}
 use Rattle.nb_service.specs.Views.{entry_bytes}
 use Rattle.nb_c.specs.declared.service.Asked.{Asked}

@@ -6,10 +6,10 @@ use Rattle.std.specs.List.{slice_get}
 use Rattle.nb_names.specs.declared.reading.Pointers.TheVariants.{Followed}
 use Rattle.nb_names.specs.DomainName.{spelling}
 use Rattle.nb_names.specs.Labels.{NameAt}
-use Rattle.nb_service.specs.declared.address_entry.AddressEntry.{AddressEntry}
+use Rattle.nb_service.specs.declared.views.AddressEntry.{AddressEntry}
 use Rattle.nb_service.specs.declared.fault.ServiceFault.{ServiceFault}
-use Rattle.nb_service.specs.declared.node_name.NodeName.{NodeName}
-use Rattle.nb_service.specs.declared.node_name.TheConstants.{UNIT_ID_LENGTH}
+use Rattle.nb_service.specs.declared.views.NodeName.{NodeName}
+use Rattle.nb_service.specs.declared.views.TheConstants.{UNIT_ID_LENGTH}
 use Rattle.nb_service.specs.Record.{of_bytes}
 use Rattle.nb_service.specs.ServiceFaults.{DomainFails}
 use Rattle.nb_service.specs.Views.{AreEntries, IsStatus, entries_of_data, status_of_data}

@@ -28,6 +28,13 @@ impl Model for NbtStation {
         (box_owns (ghosts.dealloc_token h.heap) the_row h.at h.value) };
 }
 
+/// What is kept for a station between calls.
+#[derive(Drop)]
+pub struct Kept {
+    /// Its names, settings and table.
+    pub member: Member,
+}
+
 /// Shuts a box.
 pub(crate) fn hide(parts: Parts<Kept, Global>) -> NbtStation
     ensures { (result.value ≡ parts.value) × IsHere result.at }
@@ -95,13 +102,7 @@ pub(crate) fn put_back(station: &mut NbtStation, kept: Box<Kept>)
     let_go(mem::replace(station, hide(Parts::of(kept))));
 }
 
-/// What is kept for a station between calls.
-#[derive(Drop)]
-pub struct Kept {
-    /// Its names, settings and table.
-    pub member: Member,
-}
-
+/// A box as its pointer.
 pub struct Parts<T, A: Allocator> {
     pub(super) ptr: *mut T,
     pub(super) alloc: A,

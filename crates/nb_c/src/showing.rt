@@ -1,4 +1,4 @@
-//! Lines of captures, and the texts of packets, their phrases, and their JSON objects.
+//! The texts of packets, their phrases and JSON objects, and the lines of captures.
 ghost use Rattle.std.specs.Prelude.{IfOk, ◌≡◌, Ok, Some};
 ghost use Rattle.nb_text.specs.SaysPacket.{IsSaid};
 ghost use Rattle.nb_text.specs.Shown.{Shown};

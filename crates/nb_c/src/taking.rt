@@ -1,4 +1,4 @@
-//! Payloads that a station takes, and what becomes of each. No memory is taken.
+//! Payloads that a station takes, and what becomes of each.
 ghost use Rattle.std.specs.Prelude.{◌≤◌, length, Err, ◌≡◌, ◌++◌, drop, Some};
 ghost use Rattle.nb_c.specs.Stations.{OnStation, Took, Tells, answer_told, lent_for, told_of, told_refused, delivered_bytes, error_bytes};
 ghost use Rattle.nb_c.specs.declared.output.Refusal.TheVariants.{Fault};

@@ -173,41 +173,39 @@ impl Eq for Datagram {
     ghost laws = { decided datagram_eq datagram_eq_decides };
 }
 
-/// How many pieces of `most` bytes so many bytes have: at least one.
-fn count_pieces(size: usize, most: usize) -> usize
-    requires some { 1 ≤ most }
-    requires size { size ≤ MAX_LENGTH }
-    requires most { most ≤ MAX_LENGTH }
-    ensures { result ≡ piece_count size most }
-{
-    ((size + most - 1) / most).max(1)
+/// The data of a datagram: at most 65,535 bytes.
+#[derive(Drop)]
+pub struct UserData {
+    bytes: Bytes,
 }
 
-/// The piece at a place among so many.
-fn piece<'a>(datagram: &'a Datagram, most: usize, place: usize, count: usize) -> Fragment<'a>
-    requires some { 1 ≤ most }
-    requires most { most ≤ MAX_LENGTH }
-    requires count { count ≡ piece_count (length datagram.now.bytes) most }
-    requires place { place < count }
-    requires short { length (name_bytes datagram.now.source)
-        + length (name_bytes datagram.now.destination)
-        + min (length datagram.now.bytes) most ≤ MAX_LENGTH }
-    ensures { result ≡ piece_of datagram.now most place }
-{
-    let bytes = datagram.bytes();
-    let start = place * most;
-    let end = bytes.len().min(start + most);
-    let first = if place == 0 { FIRST } else { 0 };
-    let more = if place + 1 < count { MORE } else { 0 };
-    Fragment::with_parts(
-        datagram.kind(),
-        first + more,
-        datagram.key(),
-        start as u16,
-        datagram.source().copied(),
-        datagram.destination().copied(),
-        &bytes[start..end],
-    )
+impl Model for UserData {
+    ghost use Rattle.std.specs.Prelude.{List, ℕ, ◌≤◌, length};
+    ghost use Rattle.nb_datagram.specs.declared.limits.TheConstants.{MAX_LENGTH};
+
+    ghost Value = { List ℕ };
+
+    ghost view = { λ d. d.bytes };
+
+    ghost invariant = { λ d. length d.bytes ≤ MAX_LENGTH };
+}
+
+impl UserData {
+    /// Data of these bytes, which are at most 65,535. No memory is taken.
+    pub fn new(bytes: Bytes) -> UserData
+        requires { length bytes ≤ MAX_LENGTH }
+        ensures { result ≡ bytes }
+    {
+        UserData { bytes }
+    }
+
+    /// The bytes.
+    pub fn as_slice(&self) -> &[u8]
+        ensures value { result.now ≡ self.now }
+        ensures within { length self.now ≤ MAX_LENGTH }
+    {
+        self.bytes.as_slice()
+    }
 }
 
 /// Cuts a datagram into pieces of at most `most` bytes of data, in order. They borrow its data.
@@ -244,37 +242,39 @@ pub fn cut(alloc: Global, datagram: &Datagram, most: u16) -> Result<Pieces<'_>, 
     Ok(Pieces::from_vec(pieces))
 }
 
-/// The data of a datagram: at most 65,535 bytes.
-#[derive(Drop)]
-pub struct UserData {
-    bytes: Bytes,
+/// How many pieces of `most` bytes so many bytes have: at least one.
+fn count_pieces(size: usize, most: usize) -> usize
+    requires some { 1 ≤ most }
+    requires size { size ≤ MAX_LENGTH }
+    requires most { most ≤ MAX_LENGTH }
+    ensures { result ≡ piece_count size most }
+{
+    ((size + most - 1) / most).max(1)
 }
 
-impl Model for UserData {
-    ghost use Rattle.std.specs.Prelude.{List, ℕ, ◌≤◌, length};
-    ghost use Rattle.nb_datagram.specs.declared.limits.TheConstants.{MAX_LENGTH};
-
-    ghost Value = { List ℕ };
-
-    ghost view = { λ d. d.bytes };
-
-    ghost invariant = { λ d. length d.bytes ≤ MAX_LENGTH };
-}
-
-impl UserData {
-    /// Data of these bytes, which are at most 65,535. No memory is taken.
-    pub fn new(bytes: Bytes) -> UserData
-        requires { length bytes ≤ MAX_LENGTH }
-        ensures { result ≡ bytes }
-    {
-        UserData { bytes }
-    }
-
-    /// The bytes.
-    pub fn as_slice(&self) -> &[u8]
-        ensures value { result.now ≡ self.now }
-        ensures within { length self.now ≤ MAX_LENGTH }
-    {
-        self.bytes.as_slice()
-    }
+/// The piece at a place among so many.
+fn piece<'a>(datagram: &'a Datagram, most: usize, place: usize, count: usize) -> Fragment<'a>
+    requires some { 1 ≤ most }
+    requires most { most ≤ MAX_LENGTH }
+    requires count { count ≡ piece_count (length datagram.now.bytes) most }
+    requires place { place < count }
+    requires short { length (name_bytes datagram.now.source)
+        + length (name_bytes datagram.now.destination)
+        + min (length datagram.now.bytes) most ≤ MAX_LENGTH }
+    ensures { result ≡ piece_of datagram.now most place }
+{
+    let bytes = datagram.bytes();
+    let start = place * most;
+    let end = bytes.len().min(start + most);
+    let first = if place == 0 { FIRST } else { 0 };
+    let more = if place + 1 < count { MORE } else { 0 };
+    Fragment::with_parts(
+        datagram.kind(),
+        first + more,
+        datagram.key(),
+        start as u16,
+        datagram.source().copied(),
+        datagram.destination().copied(),
+        &bytes[start..end],
+    )
 }

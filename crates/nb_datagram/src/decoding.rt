@@ -18,6 +18,57 @@ use crate::packet::{ErrorPacket, LentPacket, LentQuery, Packet, QueryKind};
 use nb_names::numbers::number_16;
 use nb_names::read_lent_name;
 
+/// Decodes the packet at the front of bytes, and how many of them it takes up.
+///
+/// Offsets in faults count from the first byte, but for `NotNetbios`, whose place is one in the
+/// spelling. Bytes after the packet are left unread, and all bits of FLAGS are kept (our choice). A
+/// fragment's data is lent from the input. No memory is taken.
+///
+/// # Errors
+///
+/// The first step that fails, in [`DatagramFault`]'s order: the ten bytes of the header, its type,
+/// the bytes before the names, all bytes that DGM_LENGTH counts, then the names. These are read
+/// inside those bytes, a query packet's over all of the input, and pointers are refused.
+///
+/// RFC 1002 sections 4.4.1 to 4.4.4. That DGM_LENGTH counts one packet's names and data alone, and
+/// that each fragment carries both names, is our choice.
+pub fn decode<'a>(bytes: &'a [u8]) -> Result<(Packet<'a>, usize), DatagramFault>
+    // What is answered stands there, and what stands there is answered, whatever follows.
+    ensures found { IfOk result (λ read. IsPacket bytes.now read.0 read.1) }
+    ensures only { (packet : Packet NetbiosName) (used : ℕ) → IsPacket bytes.now packet used →
+        IsOkAnd result (λ read. (read.0 ≡ packet) × (read.1 ≡ used)) }
+    ensures within { IfOk result (λ read. read.1 ≤ length bytes.now) }
+
+    // Which fault it is, and where.
+    ensures fault { IfErr result (PacketFails bytes.now) }
+{
+    match decode_lent(bytes) {
+        Ok((packet, used)) => Ok((packet.to_packet(), used)),
+        Err(fault) => Err(fault),
+    }
+}
+
+/// Decodes the packet at the front of bytes, and how many of them it takes up, as [`decode`] does.
+/// The names are lent from the input, too. No memory is taken.
+///
+/// # Errors
+///
+/// Those of [`decode`].
+///
+/// RFC 1002 sections 4.4.1 to 4.4.4.
+pub fn decode_lent<'a>(bytes: &'a [u8]) -> Result<(LentPacket<'a>, usize), DatagramFault>
+    // What is answered stands there, and what stands there is answered, whatever follows.
+    ensures found { IfOk result (λ read. IsPacket bytes.now read.0 read.1) }
+    ensures only { (packet : Packet NetbiosName) (used : ℕ) → IsPacket bytes.now packet used →
+        IsOkAnd result (λ read. (read.0 ≡ packet) × (read.1 ≡ used)) }
+    ensures within { IfOk result (λ read. read.1 ≤ length bytes.now) }
+
+    // Which fault it is, and where.
+    ensures fault { IfErr result (PacketFails bytes.now) }
+{
+    read_packet(bytes)
+}
+
 /// The fragment after a header, and its packet's length.
 fn read_direct<'a>(
     bytes: &'a [u8],
@@ -116,57 +167,6 @@ fn read_packet<'a>(bytes: &'a [u8]) -> Result<(LentPacket<'a>, usize), DatagramF
         Some(Form::Error) => read_error(bytes, &header),
         Some(Form::Query(kind)) => read_query(bytes, &header, kind),
         None => Err(DatagramFault::UnknownType),
-    }
-}
-
-/// Decodes the packet at the front of bytes, and how many of them it takes up, as [`decode`] does.
-/// The names are lent from the input, too. No memory is taken.
-///
-/// # Errors
-///
-/// Those of [`decode`].
-///
-/// RFC 1002 sections 4.4.1 to 4.4.4.
-pub fn decode_lent<'a>(bytes: &'a [u8]) -> Result<(LentPacket<'a>, usize), DatagramFault>
-    // What is answered stands there, and what stands there is answered, whatever follows.
-    ensures found { IfOk result (λ read. IsPacket bytes.now read.0 read.1) }
-    ensures only { (packet : Packet NetbiosName) (used : ℕ) → IsPacket bytes.now packet used →
-        IsOkAnd result (λ read. (read.0 ≡ packet) × (read.1 ≡ used)) }
-    ensures within { IfOk result (λ read. read.1 ≤ length bytes.now) }
-
-    // Which fault it is, and where.
-    ensures fault { IfErr result (PacketFails bytes.now) }
-{
-    read_packet(bytes)
-}
-
-/// Decodes the packet at the front of bytes, and how many of them it takes up.
-///
-/// Offsets in faults count from the first byte, but for `NotNetbios`, whose place is one in the
-/// spelling. Bytes after the packet are left unread, and all bits of FLAGS are kept (our choice). A
-/// fragment's data is lent from the input. No memory is taken.
-///
-/// # Errors
-///
-/// The first step that fails, in [`DatagramFault`]'s order: the ten bytes of the header, its type,
-/// the bytes before the names, all bytes that DGM_LENGTH counts, then the names. These are read
-/// inside those bytes, a query packet's over all of the input, and pointers are refused.
-///
-/// RFC 1002 sections 4.4.1 to 4.4.4. That DGM_LENGTH counts one packet's names and data alone, and
-/// that each fragment carries both names, is our choice.
-pub fn decode<'a>(bytes: &'a [u8]) -> Result<(Packet<'a>, usize), DatagramFault>
-    // What is answered stands there, and what stands there is answered, whatever follows.
-    ensures found { IfOk result (λ read. IsPacket bytes.now read.0 read.1) }
-    ensures only { (packet : Packet NetbiosName) (used : ℕ) → IsPacket bytes.now packet used →
-        IsOkAnd result (λ read. (read.0 ≡ packet) × (read.1 ≡ used)) }
-    ensures within { IfOk result (λ read. read.1 ≤ length bytes.now) }
-
-    // Which fault it is, and where.
-    ensures fault { IfErr result (PacketFails bytes.now) }
-{
-    match decode_lent(bytes) {
-        Ok((packet, used)) => Ok((packet.to_packet(), used)),
-        Err(fault) => Err(fault),
     }
 }
 

@@ -10,6 +10,27 @@ use crate::packet::Packet;
 use nb_names::{Bytes, Name, NoMemory};
 use std::alloc::Global;
 
+/// Encodes a packet: the bytes that are decoded as it.
+///
+/// FLAGS are written as they are, names with no pointer.
+///
+/// # Errors
+///
+/// [`NoMemory`] where memory ran out.
+///
+/// RFC 1002 sections 4.4.1 to 4.4.4. That DGM_LENGTH counts one packet's names and data alone, and
+/// that each fragment carries both names, is our choice.
+pub fn encode(alloc: Global, packet: &Packet<'_>) -> Result<Bytes, NoMemory>
+    ensures written { IfOk result (λ bytes. bytes ≡ packet_bytes packet.now) }
+    // Whatever follows, the bytes are decoded as this packet.
+    ensures read_again { IfOk result (λ bytes. (rest : List ℕ) →
+        IsPacket (bytes ++ rest) packet.now (length bytes)) }
+{
+    // For the clause `read_again`; the call does nothing.
+    packet_fits(packet);
+    Ok(Bytes::from_vec(write_packet(alloc, packet)?))
+}
+
 /// Adds a header after the bytes.
 fn push_header(bytes: &mut Vec<u8>, message_type: u8, flags: u8, key: Key) -> Result<(), NoMemory>
     ensures { OnOk result (bytes.new.items ≡
@@ -71,28 +92,7 @@ fn write_packet(alloc: Global, packet: &Packet<'_>) -> Result<Vec<u8>, NoMemory>
     Ok(bytes)
 }
 
-/// Encodes a packet: the bytes that are decoded as it.
-///
-/// FLAGS are written as they are, names with no pointer.
-///
-/// # Errors
-///
-/// [`NoMemory`] where memory ran out.
-///
-/// RFC 1002 sections 4.4.1 to 4.4.4. That DGM_LENGTH counts one packet's names and data alone, and
-/// that each fragment carries both names, is our choice.
-pub fn encode(alloc: Global, packet: &Packet<'_>) -> Result<Bytes, NoMemory>
-    ensures written { IfOk result (λ bytes. bytes ≡ packet_bytes packet.now) }
-    // Whatever follows, the bytes are decoded as this packet.
-    ensures read_again { IfOk result (λ bytes. (rest : List ℕ) →
-        IsPacket (bytes ++ rest) packet.now (length bytes)) }
-{
-    // For the clause `read_again`; the call does nothing.
-    packet_fits(packet);
-    Ok(Bytes::from_vec(write_packet(alloc, packet)?))
-}
-
-/// A key's fields have room for it.
+/// A key's fields have room for it: for proofs, as the two below; a call does nothing.
 fn key_fits(_key: Key)
     ensures { IsKey _key }
 {}

@@ -1,4 +1,4 @@
-//! Why bytes begin with no packet, and why a datagram isn't cut.
+//! Why bytes begin with no packet, and why a fragment or datagram isn't made or cut.
 ghost use Rattle.std.specs.Prelude.{◌≡◌};
 ghost use Rattle.nb_datagram.specs.FaultTexts.{datagram_fault_place, datagram_fault_subject, datagram_fault_words};
 

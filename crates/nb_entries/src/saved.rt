@@ -1,4 +1,5 @@
-//! Saved entries: what reads each part of them, and beside it what puts it into a sink of bytes.
+//! Saved entries: their forms, why they aren't read, and sinks of bytes. Each part is read and put
+//! in a file of saved/.
 //!
 //! An input is judged where it stands, before any memory is taken.
 ghost use Rattle.std.specs.Prelude.{ℕ, List};

@@ -4,7 +4,6 @@ ghost use Rattle.std.specs.List.{list_all};
 ghost use Rattle.std.specs.Char.{is_ascii_digit};
 ghost use Rattle.nb_member.specs.Capture.{space, PortText, MomentText, Reads, ReadsBy, NeedsMemory, Blank, HasWords};
 
-use crate::comment_writing::Comments;
 use crate::limits::{MAX_LINE, MAX_MOMENT_DIGITS};
 use crate::line::{Line, LineFault};
 use nb_names::{ascii_str, data_in};
@@ -151,13 +150,4 @@ fn are_digits(text: &[u8]) -> bool
         }
     }
     true
-}
-
-/// What is asked of a call that reads a capture and prints what it says.
-#[derive(Clone, Copy, Debug, PartialEq, Eq)]
-pub struct CaptureOptions {
-    /// How many bytes the input may have.
-    pub most: u64,
-    /// Whether its comments are printed.
-    pub comments: Comments,
 }

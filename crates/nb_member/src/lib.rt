@@ -22,7 +22,7 @@ mod runs;
 mod settings;
 mod timed_table;
 
-pub use capture::{CaptureOptions, capture_line};
+pub use capture::capture_line;
 pub use comment_writing::{Comments, push_comment, push_comment_bytes};
 pub use line::{Line, LineFault, LineReadFault};
 pub use line_reading::{next_from, next_line};
@@ -34,7 +34,7 @@ pub use local_names::{AddFault, LocalNames};
 pub use member::Member;
 pub use outcome::{Dropped, Event, MemberFault, Outcome};
 pub use pair::{Pair, two_members};
-pub use replaying::{ReplayFault, replay, replay_with, replay_within};
+pub use replaying::{CaptureOptions, ReplayFault, replay, replay_with, replay_within};
 pub use report::push_parts;
 pub use runs::{RunReport, RunStop, run};
 pub use settings::Settings;

@@ -1,11 +1,10 @@
 //! Replaying a capture in a member.
-ghost use Rattle.std.specs.Prelude.{◌≡◌, Err};
+ghost use Rattle.std.specs.Prelude.{◌≡◌, Err, ℕ};
 ghost use Rattle.nb_names.specs.declared.limits.TheConstants.{MAX_INPUT};
 ghost use Rattle.nb_names.specs.Devices.{ShowsWriteFault};
 ghost use Rattle.nb_member.specs.declared.comment_writing.Comments.TheVariants.{LeftOut};
 ghost use Rattle.nb_member.specs.Replaying.{ReplaysInput};
 
-use crate::capture::CaptureOptions;
 use crate::comment_writing::Comments;
 use crate::line::Line;
 use crate::line_reports::act_on;
@@ -214,4 +213,13 @@ impl From<NoMemory> for ReplayFault {
     fn from(_fault: NoMemory) -> ReplayFault {
         ReplayFault::NoMemory
     }
+}
+
+/// What is asked of a call that reads a capture and prints what it says.
+#[derive(Clone, Copy, Debug, PartialEq, Eq)]
+pub struct CaptureOptions {
+    /// How many bytes the input may have.
+    pub most: u64,
+    /// Whether its comments are printed.
+    pub comments: Comments,
 }

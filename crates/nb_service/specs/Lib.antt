@@ -5,7 +5,7 @@ pub mod ServiceFaults
 pub mod Items
 pub mod FaultTexts
 pub mod Encoding
-pub mod Pieces
+pub mod Parts
 pub mod Views
 pub mod Requests
 pub mod Equality

@@ -8,13 +8,13 @@ use Rattle.std.proofs.lemmas.List.{take-append-drop, length-take-le, take_at, dr
 use Rattle.std.proofs.lemmas.Nat.{be_bytes_2}
 use Rattle.std.specs.Int.{w16, to_be_bytes, from_be_bytes}
 use Rattle.std.specs.List.{flat_map, AllByRecursion}
-pub use Rattle.nb_service.specs.Pieces.{pieces}
-use Rattle.nb_service.specs.Pieces.{AreSmall, AreWritten, length-flat, pieces-flat, small_drop, small_take}
+pub use Rattle.nb_service.specs.Parts.{parts}
+use Rattle.nb_service.specs.Parts.{AreSmall, AreWritten, length-flat, parts-flat, small_drop, small_take}
 use Rattle.nb_service.specs.declared.kinds.TheConstants.{NB, NBSTAT}
-use Rattle.nb_service.specs.declared.address_entry.TheConstants.{ENTRY_LENGTH}
-use Rattle.nb_service.specs.declared.node_name.TheConstants.{NODE_NAME_LENGTH}
-use Rattle.nb_service.specs.declared.address_entry.AddressEntry.{AddressEntry}
-use Rattle.nb_service.specs.declared.node_name.NodeName.{NodeName}
+use Rattle.nb_service.specs.declared.views.TheConstants.{ENTRY_LENGTH}
+use Rattle.nb_service.specs.declared.views.TheConstants.{NODE_NAME_LENGTH}
+use Rattle.nb_service.specs.declared.views.AddressEntry.{AddressEntry}
+use Rattle.nb_service.specs.declared.views.NodeName.{NodeName}
 use Rattle.nb_service.specs.Record.{ResourceData, of_bytes, of_domain, ResourceRecord}
 
 -- the bytes of an entry: NB_FLAGS 2, NB_ADDRESS 4
@@ -66,7 +66,7 @@ entry_of bytes = record { flags = from_be_bytes w16 (take 2 bytes); address = dr
 
 -- the entries that the bytes have
 abbrev pub entries_of : List ℕ → List AddressEntry
-entries_of bytes = pieces ENTRY_LENGTH entry_of (length bytes / ENTRY_LENGTH) bytes
+entries_of bytes = parts ENTRY_LENGTH entry_of (length bytes / ENTRY_LENGTH) bytes
 
 -- the name of eighteen bytes
 abbrev pub node_name_of : List ℕ → NodeName
@@ -74,7 +74,7 @@ node_name_of bytes = record { bytes = take 16 bytes; flags = from_be_bytes w16 (
 
 -- the names that the bytes have
 abbrev pub node_names_of : List ℕ → List NodeName
-node_names_of bytes = pieces NODE_NAME_LENGTH node_name_of (length bytes / NODE_NAME_LENGTH) bytes
+node_names_of bytes = parts NODE_NAME_LENGTH node_name_of (length bytes / NODE_NAME_LENGTH) bytes
 
 -- the entries of RDATA of kind NB: none where its bytes aren't whole entries
 abbrev pub entries_of_data : ResourceData → List AddressEntry
@@ -109,10 +109,10 @@ status_in entry = if entry.kind == NBSTAT then status_of_data entry.rdata else n
 pub entry_some : 0 < ENTRY_LENGTH
 entry_some = omega arith
 
-pub entry_given_back : (piece : List ℕ) → length piece ≡ 6 → AreSmall piece → entry_bytes (entry_of piece) ≡ piece
-entry_given_back piece long s =
-    let flags : to_be_bytes w16 (from_be_bytes w16 (take 2 piece)) ≡ take 2 piece = be_bytes_2 (take 2 piece) _ (length-take-le 2 piece (omega arith)) (small_take 2 piece s) refl in
-    ap (λ (xs : List ℕ). xs ++ drop 2 piece) flags ∙ take-append-drop 2 piece
+pub entry_given_back : (part : List ℕ) → length part ≡ 6 → AreSmall part → entry_bytes (entry_of part) ≡ part
+entry_given_back part long s =
+    let flags : to_be_bytes w16 (from_be_bytes w16 (take 2 part)) ≡ take 2 part = be_bytes_2 (take 2 part) _ (length-take-le 2 part (omega arith)) (small_take 2 part s) refl in
+    ap (λ (xs : List ℕ). xs ++ drop 2 part) flags ∙ take-append-drop 2 part
 
 -- the flags have sixteen bits, and the address four bytes
 abbrev IsEntry : AddressEntry → Type 0
@@ -134,17 +134,17 @@ entries_read entry entries each kind rdata =
     let long = length-flat 6 entry_of six IsEntry entries entry_read each in
     let whole : length (flat_map six entries) % 6 ≡ 0 = omega (arith, long) in
     let count : length (flat_map six entries) / 6 ≡ length entries = omega (arith, long) in
-    rw (kind, rdata, whole, count) (pieces-flat 6 entry_of six IsEntry entries entry_read each)
+    rw (kind, rdata, whole, count) (parts-flat 6 entry_of six IsEntry entries entry_read each)
 
 -- ---- lemmas of the names of a node
 
 pub node_name_some : 0 < NODE_NAME_LENGTH
 node_name_some = omega arith
 
-pub node_name_given_back : (piece : List ℕ) → length piece ≡ 18 → AreSmall piece → node_name_bytes (node_name_of piece) ≡ piece
-node_name_given_back piece long s =
-    let flags : to_be_bytes w16 (from_be_bytes w16 (drop 16 piece)) ≡ drop 16 piece = be_bytes_2 (drop 16 piece) _ (omega (arith, length-drop 16 piece)) (small_drop 16 piece s) refl in
-    ap (λ (xs : List ℕ). take 16 piece ++ xs) flags ∙ take-append-drop 16 piece
+pub node_name_given_back : (part : List ℕ) → length part ≡ 18 → AreSmall part → node_name_bytes (node_name_of part) ≡ part
+node_name_given_back part long s =
+    let flags : to_be_bytes w16 (from_be_bytes w16 (drop 16 part)) ≡ drop 16 part = be_bytes_2 (drop 16 part) _ (omega (arith, length-drop 16 part)) (small_drop 16 part s) refl in
+    ap (λ (xs : List ℕ). take 16 part ++ xs) flags ∙ take-append-drop 16 part
 
 -- sixteen bytes, and flags of sixteen bits
 abbrev IsNodeName : NodeName → Type 0
@@ -173,5 +173,5 @@ status_read entry status each kind rdata =
     let front = take_at names status.statistics (18 * length status.names) long in
     let behind = drop_at names status.statistics (18 * length status.names) long in
     let count : length names / 18 ≡ length status.names = omega (arith, long) in
-    let read = pieces-flat 18 node_name_of eighteen IsNodeName status.names node_name_read each in
+    let read = parts-flat 18 node_name_of eighteen IsNodeName status.names node_name_read each in
     rw (kind, rdata, room, front, behind, count) (λ i. record { names = read i; statistics = status.statistics })

@@ -10,64 +10,6 @@ use crate::record::{Question, Rdata, Record};
 use nb_names::{Name, NoMemory};
 use std::alloc::Global;
 
-/// A question about a name, alone in a list.
-#[inline]
-fn ask(alloc: Global, kind: u16, name: &Name) -> Result<Questions, NoMemory>
-    ensures { IfOk result (λ questions. questions ≡ asking kind name.now ∷ []) }
-{
-    let question = Question {
-        name: name.to_domain(),
-        kind,
-        class: IN,
-    };
-    one_item(alloc, question)
-}
-
-/// A packet with one question, about a name.
-fn build_inquiry<'a>(
-    alloc: Global,
-    id: u16,
-    word: u16,
-    kind: u16,
-    name: &Name,
-) -> Result<Packet<'a>, NoMemory>
-    ensures { IfOk result (λ packet. packet ≡ inquiry id word kind name.now) }
-{
-    let questions = ask(alloc, kind, name)?;
-    Ok(Packet::with_lists(
-        id,
-        word,
-        questions,
-        no_item(alloc),
-        no_item(alloc),
-        no_item(alloc),
-    ))
-}
-
-/// A packet with one question, about a name, and one additional record, the name's.
-fn build_claim<'a>(
-    alloc: Global,
-    id: u16,
-    word: u16,
-    name: &Name,
-    ttl: u32,
-    entry: &'a [u8; ENTRY_LENGTH],
-) -> Result<Packet<'a>, NoMemory>
-    ensures { IfOk result (λ packet. packet ≡ claim id word name.now ttl entry.entry.now) }
-{
-    let questions = ask(alloc, NB, name)?;
-    let record = Record::new(name.to_domain(), NB, IN, ttl, Rdata::Bytes(entry));
-    let additional = one_item(alloc, record)?;
-    Ok(Packet::with_lists(
-        id,
-        word,
-        questions,
-        no_item(alloc),
-        no_item(alloc),
-        additional,
-    ))
-}
-
 /// A query for a name's addresses. `broadcast` sets B.
 ///
 /// # Errors
@@ -195,6 +137,64 @@ pub fn response<'a>(
         word,
         no_item(alloc),
         answers,
+        no_item(alloc),
+        additional,
+    ))
+}
+
+/// A question about a name, alone in a list.
+#[inline]
+fn ask(alloc: Global, kind: u16, name: &Name) -> Result<Questions, NoMemory>
+    ensures { IfOk result (λ questions. questions ≡ asking kind name.now ∷ []) }
+{
+    let question = Question {
+        name: name.to_domain(),
+        kind,
+        class: IN,
+    };
+    one_item(alloc, question)
+}
+
+/// A packet with one question, about a name.
+fn build_inquiry<'a>(
+    alloc: Global,
+    id: u16,
+    word: u16,
+    kind: u16,
+    name: &Name,
+) -> Result<Packet<'a>, NoMemory>
+    ensures { IfOk result (λ packet. packet ≡ inquiry id word kind name.now) }
+{
+    let questions = ask(alloc, kind, name)?;
+    Ok(Packet::with_lists(
+        id,
+        word,
+        questions,
+        no_item(alloc),
+        no_item(alloc),
+        no_item(alloc),
+    ))
+}
+
+/// A packet with one question, about a name, and one additional record, the name's.
+fn build_claim<'a>(
+    alloc: Global,
+    id: u16,
+    word: u16,
+    name: &Name,
+    ttl: u32,
+    entry: &'a [u8; ENTRY_LENGTH],
+) -> Result<Packet<'a>, NoMemory>
+    ensures { IfOk result (λ packet. packet ≡ claim id word name.now ttl entry.entry.now) }
+{
+    let questions = ask(alloc, NB, name)?;
+    let record = Record::new(name.to_domain(), NB, IN, ttl, Rdata::Bytes(entry));
+    let additional = one_item(alloc, record)?;
+    Ok(Packet::with_lists(
+        id,
+        word,
+        questions,
+        no_item(alloc),
         no_item(alloc),
         additional,
     ))

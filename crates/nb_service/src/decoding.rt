@@ -18,6 +18,42 @@ use nb_names::limits::POINTED_OFFSETS;
 use nb_names::{NameReader, NoMemory};
 use std::alloc::Global;
 
+/// Decodes the packet at the front of bytes, and how many of them it takes up.
+///
+/// Names are read over all of the bytes, with pointers followed; offsets in pointers and in faults
+/// count from the first byte. What stands after the last record doesn't count towards the length
+/// (our choice); only a label that a pointer leads to can reach into it. Numbers and bits without a
+/// meaning here come through unchanged. A record's bytes are lent from the input. Memory is taken
+/// for the four lists alone, once the whole packet has been checked. Of a packet of more than 576
+/// bytes the ends of all chains of pointers are found first, in 32 kB of the stack, so that no name
+/// costs a walk along a chain.
+///
+/// # Errors
+///
+/// What is wrong first, read from the front; `NoMemory` only where the bytes begin with a packet
+/// that has a question or a record.
+///
+/// RFC 1002 section 4.2.1. That the RDATA of an NS record is a domain name, with pointers followed,
+/// which ends where the RDATA does, is our own rule.
+pub fn decode<'a>(alloc: Global, bytes: &'a [u8]) -> Result<(Packet<'a>, usize), ServiceFault>
+    // What is answered stands there, and what stands there is answered, unless memory runs out.
+    ensures found { IfOk result (λ read. IsPacket bytes.now read.0 read.1) }
+    ensures only { (packet : ServicePacket) (used : ℕ) → IsPacket bytes.now packet used →
+        MatchResult result (λ read. (read.0 ≡ packet) × (read.1 ≡ used))
+        (λ fault. fault ≡ ServiceFault.NoMemory) }
+    ensures sections { IfOk result (λ read. HasSections bytes.now read.0 read.1) }
+    ensures within { IfOk result (λ read. read.1 ≤ length bytes.now) }
+
+    // Which fault it is, and where; NoMemory only where a packet with an item stands.
+    ensures fault { IfErr result (IsRefused bytes.now) }
+{
+    if bytes.len() <= SHORT_PACKET {
+        return decode_names(alloc, &NameReader::of(bytes, &mut []));
+    }
+    let mut ends = [0; POINTED_OFFSETS];
+    decode_names(alloc, &NameReader::of(bytes, &mut ends))
+}
+
 /// The header of the packet with which a reader's bytes begin, and how many of them it takes up.
 ///
 /// The packet is judged whole, as [`decode`] judges it, and not made; its questions begin after the
@@ -100,42 +136,6 @@ fn decode_names<'a>(
         return Err(fault);
     }
     Ok(build(alloc, names, &header, &walked)?)
-}
-
-/// Decodes the packet at the front of bytes, and how many of them it takes up.
-///
-/// Names are read over all of the bytes, with pointers followed; offsets in pointers and in faults
-/// count from the first byte. What stands after the last record doesn't count towards the length
-/// (our choice); only a label that a pointer leads to can reach into it. Numbers and bits without a
-/// meaning here come through unchanged. A record's bytes are lent from the input. Memory is taken
-/// for the four lists alone, once the whole packet has been checked. Of a packet of more than 576
-/// bytes the ends of all chains of pointers are found first, in 32 kB of the stack, so that no name
-/// costs a walk along a chain.
-///
-/// # Errors
-///
-/// What is wrong first, read from the front; `NoMemory` only where the bytes begin with a packet
-/// that has a question or a record.
-///
-/// RFC 1002 section 4.2.1. That the RDATA of an NS record is a domain name, with pointers followed,
-/// which ends where the RDATA does, is our own rule.
-pub fn decode<'a>(alloc: Global, bytes: &'a [u8]) -> Result<(Packet<'a>, usize), ServiceFault>
-    // What is answered stands there, and what stands there is answered, unless memory runs out.
-    ensures found { IfOk result (λ read. IsPacket bytes.now read.0 read.1) }
-    ensures only { (packet : ServicePacket) (used : ℕ) → IsPacket bytes.now packet used →
-        MatchResult result (λ read. (read.0 ≡ packet) × (read.1 ≡ used))
-        (λ fault. fault ≡ ServiceFault.NoMemory) }
-    ensures sections { IfOk result (λ read. HasSections bytes.now read.0 read.1) }
-    ensures within { IfOk result (λ read. read.1 ≤ length bytes.now) }
-
-    // Which fault it is, and where; NoMemory only where a packet with an item stands.
-    ensures fault { IfErr result (IsRefused bytes.now) }
-{
-    if bytes.len() <= SHORT_PACKET {
-        return decode_names(alloc, &NameReader::of(bytes, &mut []));
-    }
-    let mut ends = [0; POINTED_OFFSETS];
-    decode_names(alloc, &NameReader::of(bytes, &mut ends))
 }
 
 /// The questions of a row that stands at an offset, and the offset after it.

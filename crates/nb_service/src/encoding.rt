@@ -13,20 +13,6 @@ use crate::record::{Question, Rdata, Record};
 use nb_names::{Bytes, DomainName, NoMemory};
 use std::alloc::Global;
 
-/// Writes the header of a packet.
-fn write_header(bytes: &mut Vec<u8>, packet: &Packet<'_>) -> Result<(), NoMemory>
-    ensures written { OnOk result
-        (bytes.new.items ≡ bytes.old.items ++ header_bytes (header_of packet.now)) }
-    ensures fits { OnOk result ((packet.now.id < 2 ^ 16) × (packet.now.word < 2 ^ 16)) }
-{
-    write_16(bytes, packet.id())?;
-    write_16(bytes, packet.word())?;
-    write_16(bytes, packet.questions().as_slice().len() as u16)?;
-    write_16(bytes, packet.answers().as_slice().len() as u16)?;
-    write_16(bytes, packet.authorities().as_slice().len() as u16)?;
-    write_16(bytes, packet.additional().as_slice().len() as u16)
-}
-
 /// Encodes a packet.
 ///
 /// A record's name that has a label and is the first question's is written as a pointer to it. All
@@ -54,6 +40,20 @@ pub fn encode(alloc: Global, packet: &Packet<'_>) -> Result<Bytes, NoMemory>
     write_records(&mut bytes, questions, packet.authorities().as_slice())?;
     write_records(&mut bytes, questions, packet.additional().as_slice())?;
     Ok(Bytes::from_vec(bytes))
+}
+
+/// Writes the header of a packet.
+fn write_header(bytes: &mut Vec<u8>, packet: &Packet<'_>) -> Result<(), NoMemory>
+    ensures written { OnOk result
+        (bytes.new.items ≡ bytes.old.items ++ header_bytes (header_of packet.now)) }
+    ensures fits { OnOk result ((packet.now.id < 2 ^ 16) × (packet.now.word < 2 ^ 16)) }
+{
+    write_16(bytes, packet.id())?;
+    write_16(bytes, packet.word())?;
+    write_16(bytes, packet.questions().as_slice().len() as u16)?;
+    write_16(bytes, packet.answers().as_slice().len() as u16)?;
+    write_16(bytes, packet.authorities().as_slice().len() as u16)?;
+    write_16(bytes, packet.additional().as_slice().len() as u16)
 }
 
 /// The two bytes of a pointer to the first question's name (RFC 1002 section 4.1).

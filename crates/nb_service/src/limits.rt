@@ -1,7 +1,6 @@
 //! The limits of name service packets, each with its unit.
 
-pub use crate::address_entry::ENTRY_LENGTH;
-pub use crate::node_name::{NODE_NAME_LENGTH, UNIT_ID_LENGTH};
+pub use crate::views::{ENTRY_LENGTH, NODE_NAME_LENGTH, UNIT_ID_LENGTH};
 
 /// A packet's header, in bytes (RFC 1002 section 4.2.1.1).
 pub const HEADER_LENGTH: usize = 12;

@@ -1,19 +1,39 @@
-//! Packets, written, and the bytes of one packet.
+//! Packets, written.
 ghost use Rattle.std.specs.Prelude.{◌≡◌, ◌+◌, ◌≤◌, ◌++◌, length, IfOk};
 ghost use Rattle.nb_session.specs.declared.limits.TheConstants.{MAX_MESSAGE};
 ghost use Rattle.nb_session.specs.Header.{header_bytes};
-ghost use Rattle.nb_session.specs.Packet.{IsPacket, IsWhole};
-ghost use Rattle.nb_session.specs.Parsing.{AreOnePacket};
+ghost use Rattle.nb_session.specs.Packet.{IsPacket};
 
-use crate::laws::one_answer;
 use crate::limits::HEADER_LENGTH;
-use crate::packet::{Kind, LentPacket, Packet};
-use crate::parsing::{Parsed, parse_lent};
+use crate::packet::{Kind, Packet};
 use nb_names::{Bytes, Name, NoMemory};
 use std::alloc::Global;
 
 /// What one bit of FLAGS adds to the length of the body.
 const LENGTHS: usize = 65_536;
+
+/// The bytes of a packet: its header, then its body.
+///
+/// They are parsed as the packet again, whatever follows.
+///
+/// # Errors
+///
+/// [`NoMemory`] where memory ran out.
+///
+/// RFC 1002 section 4.3.
+pub fn encode(alloc: Global, packet: &Packet<'_>) -> Result<Bytes, NoMemory>
+    ensures { IfOk result (IsPacket packet.now) }
+{
+    match packet {
+        Packet::Message(message) => framed(alloc, Kind::Message, message.bytes(), &[]),
+        Packet::Request { called, calling } => request(alloc, called, calling),
+        Packet::Negative(code) => framed(alloc, Kind::Negative, &[*code], &[]),
+        Packet::Retarget { address, port } => {
+            framed(alloc, Kind::Retarget, address, &port.to_be_bytes())
+        }
+        Packet::Positive | Packet::Keepalive => framed(alloc, packet.kind(), &[], &[]),
+    }
+}
 
 /// The header before a body of this kind and length.
 fn header_of(kind: Kind, length: usize) -> [u8; HEADER_LENGTH]
@@ -48,71 +68,4 @@ fn request(alloc: Global, called: &Name, calling: &Name) -> Result<Bytes, NoMemo
     let _ = called.bytes();
     let _ = calling.bytes();
     framed(alloc, Kind::Request, first.spelling(), second.spelling())
-}
-
-/// The bytes of a packet: its header, then its body.
-///
-/// They are parsed as the packet again, whatever follows.
-///
-/// # Errors
-///
-/// [`NoMemory`] where memory ran out.
-///
-/// RFC 1002 section 4.3.
-pub fn encode(alloc: Global, packet: &Packet<'_>) -> Result<Bytes, NoMemory>
-    ensures { IfOk result (IsPacket packet.now) }
-{
-    match packet {
-        Packet::Message(message) => framed(alloc, Kind::Message, message.bytes(), &[]),
-        Packet::Request { called, calling } => request(alloc, called, calling),
-        Packet::Negative(code) => framed(alloc, Kind::Negative, &[*code], &[]),
-        Packet::Retarget { address, port } => {
-            framed(alloc, Kind::Retarget, address, &port.to_be_bytes())
-        }
-        Packet::Positive | Packet::Keepalive => framed(alloc, packet.kind(), &[], &[]),
-    }
-}
-
-/// The bytes of one whole packet, lent.
-#[derive(Clone, Copy, Debug)]
-pub struct PacketBytes<'a> {
-    /// The bytes: header and body.
-    pub bytes: &'a [u8],
-    ghost whole: { AreOnePacket bytes.now },
-}
-
-impl<'a> PacketBytes<'a> {
-    /// These bytes, which are one packet.
-    pub(crate) fn of(bytes: &'a [u8]) -> PacketBytes<'a>
-        requires { IsWhole bytes.now }
-        ensures { result.bytes.now ≡ bytes.now }
-    {
-        // The law on which the field's fact stands; the call does nothing.
-        one_answer();
-        PacketBytes { bytes }
-    }
-
-    /// The bytes: header and body.
-    pub fn as_slice(&self) -> &'a [u8]
-        ensures { result.now ≡ self.now.bytes.now }
-    {
-        self.bytes
-    }
-
-    /// The packet, whose names are lent from the bytes, too. No memory is taken.
-    pub fn lent_packet(&self) -> LentPacket<'a>
-        ensures { IsPacket result self.now.bytes.now }
-    {
-        match parse_lent(self.bytes) {
-            Parsed::Whole(packet, _) => packet,
-            _ => unreachable!(),
-        }
-    }
-
-    /// The packet. No memory is taken: a message is lent from the bytes.
-    pub fn packet(&self) -> Packet<'a>
-        ensures { IsPacket result self.now.bytes.now }
-    {
-        self.lent_packet().to_packet()
-    }
 }

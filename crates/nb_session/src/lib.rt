@@ -10,9 +10,9 @@ mod packet_reading;
 mod parsing;
 mod stream;
 
-pub use encoding::{PacketBytes, encode};
+pub use encoding::encode;
 pub use fault::SessionFault;
 pub use packet::{Kind, LentPacket, MessageData, Packet, TooLong};
 pub use packet_reading::{ReadFault, Room, read_lent_packet, read_packet};
 pub use parsing::{Header, LentParsed, Parsed, front_header, parse, parse_lent};
-pub use stream::{FeedFault, Next, Stream};
+pub use stream::{FeedFault, Next, PacketBytes, Stream};

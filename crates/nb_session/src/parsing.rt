@@ -44,6 +44,35 @@ impl<'a> LentParsed<'a> {
     }
 }
 
+/// What stands at the front of bytes: a packet, the front of one, or neither.
+///
+/// A fault of the header is answered as soon as its four bytes are there, one of the body once it
+/// is there whole. Names are read from the packet alone, with pointers refused. Bytes after a
+/// whole packet are left unread. No memory is taken: a message is lent from the bytes.
+///
+/// RFC 1002 section 4.3.
+pub fn parse<'a>(bytes: &'a [u8]) -> Parsed<'a>
+    // It stands there, and nothing else does.
+    ensures stands { Parses bytes.now result }
+    ensures only { (parsed : Parsed NetbiosName) → Parses bytes.now parsed → result ≡ parsed }
+{
+    parse_lent(bytes).to_parsed()
+}
+
+/// What stands at the front of bytes, as [`parse`] answers it. The names of a request are lent from
+/// the bytes, too. No memory is taken.
+///
+/// RFC 1002 section 4.3.
+pub fn parse_lent<'a>(bytes: &'a [u8]) -> LentParsed<'a>
+    // It stands there, and nothing else does.
+    ensures stands { Parses bytes.now result }
+    ensures only { (parsed : Parsed NetbiosName) → Parses bytes.now parsed → result ≡ parsed }
+{
+    // The law on which the clause `only` stands; the call does nothing.
+    one_answer();
+    parse_front(bytes)
+}
+
 /// The request that a packet of that kind is.
 fn read_request<'a>(header: Header, packet: &'a [u8]) -> Result<LentPacket<'a>, SessionFault>
     requires header { HasHeader packet.now header }
@@ -106,35 +135,6 @@ fn parse_front<'a>(bytes: &'a [u8]) -> LentParsed<'a>
         Ok(packet) => Parsed::Whole(packet, used),
         Err(fault) => Parsed::Refused(fault),
     }
-}
-
-/// What stands at the front of bytes, as [`parse`] answers it. The names of a request are lent from
-/// the bytes, too. No memory is taken.
-///
-/// RFC 1002 section 4.3.
-pub fn parse_lent<'a>(bytes: &'a [u8]) -> LentParsed<'a>
-    // It stands there, and nothing else does.
-    ensures stands { Parses bytes.now result }
-    ensures only { (parsed : Parsed NetbiosName) → Parses bytes.now parsed → result ≡ parsed }
-{
-    // The law on which the clause `only` stands; the call does nothing.
-    one_answer();
-    parse_front(bytes)
-}
-
-/// What stands at the front of bytes: a packet, the front of one, or neither.
-///
-/// A fault of the header is answered as soon as its four bytes are there, one of the body once it
-/// is there whole. Names are read from the packet alone, with pointers refused. Bytes after a
-/// whole packet are left unread. No memory is taken: a message is lent from the bytes.
-///
-/// RFC 1002 section 4.3.
-pub fn parse<'a>(bytes: &'a [u8]) -> Parsed<'a>
-    // It stands there, and nothing else does.
-    ensures stands { Parses bytes.now result }
-    ensures only { (parsed : Parsed NetbiosName) → Parses bytes.now parsed → result ≡ parsed }
-{
-    parse_lent(bytes).to_parsed()
 }
 
 /// The bit of FLAGS that LENGTH lacks: it adds 65,536 to the length of the body.

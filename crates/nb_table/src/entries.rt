@@ -52,74 +52,6 @@ impl Model for Entries {
         AreCounted e.counts (maps.from_entries {R = key_cmp} e.map.entries) };
 }
 
-/// The counts of no key, if counts are to be kept. No memory is taken.
-fn no_counts(alloc: Global, are_counted: bool) -> Option<SourceCounts>
-    ensures { IfSome result (λ m. m ≡ maps.empty) }
-{
-    if !are_counted {
-        return None;
-    }
-    Some(SourceCounts::new(alloc))
-}
-
-/// Counts one key more of an address, if counts are kept.
-fn count_more(counts: &mut Option<SourceCounts>, ip: [u8; 4]) -> Result<(), NoMemory>
-    requires { IfSome counts.old (λ m. count_of m ip < 9223372036854775808) }
-    ensures counted { OnOk result (Adds counts.old counts.new ip) }
-    ensures kept { OnErr result (counts.new ≡ counts.old) }
-{
-    match counts {
-        Some(counts) => counts.add_key(ip),
-        None => Ok(()),
-    }
-}
-
-/// Counts one key less of an address, if counts are kept.
-fn count_less(counts: &mut Option<SourceCounts>, ip: [u8; 4])
-    ensures { Takes counts.old counts.new ip }
-{
-    if let Some(counts) = counts {
-        counts.remove_key(ip);
-    }
-}
-
-/// The key before which no key of this address stands.
-pub(crate) fn first_of(ip: [u8; 4]) -> Key
-    ensures { result ≡ record { ip = ip; port = 0; id = 0 } }
-{
-    Key { ip, port: 0, id: 0 }
-}
-
-/// How many keys of this address may still be added, where `most` may be held. Those that are held
-/// are looked at.
-fn room_by_keys(map: &BTreeMap<Key, Entry>, ip: [u8; 4], most: u32) -> u32
-    ensures { result ≡ most
-        - held_keys (of_source ip) (maps.from_entries {R = key_cmp} map.now.entries) }
-{
-    let mut room = most;
-    for (key, _entry) in map.range(first_of(ip)..) {
-        if key.ip != ip {
-            return room;
-        }
-        if room == 0 {
-            return 0;
-        }
-        room -= 1;
-    }
-    room
-}
-
-/// Whether the two maps have the same entries at the same keys.
-fn are_equal(one: &BTreeMap<Key, Entry>, other: &BTreeMap<Key, Entry>) -> bool
-    ensures { IsTrue result ↔ (maps.from_entries {R = key_cmp} one.now.entries
-        ≡ maps.from_entries {R = key_cmp} other.now.entries) }
-{
-    if one.len() != other.len() {
-        return false;
-    }
-    one == other
-}
-
 impl Entries {
     /// No entry. No memory is taken.
     pub(crate) fn new(alloc: Global, are_counted: bool) -> Entries
@@ -290,4 +222,72 @@ pub(crate) fn insert_fragment(
             }
         }
     }
+}
+
+/// The counts of no key, if counts are to be kept. No memory is taken.
+fn no_counts(alloc: Global, are_counted: bool) -> Option<SourceCounts>
+    ensures { IfSome result (λ m. m ≡ maps.empty) }
+{
+    if !are_counted {
+        return None;
+    }
+    Some(SourceCounts::new(alloc))
+}
+
+/// Counts one key more of an address, if counts are kept.
+fn count_more(counts: &mut Option<SourceCounts>, ip: [u8; 4]) -> Result<(), NoMemory>
+    requires { IfSome counts.old (λ m. count_of m ip < 9223372036854775808) }
+    ensures counted { OnOk result (Adds counts.old counts.new ip) }
+    ensures kept { OnErr result (counts.new ≡ counts.old) }
+{
+    match counts {
+        Some(counts) => counts.add_key(ip),
+        None => Ok(()),
+    }
+}
+
+/// Counts one key less of an address, if counts are kept.
+fn count_less(counts: &mut Option<SourceCounts>, ip: [u8; 4])
+    ensures { Takes counts.old counts.new ip }
+{
+    if let Some(counts) = counts {
+        counts.remove_key(ip);
+    }
+}
+
+/// The key before which no key of this address stands.
+pub(crate) fn first_of(ip: [u8; 4]) -> Key
+    ensures { result ≡ record { ip = ip; port = 0; id = 0 } }
+{
+    Key { ip, port: 0, id: 0 }
+}
+
+/// How many keys of this address may still be added, where `most` may be held. Those that are held
+/// are looked at.
+fn room_by_keys(map: &BTreeMap<Key, Entry>, ip: [u8; 4], most: u32) -> u32
+    ensures { result ≡ most
+        - held_keys (of_source ip) (maps.from_entries {R = key_cmp} map.now.entries) }
+{
+    let mut room = most;
+    for (key, _entry) in map.range(first_of(ip)..) {
+        if key.ip != ip {
+            return room;
+        }
+        if room == 0 {
+            return 0;
+        }
+        room -= 1;
+    }
+    room
+}
+
+/// Whether the two maps have the same entries at the same keys.
+fn are_equal(one: &BTreeMap<Key, Entry>, other: &BTreeMap<Key, Entry>) -> bool
+    ensures { IsTrue result ↔ (maps.from_entries {R = key_cmp} one.now.entries
+        ≡ maps.from_entries {R = key_cmp} other.now.entries) }
+{
+    if one.len() != other.len() {
+        return false;
+    }
+    one == other
 }

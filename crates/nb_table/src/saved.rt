@@ -1,4 +1,4 @@
-//! Saved tables: what reads each part of them, and beside it what puts it into a sink of bytes.
+//! Saved tables: their keys, how many of one address come, and digits written a part at a time.
 //!
 //! An input is judged where it stands, before any memory is taken.
 ghost use Rattle.std.specs.Prelude.{◌≡◌, ◌↔◌, IsTrue, ◌≢◌, ◌++◌, [], ◌∷◌, ℕ, List, Some, None, MatchOption, OnOk, OnErr};

@@ -13,15 +13,15 @@ use Rattle.std.proofs.lemmas.List.{length-append, append_assoc, append-nil, map-
 use Rattle.nb_service.specs.Record.{ResourceRecord, ResourceData, of_bytes, of_domain}
 use Rattle.nb_service.specs.declared.kinds.TheConstants.{NBSTAT, NS}
 use Rattle.nb_text.specs.declared.brief.form.Ending.{Ending}
-use Rattle.nb_text.specs.declared.brief.services.Told.{Told}
+use Rattle.nb_text.specs.declared.brief.told.Told.{Told}
 use Rattle.nb_text.specs.Forms.{PhraseForm, form_of, is_type, says}
 use Rattle.nb_text.specs.Said.{said_after}
 use Rattle.nb_text.specs.ServiceSaid.{About, IsAbout, about_first, ending_said, name_said, said_of, told_of, type_of, few, first, server_in}
 use Rattle.nb_text.specs.Views.{flags_by, listed_by, units_by}
 use Rattle.std.specs.List.{flat_map, slice_get}
 use Rattle.std.proofs.lemmas.Grind.{flat_map-append}
-use Rattle.nb_text.specs.declared.brief.services.Few.{Few}
-use Rattle.nb_text.specs.declared.brief.services.Listed.{Listed}
+use Rattle.nb_text.specs.declared.brief.told.Few.{Few}
+use Rattle.nb_text.specs.declared.brief.told.Listed.{Listed}
 use Rattle.nb_text.proofs.WalkLemmas.{take_one_more}
 
 -- one question more

@@ -4,11 +4,11 @@ use Rattle.std.proofs.lemmas.Bool.Decides.{nat_tests}
 use Rattle.std.specs.List.{AllByRecursion, flat_map}
 use Rattle.nb_names.specs.DomainName.{AreBytes, AreByteLabels, IsDomain}
 use Rattle.nb_names.specs.Hexadecimal.{digits_text}
-use Rattle.nb_service.specs.declared.address_entry.AddressEntry.{AddressEntry}
+use Rattle.nb_service.specs.declared.views.AddressEntry.{AddressEntry}
 use Rattle.nb_service.specs.declared.kinds.TheConstants.{NBSTAT}
-use Rattle.nb_service.specs.declared.node_name.NodeName.{NodeName}
+use Rattle.nb_service.specs.declared.views.NodeName.{NodeName}
 use Rattle.nb_service.specs.Record.{ResourceData, of_bytes, of_domain}
-use Rattle.nb_service.specs.Views.{IsStatus, StatusParts, entries_of_data, no_status, node_name_of, pieces, status_of_data, status_of_size}
+use Rattle.nb_service.specs.Views.{IsStatus, StatusParts, entries_of_data, no_status, node_name_of, parts as read_parts, status_of_data, status_of_size}
 use Rattle.nb_telling.specs.Telling.{Field, Digits, LineEnds}
 use Rattle.nb_text.specs.Fields.{IsPart, two, four}
 use Rattle.nb_text.specs.Lines.{line_end}
@@ -81,7 +81,7 @@ unit_parts statistics a = either (nat_lt (length statistics) 6) where
       part_line (codes "    ") four ((mid_then (mid_seen (digits_text (take 6 statistics)) (data_seen (take 6 statistics) (bytes-take 6 statistics a))) ends_here).lines
       (codes "unit=") (literal (codes "unit=") refl))
 
-nodes_each : (count : ℕ) (bytes : List ℕ) → AreBytes bytes → AllByRecursion IsByteNode (pieces 18 node_name_of count bytes)
+nodes_each : (count : ℕ) (bytes : List ℕ) → AreBytes bytes → AllByRecursion IsByteNode (read_parts 18 node_name_of count bytes)
 nodes_each zero bytes a = tt
 nodes_each (suc count) bytes a =
     (bytes-take 16 (take 18 bytes) (bytes-take 18 bytes a), nodes_each count (drop 18 bytes) (bytes-drop 18 bytes a))
@@ -89,7 +89,7 @@ nodes_each (suc count) bytes a =
 size_parts : (size : ℕ) (rest : List ℕ) → AreBytes rest → AreParts (status_lines (status_of_size size rest))
 size_parts size rest a = either (nat_le size (length rest)) where
   names : List NodeName
-  names = pieces 18 node_name_of (length (take size rest) / 18) (take size rest)
+  names = read_parts 18 node_name_of (length (take size rest) / 18) (take size rest)
 
   either : (test : Bool) → AreParts (status_lines (if test then record { names = names; statistics = drop size rest } else no_status))
   either true =

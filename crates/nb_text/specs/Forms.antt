@@ -8,7 +8,7 @@ use Rattle.nb_service.specs.Header.{nm_bits, opcode_of, rcode_of}
 use Rattle.nb_text.specs.declared.brief.form.TheConstants.{RESPONSE}
 use Rattle.nb_text.specs.declared.brief.form.Ending.{Ending}
 use Rattle.nb_text.specs.declared.brief.form.Ending.TheVariants as endings
-use Rattle.nb_text.specs.declared.codes.TheConstants.{QUERY, REGISTRATION, RELEASE, WACK, OTHER_REFRESH, REFRESH, MULTI_HOMED, OK, CFT_ERR}
+use Rattle.nb_text.specs.declared.words.TheConstants.{QUERY, REGISTRATION, RELEASE, WACK, OTHER_REFRESH, REFRESH, MULTI_HOMED, OK, CFT_ERR}
 use Rattle.nb_text.specs.Words.{is_set}
 
 -- is_type known kind: the type is known, and this one

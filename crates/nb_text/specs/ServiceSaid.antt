@@ -19,12 +19,12 @@ use Rattle.nb_service.specs.Packet.{ServicePacket, records_of}
 use Rattle.nb_service.specs.Record.{ResourceData, of_bytes, of_domain, ResourceRecord}
 use Rattle.nb_text.specs.declared.brief.form.Ending.{Ending}
 use Rattle.nb_text.specs.declared.brief.form.Ending.TheVariants as endings
-use Rattle.nb_text.specs.declared.brief.services.Few.{Few}
-use Rattle.nb_text.specs.declared.brief.services.Listed.{Listed}
-use Rattle.nb_text.specs.declared.brief.services.Listed.TheVariants as items
-use Rattle.nb_text.specs.declared.brief.services.Told.{Told}
+use Rattle.nb_text.specs.declared.brief.told.Few.{Few}
+use Rattle.nb_text.specs.declared.brief.told.Listed.{Listed}
+use Rattle.nb_text.specs.declared.brief.told.Listed.TheVariants as items
+use Rattle.nb_text.specs.declared.brief.told.Told.{Told}
 use Rattle.nb_text.specs.declared.brief.services.TheConstants.{MOST_LISTED}
-use Rattle.nb_text.specs.declared.codes.TheConstants.{FMT_ERR, SRV_ERR, NAM_ERR, IMP_ERR, RFS_ERR, ACT_ERR, CFT_ERR}
+use Rattle.nb_text.specs.declared.words.TheConstants.{FMT_ERR, SRV_ERR, NAM_ERR, IMP_ERR, RFS_ERR, ACT_ERR, CFT_ERR}
 use Rattle.nb_text.specs.Forms.{form_of, is_type}
 use Rattle.nb_text.specs.Said.{commas, counts_in, refused_said}
 use Rattle.nb_text.specs.Views.{flags_by, listed_by, units_by}

@@ -6,16 +6,16 @@ use Rattle.std.specs.List.{flat_map}
 use Rattle.nb_names.specs.Addresses.{address_text}
 use Rattle.nb_names.specs.Hexadecimal.{digits_text, word_text}
 use Rattle.nb_names.specs.NameText.{written}
-use Rattle.nb_service.specs.declared.address_entry.AddressEntry.{AddressEntry}
+use Rattle.nb_service.specs.declared.views.AddressEntry.{AddressEntry}
 use Rattle.nb_service.specs.declared.flags.TheConstants.NodeFlags.{G, DRG, CNF, ACT, PRM}
 use Rattle.nb_service.specs.declared.kinds.TheConstants.{A, NB, NBSTAT}
-use Rattle.nb_service.specs.declared.node_name.NodeName.{NodeName}
+use Rattle.nb_service.specs.declared.views.NodeName.{NodeName}
 use Rattle.nb_service.specs.Header.{node_bits, ont_of}
 use Rattle.nb_service.specs.Record.{ResourceData, of_bytes, of_domain}
 use Rattle.nb_service.specs.Views.{StatusParts, entries_of_data, status_of_data}
 use Rattle.nb_telling.specs.Telling.{Field, FieldKey, Text, Number, Digits, Set, Part, PartEnds, LineEnds}
-use Rattle.nb_text.specs.declared.brief.services.Listed.{Listed}
-use Rattle.nb_text.specs.declared.brief.services.Listed.TheVariants as items
+use Rattle.nb_text.specs.declared.brief.told.Listed.{Listed}
+use Rattle.nb_text.specs.declared.brief.told.Listed.TheVariants as items
 use Rattle.nb_text.specs.Fields.{list_fields, word_field}
 use Rattle.nb_text.specs.Keys.{key_named, key_of, name_key}
 use Rattle.nb_text.specs.Lines.{line_end}

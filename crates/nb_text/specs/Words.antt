@@ -14,7 +14,7 @@ use Rattle.nb_datagram.specs.Header.{error_type, query_type}
 use Rattle.nb_datagram.specs.Packet.{type_of}
 use Rattle.nb_datagram.specs.FaultTexts.{kind_text}
 use Rattle.nb_telling.specs.Texts.{joined}
-use Rattle.nb_text.specs.declared.codes.TheConstants.{QUERY, REGISTRATION, RELEASE, WACK, OTHER_REFRESH, REFRESH, OK, FMT_ERR, SRV_ERR, NAM_ERR, IMP_ERR, RFS_ERR, ACT_ERR, CFT_ERR}
+use Rattle.nb_text.specs.declared.words.TheConstants.{QUERY, REGISTRATION, RELEASE, WACK, OTHER_REFRESH, REFRESH, OK, FMT_ERR, SRV_ERR, NAM_ERR, IMP_ERR, RFS_ERR, ACT_ERR, CFT_ERR}
 
 -- ---- numbers that have names
 

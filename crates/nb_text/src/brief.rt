@@ -7,8 +7,9 @@ ghost use Rattle.nb_text.specs.SaysPacket.{AddsSaid};
 mod datagrams;
 mod form;
 mod pieces;
-pub mod services;
+mod services;
 mod sessions;
+pub mod told;
 
 use crate::brief::datagrams::push_datagram;
 use crate::brief::services::push_service;

@@ -7,9 +7,9 @@ ghost use Rattle.nb_text.specs.DatagramFields.{begin_fields, datagram_fields, er
 ghost use Rattle.nb_text.specs.Keys.{key_named};
 ghost use Rattle.nb_text.specs.Tells.{IsTold};
 
-use crate::codes::{ERROR, query_name};
+use crate::fields::{tell_byte, tell_kind, tell_number, tell_refusal, tell_used};
 use crate::keys::field_key;
-use crate::words::{tell_byte, tell_kind, tell_number, tell_refusal, tell_used};
+use crate::words::{ERROR, query_name};
 use nb_datagram::{ErrorPacket, Key, LentFragment, LentPacket, LentQuery, decode_lent, kind_name};
 use nb_names::NoMemory;
 use nb_telling::Sink;

@@ -13,11 +13,11 @@ ghost use Rattle.nb_text.specs.FrontFields.{datagram_front_fields, fragment_fron
 ghost use Rattle.nb_text.specs.Keys.{key_named};
 ghost use Rattle.nb_text.specs.Words.{datagram_word, session_word};
 
-use crate::codes::{datagram_name, session_name};
+use crate::fields::{tell_byte, tell_kind, tell_number};
 use crate::keys::field_key;
 use crate::services::tell_service;
 use crate::showing::tell_packet;
-use crate::words::{tell_byte, tell_kind, tell_number};
+use crate::words::{datagram_name, session_name};
 use nb_datagram::{FragmentFront, Front, decode_lent, read_front};
 use nb_names::{LentName, NoMemory};
 use nb_session::{Header, Parsed, front_header, parse_lent};

@@ -1,4 +1,4 @@
-//! The keys of a packet's fields (our choice).
+//! How fields get their keys, and the key of a packet's kind (our choice).
 
 use nb_telling::FieldKey;
 

@@ -2,8 +2,8 @@
 #![tactic(auto)]
 
 mod brief;
-mod codes;
 mod datagrams;
+mod fields;
 mod fronts;
 pub mod keys;
 pub mod laws;

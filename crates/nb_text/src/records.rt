@@ -15,9 +15,9 @@ ghost use Rattle.nb_text.specs.Fields.{list_fields};
 ghost use Rattle.nb_text.specs.ServiceFields.{head_fields, rdata_field, record_fields, named_fields, question_fields};
 ghost use Rattle.nb_text.specs.Views.{fields_by};
 
+use crate::fields::{end_part, tell_word};
 use crate::keys::field_key;
 use crate::views::tell_view;
-use crate::words::{end_part, tell_word};
 use nb_names::{DomainName, NameReader, NoMemory, Pointers};
 use nb_service::{Rdata, Seen, see_question, see_record};
 use nb_telling::{FieldKey, Sink};

@@ -9,10 +9,10 @@ ghost use Rattle.nb_text.specs.Fields.{word_field};
 ghost use Rattle.nb_text.specs.ServiceFields.{count_fields, header_fields, lists_fields, state_fields};
 ghost use Rattle.nb_text.specs.TellsFront.{ServiceTold};
 
-use crate::codes::{operation_name, packet_flags_of, rcode_name};
+use crate::fields::{tell_named, tell_number, tell_refusal, tell_used, tell_word};
 use crate::keys::field_key;
 use crate::records::{tell_questions, tell_section};
-use crate::words::{tell_named, tell_number, tell_refusal, tell_used, tell_word};
+use crate::words::{operation_name, packet_flags_of, rcode_name};
 use nb_names::limits::POINTED_OFFSETS;
 use nb_names::{NameReader, NoMemory};
 use nb_service::limits::{HEADER_LENGTH, SHORT_PACKET};

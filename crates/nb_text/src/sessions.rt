@@ -5,9 +5,9 @@ ghost use Rattle.nb_text.specs.Fields.{used_fields};
 ghost use Rattle.nb_text.specs.SessionFields.{parts_fields, session_fields};
 ghost use Rattle.nb_text.specs.Tells.{IsTold};
 
-use crate::codes::{KEEPALIVE, MESSAGE, NEGATIVE, POSITIVE, REQUEST, RETARGET};
+use crate::fields::{tell_byte, tell_kind, tell_number, tell_refusal, tell_used};
 use crate::keys::field_key;
-use crate::words::{tell_byte, tell_kind, tell_number, tell_refusal, tell_used};
+use crate::words::{KEEPALIVE, MESSAGE, NEGATIVE, POSITIVE, REQUEST, RETARGET};
 use nb_names::{LentName, NoMemory};
 use nb_session::{LentPacket, LentParsed, Packet, Parsed, parse_lent};
 use nb_telling::Sink;

@@ -5,15 +5,15 @@ ghost use Rattle.std.specs.List.{flat_map};
 ghost use Rattle.nb_service.specs.Record.{of_bytes};
 ghost use Rattle.nb_telling.specs.Telling.{Field, Grows};
 ghost use Rattle.nb_telling.specs.Texts.{names_of};
-ghost use Rattle.nb_text.specs.declared.brief.services.Listed.{Listed};
+ghost use Rattle.nb_text.specs.declared.brief.told.Listed.{Listed};
 ghost use Rattle.nb_text.specs.Fields.{list_fields};
 ghost use Rattle.nb_text.specs.ServiceSaid.{few, first};
 ghost use Rattle.nb_text.specs.Views.{fields_by, flags_by, listed_by, parts_in, units_by, entries_view, name_flags, status_view};
 ghost use Rattle.nb_text.specs.Words.{is_set, names_set};
 
-use crate::brief::services::{Few, Listed};
+use crate::brief::told::{Few, Listed};
+use crate::fields::{end_part, tell_owner};
 use crate::keys::field_key;
-use crate::words::{end_part, tell_owner};
 use bitflags::{Flag as Named, Flags};
 use nb_names::{Name, NoMemory, Scope};
 use nb_service::kinds::{A, NB, NBSTAT};

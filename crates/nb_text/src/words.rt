@@ -1,118 +1,157 @@
-//! Numbers told, by their words where they have some, and what lines end with.
-ghost use Rattle.std.specs.Prelude.{◌≡◌, ◌∷◌, [], OnOk, fold, option_map, IfSome};
-ghost use Rattle.nb_service.specs.Header.{ont_of};
-ghost use Rattle.nb_telling.specs.Telling.{Digits, LineEnds, Number, PartEnds, Text, Grows, key_of};
-ghost use Rattle.nb_text.specs.Keys.{key_named, kind_key};
-ghost use Rattle.nb_text.specs.Fields.{used_fields, word_field, refused_fields};
-ghost use Rattle.nb_text.specs.ServiceFields.{named_field};
+//! The numbers of operations and results, the words for these and for kinds of packets, and the
+//! flags of a packet by their names.
+ghost use Rattle.std.specs.Prelude.{◌≡◌, option_map};
+ghost use Rattle.nb_telling.specs.Texts.{names_of};
+ghost use Rattle.nb_text.specs.Words.{datagram_word, operation_word, query_word, rcode_word, session_word, is_set, names_set, packet_flags};
 
-use crate::keys::{KIND, field_key};
-use nb_names::NoMemory;
-use nb_service::ont;
-use nb_telling::{FieldKey, Sink, tell_place};
-use std::fmt::Display;
+use bitflags::{Flag as Named, Flags};
+use nb_datagram::{Kind, QueryKind, kind_name};
+use nb_service::NmFlags;
+use nb_telling::Flag;
 
-/// Tells a number by its name, where it has one.
-#[inline(always)]
-pub fn tell_named<S: Sink>(
-    key: FieldKey,
-    name: Option<&'static str>,
-    number: u8,
-    sink: &mut S,
-) -> Result<(), NoMemory>
-    ensures told { OnOk result (S.seen sink.new ≡ S.after (S.seen sink.old)
-        (named_field (key_of key) (option_map (λ word. word.now) name.entry) number)) }
-    ensures front { Grows S.is_front (S.seen sink.old) (S.seen sink.new) }
+// OPCODEs (RFC 1002 section 4.2.1.1). That 8 is a refresh too, and 15 the registration of a host of
+// several addresses, is our choice.
+pub const QUERY: u8 = 0;
+
+pub const REGISTRATION: u8 = 5;
+
+pub const RELEASE: u8 = 6;
+
+pub const WACK: u8 = 7;
+
+pub const REFRESH: u8 = 8;
+
+pub const OTHER_REFRESH: u8 = 9;
+
+pub const MULTI_HOMED: u8 = 15;
+
+// RCODEs (RFC 1002 sections 4.2.6, 4.2.11 and 4.2.14).
+pub const OK: u8 = 0;
+
+pub const FMT_ERR: u8 = 1;
+
+pub const SRV_ERR: u8 = 2;
+
+pub const NAM_ERR: u8 = 3;
+
+pub const IMP_ERR: u8 = 4;
+
+pub const RFS_ERR: u8 = 5;
+
+pub const ACT_ERR: u8 = 6;
+
+pub const CFT_ERR: u8 = 7;
+
+/// The name of an operation (RFC 1002 section 4.2.1.1).
+pub fn operation_name(opcode: u8) -> Option<&'static str>
+    ensures { option_map (λ name. name.now) result ≡ operation_word opcode }
 {
-    match name {
-        Some(word) => sink.text(key, word),
-        None => sink.number(key, u64::from(number)),
+    match opcode {
+        QUERY => Some("query"),
+        REGISTRATION => Some("registration"),
+        RELEASE => Some("release"),
+        WACK => Some("wack"),
+        REFRESH | OTHER_REFRESH => Some("refresh"),
+        _ => None,
     }
 }
 
-/// Tells what a packet is.
+/// The name of a result.
+pub fn rcode_name(rcode: u8) -> Option<&'static str>
+    ensures { option_map (λ name. name.now) result ≡ rcode_word rcode }
+{
+    match rcode {
+        OK => Some("ok"),
+        FMT_ERR => Some("FMT_ERR"),
+        SRV_ERR => Some("SRV_ERR"),
+        NAM_ERR => Some("NAM_ERR"),
+        IMP_ERR => Some("IMP_ERR"),
+        RFS_ERR => Some("RFS_ERR"),
+        ACT_ERR => Some("ACT_ERR"),
+        CFT_ERR => Some("CFT_ERR"),
+        _ => None,
+    }
+}
+
+/// The word for a query packet of port 138.
+pub fn query_name(kind: QueryKind) -> &'static str
+    ensures { result.now ≡ query_word kind }
+{
+    match kind {
+        QueryKind::Request => "find",
+        QueryKind::Positive => "found",
+        QueryKind::Negative => "missing",
+    }
+}
+
+/// The word for an error packet of port 138.
+pub const ERROR: &str = "error";
+
+/// The word for packets of port 138 of a MSG_TYPE.
+pub fn datagram_name(message_type: u8) -> Option<&'static str>
+    ensures { option_map (λ name. name.now) result ≡ datagram_word message_type }
+{
+    match message_type {
+        0x10 => Some(kind_name(Kind::Unique)),
+        0x11 => Some(kind_name(Kind::Group)),
+        0x12 => Some(kind_name(Kind::Broadcast)),
+        0x13 => Some(ERROR),
+        0x14 => Some(query_name(QueryKind::Request)),
+        0x15 => Some(query_name(QueryKind::Positive)),
+        0x16 => Some(query_name(QueryKind::Negative)),
+        _ => None,
+    }
+}
+
+// The words for packets of port 139, by TYPE (RFC 1002 section 4.3.1).
+pub const MESSAGE: &str = "message";
+
+pub const REQUEST: &str = "request";
+
+pub const POSITIVE: &str = "positive";
+
+pub const NEGATIVE: &str = "negative";
+
+pub const RETARGET: &str = "retarget";
+
+pub const KEEPALIVE: &str = "keepalive";
+
+/// The word for packets of port 139 of a TYPE.
+pub fn session_name(packet_type: u8) -> Option<&'static str>
+    ensures { option_map (λ name. name.now) result ≡ session_word packet_type }
+{
+    match packet_type {
+        0x00 => Some(MESSAGE),
+        0x81 => Some(REQUEST),
+        0x82 => Some(POSITIVE),
+        0x83 => Some(NEGATIVE),
+        0x84 => Some(RETARGET),
+        0x85 => Some(KEEPALIVE),
+        _ => None,
+    }
+}
+
+/// The flags of a packet, and which of them are set in its flag word.
+pub fn packet_flags_of(word: u16) -> [Flag; 5]
+    ensures { names_of result ≡ names_set packet_flags word }
+{
+    [
+        packet_flag(&NmFlags::FLAGS[0], word),
+        packet_flag(&NmFlags::FLAGS[1], word),
+        packet_flag(&NmFlags::FLAGS[2], word),
+        packet_flag(&NmFlags::FLAGS[3], word),
+        packet_flag(&NmFlags::FLAGS[4], word),
+    ]
+}
+
+/// A flag of packets, and whether it is set in a word.
 #[inline(always)]
-pub fn tell_kind<S: Sink>(kind: &str, sink: &mut S) -> Result<(), NoMemory>
-    ensures told { OnOk result
-        (S.seen sink.new ≡ S.after (S.seen sink.old) (Text kind_key kind.now)) }
-    ensures front { Grows S.is_front (S.seen sink.old) (S.seen sink.new) }
+fn packet_flag(flag: &Named<NmFlags>, word: u16) -> Flag
+    ensures named { result.name.now ≡ flag.now.name.now }
+    ensures set { result.is_set ≡ is_set word flag.now.value.0 }
 {
-    sink.text(KIND, kind)
-}
-
-/// Tells a number of sixteen bits.
-#[inline(always)]
-pub fn tell_number<S: Sink>(key: FieldKey, number: u16, sink: &mut S) -> Result<(), NoMemory>
-    ensures told { OnOk result
-        (S.seen sink.new ≡ S.after (S.seen sink.old) (Number (key_of key) number)) }
-    ensures front { Grows S.is_front (S.seen sink.old) (S.seen sink.new) }
-{
-    sink.number(key, u64::from(number))
-}
-
-/// Tells a number of sixteen bits, as four digits.
-#[inline(always)]
-pub fn tell_word<S: Sink>(key: FieldKey, word: u16, sink: &mut S) -> Result<(), NoMemory>
-    ensures told { OnOk result
-        (S.seen sink.new ≡ S.after (S.seen sink.old) (word_field (key_of key) word)) }
-    ensures front { Grows S.is_front (S.seen sink.old) (S.seen sink.new) }
-{
-    sink.digits(key, &word.to_be_bytes())
-}
-
-/// Tells a byte, as two digits.
-#[inline(always)]
-pub fn tell_byte<S: Sink>(key: FieldKey, byte: u8, sink: &mut S) -> Result<(), NoMemory>
-    ensures told { OnOk result
-        (S.seen sink.new ≡ S.after (S.seen sink.old) (Digits (key_of key) (byte ∷ []))) }
-    ensures front { Grows S.is_front (S.seen sink.old) (S.seen sink.new) }
-{
-    sink.digits(key, &[byte])
-}
-
-/// Tells the flags of an owner, and its type.
-#[inline(always)]
-pub fn tell_owner<S: Sink>(flags: u16, sink: &mut S) -> Result<(), NoMemory>
-    ensures told { OnOk result (S.seen sink.new ≡ fold S.after (S.seen sink.old)
-        (word_field (key_named "flags") flags ∷ Number (key_named "ont") (ont_of flags) ∷ [])) }
-    ensures front { Grows S.is_front (S.seen sink.old) (S.seen sink.new) }
-{
-    tell_word(field_key!("flags"), flags, sink)?;
-    sink.number(field_key!("ont"), u64::from(ont(flags)))
-}
-
-/// Ends the line of a part, and the part.
-#[inline(always)]
-pub fn end_part<S: Sink>(sink: &mut S) -> Result<(), NoMemory>
-    ensures told { OnOk result
-        (S.seen sink.new ≡ fold S.after (S.seen sink.old) (LineEnds ∷ PartEnds ∷ [])) }
-    ensures front { Grows S.is_front (S.seen sink.old) (S.seen sink.new) }
-{
-    sink.line_ends()?;
-    sink.part_ends()
-}
-
-/// Tells how many bytes a packet takes up, with which its line ends.
-pub fn tell_used<S: Sink>(used: usize, sink: &mut S) -> Result<(), NoMemory>
-    ensures told { OnOk result
-        (S.seen sink.new ≡ fold S.after (S.seen sink.old) (used_fields used)) }
-    ensures front { Grows S.is_front (S.seen sink.old) (S.seen sink.new) }
-{
-    sink.number(field_key!("used"), used as u64)?;
-    sink.line_ends()
-}
-
-/// Tells a fault, and its place where it has one.
-pub fn tell_refusal<F: Display + Drop, S: Sink>(
-    fault: F,
-    place: Option<usize>,
-    sink: &mut S,
-) -> Result<(), NoMemory>
-    ensures told { OnOk result (IfSome (F.output fault) (λ shown.
-        S.seen sink.new ≡ fold S.after (S.seen sink.old) (refused_fields shown place))) }
-    ensures front { Grows S.is_front (S.seen sink.old) (S.seen sink.new) }
-{
-    sink.displayed(field_key!("refused", "refused "), fault)?;
-    tell_place(place, sink)?;
-    sink.line_ends()
+    Flag {
+        name: flag.name(),
+        is_set: word & flag.value().bits() != 0,
+    }
 }

@@ -5,7 +5,7 @@ use Rattle.nb_names.specs.Name.{NetbiosName}
 use Rattle.nb_member.specs.declared.outcome.Event.{Event}
 use Rattle.nb_member.specs.declared.replaying.ReplayFault.{ReplayFault}
 use Rattle.nb_member.specs.declared.replaying.ReplayFault.TheVariants as replay
-use Rattle.nb_member.specs.declared.capture.CaptureOptions.{CaptureOptions}
+use Rattle.nb_member.specs.declared.replaying.CaptureOptions.{CaptureOptions}
 use Rattle.nb_member.specs.Live.{live}
 use Rattle.nb_member.specs.Replaying.{Replays}
 use Rattle.nb_member.specs.Events.{none as none_said}

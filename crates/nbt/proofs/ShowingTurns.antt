@@ -1,6 +1,6 @@
 -- What `nbt show` prints of a line, and of the lines of a capture.
 use Rattle.nbt.proofs.Common.{◌≡◌, ◌+◌, ◌++◌, ℕ, List, [], ◌∷◌, length, take, drop, Option, Result, Ok, Err, codes, refl, sym, subst, ◌∙◌, ap, append_assoc, arith, Appends, Consumes, decimal, take-append-drop, Counts, CountedOf, GrowTo, ShowsUnread, ShowsWriteFault, Appends-nil, Appends-more, Appends-kept, fails_from, grows_on, Packet, Tick, Fault, Read, Write, Memory}
-use Rattle.nb_member.specs.declared.capture.CaptureOptions.{CaptureOptions}
+use Rattle.nb_member.specs.declared.replaying.CaptureOptions.{CaptureOptions}
 use Rattle.nb_member.specs.declared.line.Line as capture
 use Rattle.nb_member.specs.LineTaking.{TakesEach, none as no_lines, more as more_lines, StopsAt, malformed, unread, no_memory, not_taken, TakesLines}
 use Rattle.nb_text.specs.Lines.{line_end}

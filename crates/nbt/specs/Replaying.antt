@@ -9,7 +9,7 @@ use Rattle.nb_member.specs.declared.outcome.Event.{Event}
 use Rattle.nb_member.specs.declared.limits.TheConstants.{MAX_NAMES}
 use Rattle.nb_member.specs.declared.replaying.ReplayFault.{ReplayFault}
 use Rattle.nb_member.specs.declared.replaying.ReplayFault.TheVariants as replay
-use Rattle.nb_member.specs.declared.capture.CaptureOptions.{CaptureOptions}
+use Rattle.nb_member.specs.declared.replaying.CaptureOptions.{CaptureOptions}
 use Rattle.nb_member.specs.Live.{live}
 use Rattle.nb_member.specs.Member.{MemberValue, new_member}
 use Rattle.nb_member.specs.Replaying.{Replays}

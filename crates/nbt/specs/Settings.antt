@@ -6,7 +6,7 @@ use Rattle.clap.specs.declared.parser.matches.ArgMatches.{ArgMatches}
 use Rattle.nb_names.specs.declared.limits.TheConstants.{MAX_INPUT}
 use Rattle.nb_member.specs.declared.comment_writing.Comments.{Comments}
 use Rattle.nb_member.specs.declared.comment_writing.Comments.TheVariants.{LeftOut, Printed}
-use Rattle.nb_member.specs.declared.capture.CaptureOptions.{CaptureOptions}
+use Rattle.nb_member.specs.declared.replaying.CaptureOptions.{CaptureOptions}
 use Rattle.nb_member.specs.declared.settings.Settings.{Settings}
 use Rattle.nbt.specs.declared.settings.Capacity.{Capacity}
 

@@ -7,7 +7,7 @@ use Rattle.nb_names.specs.Counted.{Counts}
 use Rattle.nb_names.specs.Devices.{ShowsUnread}
 use Rattle.nb_names.specs.Lines.{CutInto, with_rest}
 use Rattle.nb_member.specs.declared.limits.TheConstants.{MAX_LINE}
-use Rattle.nb_member.specs.declared.capture.CaptureOptions.{CaptureOptions}
+use Rattle.nb_member.specs.declared.replaying.CaptureOptions.{CaptureOptions}
 use Rattle.nb_member.specs.declared.comment_writing.Comments.{Comments}
 use Rattle.nb_member.specs.declared.line.Line as capture
 use Rattle.nb_member.specs.declared.line.Line.TheVariants.{Packet, Tick}

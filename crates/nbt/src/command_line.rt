@@ -1,4 +1,4 @@
-//! The program's command line, made of the forms of its commands.
+//! The program's command line, made of the forms of its commands, and what clap answers of it.
 ghost use Rattle.std.specs.Prelude.{◌≡◌, IfOk, false};
 ghost use Rattle.std.specs.List.{fold};
 ghost use Rattle.clap.specs.Words.{App, app_of, new_app, rule_of};

@@ -1,4 +1,5 @@
-//! The advice that a terminal gets beside a fault, and beside a table.
+//! The advice that a terminal gets beside a fault and beside a table, and where files are named for
+//! a command that reads standard input.
 ghost use Rattle.std.specs.Prelude.{◌≡◌};
 ghost use Rattle.nbt.specs.declared.errors.Audience.TheVariants.{Programs};
 

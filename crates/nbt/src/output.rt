@@ -1,4 +1,5 @@
-//! The program's output: what is written, and whether a write came to nothing.
+//! The program's output: what is written, whether a write came to nothing, and what shows it before
+//! more of the input is waited for.
 ghost use Rattle.std.specs.Prelude.{◌≡◌, ◌<◌, OnOk, OnErr, IfErr};
 ghost use Rattle.std.specs.Io.KnownBytes.{Appends};
 ghost use Rattle.nb_names.specs.Counted.{no_calls};

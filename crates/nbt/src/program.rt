@@ -1,4 +1,4 @@
-//! The program over any input and output.
+//! The program over any input and output. Between `run` and `run_counted` lies streams.rt.
 ghost use Rattle.std.specs.Prelude.{◌≡◌, ◌≢◌, ◌≤◌, ◌⊎◌, map, string_bytes, true, IfOk, IfErr};
 ghost use Rattle.std.specs.Io.KnownBytes.{Keeps};
 ghost use Rattle.clap.specs.Words.{kind_of, subcommand_name_of, takes};

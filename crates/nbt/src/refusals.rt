@@ -1,4 +1,4 @@
-//! What the program may say where it refuses, and what to do then.
+//! What the program may say where it refuses, and what to do then: found by a fault's own text.
 
 use crate::limits::{FULL_ADVICE, MEMORY_ADVICE, NAMES_ADVICE};
 

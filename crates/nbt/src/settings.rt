@@ -68,7 +68,7 @@ pub fn comments_of(matches: &ArgMatches<'_>) -> Comments
     }
 }
 
-/// What the options ask of a replay.
+/// What the options ask of a call that reads a capture.
 pub fn options_of(matches: &ArgMatches<'_>) -> CaptureOptions
     ensures { AreOptions matches.now result }
 {

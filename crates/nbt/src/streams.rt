@@ -1,4 +1,7 @@
 //! The program over streams that are lent to it, and what its input begins with.
+//!
+//! A contract over a stream that holds a reference doesn't say which one it holds afterwards, so
+//! each stream is moved out of its place and counted, and moved back once the run has ended.
 ghost use Rattle.std.specs.Prelude.{◌≡◌, map, string_bytes};
 ghost use Rattle.nbt.specs.Running.{IsQuiet, Runs};
 

@@ -2,11 +2,11 @@
 //! stands of those that are refused.
 ghost use Rattle.std.specs.Prelude.{◌≡◌, ◌++◌, ℕ, List, codes, OnOk, string_bytes};
 ghost use Rattle.std.specs.Fmt.{decimal};
-ghost use Rattle.nbt.specs.Showing.{ShowsSaid, ShowsValue};
+ghost use Rattle.nbt.specs.Showing.{ShowsSaid, ShowsValue, Shows};
 
 use crate::objects::bare;
-use crate::printing_lines::{LineFields, LineText, Packets};
-use nb_member::{Comments, Line, push_comment};
+use crate::printing_lines::{LineFields, LineText};
+use nb_member::{Comments, Line, LineTaker, push_comment};
 use nb_names::{NoMemory, push_decimal};
 use nb_telling::Sink;
 use nb_text::keys::KIND;
@@ -169,7 +169,7 @@ impl PayloadText for Fronts {
     }
 }
 
-/// The same.
+/// The fields of these.
 impl LineFields for Fronts {
     ghost use Rattle.nbt.specs.Objects.{FrontFields};
 
@@ -238,6 +238,29 @@ impl LineFields for Phrases {
                 sink.text(bare("brief"), self.text.as_str())?;
                 tell_packet(*port, payload.as_slice(), sink)
             }
+            Line::Tick { .. } => sink.text(KIND, "tick"),
+        }
+    }
+}
+
+/// The packets.
+#[derive(Drop)]
+pub struct Packets;
+
+impl LineFields for Packets {
+    ghost use Rattle.nbt.specs.Objects.{PacketFields};
+
+    ghost State = { Unit {0} };
+
+    ghost state = { λ s. tt };
+
+    ghost are_fields = { PacketFields };
+
+    fn tell<S: Sink>(&mut self, said: &Line, sink: &mut S) -> Result<(), NoMemory> {
+        // The law that makes the fields members; the call does nothing.
+        fields_are_members();
+        match said {
+            Line::Packet { port, payload, .. } => tell_packet(*port, payload.as_slice(), sink),
             Line::Tick { .. } => sink.text(KIND, "tick"),
         }
     }

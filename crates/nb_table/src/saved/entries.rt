@@ -23,6 +23,57 @@ use std::alloc::Global;
 use std::collections::BTreeMap;
 use std::io::Write;
 
+/// How many keys a saved table of this form has, and what the limits say of its entries and of the
+/// keys of each address. No memory is taken.
+pub(crate) fn judge(
+    form: SavedForm,
+    input: &[u8],
+    limit: u16,
+    most: u32,
+) -> Result<(u32, Within), LoadFault>
+    requires { StandsAt input.now 0 (magic form) }
+    ensures found { IfOk result (λ read. IsJudged input.now limit most read.0
+        read.1.is_short read.1.are_few) }
+    ensures fault { IfErr result (λ fault. IsRead input.now (Err fault)) }
+{
+    let (count, first) = read_count(input, 4)?;
+    let (within, last) = judge_entries(form, input, count, limit, most, first)?;
+    if last < input.len() {
+        return Err(LoadFault::NotCanonical(last));
+    }
+    Ok((count, within))
+}
+
+/// The saved bytes of entries with their keys.
+pub(crate) fn save_entries(alloc: Global, entries: &BTreeMap<Key, Entry>) -> Result<Bytes, NoMemory>
+    ensures value { IfOk result (λ bytes.
+        bytes ≡ saved_bytes (maps.from_entries {R = key_cmp} entries.now.entries)) }
+    ensures named { OnOk result (AllByRecursion HasNames
+        (maps.entries (maps.from_entries {R = key_cmp} entries.now.entries))) }
+{
+    let mut saved = Vec::new(alloc);
+    put_table(&mut saved, entries)?;
+    Ok(Bytes::from_vec(saved))
+}
+
+/// Writes the digits of the saved bytes of entries with their keys. No memory is taken.
+pub(crate) fn write_saved<W: Write>(
+    writer: &mut Counted<W>,
+    entries: &BTreeMap<Key, Entry>,
+) -> Result<(), DeviceFault>
+    ensures passes { OnOk result (Passes W.contents writer.old writer.new
+        (saved_bytes (maps.from_entries {R = key_cmp} entries.now.entries)) []) }
+    ensures breaks { OnErr result (Breaks W.contents writer.old writer.new
+        (saved_bytes (maps.from_entries {R = key_cmp} entries.now.entries))) }
+{
+    let mut sink = DigitsSink {
+        writer,
+        part: Part::new(),
+    };
+    put_table(&mut sink, entries)?;
+    sink.write_out()
+}
+
 /// Whether none so far passes the limit, and this entry neither.
 fn still_short(so_far: bool, entry: &SavedEntry<'_>, limit: u16) -> bool
     ensures { result ≡ (so_far && is_short_entry limit entry.now) }
@@ -143,27 +194,6 @@ pub(crate) fn form_of(input: &[u8]) -> Result<SavedForm, LoadFault>
     Err(LoadFault::BadMagic)
 }
 
-/// How many keys a saved table of this form has, and what the limits say of its entries and of the
-/// keys of each address. No memory is taken.
-pub(crate) fn judge(
-    form: SavedForm,
-    input: &[u8],
-    limit: u16,
-    most: u32,
-) -> Result<(u32, Within), LoadFault>
-    requires { StandsAt input.now 0 (magic form) }
-    ensures found { IfOk result (λ read. IsJudged input.now limit most read.0
-        read.1.is_short read.1.are_few) }
-    ensures fault { IfErr result (λ fault. IsRead input.now (Err fault)) }
-{
-    let (count, first) = read_count(input, 4)?;
-    let (within, last) = judge_entries(form, input, count, limit, most, first)?;
-    if last < input.len() {
-        return Err(LoadFault::NotCanonical(last));
-    }
-    Ok((count, within))
-}
-
 /// Puts the saved bytes of entries with their keys.
 fn put_table<S: ByteSink>(sink: &mut S, entries: &BTreeMap<Key, Entry>) -> Result<(), S::Fault>
     ensures puts { Puts S.takes S.breaks sink.old sink.new
@@ -174,34 +204,4 @@ fn put_table<S: ByteSink>(sink: &mut S, entries: &BTreeMap<Key, Entry>) -> Resul
     sink.put(b"NBT2")?;
     put_four_bytes(sink, entries.len() as u64)?;
     put_entries(sink, entries)
-}
-
-/// The saved bytes of entries with their keys.
-pub(crate) fn save_entries(alloc: Global, entries: &BTreeMap<Key, Entry>) -> Result<Bytes, NoMemory>
-    ensures value { IfOk result (λ bytes.
-        bytes ≡ saved_bytes (maps.from_entries {R = key_cmp} entries.now.entries)) }
-    ensures named { OnOk result (AllByRecursion HasNames
-        (maps.entries (maps.from_entries {R = key_cmp} entries.now.entries))) }
-{
-    let mut saved = Vec::new(alloc);
-    put_table(&mut saved, entries)?;
-    Ok(Bytes::from_vec(saved))
-}
-
-/// Writes the digits of the saved bytes of entries with their keys. No memory is taken.
-pub(crate) fn write_saved<W: Write>(
-    writer: &mut Counted<W>,
-    entries: &BTreeMap<Key, Entry>,
-) -> Result<(), DeviceFault>
-    ensures passes { OnOk result (Passes W.contents writer.old writer.new
-        (saved_bytes (maps.from_entries {R = key_cmp} entries.now.entries)) []) }
-    ensures breaks { OnErr result (Breaks W.contents writer.old writer.new
-        (saved_bytes (maps.from_entries {R = key_cmp} entries.now.entries))) }
-{
-    let mut sink = DigitsSink {
-        writer,
-        part: Part::new(),
-    };
-    put_table(&mut sink, entries)?;
-    sink.write_out()
 }

@@ -12,37 +12,6 @@ use crate::entries::{Entries, first_of};
 use crate::fault::TableFault;
 use nb_datagram::{Fragment, Key, LentFragment};
 
-/// Whether each entry is spoilt, or has its places below this one and ends and promises at most
-/// there.
-fn are_short(entries: &Entries, longest: u16) -> bool
-    ensures { result ≡ list_all (λ e. is_short longest e.1) (maps.entries entries.now) }
-{
-    for (_key, entry) in entries.iter() {
-        if !entry.is_short(longest) {
-            return false;
-        }
-    }
-    true
-}
-
-/// The first key of the others that the entries lack, once there is no room for one more.
-fn first_without_room(entries: &Entries, others: &Entries, room: usize) -> Option<Key>
-    ensures value { result ≡ slice_get (filter (λ k. is_none (maps.get entries.now k))
-        (maps.keys others.now)) room }
-{
-    let mut left = room;
-    for (key, _entry) in others.iter() {
-        if entries.contains_key(key) {
-            continue;
-        }
-        if left == 0 {
-            return Some(*key);
-        }
-        left -= 1;
-    }
-    None
-}
-
 impl Table {
     /// Whether no entry is too long for the other limit.
     fn is_short(&self, longest: u16) -> bool
@@ -134,6 +103,37 @@ impl Table {
         }
         None
     }
+}
+
+/// Whether each entry is spoilt, or has its places below this one and ends and promises at most
+/// there.
+fn are_short(entries: &Entries, longest: u16) -> bool
+    ensures { result ≡ list_all (λ e. is_short longest e.1) (maps.entries entries.now) }
+{
+    for (_key, entry) in entries.iter() {
+        if !entry.is_short(longest) {
+            return false;
+        }
+    }
+    true
+}
+
+/// The first key of the others that the entries lack, once there is no room for one more.
+fn first_without_room(entries: &Entries, others: &Entries, room: usize) -> Option<Key>
+    ensures value { result ≡ slice_get (filter (λ k. is_none (maps.get entries.now k))
+        (maps.keys others.now)) room }
+{
+    let mut left = room;
+    for (key, _entry) in others.iter() {
+        if entries.contains_key(key) {
+            continue;
+        }
+        if left == 0 {
+            return Some(*key);
+        }
+        left -= 1;
+    }
+    None
 }
 
 /// Whether as many keys of this address as may be are held. Where fewer keys are held in all, none

@@ -7,8 +7,8 @@ ghost use Rattle.nb_text.specs.ServiceSaid.{addresses_said, ending_said, few_sai
 ghost use Rattle.nb_text.specs.Words.{is_set};
 
 use crate::brief::pieces::{push_count, push_each, push_text};
-use crate::brief::services::{Few, MOST_LISTED, Told};
-use crate::codes::{
+use crate::brief::told::{Few, MOST_LISTED, Told};
+use crate::words::{
     ACT_ERR, CFT_ERR, FMT_ERR, IMP_ERR, MULTI_HOMED, NAM_ERR, OK, OTHER_REFRESH, QUERY, REFRESH,
     REGISTRATION, RELEASE, RFS_ERR, SRV_ERR, WACK,
 };

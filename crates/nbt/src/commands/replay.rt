@@ -6,15 +6,20 @@ ghost use Rattle.nbt.specs.Commands.{ReplayCommand, streams};
 ghost use Rattle.nbt.specs.Replaying.{AddsEach, AddsName, AreTexts, Begins, EndsWith, IsNamesFault, IsRefusedName, IsUnbegun, ReplaysIn};
 ghost use Rattle.nbt.specs.Settings.{IsCapacity};
 ghost use Rattle.nbt.specs.Printing.{ExplainsWrite};
+ghost use Rattle.nbt.specs.Showing.{Shows};
 
 use crate::fault::Fault;
 use crate::objects::Objects;
 use crate::output::Output;
-use crate::printing_lines::{Outcomes, print_lines};
+use crate::printing_lines::{LineFields, print_lines};
 use crate::settings::{capacity_of, is_given, options_of, settings_with};
 use clap::ArgMatches;
-use nb_member::{AddFault, CaptureOptions, LocalNames, Member, replay_with};
-use nb_names::{Counted, name_from_text};
+use nb_member::laws::fields_are_members as outcomes_are_members;
+use nb_member::{
+    AddFault, CaptureOptions, Line, LineTaker, LocalNames, Member, replay_with, tell_line,
+};
+use nb_names::{Counted, NoMemory, name_from_text};
+use nb_telling::Sink;
 use std::alloc::Global;
 use std::io::{Read, Write};
 
@@ -113,5 +118,31 @@ fn add_name(names: &mut LocalNames, word: &str) -> Result<(), Fault>
         Ok(()) | Err(AddFault::Present) => Ok(()),
         Err(AddFault::TooMany) => Err(Fault::TooManyNames),
         Err(AddFault::NoMemory) => Err(Fault::Memory),
+    }
+}
+
+/// What a member makes of the lines of a capture.
+#[derive(Drop)]
+pub struct Outcomes {
+    /// Memory for error packets comes from here.
+    pub alloc: Global,
+    /// The member.
+    pub member: Member,
+}
+
+impl LineFields for Outcomes {
+    ghost use Rattle.nb_member.specs.Member.{MemberValue};
+    ghost use Rattle.nb_member.specs.ReportFields.{OutcomeFields};
+
+    ghost State = { MemberValue };
+
+    ghost state = { λ s. s.member };
+
+    ghost are_fields = { OutcomeFields };
+
+    fn tell<S: Sink>(&mut self, said: &Line, sink: &mut S) -> Result<(), NoMemory> {
+        // The law that makes the fields members; the call does nothing.
+        outcomes_are_members();
+        tell_line(self.alloc, said, &mut self.member, sink)
     }
 }

@@ -81,7 +81,7 @@ fn drop_runs(runs: &mut Vec<Run>, from: usize, past: usize)
 
 /// Inserts bytes that don't contradict them into a row of runs.
 #[tactic(auto, using(crate::proofs::KeptRuns::RunRowLemmas::set_steps))]
-pub(super) fn insert_bytes(
+pub(super) fn insert_in_row(
     alloc: Global,
     runs: &mut Vec<Run>,
     start: u32,

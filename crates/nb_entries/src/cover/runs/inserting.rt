@@ -13,6 +13,64 @@ use std::mem::replace;
 /// How many runs a row has at which it is halved, before another one comes.
 const MANY: usize = 32;
 
+/// Adds bytes behind the runs, as a run of their own.
+pub(crate) fn add_run(
+    alloc: Global,
+    kept: &mut Kept,
+    start: u32,
+    bytes: &[u8],
+) -> Result<(), NoMemory>
+    requires { AreFilled kept.old }
+    ensures some { AreFilled kept.new }
+    ensures ok { OnOk result
+        (kept_values kept.new ≡ kept_values kept.old ++ run_at start bytes.now ∷ []) }
+    ensures err { OnErr result (kept_values kept.new ≡ kept_values kept.old) }
+{
+    let run = Run::copy(alloc, start, bytes)?;
+    let mut rows = taken(alloc, kept)?;
+    if rows.is_empty() {
+        *kept = Kept::One(run);
+        return Ok(());
+    }
+    let pushed = push_run(alloc, &mut rows, run);
+    *kept = Kept::Many(rows);
+    pushed
+}
+
+/// Inserts bytes that don't contradict them into the runs.
+pub(super) fn insert_bytes(
+    alloc: Global,
+    kept: &mut Kept,
+    start: u32,
+    bytes: &[u8],
+) -> Result<(), NoMemory>
+    requires some { AreFilled kept.old }
+    requires apart { AreApart (kept_values kept.old) }
+    requires agree { Agree (kept_values kept.old) (run_at start bytes.now) }
+    ensures some { AreFilled kept.new }
+    ensures ok { OnOk result
+        (IsPut (kept_values kept.old) (run_at start bytes.now) (kept_values kept.new)) }
+    ensures err { OnErr result (kept_values kept.new ≡ kept_values kept.old) }
+{
+    if bytes.is_empty() {
+        return Ok(());
+    }
+    if let Kept::One(run) = kept {
+        let place = start as usize;
+        if run.start() as usize <= place + bytes.len() && place <= run.end() {
+            return growing::join(run, start, bytes);
+        }
+    }
+    let mut rows = taken(alloc, kept)?;
+    if rows.is_empty() {
+        *kept = Kept::One(Run::copy(alloc, start, bytes)?);
+        return Ok(());
+    }
+    let inserted = insert_in_rows(alloc, &mut rows, start, bytes);
+    *kept = Kept::Many(rows);
+    inserted
+}
+
 /// Takes the runs out, in rows.
 fn taken(alloc: Global, kept: &mut Kept) -> Result<Vec<Vec<Run>>, NoMemory>
     requires { AreFilled kept.old }
@@ -54,30 +112,6 @@ fn push_run(alloc: Global, rows: &mut Vec<Vec<Run>>, run: Run) -> Result<(), NoM
     row.push(run)?;
     rows.push(row)?;
     Ok(())
-}
-
-/// Adds bytes behind the runs, as a run of their own.
-pub(crate) fn add_run(
-    alloc: Global,
-    kept: &mut Kept,
-    start: u32,
-    bytes: &[u8],
-) -> Result<(), NoMemory>
-    requires { AreFilled kept.old }
-    ensures some { AreFilled kept.new }
-    ensures ok { OnOk result
-        (kept_values kept.new ≡ kept_values kept.old ++ run_at start bytes.now ∷ []) }
-    ensures err { OnErr result (kept_values kept.new ≡ kept_values kept.old) }
-{
-    let run = Run::copy(alloc, start, bytes)?;
-    let mut rows = taken(alloc, kept)?;
-    if rows.is_empty() {
-        *kept = Kept::One(run);
-        return Ok(());
-    }
-    let pushed = push_run(alloc, &mut rows, run);
-    *kept = Kept::Many(rows);
-    pushed
 }
 
 /// Makes two rows of one.
@@ -175,41 +209,7 @@ fn insert_in_rows(
     }
     let past = rows_to(rows, at + 1, place + bytes.len());
     join_rows(rows, at, past)?;
-    growing::insert_bytes(alloc, &mut rows[at], start, bytes)
-}
-
-/// Inserts bytes that don't contradict them into the runs.
-pub(super) fn insert_bytes(
-    alloc: Global,
-    kept: &mut Kept,
-    start: u32,
-    bytes: &[u8],
-) -> Result<(), NoMemory>
-    requires some { AreFilled kept.old }
-    requires apart { AreApart (kept_values kept.old) }
-    requires agree { Agree (kept_values kept.old) (run_at start bytes.now) }
-    ensures some { AreFilled kept.new }
-    ensures ok { OnOk result
-        (IsPut (kept_values kept.old) (run_at start bytes.now) (kept_values kept.new)) }
-    ensures err { OnErr result (kept_values kept.new ≡ kept_values kept.old) }
-{
-    if bytes.is_empty() {
-        return Ok(());
-    }
-    if let Kept::One(run) = kept {
-        let place = start as usize;
-        if run.start() as usize <= place + bytes.len() && place <= run.end() {
-            return growing::join(run, start, bytes);
-        }
-    }
-    let mut rows = taken(alloc, kept)?;
-    if rows.is_empty() {
-        *kept = Kept::One(Run::copy(alloc, start, bytes)?);
-        return Ok(());
-    }
-    let inserted = insert_in_rows(alloc, &mut rows, start, bytes);
-    *kept = Kept::Many(rows);
-    inserted
+    growing::insert_in_row(alloc, &mut rows[at], start, bytes)
 }
 
 /// How many runs end before a place.

@@ -20,6 +20,52 @@ use nb_entries::{Entry, Handing};
 use nb_names::NoMemory;
 use std::alloc::Global;
 
+/// Joins each of the others to the entry of its key, or none where memory ran out. The datagrams
+/// of the keys that become whole by this, ascending, if they are handed over.
+pub(super) fn merge_entries<O: Others>(
+    alloc: Global,
+    entries: &mut Entries,
+    others: O,
+    handing: Handing,
+) -> Result<Datagrams, NoMemory>
+    requires own { AllShort MAX_LENGTH entries.old }
+    requires other { AllByRecursion (λ e. IsShort MAX_LENGTH e.1) (O.left others) }
+    ensures joined { OnOk result (entries.new
+        ≡ joined_each join_entry entries.old (O.left others)) }
+    ensures handed { IfOk result (λ datagrams. datagrams
+        ≡ handed handing entries.old (O.left others)) }
+    ensures err { OnErr result (entries.new ≡ entries.old) }
+{
+    let mut changes = Vec::new(alloc);
+    match join_each(alloc, entries, others, handing, &mut changes) {
+        Ok(datagrams) => Ok(Datagrams::from_vec(datagrams)),
+        Err(fault) => {
+            take_back(entries, changes);
+            Err(fault)
+        }
+    }
+}
+
+/// The datagrams of the keys that would become whole if the others were joined to the entries,
+/// ascending.
+pub(super) fn preview_entries(
+    alloc: Global,
+    entries: &Entries,
+    others: &Entries,
+) -> Result<Datagrams, NoMemory>
+    requires own { AllShort MAX_LENGTH entries.now }
+    requires other { AllShort MAX_LENGTH others.now }
+    ensures { IfOk result (λ datagrams. datagrams
+        ≡ newly_handed entries.now (join entries.now others.now)) }
+{
+    let mut datagrams = Vec::new(alloc);
+    for (key, other) in others.iter() {
+        let (_, datagram) = joined_at(alloc, entries, *key, other, Handing::Over)?;
+        push_some(&mut datagrams, datagram)?;
+    }
+    Ok(Datagrams::from_vec(datagrams))
+}
+
 /// What is held of a key, if anything, joined with another entry: that one itself, where the key
 /// is new.
 fn joined_with<O: Other>(held: Option<&Entry>, other: O) -> Result<Entry, NoMemory>
@@ -178,50 +224,4 @@ fn join_each<O: Others>(
     }
     join_last(entries, key, other, handing, &mut datagrams)?;
     Ok(datagrams)
-}
-
-/// Joins each of the others to the entry of its key, or none where memory ran out. The datagrams
-/// of the keys that become whole by this, ascending, if they are handed over.
-pub(super) fn merge_entries<O: Others>(
-    alloc: Global,
-    entries: &mut Entries,
-    others: O,
-    handing: Handing,
-) -> Result<Datagrams, NoMemory>
-    requires own { AllShort MAX_LENGTH entries.old }
-    requires other { AllByRecursion (λ e. IsShort MAX_LENGTH e.1) (O.left others) }
-    ensures joined { OnOk result (entries.new
-        ≡ joined_each join_entry entries.old (O.left others)) }
-    ensures handed { IfOk result (λ datagrams. datagrams
-        ≡ handed handing entries.old (O.left others)) }
-    ensures err { OnErr result (entries.new ≡ entries.old) }
-{
-    let mut changes = Vec::new(alloc);
-    match join_each(alloc, entries, others, handing, &mut changes) {
-        Ok(datagrams) => Ok(Datagrams::from_vec(datagrams)),
-        Err(fault) => {
-            take_back(entries, changes);
-            Err(fault)
-        }
-    }
-}
-
-/// The datagrams of the keys that would become whole if the others were joined to the entries,
-/// ascending.
-pub(super) fn preview_entries(
-    alloc: Global,
-    entries: &Entries,
-    others: &Entries,
-) -> Result<Datagrams, NoMemory>
-    requires own { AllShort MAX_LENGTH entries.now }
-    requires other { AllShort MAX_LENGTH others.now }
-    ensures { IfOk result (λ datagrams. datagrams
-        ≡ newly_handed entries.now (join entries.now others.now)) }
-{
-    let mut datagrams = Vec::new(alloc);
-    for (key, other) in others.iter() {
-        let (_, datagram) = joined_at(alloc, entries, *key, other, Handing::Over)?;
-        push_some(&mut datagrams, datagram)?;
-    }
-    Ok(Datagrams::from_vec(datagrams))
 }

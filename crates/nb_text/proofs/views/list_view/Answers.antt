@@ -1,5 +1,5 @@
 use Rattle.std.proofs.Common.{ℕ, Bool, List, ◌++◌, map, sym, ap, ap₂, ◌∙◌}
-use Rattle.nb_service.specs.declared.node_name.NodeName.{NodeName}
+use Rattle.nb_service.specs.declared.views.NodeName.{NodeName}
 use Rattle.nb_service.specs.Record.{of_bytes}
 use Rattle.nb_text.specs.ServiceSaid.{few}
 use Rattle.nb_text.specs.Views.{listed_by, name_listed}

@@ -20,13 +20,13 @@ returns-then-at-len-clause-ok c =
     on_ok_weaker c.push_run.result (λ e. put_between xs _ xs [] (run ∷ []) [] f (sym (append-nil xs)) (e ∙ ap (λ ys. ys ++ run ∷ []) same) c.requires.apart
     (rw (all, same) at c.in_ok-at.ensures.before) tt (put_alone f (value_of run) c.requires.put c.in_ok-copy.ensures)) c.push_run.ensures.ok
 
-pub insert_bytes-requires-clause-apart : goal.insert_bytes-requires-clause-apart
-insert_bytes-requires-clause-apart c =
+pub insert_in_row-requires-clause-apart : goal.insert_in_row-requires-clause-apart
+insert_in_row-requires-clause-apart c =
     apart_between _ _ c.index_mut.result.now.items _
     (row_cut _ c.join_rows.new.rows.items c.in_ok-at.at _ (c.in_ok-join_rows.ensures.same ∙ c.in_ok-at.ensures.same) c.in_ok-join_rows.ensures.within c.index_mut.ensures.value) c.requires.apart
 
-pub insert_bytes-requires-clause-agree : goal.insert_bytes-requires-clause-agree
-insert_bytes-requires-clause-agree c =
+pub insert_in_row-requires-clause-agree : goal.insert_in_row-requires-clause-agree
+insert_in_row-requires-clause-agree c =
     agrees_between _ _ c.index_mut.result.now.items _ _
     (row_cut _ c.join_rows.new.rows.items c.in_ok-at.at _ (c.in_ok-join_rows.ensures.same ∙ c.in_ok-at.ensures.same) c.in_ok-join_rows.ensures.within c.index_mut.ensures.value) c.requires.apart c.requires.agree
 
@@ -36,8 +36,8 @@ returns-clause-ok c =
     let rows = c.join_rows.new.rows.items in
     let within = c.in_ok-join_rows.ensures.within in
     let cut = row_cut xs rows c.in_ok-at.at c.index_mut.result.now (c.in_ok-join_rows.ensures.same ∙ c.in_ok-at.ensures.same) within c.index_mut.ensures.value in
-    on_ok_weaker c.insert_bytes.result (put_between xs _ _ _ c.insert_bytes.new.runs.items _ (run_at c.args.start c.args.bytes.now) cut (set_rows rows c.in_ok-at.at c.insert_bytes.new.runs within) c.requires.apart
-    (rw c.in_ok-join_rows.ensures.front c.in_ok-at.ensures.before) (rw (c.in_ok-join_rows.ensures.back, ← c.deref.ensures.value) c.rows_to-past.ensures.after)) c.insert_bytes.ensures.ok
+    on_ok_weaker c.insert_in_row.result (put_between xs _ _ _ c.insert_in_row.new.runs.items _ (run_at c.args.start c.args.bytes.now) cut (set_rows rows c.in_ok-at.at c.insert_in_row.new.runs within) c.requires.apart
+    (rw c.in_ok-join_rows.ensures.front c.in_ok-at.ensures.before) (rw (c.in_ok-join_rows.ensures.back, ← c.deref.ensures.value) c.rows_to-past.ensures.after)) c.insert_in_row.ensures.ok
 
 pub returns-clause-err : goal.returns-clause-err
 returns-clause-err c =
@@ -46,5 +46,5 @@ returns-clause-err c =
     let at = c.in_ok-at.at in
     let within = c.in_ok-join_rows.ensures.within in
     let cut = row_cut xs rows at c.index_mut.result.now (c.in_ok-join_rows.ensures.same ∙ c.in_ok-at.ensures.same) within c.index_mut.ensures.value in
-    on_err_weaker c.insert_bytes.result (λ (e : values_of c.insert_bytes.new.runs.items ≡ values_of c.index_mut.result.now.items).
-    rw (set_rows rows at c.insert_bytes.new.runs within, cut) (simp map-append (ap (λ us. values_of (runs_in (take at rows)) ++ (us ++ values_of (runs_in (drop (at + 1) rows)))) e))) c.insert_bytes.ensures.err
+    on_err_weaker c.insert_in_row.result (λ (e : values_of c.insert_in_row.new.runs.items ≡ values_of c.index_mut.result.now.items).
+    rw (set_rows rows at c.insert_in_row.new.runs within, cut) (simp map-append (ap (λ us. values_of (runs_in (take at rows)) ++ (us ++ values_of (runs_in (drop (at + 1) rows)))) e))) c.insert_in_row.ensures.err

@@ -1,4 +1,6 @@
 //! Keys and kinds of datagrams, and their texts.
+#![tactic(auto, using(nb_names::specs::Growth::front_stays))]
+
 ghost use Rattle.std.specs.Prelude.{◌≡◌, ◌++◌, OnOk, string_bytes};
 ghost use Rattle.nb_names.specs.Growth.{OnlyAdds};
 ghost use Rattle.nb_datagram.specs.Packet.{type_of};

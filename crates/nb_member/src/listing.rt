@@ -1,5 +1,5 @@
 //! What a table knows of its keys, a line for each: as text, and as JSON objects.
-#![tactic(auto, using(nb_names::specs::Growth::front_stays))]
+#![tactic(auto, using(nb_names::specs::Growth::front_stays, nb_telling::proofs::FoldLemmas::told_both))]
 
 ghost use Rattle.std.specs.Prelude.{◌≡◌, ◌++◌, [], IfOk, IsOk, OnOk, string_bytes, fold, map};
 ghost use Rattle.std.specs.FinMap as maps;

@@ -256,6 +256,7 @@ impl LineFields for Packets {
 
     ghost are_fields = { PacketFields };
 
+    #[tactic(auto, using(nb_telling::proofs::FoldLemmas::told_both))]
     fn tell<S: Sink>(&mut self, said: &Line, sink: &mut S) -> Result<(), NoMemory> {
         // The law that makes the fields members; the call does nothing.
         fields_are_members();

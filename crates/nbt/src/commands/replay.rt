@@ -140,6 +140,7 @@ impl LineFields for Outcomes {
 
     ghost are_fields = { OutcomeFields };
 
+    #[tactic(auto, using(nb_telling::proofs::FoldLemmas::told_both))]
     fn tell<S: Sink>(&mut self, said: &Line, sink: &mut S) -> Result<(), NoMemory> {
         // The law that makes the fields members; the call does nothing.
         outcomes_are_members();

@@ -2,7 +2,7 @@ use Rattle.std.proofs.Common.{ap, length}
 use Rattle.nb_session.specs.declared.parsing.Parsed.TheVariants.{Whole}
 use Rattle.nb_session.specs.Parsing.{taken_by}
 use Rattle.nb_session.proofs.ParsingLemmas.{packet_parses_alone}
-use Rattle.nb_session.proofs.stream.PacketBytes.of.Goals as goal
+use Rattle.nb_session.proofs.packet_bytes.PacketBytes.of.Goals as goal
 
 pub invariant_of-result : goal.invariant_of-result
 invariant_of-result c = record {

@@ -23,7 +23,7 @@ use Rattle.nb_text.specs.declared.brief.told.Few.{Few}
 use Rattle.nb_text.specs.declared.brief.told.Listed.{Listed}
 use Rattle.nb_text.specs.declared.brief.told.Listed.TheVariants as items
 use Rattle.nb_text.specs.declared.brief.told.Told.{Told}
-use Rattle.nb_text.specs.declared.brief.services.TheConstants.{MOST_LISTED}
+use Rattle.nb_text.specs.declared.brief.told.TheConstants.{MOST_LISTED}
 use Rattle.nb_text.specs.declared.words.TheConstants.{FMT_ERR, SRV_ERR, NAM_ERR, IMP_ERR, RFS_ERR, ACT_ERR, CFT_ERR}
 use Rattle.nb_text.specs.Forms.{form_of, is_type}
 use Rattle.nb_text.specs.Said.{commas, counts_in, refused_said}

@@ -69,7 +69,7 @@ def blocks(code):
     """Where each `impl` and each trait begins and ends, with its head."""
     for found in BLOCK.finditer(code):
         brace = code.find('{', found.start())
-        if brace < 0 or ';' in code[found.start():brace] or re.search(r'[(,:<]\s*(?:&\S*\s*)?$|->\s*$', code[:found.start()][-20:]):
+        if brace < 0 or re.search(r';(?! \d)', code[found.start():brace]) or re.search(r'[(,:<]\s*(?:&\S*\s*)?$|->\s*$', code[:found.start()][-20:]):
             continue
         head = found[0] if 'trait' in found[0] else code[found.start():brace]
         yield brace, closed(code, brace), ' '.join(head.split())

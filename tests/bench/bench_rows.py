@@ -132,11 +132,3 @@ def processor_seconds(command, path):
 
 def least(measure, *words):
     return min(measure(*words) for _ in range(RUNS))
-
-
-def compiled(folder, source, library, include):
-    """A program in C over the library."""
-    made = os.path.join(folder, os.path.splitext(os.path.basename(source))[0])
-    subprocess.run([os.environ.get('CC', 'cc'), '-O2', '-I' + include, '-o', made, source, os.path.join(library, 'libnbt.a')],
-                   check=True)
-    return made

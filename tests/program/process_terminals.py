@@ -1,11 +1,10 @@
 """What the program prints at a terminal, for tests/process.py; each function gives (whether it is right, a name) for each case."""
 import functools
 import os
-import time
 
 from limits import MANY, MOST_NAMES
 from process_inputs import COMMANDS, FRED, READING, captures, packet
-from process_runs import at_terminal, limited, lines_of, quiet_terminal, rest_of_terminal, run, start, starts, wait, with_errors_shown
+from process_runs import at_terminal, least_memory, limited, lines_of, quiet_terminal, run, start, wait, with_errors_shown
 
 LOOK = b'a pcap or pcapng file: `nbt-look FILE` shows it, `nbt-pcap2cap FILE` makes a capture of it\n'
 # What a terminal shows of `nbt build nonsense` besides; tests/cases/terminal.txt has more of such lines.
@@ -54,29 +53,22 @@ def at_terminals():
                f'nbt {words[0]}, its terminal gone')
 
 
-# (words, input, the reason on standard error) of refusals: by words, by the input, of any command, with a number and without.
+# Words and inputs that are refused: by the words, by the input, of any command, with a number and without.
 REFUSED = [
-    *((words, b'', 'bad text 4') for words in (['name', 'FRED'], ['replay', 'FRED'], ['build', 'query', '0001', 'FRED'])),
-    (['name', 'A' * 16 + '<20>'], b'', 'too long'), (['build', 'unique', *KEYED, '00' * 65_500, '65535'], b'', 'too long'),
-    *((['name', '--bytes', digits], b'', reason) for digits, reason in (
-        ('0', 'bad hex'), (FRED + '00', 'trailing bytes 34'), ('20', 'truncated 1'), ('40', 'reserved label 0'),
-        ('c00c', 'pointer not allowed 0'), ('0000', 'not netbios 0'))),
-    (['replay', *(f'N{it}<20>' for it in range(MOST_NAMES + 1))], b'', 'too many names'),
-    *((words, b'x\n', 'line 1') for words in READING[:3]),
-    (['merge'], b'00\n', 'bad magic'), (['merge'], b'4e425432\n', 'truncated'), (['list'], b'4e4254320000000000\n', 'not canonical 8'),
-    (['merge'], b'', 'no tables'), (['agree'], b'', 'two tables wanted'),
-    (['save', '--keys', '1'], captures(2), 'full'), (['save', '--per-source', '1'], captures(2), 'full source'),
-    (['show', '--input-limit', '1'], b'tick 1\n', 'read'),
+    *((words, b'') for words in (['name', 'A' * 16 + '<20>'], ['replay', 'FRED'], ['build', 'query', '0001', 'FRED'])),
+    *((['name', '--bytes', digits], b'') for digits in ('0', FRED + '00', '20', '40', 'c00c', '0000')),
+    (['build', 'unique', *KEYED, '00' * 65_500, '65535'], b''), (['replay', *(f'N{it}<20>' for it in range(MOST_NAMES + 1))], b''),
+    (['merge'], b'00\n'), (['merge'], b'4e425432\n'), (['list'], b'4e4254320000000000\n'),
+    (['save', '--keys', '1'], captures(2)), (['show', '--input-limit', '1'], b'tick 1\n'),
+    *((words, given) for words, given, _, _, errors in COMMANDS if errors),
 ]
 
 
 def advised():
     """A command that is refused prints one line, and to a terminal that line and what `nbt help` says of it."""
-    for words, given, reason in REFUSED:
-        name, errors = f'nbt {" ".join(words)[:60]}', f'nbt: {reason}\n'.encode()
-        status, output, plain_errors = run(words, given)
-        yield plain_errors == errors, f'{name}: {errors}'
-        yield with_errors_shown(words, given) == (status, output, errors + meaning(errors)), f'{name}, errors at a terminal'
+    for words, given in REFUSED:
+        status, output, errors = run(words, given)
+        yield with_errors_shown(words, given) == (status, output, shown(errors)), f'nbt {" ".join(words)[:60]}, errors at a terminal'
     with open('/dev/full', 'wb') as full:
         ended = with_errors_shown(['name', 'FRED<20>'], stdout=full)
     yield ended == (3, b'', b'nbt: write\n' + meaning(b'nbt: write\n')), 'nbt name, a full output, errors at a terminal'
@@ -87,27 +79,15 @@ def looked():
     for front in PCAPS:
         given = bytes.fromhex(front) + b'\x02\x00\x04\x00\n\n'
         for words in READING:
-            status, output, errors = run(words, given)
-            yield status == 1 and output == b'' and errors.count(b'\n') == 1, f'nbt {words[0]} of a pcap, {front}'
-            yield with_errors_shown(words, given) == (1, b'', errors + LOOK), f'nbt {words[0]} of a pcap, {front}, at a terminal'
+            errors = run(words, given)[2]
+            yield with_errors_shown(words, given) == (1, b'', errors + LOOK), f'nbt {words[0]} of a pcap, {front}, at a terminal: {errors}'
+    pcap = bytes.fromhex(PCAPS[1]) + b'\n'
     for taken in (1, 2, 3):
-        yield came_by_parts(bytes.fromhex(PCAPS[1]) + b'\n', taken) == (1, b'nbt: line 1\n' + LOOK), f'a pcap, {taken} bytes of it first'
+        ended = with_errors_shown(['show'], (pcap[:taken], pcap[taken:]))
+        yield ended == (1, b'', b'nbt: line 1\n' + LOOK), f'a pcap, {taken} bytes of it first, at a terminal'
     for given in (b'\xd4\xc3\xb2\n', b'\n\r\r\r', b'x\xd4\xc3\xb2\xa1\n'):
-        _, _, errors = run(['show'], given)
+        errors = run(['show'], given)[2]
         yield with_errors_shown(['show'], given) == (1, b'', errors + meaning(errors)), f'nbt show of {given}, at a terminal'
-
-
-def came_by_parts(given, taken):
-    """The status and the errors, at a terminal, of `show` of an input that stops after some bytes."""
-    terminal, slave = quiet_terminal()
-    process = start(['show'], stderr=slave)
-    os.close(slave)
-    process.stdin.write(given[:taken])
-    time.sleep(0.05)
-    process.stdin.write(given[taken:])
-    process.stdin.close()
-    status, _ = wait(process)
-    return status, rest_of_terminal(terminal)
 
 
 def dropped():
@@ -116,10 +96,8 @@ def dropped():
     for name, given, count in [('no tick', captures(3), 0), ('a tick that drops none', captures(3) + b'tick 1999\n', 0),
                                ('a tick', captures(3) + b'tick 2000\n', 3),
                                ('two ticks', captures(3) + b'tick 2000\n' + late + b'tick 7000\n', 4)]:
-        status, output, errors = run(['save'], given)
-        yield (status, errors) == (0, b''), f'nbt save, {name}'
         wanted = f'nbt: keys that ticks dropped: {count}\n'.encode() if count else b''
-        yield with_errors_shown(['save'], given) == (0, output, wanted), f'nbt save, {name}, errors at a terminal'
+        yield with_errors_shown(['save'], given) == (0, run(['save'], given)[1], wanted), f'nbt save, {name}, errors at a terminal'
 
 
 def short_of_memory():
@@ -128,7 +106,7 @@ def short_of_memory():
     words = ['save', *MANY]
     whole = run(words, many)
     refused_so = [(3, b'', b'nbt: memory\n' + said) for said in (b'', meaning(b'nbt: memory\n'))]
-    least = next(it for it in range(64, 65_536, 64) if starts(words, it << 10))
+    least = least_memory(words)
     for limit in range(least, least + 2_048, 64):
         ended = with_errors_shown(words, many, before=limited(limit << 10))
         yield ended == whole or ended in refused_so, f'nbt save in {limit} kB, errors at a terminal'

@@ -28,7 +28,7 @@ import time
 sys.path[1:1] = [f'{sys.path[0]}/program']
 from beside_model import LONGEST_PRINTED, ROOT, Cases
 from chance import inputs_of, made_by_chance
-from every_request import of_command
+from every_request import command
 from parts import counts
 from seeds import first_unlike
 from served import Run, compiled
@@ -105,7 +105,7 @@ class Fuzz(Cases):
         self.judge(words, given, '' if requests else 'it asks for no memory', rule)
         for which in self.rng.sample(requests, min(len(requests), 3)):
             short = self.ran(words, given, 'refuse_memory', NBT_REFUSED=str(which))
-            is_right = of_command(made, short, words, (2,)) is not None
+            is_right = command(made, short, words) is not None
             self.judge(words, given, '' if is_right else f'it ends with {short.status}, {short.errors!r}', rule, NBT_REFUSED=which)
 
 

@@ -21,8 +21,8 @@ from limits import MANY
 from parts import check, counts, enough, finish, least, part, skip
 from process_inputs import CAPTURE, COMMANDS, FRED, READING, captures, chained, forms, repeated, roomy
 from process_runs import (bytes_of, closed, instructions, least_memory, left_open, limited, lines_of, opened, program, run, run_over, small_pipe,
-                          start, starts, wait)
-from process_terminals import advised, at_terminals, dropped, looked, short_of_memory
+                          start, starts, wait, with_errors_shown)
+from process_terminals import advised, at_terminals, came_in_parts, meaning
 from served import requests as counted_requests
 
 
@@ -160,7 +160,7 @@ def halting_inputs():
 
 def terminals():
     """A terminal as all three streams, and as standard error alone."""
-    for passed, name in itertools.chain(at_terminals(), advised(), looked(), dropped(), short_of_memory()):
+    for passed, name in itertools.chain(at_terminals(), advised(), came_in_parts()):
         check(passed, name)
 
 
@@ -220,7 +220,7 @@ def short_memory():
 
     Below some limit it isn't the program that fails but its start: the system's loader maps the program and the C
     library before any of its code runs. That is told apart by the loader alone, which under the same limit is asked
-    for the libraries that it would load.
+    for the libraries that it would load. Errors of `save` go to a terminal, which shows what they mean too, or the line alone.
     """
     many = captures(3_000, '5a' * 150)
     table = run(['save', *MANY], many)[1]
@@ -235,7 +235,7 @@ def short_memory():
     for words, given in work:
         whole = run(words, given)
         for limit in limits:
-            ended = run(words, given, before=limited(limit))
+            ended = (with_errors_shown if words[0] == 'save' else run)(words, given, before=limited(limit))
             check(is_told(ended, whole) if starts(words, limit) else not ended[1],
                   f'{named(words)} in {limit >> 10} kB: {ended[0]} {ended[2][:60]}')
         check(run(words, given, before=limited(64 << 20)) == whole, f'nbt {words[0]}: 64 megabytes are enough')
@@ -289,7 +289,8 @@ def short_stack():
 def is_told(ended, whole):
     """Whether a run ended as with ample memory, or says that memory ran out after a front of the output."""
     status, output, errors = ended
-    return ended == whole or (status, errors) == (3, b'nbt: memory\n') and whole[1].startswith(output)
+    is_said = errors == b'nbt: memory\n' or errors == b'nbt: memory\n' + meaning(b'nbt: memory\n')
+    return ended == whole or status == 3 and is_said and whole[1].startswith(output)
 
 
 for each in (ordinary, failing_outputs, closed_reports, cut_reports, inputs, open_inputs, halting_inputs, terminals,

@@ -2,17 +2,16 @@
 import functools
 import os
 
-from limits import MANY, MOST_NAMES
-from process_inputs import COMMANDS, FRED, READING, captures, packet
-from process_runs import at_terminal, least_memory, limited, lines_of, quiet_terminal, run, start, wait, with_errors_shown
+from limits import MOST_NAMES
+from process_inputs import COMMANDS, FRED, captures
+from process_runs import at_terminal, lines_of, quiet_terminal, run, start, wait, with_errors_shown
 
 LOOK = b'a pcap or pcapng file: `nbt-look FILE` shows it, `nbt-pcap2cap FILE` makes a capture of it\n'
 # What a terminal shows of `nbt build nonsense` besides; tests/cases/terminal.txt has more of such lines.
 NO_PACKET = (b'arguments: WHAT is one of query, status, registration, refresh, release, response, request, message, positive, negative, retarget, '
              b'keepalive, unique, group, broadcast, error, find, found, missing, and not nonsense\n')
 KEYED = ['10.0.0.5:138/0001', 'JOE<00>', 'FRED<20>']
-# What a pcap file begins with, in both byte orders, of microseconds and nanoseconds; and a pcapng file.
-PCAPS = ['a1b2c3d4', 'd4c3b2a1', 'a1b23c4d', '4d3cb2a1', '0a0d0d0a']
+PCAP = b'\xd4\xc3\xb2\xa1\n'
 
 
 @functools.lru_cache(None)
@@ -74,39 +73,9 @@ def advised():
     yield ended == (3, b'', b'nbt: write\n' + meaning(b'nbt: write\n')), 'nbt name, a full output, errors at a terminal'
 
 
-def looked():
-    """Of an input that begins as a pcap file does, what shows it; not of one with fewer bytes of that."""
-    for front in PCAPS:
-        given = bytes.fromhex(front) + b'\x02\x00\x04\x00\n\n'
-        for words in READING:
-            errors = run(words, given)[2]
-            yield with_errors_shown(words, given) == (1, b'', errors + LOOK), f'nbt {words[0]} of a pcap, {front}, at a terminal: {errors}'
-    pcap = bytes.fromhex(PCAPS[1]) + b'\n'
+def came_in_parts():
+    """Of an input that begins as a pcap file does a terminal shows what shows it, also where its first bytes come one after the other;
+    tests/cases/terminal.txt has other inputs."""
     for taken in (1, 2, 3):
-        ended = with_errors_shown(['show'], (pcap[:taken], pcap[taken:]))
+        ended = with_errors_shown(['show'], (PCAP[:taken], PCAP[taken:]))
         yield ended == (1, b'', b'nbt: line 1\n' + LOOK), f'a pcap, {taken} bytes of it first, at a terminal'
-    for given in (b'\xd4\xc3\xb2\n', b'\n\r\r\r', b'x\xd4\xc3\xb2\xa1\n'):
-        errors = run(['show'], given)[2]
-        yield with_errors_shown(['show'], given) == (1, b'', errors + meaning(errors)), f'nbt show of {given}, at a terminal'
-
-
-def dropped():
-    """A terminal shows how many keys ticks dropped of what `save` printed, where they dropped any."""
-    late = f'138 5000 {packet(9)}\n'.encode()
-    for name, given, count in [('no tick', captures(3), 0), ('a tick that drops none', captures(3) + b'tick 1999\n', 0),
-                               ('a tick', captures(3) + b'tick 2000\n', 3),
-                               ('two ticks', captures(3) + b'tick 2000\n' + late + b'tick 7000\n', 4)]:
-        wanted = f'nbt: keys that ticks dropped: {count}\n'.encode() if count else b''
-        yield with_errors_shown(['save'], given) == (0, run(['save'], given)[1], wanted), f'nbt save, {name}, errors at a terminal'
-
-
-def short_of_memory():
-    """With little memory a terminal shows the line alone, or what it means too."""
-    many = captures(3_000, '5a' * 150)
-    words = ['save', *MANY]
-    whole = run(words, many)
-    refused_so = [(3, b'', b'nbt: memory\n' + said) for said in (b'', meaning(b'nbt: memory\n'))]
-    least = least_memory(words)
-    for limit in range(least, least + 2_048, 64):
-        ended = with_errors_shown(words, many, before=limited(limit << 10))
-        yield ended == whole or ended in refused_so, f'nbt save in {limit} kB, errors at a terminal'

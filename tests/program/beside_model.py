@@ -28,7 +28,7 @@ from model.objects import SECTIONS
 from object_inputs import OPTIONS
 from parts import check, finish
 from payloads import longest_phrases
-from printed import COMMANDS, Unknown, is_of_clap, wanted
+from printed import COMMANDS, MOST, Unknown, is_of_clap, parsed, wanted
 from samples import parts_in
 from seeds import first_unlike
 from served import Run
@@ -36,6 +36,8 @@ from served import Run
 SECONDS, LONGEST_PRINTED = 600, 1_000
 NUMBER = re.compile('[0-9]+')
 COMMAND = re.compile(rf'(?=.*\bnbt\b).*\b(?:{"|".join(COMMANDS)})\b')
+# Commands that read the same.
+READERS = ('merge', 'list'), ('show', 'save', 'replay')
 STATION = ['FRED<20>', 'JOE<00>', 'ANN<03>.A']
 LONGEST_EXAMPLE, IN_CAPTURE, FRONTS = 400, 500, 10_000
 RECORDER = f'''#!/bin/sh
@@ -157,13 +159,15 @@ def recorded(cases, chosen):
 
 def alike(words):
     """The command lines that read what this one reads, with the same limits."""
-    command, *options = words
-    if command in ('merge', 'list'):
-        return [['list' if command == 'merge' else 'merge', *(it for it in options if it != '--json')]]
-    if command in ('show', 'save') and not {'--brief', '--partial'}.intersection(options):
-        words = [it for it in options if it not in ('--json', '--comments')]
-        return [['replay', *words, '--', 'FRED<20>'], *([['save', *words]] if command == 'show' else [])]
-    return []
+    try:
+        options, _ = parsed(words)
+    except Unknown:
+        return
+    limits = {option: f'{option}={most}' for option, most in options.items() if option in MOST}
+    readers = next((it for it in READERS if words[0] in it and not {'--brief', '--partial'}.intersection(options)), ())
+    for command in readers:
+        if command != words[0]:
+            yield [command, *(limits[it] for it in OPTIONS[command] if it in limits), *(['FRED<20>'] if command == 'replay' else [])]
 
 
 def samples(cases, payloads):

@@ -11,7 +11,6 @@ import resource
 import select
 import shutil
 import signal
-import subprocess
 import sys
 import tempfile
 import time
@@ -77,7 +76,7 @@ def long_outputs(size):
     given = captures(size)
     building = ['build', 'group', '10.0.0.5:138/0001', 'JOE<00>', 'FRED<20>', '5a' * 200, '1']
     table = run(['save'], given)[1]
-    return [(['show'], given), (['replay', 'FRED<20>'], given), (['list'], table), (building, b''), (['save'], given), (['merge'], table)]
+    return [*((words, given) for words in (['show'], ['replay', 'FRED<20>'], ['save'])), (['list'], table), (['merge'], table), (building, b'')]
 
 
 def cut_reports():
@@ -85,7 +84,8 @@ def cut_reports():
     for words, given in long_outputs(500):
         of_lines = words[0] not in ('save', 'merge')
         for taken in range(100) if of_lines else (1, 1_000, 10_000):
-            check(is_cut(words, given, taken, of_lines), f'nbt {words[0]}, {taken} {"lines" if of_lines else "bytes"} of its output read')
+            is_right = is_cut(words, given, taken, of_lines)
+            check(is_right, f'nbt {words[0]}, {taken} {"lines" if of_lines else "bytes"} of its output read')
 
 
 def is_cut(words, given, taken, of_lines):
@@ -142,12 +142,12 @@ def open_inputs():
     """An input that stays open after a line at which the command ends, or that can't be written: it doesn't wait for more."""
     for words in (['show'], ['replay', 'FRED<20>']):
         with opened('full') as full:
-            check(left_open(words, b'tick 1\n', stdout=full) == (3, b'', b'nbt: write\n'), f'nbt {words[0]}, standard output full, an input that stays open')
-    malformed = b'tick 1\nx\n'
-    for words, given, *wanted in [(['show'], malformed, b'1 tick 1\n', b'nbt: line 2\n'), (['replay', 'FRED<20>'], malformed, b'1 dropped 0\n', b'nbt: line 2\n'),
-                                  (['save'], malformed, b'', b'nbt: line 2\n'), (['save', '--keys', '1'], captures(2), b'', b'nbt: full\n'),
-                                  (['save', '--per-source', '1'], captures(2), b'', b'nbt: full source\n')]:
-        check(left_open(words, given) == (1, *wanted), f'{named(words)}, an input that stays open')
+            ended = left_open(words, b'tick 1\n', stdout=full)
+        check(ended == (3, b'', b'nbt: write\n'), f'nbt {words[0]}, standard output full, an input that stays open')
+    malformed, two = b'tick 1\nx\n', captures(2)
+    for words, given in [(['show'], malformed), (['replay', 'FRED<20>'], malformed), (['save'], malformed), (['save', '--keys', '1'], two),
+                         (['save', '--per-source', '1'], two)]:
+        check(left_open(words, given) == run(words, given), f'{named(words)}, an input that stays open')
 
 
 def halting_inputs():
@@ -164,39 +164,15 @@ def terminals():
         check(passed, name)
 
 
-def full_disks():
-    """A disk that is full after some bytes: what it has is a front of the output."""
-    with tempfile.TemporaryDirectory() as folder:
-        mounting = ['mount', '-t', 'tmpfs', '-o', 'size=16k', 'nbt', folder]
-        if subprocess.run(mounting, stderr=subprocess.DEVNULL, timeout=60).returncode:
-            skip('full_disks', 'no tmpfs can be mounted here')
-            return
-        try:
-            full_disk(os.path.join(folder, 'output'), 'a tmpfs of 16 kB')
-        finally:
-            subprocess.run(['umount', folder], check=True, timeout=60)
-
-
-def full_disk(path, name, **how):
-    """A file that takes 16 kB, as the output of each command whose output may be longer."""
-    for words, given in long_outputs(1_000):
-        whole = run(words, given)[1]
-        ended, written = ended_in(path, words, given, **how)
-        os.remove(path)
-        is_front = 0 < len(written) <= 16_384 < len(whole) and whole.startswith(written)
-        check(ended == (3, b'nbt: write\n') and is_front, f'nbt {words[0]}, {name}')
-
-
 def short_files():
-    """A file that takes fewer bytes than there are: 16 kB, and each number below what the output has, of which it gets exactly those."""
+    """A file that takes fewer bytes than there are, of which it gets exactly those: each number below what the output has, and 16 kB."""
     with tempfile.TemporaryDirectory() as folder:
         path = os.path.join(folder, 'output')
-        full_disk(path, 'files of at most 16 kB', before=small_files(16_384))
-        for words, given in [*(it[:2] for it in COMMANDS), *forms()]:
+        for words, given in (*(it[:2] for it in COMMANDS), *forms(), *long_outputs(1_000)):
             output = run(words, given)[1]
-            for room in range(len(output)):
-                ended = ended_in(path, words, given, before=small_files(room))
-                check(ended == ((3, b'nbt: write\n'), output[:room]), f'{named(words)}, {room} bytes of room')
+            for size in range(len(output)) if len(output) < 16_384 else (16_384,):
+                ended = ended_in(path, words, given, before=small_files(size))
+                check(ended == ((3, b'nbt: write\n'), output[:size]), f'{named(words)}, {size} bytes of room')
 
 
 def small_files(limit):
@@ -294,7 +270,7 @@ def is_told(ended, whole):
 
 
 for each in (ordinary, failing_outputs, closed_reports, cut_reports, inputs, open_inputs, halting_inputs, terminals,
-             full_disks, short_files, short_memory, room, requests, pointers, short_stack):
+             short_files, short_memory, room, requests, pointers, short_stack):
     part(each.__name__, each)
 enough(sum(counts.values()), sum(least().values()), 'all')
 sys.exit(finish())

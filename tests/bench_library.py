@@ -70,8 +70,8 @@ class Calls:
         bar = Row('nbt show, less its lines', whole and (whole - lines) // ALL, seconds[0] - seconds[1])
         from_c = self.row('nbt_show, from C', [[self.loop], 'show'], self.payloads, bar, MOST_OF_C)
         yield from (bar, from_c, self.row('nbt_json, from C', [[self.loop], 'json'], self.payloads, from_c, MOST_OF_OBJECTS))
-        python = [sys.executable, f'{LOOPS}/show_loop.py']
-        yield self.row('nbt.show, from Python', [python], self.payloads, bar, MOST_OF_PYTHON, '10')
+        python = [sys.executable, f'{LOOPS}/service_loop.py']
+        yield self.row('nbt.show, from Python', [python, 'show'], self.payloads, bar, MOST_OF_PYTHON, '10')
         targets = os.path.dirname(self.library)
         if shutil.which('node') and os.path.exists(os.path.join(targets, 'nbt.mjs')):
             command = ['node', '--experimental-wasm-memory64', f'{LOOPS}/show_loop.mjs', targets, '1']
@@ -100,7 +100,7 @@ class Calls:
     def in_python(self):
         """ServicePacket.read with its values, beside dpkt and samba, in one run."""
         python, there = python_of({name: module for name, (_, module) in OTHERS.items()})
-        words = printed([python, f'{LOOPS}/service_loop.py', 'nbt', *there], self.service).decode().split()
+        words = printed([python, f'{LOOPS}/service_loop.py', '1', 'nbt', *there], self.service).decode().split()
         seconds = {name: int(spent) / 1e9 for name, spent in zip(words[::3], words[2::3])}
         ours = Row('ServicePacket.read, values read, from Python', None, seconds['nbt'])
         yield beside_row(ours, Row('', None, seconds['dpkt']), MOST_OF_DPKT) if 'dpkt' in seconds else ours

@@ -219,9 +219,9 @@ def short_memory():
 
 def room():
     """Inputs that want a known room, in little more memory than that."""
-    for name, words, given, output, limit in roomy():
+    for name, words, given, limit in roomy():
         ended = run(words, given, before=limited(limit << 10))
-        check(ended == (0, output, b''), f'nbt {words[0]}, {name} in {limit} kB: {ended[0]} {ended[2][:60]}')
+        check(ended == (0, run(words, given)[1], b''), f'nbt {words[0]}, {name} in {limit} kB: {ended[0]} {ended[2][:60]}')
 
 
 def requests():

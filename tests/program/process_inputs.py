@@ -63,10 +63,8 @@ def repeated(count):
 
 
 def pieces(*rows):
-    """A capture of pieces with more to come, each an identifier, an offset and data, and what a replay says of them."""
-    lines = (f'138 0 {packet(key, 1 if offset else 3, offset, data)}\n' for key, offset, data in rows)
-    report = (f'{number} kept 10.0.0.5:138/{key:04x}\n' for number, (key, _, _) in enumerate(rows, 1))
-    return ''.join(lines).encode(), ''.join(report).encode()
+    """A capture of pieces with more to come, each an identifier, an offset and data."""
+    return ''.join(f'138 0 {packet(key, 1 if offset else 3, offset, data)}\n' for key, offset, data in rows).encode()
 
 
 def passing(addresses):
@@ -88,7 +86,7 @@ def chained(place):
 
 
 def roomy():
-    """(name, words, input, output, kB of memory) of inputs that want a known room.
+    """(name, words, input, kB of memory) of inputs that want a known room.
 
     No contract says how much room is reserved beside what is held. Each limit is the least in which the program did
     its work, and 15 percent more. Where a piece of a byte takes much more than its byte, long pieces take twice their
@@ -104,9 +102,7 @@ def roomy():
             ('120 keys of 64,000 bytes', 12_600, [(key, 0, long) for key in range(120)]),
             ('120 keys of two pieces of 32,000 bytes', 15_200,
              [(key, offset, half) for offset in (0, 32_000) for key in range(120)])]:
-        given, report = pieces(*rows)
-        yield name, ['replay', *MANY, 'FRED<20>'], given, report, limit
-    yield 'ever new addresses, a key each', ['save', '--per-source', '1'], passing(90_000), b'4e42543200000000\n', 3_700
-    comments = (b'#' * 4_000 + b'\n') * 4_000
-    for words, output in [(['show'], b''), (['replay', 'FRED<20>'], b''), (['save'], b'4e42543200000000\n')]:
-        yield '16 MB of comments', words, comments, output, 3_500
+        yield name, ['replay', *MANY, 'FRED<20>'], pieces(*rows), limit
+    yield 'ever new addresses, a key each', ['save', '--per-source', '1'], passing(90_000), 3_700
+    for words in (['show'], ['replay', 'FRED<20>'], ['save']):
+        yield '16 MB of comments', words, (b'#' * 4_000 + b'\n') * 4_000, 3_500

@@ -19,8 +19,8 @@ sys.path[1:1] = [f'{sys.path[0]}/{it}' for it in ('lib', 'program')]
 from limits import MANY
 from parts import check, counts, enough, finish, least, part, skip
 from process_inputs import CAPTURE, COMMANDS, FRED, READING, captures, chained, forms, repeated, roomy
-from process_runs import (bytes_of, closed, instructions, least_memory, left_open, limited, lines_of, opened, program, run, run_over, small_pipe,
-                          start, starts, wait, with_errors_shown)
+from process_runs import (bytes_of, closed, instructions, least_memory, left_open, limited, lines_of, opened, program, run, run_over,
+                          small_pipe, start, starts, wait, with_errors_shown)
 from process_terminals import advised, at_terminals, came_in_parts, meaning
 from served import requests as counted_requests
 
@@ -76,7 +76,8 @@ def long_outputs(size):
     given = captures(size)
     building = ['build', 'group', '10.0.0.5:138/0001', 'JOE<00>', 'FRED<20>', '5a' * 200, '1']
     table = run(['save'], given)[1]
-    return [*((words, given) for words in (['show'], ['replay', 'FRED<20>'], ['save'])), (['list'], table), (['merge'], table), (building, b'')]
+    reading = [(words, given) for words in (['show'], ['replay', 'FRED<20>'], ['save'])]
+    return [*reading, (['list'], table), (['merge'], table), (building, b'')]
 
 
 def cut_reports():

@@ -7,7 +7,6 @@
  * NBT_READ_FAILS        which read of standard input fails, the first being 1; interrupted ones aren't counted
  * NBT_END_FAILS         the end of standard input is a failure instead
  * NBT_WRITE_FAILS       which write to standard output fails, the first being 1; interrupted ones aren't counted
- * NBT_ERRORS_ROOM       how many bytes standard error takes before it fails
  * NBT_WRITES            a file that gets the number of writes to standard output, in decimal, when the program ends
  *
  * A word `@FILE` of the program is replaced by what the file holds. The program reads and writes by read and write
@@ -23,7 +22,7 @@
 static struct calls {
     unsigned long count, failing, interrupts, waiting;
 } reads, writes;
-static unsigned long most, errors_room;
+static unsigned long most;
 static int end_fails;
 
 static unsigned long asked(const char *name, unsigned long otherwise) {
@@ -57,18 +56,10 @@ ssize_t read(int descriptor, void *bytes, size_t size) {
 }
 
 ssize_t write(int descriptor, const void *bytes, size_t size) {
-    int fault = descriptor == 1 ? fault_of(&writes) : descriptor == 2 && errors_room == 0 ? ENOSPC : 0;
-    ssize_t count;
+    int fault = descriptor == 1 ? fault_of(&writes) : 0;
     if (fault != 0)
         return fails(fault);
-    if (descriptor == 1 && size > most)
-        size = most;
-    if (descriptor == 2 && size > errors_room)
-        size = errors_room;
-    count = syscall(SYS_write, descriptor, bytes, size);
-    if (descriptor == 2 && count > 0)
-        errors_room -= (unsigned long)count;
-    return count;
+    return syscall(SYS_write, descriptor, bytes, descriptor == 1 && size > most ? most : size);
 }
 
 /* What a file holds, as a word. */
@@ -92,7 +83,6 @@ __attribute__((constructor)) static void begin(int count, char **words) {
     reads.failing = asked("NBT_READ_FAILS", 0);
     writes.failing = asked("NBT_WRITE_FAILS", 0);
     end_fails = getenv("NBT_END_FAILS") != NULL;
-    errors_room = asked("NBT_ERRORS_ROOM", 1UL << 40);
     for (i = 1; i < count; i++)
         if (words[i][0] == '@')
             words[i] = word_of(words[i] + 1);

@@ -22,7 +22,7 @@ COMMANDS = [
     (['name', '--bytes', FRED], b'', 0, b'FRED<20>\n', b''),
     (['name', 'FRED'], b'', 1, b'', b'nbt: bad text 4\n'),
     (['build', 'keepalive'], b'', 0, b'139 0 85000000\n', b''),
-    (['build', 'nonsense'], b'', 1, b'', b'nbt: arguments\n'),
+    (['build', 'query', '0001', 'FRED'], b'', 1, b'', b'nbt: bad text 4\n'),
     (['show'], b'tick 1\n139 2 85000000\n', 0, b'1 tick 1\n2 139 keepalive used=4\n', b''),
     (['show'], b'tick 1\nx\n', 1, b'1 tick 1\n', b'nbt: line 2\n'),
     (['replay', 'FRED<20>'], CAPTURE, 0, b''.join(REPORT), b''),
@@ -70,9 +70,9 @@ def pieces(*rows):
 def passing(addresses):
     """A capture of first fragments, each of another address, and after each hundred a look at the clock, which drops them."""
     start, end = packet(1).split('0a000005')
-    return b''.join(
-        f'138 {2_000 * (it // 100)} {start}{it:08x}{end}\n'.encode() + (b'tick %d\n' % (2_000 * (it // 100 + 1)) if it % 100 == 99 else b'')
-        for it in range(addresses))
+    lines = (f'138 {2_000 * (it // 100)} {start}{it:08x}{end}\n' + (f'tick {2_000 * (it // 100 + 1)}\n' if it % 100 == 99 else '')
+             for it in range(addresses))
+    return ''.join(lines).encode()
 
 
 def chained(place):

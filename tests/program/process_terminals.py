@@ -7,9 +7,6 @@ from process_inputs import COMMANDS, FRED, captures
 from process_runs import at_terminal, lines_of, quiet_terminal, run, start, wait, with_errors_shown
 
 LOOK = b'a pcap or pcapng file: `nbt-look FILE` shows it, `nbt-pcap2cap FILE` makes a capture of it\n'
-# What a terminal shows of `nbt build nonsense` besides; tests/cases/terminal.txt has more of such lines.
-NO_PACKET = (b'arguments: WHAT is one of query, status, registration, refresh, release, response, request, message, positive, negative, retarget, '
-             b'keepalive, unique, group, broadcast, error, find, found, missing, and not nonsense\n')
 KEYED = ['10.0.0.5:138/0001', 'JOE<00>', 'FRED<20>']
 PCAP = b'\xd4\xc3\xb2\xa1\n'
 
@@ -23,9 +20,8 @@ def meaning(errors):
 
 
 def shown(errors):
-    """What a command prints at a terminal on standard error, that prints this otherwise."""
-    if errors == b'nbt: arguments\n':
-        return errors + NO_PACKET
+    """What a command prints at a terminal on standard error, that prints this otherwise; tests/cases/terminal.txt has what stands beside
+    `arguments`."""
     return errors + meaning(errors) if errors.startswith(b'nbt: ') else errors
 
 
@@ -54,9 +50,10 @@ def at_terminals():
 
 # Words and inputs that are refused: by the words, by the input, of any command, with a number and without.
 REFUSED = [
-    *((words, b'') for words in (['name', 'A' * 16 + '<20>'], ['replay', 'FRED'], ['build', 'query', '0001', 'FRED'])),
+    *((words, b'') for words in (['name', 'A' * 16 + '<20>'], ['replay', 'FRED'])),
     *((['name', '--bytes', digits], b'') for digits in ('0', FRED + '00', '20', '40', 'c00c', '0000')),
-    (['build', 'unique', *KEYED, '00' * 65_500, '65535'], b''), (['replay', *(f'N{it}<20>' for it in range(MOST_NAMES + 1))], b''),
+    (['build', 'unique', *KEYED, '00' * 65_500, '65535'], b''),
+    (['replay', *(f'N{it}<20>' for it in range(MOST_NAMES + 1))], b''),
     (['merge'], b'00\n'), (['merge'], b'4e425432\n'), (['list'], b'4e4254320000000000\n'),
     (['save', '--keys', '1'], captures(2)), (['show', '--input-limit', '1'], b'tick 1\n'),
     *((words, given) for words, given, _, _, errors in COMMANDS if errors),
@@ -67,7 +64,8 @@ def advised():
     """A command that is refused prints one line, and to a terminal that line and what `nbt help` says of it."""
     for words, given in REFUSED:
         status, output, errors = run(words, given)
-        yield with_errors_shown(words, given) == (status, output, shown(errors)), f'nbt {" ".join(words)[:60]}, errors at a terminal'
+        ended = with_errors_shown(words, given)
+        yield ended == (status, output, shown(errors)), f'nbt {" ".join(words)[:60]}, errors at a terminal'
     with open('/dev/full', 'wb') as full:
         ended = with_errors_shown(['name', 'FRED<20>'], stdout=full)
     yield ended == (3, b'', b'nbt: write\n' + meaning(b'nbt: write\n')), 'nbt name, a full output, errors at a terminal'

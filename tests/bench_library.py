@@ -20,7 +20,8 @@ sys.dont_write_bytecode = True
 sys.path[1:1] = [f'{sys.path[0]}/{it}' for it in ('bench', 'lib')]
 import plain_program
 from bench_captures import Office, line, office, written
-from bench_rows import HEADING, Bars, Row, call_seconds, instructions, least, printed, processor_seconds, ratio
+from bench_rows import HEADING, Row, call_seconds, heading, instructions, least, printed, processor_seconds, ratio, show
+from parts import finish
 from served import requests
 
 TOP = os.path.join(os.path.dirname(os.path.abspath(__file__)), '..')
@@ -141,14 +142,12 @@ def main():
     library = os.path.abspath(sys.argv[2] if len(sys.argv) > 2 else os.path.join(TOP, 'out', 'lib'))
     os.environ.update(NBT_LIBRARY=os.path.join(library, 'libnbt.so.0'), PYTHONPATH=os.path.join(TOP, 'bindings', 'python'),
                       PYTHONDONTWRITEBYTECODE='1')
-    bars = Bars()
-    bars.heading(*HEADING)
+    heading(*HEADING)
     with tempfile.TemporaryDirectory() as folder:
         calls = Calls(library, folder)
         for rows in (calls.shown(program), calls.items(), calls.in_python(), calls.absorbing()):
-            for row in rows:
-                bars.row(row)
-    return bars.end()
+            show(rows)
+    return finish()
 
 
 if __name__ == '__main__':

@@ -21,11 +21,12 @@ import types
 sys.dont_write_bytecode = True
 HERE = os.path.dirname(os.path.abspath(__file__))
 TOOLS = os.path.join(HERE, '..', 'tools')
-sys.path[1:1] = [f'{HERE}/bench', TOOLS]
-from bench_rows import HEADING, Bars, Row
+sys.path[1:1] = [f'{HERE}/bench', f'{HERE}/lib', TOOLS]
+from bench_rows import HEADING, Row, heading, show
 from nbt_look.frames import FIELDS, STATISTICS
 from nbt_pcap.arguments import SERVICES
 from nbt_pcap.tshark import command_of
+from parts import finish
 
 RUNS = 3
 # How many times tshark's own cost, and how many bytes a packet.
@@ -123,21 +124,19 @@ def of_plugin(homes, path, other, packets, pairs):
 
 def main():
     plugin, packets, pairs = (sys.argv[1:] + [f'{HERE}/../out/nbt.so', '100000', '7'][len(sys.argv) - 1:])
-    packets, pairs, bars = int(packets), int(pairs), Bars()
+    packets, pairs = int(packets), int(pairs)
     with tempfile.TemporaryDirectory() as folder:
         os.chmod(folder, 0o755)
         path, other = f'{folder}/big.pcap', f'{folder}/other.pcap'
         subprocess.run([f'{HERE}/captures/big_pcap.py', str(packets), path], check=True)
         print(f'{packets:,} packets, {pairs} pairs, load {os.getloadavg()[0]:.1f} of {os.cpu_count()} processors')
-        bars.heading(*HEADING)
-        for row in of_look(path):
-            bars.row(row)
+        heading(*HEADING)
+        show(of_look(path))
         if os.path.exists(plugin):
             homes = [home_with(folder, os.path.realpath(plugin)), home_with(folder, None)]
             at_other_ports(path, other)
-            for row in of_plugin(homes, path, other, packets, pairs):
-                bars.row(row)
-    return bars.end()
+            show(of_plugin(homes, path, other, packets, pairs))
+    return finish()
 
 
 if __name__ == '__main__':

@@ -24,26 +24,11 @@ import tempfile
 from parts import tally
 from served import Program, Served
 
-# The commands that write as they read.
-WRITING = ('show', 'replay')
-
-
-def with_ample(program):
-    """What a program does with ample memory, and how many requests it makes."""
-    with tempfile.NamedTemporaryFile('r') as counted:
-        ran = program.run(NBT_REQUESTS=counted.name)
-        return ran, int(counted.read() or 0)
-
-
-def is_front(front, whole):
-    """Whether some output is a front of another that ends where a line does."""
-    return not front or whole.startswith(front) and front.endswith(b'\n')
-
 
 def command(ample, ran, words):
     if ran.status == 3 and ran.errors == b'nbt: memory\n':
-        left = is_front(ran.output, ample.output) if words[:1] and words[0] in WRITING else not ran.output
-        return 'refused' if left else None
+        is_front = words[:1] in (['show'], ['replay']) and ample.output.startswith(ran.output) and ran.output.endswith(b'\n')
+        return 'refused' if is_front or not ran.output else None
     return 'as ever' if ran == ample and (ran.status == 2 or ran.errors == b'nbt: bad hex\n') else None
 
 
@@ -64,7 +49,8 @@ FORMS = {'command': command, 'examples': examples}
 
 def tried(form, program):
     """Each case, whether it went well, and why not."""
-    ample, requests = with_ample(program)
+    with tempfile.NamedTemporaryFile('r') as counted:
+        ample, requests = program.run(NBT_REQUESTS=counted.name), int(counted.read() or 0)
     yield f'{requests} requests for memory', requests > 0, 'there is none'
     refused = 0
     with Served(program) as served:

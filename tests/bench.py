@@ -145,13 +145,10 @@ class Bench:
         if not shutil.which('valgrind'):
             counts['skipped'] += len(GROWING) + 1
             return
-        for title, words, lines, bar in GROWING:
-            self.growth_row(words, title, [self.cost_of_one(words, lines, size) for size in self.sizes], bar)
-        self.growth_row(MERGE, 'bytes of an entry that grows', [self.cost_of_a_byte(size) for size in self.sizes], GROWN)
-
-    def growth_row(self, words, title, costs, bar):
-        """Prints the row of what one costs among so many, among ten times and among a hundred times as many."""
-        self.judged(words[0], title, costs[-1] / costs[0], bar, tuple(f'{each:,.0f}' for each in costs))
+        costs = [(words, title, [self.cost_of_one(words, lines, size) for size in self.sizes], bar) for title, words, lines, bar in GROWING]
+        costs.append((MERGE, 'bytes of an entry that grows', [self.cost_of_a_byte(size) for size in self.sizes], GROWN))
+        for words, title, of_sizes, bar in costs:
+            self.judged(words[0], title, of_sizes[-1] / of_sizes[0], bar, tuple(f'{each:,.0f}' for each in of_sizes))
 
     def cost_of_a_byte(self, held):
         """The instructions for a saved table of a byte that is merged behind so many bytes of its key: these grow in place."""

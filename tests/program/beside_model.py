@@ -37,7 +37,7 @@ SECONDS, LONGEST_PRINTED = 600, 1_000
 NUMBER = re.compile('[0-9]+')
 COMMAND = re.compile(rf'(?=.*\bnbt\b).*\b(?:{"|".join(COMMANDS)})\b')
 # Commands that read the same.
-READERS = ('merge', 'list'), ('show', 'save', 'replay')
+READERS = ('merge', 'list', 'agree'), ('show', 'save', 'replay')
 STATION = ['FRED<20>', 'JOE<00>', 'ANN<03>.A']
 LONGEST_EXAMPLE, IN_CAPTURE, FRONTS = 400, 500, 10_000
 RECORDER = f'''#!/bin/sh

@@ -145,7 +145,8 @@ class Bench:
         if not shutil.which('valgrind'):
             counts['skipped'] += len(GROWING) + 1
             return
-        costs = [(words, title, [self.cost_of_one(words, lines, size) for size in self.sizes], bar) for title, words, lines, bar in GROWING]
+        costs = [(words, title, [self.cost_of_one(words, lines, size) for size in self.sizes], bar)
+                 for title, words, lines, bar in GROWING]
         costs.append((MERGE, 'bytes of an entry that grows', [self.cost_of_a_byte(size) for size in self.sizes], GROWN))
         for words, title, of_sizes, bar in costs:
             self.judged(words[0], title, of_sizes[-1] / of_sizes[0], bar, tuple(f'{each:,.0f}' for each in of_sizes))

@@ -34,7 +34,8 @@ MOST_OF_OBJECTS, MOST_OF_ITEMS, MOST_OF_DPKT, MOST_OF_ABSORB = 2.0, 1.0, 1.5, 1.
 # What it costs to judge a packet whole before its items, which judge themselves: it may get no worse.
 MOST_OF_JUDGED = 1.2
 # Readers in Python besides: what they read, and the module that they stand in.
-OTHERS = {'dpkt': ("dpkt's NS, its attributes read", 'dpkt.netbios'), 'samba': ("samba's name_packet, values read", 'samba.dcerpc.nbt')}
+OTHERS = {'dpkt': ("dpkt's NS, its attributes read", 'dpkt.netbios'),
+          'samba': ("samba's name_packet, values read", 'samba.dcerpc.nbt')}
 
 
 class Calls:
@@ -46,13 +47,14 @@ class Calls:
         lines = [each for port, count in COUNTS.items() for each in office(port, count)]
         assert len(lines) == ALL
         stations = Office(random.Random(137))
-        self.payloads, self.comments = written(folder, 'payloads', lines), written(folder, 'comments', (b'#' + each for each in lines))
+        self.payloads = written(folder, 'payloads', lines)
+        self.comments = written(folder, 'comments', (b'#' + each for each in lines))
         self.service = written(folder, 'service', (line(moment, stations.service(), 137) for moment in range(ALL)))
 
     def compiled(self, name):
         """A program in C over the library."""
-        made = os.path.join(self.folder, name)
-        subprocess.run([os.environ.get('CC', 'cc'), '-O2', f'-I{TOP}/include', '-o', made, f'{LOOPS}/{name}.c', f'{self.library}/libnbt.a'], check=True)
+        made, compiler = os.path.join(self.folder, name), [os.environ.get('CC', 'cc'), '-O2', f'-I{TOP}/include']
+        subprocess.run([*compiler, '-o', made, f'{LOOPS}/{name}.c', f'{self.library}/libnbt.a'], check=True)
         return made
 
     def row(self, title, command, path, beside=None, most=None, rounds='21'):
@@ -85,7 +87,8 @@ class Calls:
         bar = Row("the plain program's reading of port 137", said=plain_program.WANTED)
         if plain:
             bar = self.row(bar.title, [[plain]], path)
-            sums = {printed([program, '1', *words], path).split()[0] for program, *words in ([self.loop, 'items'], [self.loop, 'judged'], [plain])}
+            ways = ([self.loop, '1', 'items'], [self.loop, '1', 'judged'], [plain, '1'])
+            sums = {printed(command, path).split()[0] for command in ways}
             assert len(sums) == 1, f'they read other values: {sums}'
         yield bar
         yield self.row('nbt_service_header, each item and part, from C', [[self.loop], 'items'], path, bar, MOST_OF_ITEMS)
@@ -113,8 +116,8 @@ class Calls:
         path = written(self.folder, 'nothing', [])
         without = instructions([self.absorb, str(KEYS), 'nothing'], path)
         rows = []
-        for what, title in (('save', 'that key saved'), ('load', 'that key taken in where none is'), ('look', f'a look at each of {KEYS:,} keys'),
-                            ('absorb', f'nbt_station_absorb of a key, {KEYS:,} held')):
+        for what, title in (('save', 'that key saved'), ('load', 'that key taken in where none is'),
+                            ('look', f'a look at each of {KEYS:,} keys'), ('absorb', f'nbt_station_absorb of a key, {KEYS:,} held')):
             command = [self.absorb, str(KEYS), what]
             rows.append(Row(title, without and instructions(command, path) - without, least(call_seconds, command, path)))
         *parts, absorb = rows
@@ -129,9 +132,9 @@ def beside_row(row, bar, most):
 
 
 def python_of(modules):
-    """The Python that has the most of these modules, by their names, and which these are: this one, or the system's, which Debian's packages
-    are for."""
-    has = lambda python, module: subprocess.run([python, '-c', f'import {module}'], stderr=subprocess.DEVNULL, check=False).returncode == 0
+    """The Python that has the most of these modules, by their names, and which these are: this one, or the system's, which Debian's
+    packages are for."""
+    has = lambda python, module: not subprocess.run([python, '-c', f'import {module}'], capture_output=True, check=False).returncode
     pythons = [each for each in (sys.executable, '/usr/bin/python3') if os.path.exists(each)]
     found = [(each, [name for name, module in modules.items() if has(each, module)]) for each in pythons]
     return max(found, key=lambda one: len(one[1]))

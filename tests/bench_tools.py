@@ -1,13 +1,15 @@
 #!/usr/bin/env python3
 """What tools/nbt-look and the plugin for Wireshark cost beside tshark.  Usage: tests/bench_tools.py [PLUGIN [PACKETS [PAIRS]]]
 
-Of so many packets (100,000) of tests/captures/big_pcap.py. First what nbt-look takes beside tshark alone, with the fields that nbt-look asks it for:
-the least seconds of three runs, how many times as long that is, and the peak of its own resident memory, without tshark and nbt.
+Of so many packets (100,000) of tests/captures/big_pcap.py. First what nbt-look takes beside tshark alone, with the fields that nbt-look
+asks it for: the least seconds of three runs, how many times as long that is, and the peak of its own resident memory, without tshark and
+nbt.
 
-Then, where PLUGIN is there, out/nbt.so without it, the list that tshark prints with it and without, in one pass and in two, its frame numbers and its
-trees; and of the same packets at other ports. A run with the plugin and one without it go on at the same time, so that what else the machine does
-meets both: the ratio is the median of so many pairs' (7), of processor seconds, and the least and the largest stand beside it. How many bytes a packet
-tshark has more in memory is a median too. As root nobody runs it. Status 1 where a bar is passed by more than a twentieth.
+Then, where PLUGIN is there, out/nbt.so without it, the list that tshark prints with it and without, in one pass and in two, its frame
+numbers and its trees; and of the same packets at other ports. A run with the plugin and one without it go on at the same time, so that
+what else the machine does meets both: the ratio is the median of so many pairs' (7), of processor seconds, and the least and the largest
+stand beside it. How many bytes a packet tshark has more in memory is a median too. As root nobody runs it. Status 1 where a bar is passed
+by more than a twentieth.
 """
 import os
 import shutil
@@ -80,9 +82,9 @@ def home_with(folder, plugin):
 def pair(homes, words):
     """Processor seconds of a run in each home, at the same time, and the most that it had in memory, in bytes."""
     user = {'user': NOBODY, 'group': NOBODY, 'extra_groups': []} if os.getuid() == 0 else {}
-    quiet = {'stdout': subprocess.DEVNULL, 'stderr': subprocess.DEVNULL}
+    user |= {'stdout': subprocess.DEVNULL, 'stderr': subprocess.DEVNULL}
     found = []
-    for child in [subprocess.Popen(['tshark', '-n', *words], env={'PATH': os.environ['PATH'], 'HOME': it}, **quiet, **user) for it in homes]:
+    for child in [subprocess.Popen(['tshark', '-n', *words], env={'PATH': os.environ['PATH'], 'HOME': it}, **user) for it in homes]:
         _, status, usage = os.wait4(child.pid, 0)
         child.returncode = os.waitstatus_to_exitcode(status)
         if child.returncode:
@@ -110,9 +112,10 @@ def at_other_ports(source, target):
 def of_plugin(homes, path, other, packets, pairs):
     """The rows of the plugin."""
     numbers = ['-T', 'fields', '-e', 'frame.number']
-    for title, file, words, most in (('the list', path, [], LIST), ('the list, in two passes', path, ['-2'], LIST), ('frame numbers', path, numbers, None),
-                                     ('all trees', path, ['-V'], None), ('the list of other ports', other, [], OTHER_PORTS),
-                                     ('frame numbers of other ports', other, numbers, OTHER_PORTS)):
+    ways = (('the list', path, [], LIST), ('the list, in two passes', path, ['-2'], LIST), ('frame numbers', path, numbers, None),
+            ('all trees', path, ['-V'], None), ('the list of other ports', other, [], OTHER_PORTS),
+            ('frame numbers of other ports', other, numbers, OTHER_PORTS))
+    for title, file, words, most in ways:
         runs = [pair(homes, ['-r', file, *words]) for _ in range(pairs)]
         ratios = [taken[0] / alone[0] for taken, alone in runs]
         seconds, alone = (statistics.median(run[which][0] for run in runs) for which in range(2))

@@ -19,8 +19,8 @@ sys.path[1:1] = [f'{sys.path[0]}/{it}' for it in ('lib', 'program')]
 from limits import MANY
 from parts import check, counts, enough, finish, least, part, skip
 from process_inputs import CAPTURE, COMMANDS, FRED, READING, captures, chained, forms, repeated, roomy
-from process_runs import (bytes_of, closed, instructions, least_memory, left_open, limited, lines_of, opened, program, run, run_over,
-                          small_pipe, start, starts, wait, with_errors_shown)
+from process_runs import (bytes_of, closed, instructions, least_memory, left_open, limited, lines_of, opened, program, run,
+                          run_over, small_pipe, start, starts, wait, with_errors_shown)
 from process_terminals import advised, at_terminals, came_in_parts, meaning
 from served import requests as counted_requests
 
@@ -146,8 +146,8 @@ def open_inputs():
             ended = left_open(words, b'tick 1\n', stdout=full)
         check(ended == (3, b'', b'nbt: write\n'), f'nbt {words[0]}, standard output full, an input that stays open')
     malformed, two = b'tick 1\nx\n', captures(2)
-    for words, given in [(['show'], malformed), (['replay', 'FRED<20>'], malformed), (['save'], malformed), (['save', '--keys', '1'], two),
-                         (['save', '--per-source', '1'], two)]:
+    for words, given in [(['show'], malformed), (['replay', 'FRED<20>'], malformed), (['save'], malformed),
+                         (['save', '--keys', '1'], two), (['save', '--per-source', '1'], two)]:
         check(left_open(words, given) == run(words, given), f'{named(words)}, an input that stays open')
 
 
@@ -166,7 +166,7 @@ def terminals():
 
 
 def short_files():
-    """A file that takes fewer bytes than there are, of which it gets exactly those: each number below what the output has, and 16 kB."""
+    """A file that takes fewer bytes than there are gets exactly those: each number below what the output has, and 16 kB."""
     with tempfile.TemporaryDirectory() as folder:
         path = os.path.join(folder, 'output')
         for words, given in (*(it[:2] for it in COMMANDS), *forms(), *long_outputs(1_000)):

@@ -1,5 +1,5 @@
-/* What calls of the library cost: reads a capture, and then has the library read each payload of it, ROUNDS times. Usage: service_loop
- * ROUNDS WHAT <CAPTURE. Prints the sum of what was read, and the nanoseconds of processor time of the calls. WHAT is
+/* What calls of the library cost: reads a capture, and then has the library read each payload of it, ROUNDS times. Usage:
+ * service_loop ROUNDS WHAT <CAPTURE. Prints the sum of what was read, and the nanoseconds of processor time of the calls. WHAT is
  *
  * show, json  nbt_show or nbt_json tells the payload, into one buffer; the sum is of the bytes of texts
  * items       of port 137 the header is read, item after item, and the parts of RDATA; the sum is that of tests/plain/sum.rs

@@ -1,6 +1,7 @@
 """What calls cost from Python: nbt's show, and ServicePacket.read, with all values read, beside dpkt and samba, whose binding is C.
-Usage: service_loop.py ROUNDS READER.. <CAPTURE, where READER is show, nbt, dpkt or samba. In each round each payload is read once by each,
-a thousand at a time by turns. A line for each reader has its name, the values or letters that it read, and its nanoseconds of processor time.
+Usage: service_loop.py ROUNDS READER.. <CAPTURE, where READER is show, nbt, dpkt or samba. In each round each payload is read once by
+each, a thousand at a time by turns. A line for each reader has its name, the values or letters that it read, and its nanoseconds of
+processor time.
 
 Of dpkt are read the attributes that it has: names stay the 32 letters that stand in the packet, and RDATA of type NB its bytes.
 """

@@ -54,7 +54,8 @@ exec "$NBT_PROGRAM" "$@"
 DEVICES = '''#!/bin/sh
 exec env "$@"
 '''
-KINDS = ('137', '137 id', '137 id items', '138', '138 kind', '138 kind source', '138 kind source destination', '138 type', '139', '139 kind', '139 type')
+KINDS = ('137', '137 id', '137 id items', '138', '138 kind', '138 kind source', '138 kind source destination', '138 type', '139',
+         '139 kind', '139 type')
 PHRASES = re.compile(r'^\| .* \| `([^`]+)` \|$', re.MULTILINE)
 BY = re.compile(r'[A-Z]+|[.*+?^$()\[\]{}|\\]')
 # The status of a node that has a unit and no names, which chance makes too seldom.

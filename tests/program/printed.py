@@ -66,7 +66,7 @@ def is_of_clap(status, output, errors):
 
 
 def parsed(words):
-    """The options of a command line with their values, and the words that aren't options. Options aren't shortened, or said twice."""
+    """The options of a command line with their values, and the words that are none. Options aren't shortened, or said twice."""
     if words[0] not in COMMANDS:
         raise Unknown(words[0])
     known = NAMING if words[0] == 'name' else OPTIONS[words[0]]

@@ -34,8 +34,8 @@ def start(words, stdin=subprocess.PIPE, stdout=subprocess.PIPE, stderr=subproces
 
 
 def run(words, given=b'', **how):
-    """The status, the output and the errors of a whole run over an input. One of several parts stops between them; there is no status where the
-    program doesn't wait then."""
+    """The status, the output and the errors of a whole run over an input. One of several parts stops between them; there is no status
+    where the program doesn't wait then."""
     process, waits = start(words, **how), True
     *fronts, last = given if isinstance(given, tuple) else (given,)
     for each in fronts:

@@ -20,8 +20,8 @@ def meaning(errors):
 
 
 def shown(errors):
-    """What a command prints at a terminal on standard error, that prints this otherwise; tests/cases/terminal.txt has what stands beside
-    `arguments`."""
+    """What a command prints at a terminal on standard error, that prints this otherwise; tests/cases/terminal.txt has what stands
+    beside `arguments`."""
     return errors + meaning(errors) if errors.startswith(b'nbt: ') else errors
 
 
@@ -72,8 +72,8 @@ def advised():
 
 
 def came_in_parts():
-    """Of an input that begins as a pcap file does a terminal shows what shows it, also where its first bytes come one after the other;
-    tests/cases/terminal.txt has other inputs."""
+    """Of an input that begins as a pcap file does a terminal shows what shows it, also where its first bytes come one after the
+    other; tests/cases/terminal.txt has other inputs."""
     for taken in (1, 2, 3):
         ended = with_errors_shown(['show'], (PCAP[:taken], PCAP[taken:]))
         yield ended == (1, b'', b'nbt: line 1\n' + LOOK), f'a pcap, {taken} bytes of it first, at a terminal'

@@ -41,10 +41,9 @@ test:
 # where the library, the page and the plugin for Wireshark are made, what they cost.
 bench: build
 	tests/bench.py
-	tests/bench_look.py
+	tests/bench_tools.py "$$PLUGIN"
 	[ ! -f "$$LIBRARY/libnbt.a" ] || tests/bench_library.py "$$PROGRAM" "$$LIBRARY"
 	[ ! -f "$$TARGETS/nbt.html" ] || tests/bench_page.py "$$TARGETS/nbt.html"
-	[ ! -f "$$PLUGIN" ] || tests/bench_wireshark.py "$$PLUGIN"
 
 # Build the program, and give it random and changed inputs: make fuzz SECONDS=600.
 fuzz: build

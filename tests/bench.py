@@ -20,8 +20,9 @@ import plain_program
 from bench_bars import GROWN, GROWTH, KNOWN, PER_SOURCE, PIECES, PLAIN, TEXT, WITHOUT, WORST
 from bench_captures import (FRED, MOST_IN_A_CAPTURE, descending, labels, office, one_address, pointed, refused,
                             saved_after, shuffled, unfragmented, written)
-from bench_rows import Bars, Row, instructions, peak, printed, shown, wall_seconds
+from bench_rows import Row, heading, instructions, peak, printed, show, shown, wall_seconds
 from limits import MANY, MOST_KEYS
+from parts import check, counts, finish
 
 HERE = os.path.dirname(os.path.abspath(__file__))
 PROGRAM = os.path.join(HERE, '..', 'crates', 'nbt', 'out', 'nbt')
@@ -72,10 +73,10 @@ def saved_parts(program, folder, path):
 
 
 class Bench:
-    """The program that is measured, the plain one if it can be compiled, and the bars."""
+    """The program that is measured, and the plain one if it can be compiled."""
 
     def __init__(self, program, small, folder):
-        self.program, self.folder, self.bars, self.small = program, folder, Bars(), small
+        self.program, self.folder, self.small = program, folder, small
         self.part, self.times, least = (10, 1, 100) if small else (1, 4, 250)
         self.sizes = [least, least * 10, least * 100]
         self.plain = plain_program.compiled(folder)
@@ -94,14 +95,14 @@ class Bench:
         """Prints a row beside its bar, if it has one."""
         key = name, title
         known = KNOWN[key][self.small] if key in KNOWN else 0
-        self.bars.row(Row(f'`{name}` | {title}', of=of, most=None if key in WITHOUT else bar, said=said, known=known, cells=cells))
+        show([Row(f'`{name}` | {title}', of=of, most=None if key in WITHOUT else bar, said=said, known=known, cells=cells)])
 
     def beside_plain(self, words, title, path, packets):
         """The row of a command beside the plain program, which prints the same."""
         beside = None
         if self.plain:
             beside, same = instructions([self.plain, *words], path), printed([self.plain, *words], path) == printed([self.program, *words], path)
-            self.bars.counts(same, f'{words[0]}, {title}: the plain program prints the same')
+            check(same, f'{words[0]}, {title}: the plain program prints the same')
         return self.row(words, title, path, packets, beside, PLAIN[words[0]])
 
     def fragments(self):
@@ -142,15 +143,13 @@ class Bench:
     def growth(self):
         """A line for each way to grow: the instructions of one among so many, and among ten times and a hundred times as many."""
         if not shutil.which('valgrind'):
-            self.bars.skipped += len(GROWING) + 1
+            counts['skipped'] += len(GROWING) + 1
             return
-        for title, words, lines, bar in GROWING:
-            self.growth_row(words, title, [self.cost_of_one(words, lines, size) for size in self.sizes], bar)
-        self.growth_row(MERGE, 'bytes of an entry that grows', [self.cost_of_a_byte(size) for size in self.sizes], GROWN)
-
-    def growth_row(self, words, title, costs, bar):
-        """Prints the row of what one costs among so many, among ten times and among a hundred times as many."""
-        self.judged(words[0], title, costs[-1] / costs[0], bar, tuple(f'{each:,.0f}' for each in costs))
+        costs = [(words, title, [self.cost_of_one(words, lines, size) for size in self.sizes], bar)
+                 for title, words, lines, bar in GROWING]
+        costs.append((MERGE, 'bytes of an entry that grows', [self.cost_of_a_byte(size) for size in self.sizes], GROWN))
+        for words, title, of_sizes, bar in costs:
+            self.judged(words[0], title, of_sizes[-1] / of_sizes[0], bar, tuple(f'{each:,.0f}' for each in of_sizes))
 
     def cost_of_a_byte(self, held):
         """The instructions for a saved table of a byte that is merged behind so many bytes of its key: these grow in place."""
@@ -171,15 +170,15 @@ def main():
     words = [each for each in sys.argv[1:] if each != '--small']
     with tempfile.TemporaryDirectory() as folder:
         bench = Bench(words[0] if words else PROGRAM, '--small' in sys.argv, folder)
-        bench.bars.heading('Command', 'Capture', 'Instructions', 'Peak kB', 'Times, of at most')
+        heading('Command', 'Capture', 'Instructions', 'Peak kB', 'Times, of at most')
         for rows in (bench.fragments, bench.stations, bench.longest, bench.flood):
             rows()
         print()
-        bench.bars.heading('Command', 'Of', *(f'{size:,}' for size in bench.sizes), 'Times, of at most')
+        heading('Command', 'Of', *(f'{size:,}' for size in bench.sizes), 'Times, of at most')
         bench.growth()
     if not bench.plain:
         print('skipped: the rows beside the plain program: ' + plain_program.WANTED)
-    return bench.bars.end()
+    return finish()
 
 
 if __name__ == '__main__':

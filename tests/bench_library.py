@@ -12,66 +12,132 @@ bar is passed by more than a twentieth; the last line counts them.
 import os
 import random
 import shutil
+import subprocess
 import sys
 import tempfile
 
 sys.dont_write_bytecode = True
 sys.path[1:1] = [f'{sys.path[0]}/{it}' for it in ('bench', 'lib')]
-from bench_calls import LIB, TOP, absorbing, in_python, items, objects
+import plain_program
 from bench_captures import Office, line, office, written
-from bench_rows import HEADING, Bars, Row, call_seconds, instructions, least, processor_seconds, ratio
+from bench_rows import HEADING, Row, call_seconds, heading, instructions, least, printed, processor_seconds, ratio, show
+from parts import finish
+from served import requests
 
+TOP = os.path.join(os.path.dirname(os.path.abspath(__file__)), '..')
+LOOPS = os.path.join(TOP, 'tests', 'bench')
 COUNTS = {137: 50_000, 138: 25_000, 139: 25_000}
-ALL = sum(COUNTS.values())
+ALL, KEYS = sum(COUNTS.values()), 60_000
 # Of what `nbt show` takes, less its lines; node's seconds of those with them, since callgrind counts no instructions that an engine makes.
 MOST_OF_C, MOST_OF_PYTHON, MOST_OF_NODE = 1.0, 3.0, 5.0
+MOST_OF_OBJECTS, MOST_OF_ITEMS, MOST_OF_DPKT, MOST_OF_ABSORB = 2.0, 1.0, 1.5, 1.0
+# What it costs to judge a packet whole before its items, which judge themselves: it may get no worse.
+MOST_OF_JUDGED = 1.2
+# Readers in Python besides: what they read, and the module that they stand in.
+OTHERS = {'dpkt': ("dpkt's NS, its attributes read", 'dpkt.netbios'),
+          'samba': ("samba's name_packet, values read", 'samba.dcerpc.nbt')}
 
 
-def captures(folder):
-    """A capture with the payloads, one with the same lines as comments, one of port 137, and one of nothing."""
-    lines = [each for port, count in COUNTS.items() for each in office(port, count)]
-    assert len(lines) == ALL
-    stations = Office(random.Random(137))
-    service = (line(moment, stations.service(), 137) for moment in range(ALL))
-    return (written(folder, 'payloads', lines), written(folder, 'comments', (b'#' + each for each in lines)),
-            written(folder, 'service', service), written(folder, 'nothing', []))
+class Calls:
+    """The loops over the library, and the captures that they read."""
+
+    def __init__(self, library, folder):
+        self.library, self.folder = library, folder
+        self.loop, self.absorb = (self.compiled(it) for it in ('service_loop', 'absorb_loop'))
+        lines = [each for port, count in COUNTS.items() for each in office(port, count)]
+        assert len(lines) == ALL
+        stations = Office(random.Random(137))
+        self.payloads = written(folder, 'payloads', lines)
+        self.comments = written(folder, 'comments', (b'#' + each for each in lines))
+        self.service = written(folder, 'service', (line(moment, stations.service(), 137) for moment in range(ALL)))
+
+    def compiled(self, name):
+        """A program in C over the library."""
+        made, compiler = os.path.join(self.folder, name), [os.environ.get('CC', 'cc'), '-O2', f'-I{TOP}/include']
+        subprocess.run([*compiler, '-o', made, f'{LOOPS}/{name}.c', f'{self.library}/libnbt.a'], check=True)
+        return made
+
+    def row(self, title, command, path, beside=None, most=None, rounds='21'):
+        """The row of a program that calls as often as its first word says: a run of none may end in another way than others."""
+        program, *words = command
+        more, fewer = (instructions([*program, count, *words], path) for count in rounds)
+        row = Row(title, more and (more - fewer) // ALL, least(call_seconds, [*program, '1', *words], path))
+        return beside_row(row, beside, most)
+
+    def shown(self, program):
+        """`nbt show`, what it takes less its lines, and beside that the same from C, Python and JavaScript, and objects."""
+        show = [program, 'show', '--input-limit', str(1 << 40)]
+        whole, lines = (instructions(show, path) for path in (self.payloads, self.comments))
+        seconds = [least(processor_seconds, show, path) for path in (self.payloads, self.comments)]
+        yield Row('nbt show', whole and whole // ALL, seconds[0])
+        bar = Row('nbt show, less its lines', whole and (whole - lines) // ALL, seconds[0] - seconds[1])
+        from_c = self.row('nbt_show, from C', [[self.loop], 'show'], self.payloads, bar, MOST_OF_C)
+        yield from (bar, from_c, self.row('nbt_json, from C', [[self.loop], 'json'], self.payloads, from_c, MOST_OF_OBJECTS))
+        python = [sys.executable, f'{LOOPS}/service_loop.py']
+        yield self.row('nbt.show, from Python', [python, 'show'], self.payloads, bar, MOST_OF_PYTHON, '10')
+        targets = os.path.dirname(self.library)
+        if shutil.which('node') and os.path.exists(os.path.join(targets, 'nbt.mjs')):
+            command = ['node', '--experimental-wasm-memory64', f'{LOOPS}/show_loop.mjs', targets, '1']
+            taken = least(call_seconds, command, self.payloads)
+            yield Row('show, from JavaScript', None, taken, taken / seconds[0], MOST_OF_NODE)
+
+    def items(self):
+        """A packet of port 137 with all that it has, beside a reader in plain Rust, and how much memory the calls ask for."""
+        plain, path = plain_program.compiled(self.folder), self.service
+        bar = Row("the plain program's reading of port 137", said=plain_program.WANTED)
+        if plain:
+            bar = self.row(bar.title, [[plain]], path)
+            ways = ([self.loop, '1', 'items'], [self.loop, '1', 'judged'], [plain, '1'])
+            sums = {printed(command, path).split()[0] for command in ways}
+            assert len(sums) == 1, f'they read other values: {sums}'
+        yield bar
+        yield self.row('nbt_service_header, each item and part, from C', [[self.loop], 'items'], path, bar, MOST_OF_ITEMS)
+        yield self.row('the same after nbt_service_read', [[self.loop], 'judged'], path, bar, MOST_OF_JUDGED)
+        taken = self.asked('1', 'items') + self.asked('1', 'judged') - 2 * self.asked('0', 'items')
+        yield Row('requests of these calls for memory', of=float(taken), most=0.0)
+
+    def asked(self, *words):
+        """How many requests for memory the loop makes."""
+        with open(self.service, 'rb') as given:
+            return requests(self.folder, [self.loop, *words], stdin=given)
+
+    def in_python(self):
+        """ServicePacket.read with its values, beside dpkt and samba, in one run."""
+        python, there = python_of({name: module for name, (_, module) in OTHERS.items()})
+        words = printed([python, f'{LOOPS}/service_loop.py', '1', 'nbt', *there], self.service).decode().split()
+        seconds = {name: int(spent) / 1e9 for name, spent in zip(words[::3], words[2::3])}
+        ours = Row('ServicePacket.read, values read, from Python', None, seconds['nbt'])
+        yield beside_row(ours, Row('', None, seconds['dpkt']), MOST_OF_DPKT) if 'dpkt' in seconds else ours
+        for name, (title, _) in OTHERS.items():
+            yield Row(title, None, seconds.get(name), said='' if name in seconds else f"python3-{name} isn't installed")
+
+    def absorbing(self):
+        """A table of one key, taken in by a station of many: beside the key saved, loaded, and a look at each key that is held."""
+        path = written(self.folder, 'nothing', [])
+        without = instructions([self.absorb, str(KEYS), 'nothing'], path)
+        rows = []
+        for what, title in (('save', 'that key saved'), ('load', 'that key taken in where none is'),
+                            ('look', f'a look at each of {KEYS:,} keys'), ('absorb', f'nbt_station_absorb of a key, {KEYS:,} held')):
+            command = [self.absorb, str(KEYS), what]
+            rows.append(Row(title, without and instructions(command, path) - without, least(call_seconds, command, path)))
+        *parts, absorb = rows
+        bar = Row('', without and sum(row.counted for row in parts), sum(row.seconds for row in parts))
+        return [*parts, beside_row(absorb, bar, MOST_OF_ABSORB)]
 
 
-def showing(program, payloads, comments):
-    """`nbt show`, and what it takes less its lines."""
-    show = [program, 'show', '--input-limit', str(1 << 40)]
-    whole, lines = (instructions(show, path) for path in (payloads, comments))
-    seconds = [least(processor_seconds, show, path) for path in (payloads, comments)]
-    return (Row('nbt show', whole and whole // ALL, seconds[0]),
-            Row('nbt show, less its lines', whole and (whole - lines) // ALL, seconds[0] - seconds[1]))
+def beside_row(row, bar, most):
+    """A row that is held against another one, if there is one."""
+    row.of, row.most = bar and ratio(row, bar), most
+    return row
 
 
-def shown(library, payloads, bars):
-    """The same from Python and JavaScript."""
-    command = [sys.executable, os.path.join(LIB, 'show_loop.py')]
-    counted = [instructions([*command, rounds], payloads) for rounds in '10']
-    row = Row('nbt.show, from Python', counted[0] and (counted[0] - counted[1]) // ALL, least(call_seconds, [*command, '1'], payloads))
-    row.of, row.most = ratio(row, bars[1]), MOST_OF_PYTHON
-    yield row
-    targets = os.path.dirname(library)
-    if shutil.which('node') and os.path.exists(os.path.join(targets, 'nbt.mjs')):
-        command = ['node', '--experimental-wasm-memory64', os.path.join(LIB, 'show_loop.mjs'), targets, '1']
-        seconds = least(call_seconds, command, payloads)
-        yield Row('show, from JavaScript', None, seconds, seconds / bars[0].seconds, MOST_OF_NODE)
-
-
-def rows(program, library, folder):
-    """All rows, as they are measured."""
-    payloads, comments, service, nothing = captures(folder)
-    bars = showing(program, payloads, comments)
-    yield from bars
-    from_c = objects(folder, library, payloads, ALL)
-    from_c[0].of, from_c[0].most = ratio(from_c[0], bars[1]), MOST_OF_C
-    yield from from_c
-    yield from shown(library, payloads, bars)
-    yield from items(folder, library, service, ALL)
-    yield from in_python(service)
-    yield from absorbing(folder, library, nothing)
+def python_of(modules):
+    """The Python that has the most of these modules, by their names, and which these are: this one, or the system's, which Debian's
+    packages are for."""
+    has = lambda python, module: not subprocess.run([python, '-c', f'import {module}'], capture_output=True, check=False).returncode
+    pythons = [each for each in (sys.executable, '/usr/bin/python3') if os.path.exists(each)]
+    found = [(each, [name for name, module in modules.items() if has(each, module)]) for each in pythons]
+    return max(found, key=lambda one: len(one[1]))
 
 
 def main():
@@ -79,12 +145,12 @@ def main():
     library = os.path.abspath(sys.argv[2] if len(sys.argv) > 2 else os.path.join(TOP, 'out', 'lib'))
     os.environ.update(NBT_LIBRARY=os.path.join(library, 'libnbt.so.0'), PYTHONPATH=os.path.join(TOP, 'bindings', 'python'),
                       PYTHONDONTWRITEBYTECODE='1')
-    bars = Bars()
-    bars.heading(*HEADING)
+    heading(*HEADING)
     with tempfile.TemporaryDirectory() as folder:
-        for row in rows(program, library, folder):
-            bars.row(row)
-    return bars.end()
+        calls = Calls(library, folder)
+        for rows in (calls.shown(program), calls.items(), calls.in_python(), calls.absorbing()):
+            show(rows)
+    return finish()
 
 
 if __name__ == '__main__':

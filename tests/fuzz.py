@@ -26,11 +26,10 @@ import tempfile
 import time
 
 sys.path[1:1] = [f'{sys.path[0]}/program']
-from beside_model import LONGEST_PRINTED, ROOT, Cases
+from beside_model import LONGEST_PRINTED, ROOT, Cases, unlike
 from chance import inputs_of, made_by_chance
-from every_request import of_command
+from every_request import command
 from parts import counts
-from seeds import first_unlike
 from served import Run, compiled
 
 SECONDS, MEMORY = 30, 512 << 20
@@ -57,7 +56,7 @@ class Fuzz(Cases):
         except subprocess.TimeoutExpired as late:
             made = subprocess.CompletedProcess(late.cmd, None, b'', b'')
         self.statuses[made.returncode] += 1
-        return made
+        return Run(made.returncode, made.stdout, made.stderr)
 
     def judge(self, words, given, why, rule='told', **asked):
         """Counts a case. Where its rule doesn't hold the input is kept, and the command that repeats it is printed."""
@@ -75,17 +74,12 @@ class Fuzz(Cases):
         super().check(words, given)
         rules = {'the same answer twice': self.twice, 'short reads': self.slowly, 'memory refused': self.without_memory}
         chosen = [rule for rule, often in OFTEN.items() if self.rng.random() < often]
-        made = self.ran(words, given) if chosen else None
+        made = self.run(words, given) if chosen else None
         for rule in chosen:
             rules[rule](rule, words, given, made)
 
-    def ran(self, words, given, shim=None, **asked):
-        """A run as tests/lib/every_request.py has it."""
-        made = self.run(words, given, shim, **asked)
-        return Run(made.returncode, made.stdout, made.stderr)
-
     def twice(self, rule, words, given, made):
-        self.judge(words, given, unlike(self.ran(words, given), made), rule)
+        self.judge(words, given, unlike(self.run(words, given), made), rule)
 
     def slowly(self, rule, words, given, made):
         """Reads and writes that move few bytes, and are interrupted, make no difference. A word @FILE would be another one."""
@@ -94,26 +88,19 @@ class Fuzz(Cases):
             most = choice((1, 2, 7, 100, 4_095)) if len(given) + len(made.output) < 20_000 else 1_000
             asked = {'NBT_MOST': most, 'NBT_READ_INTERRUPTS': choice((0, 0, 1, 5)), 'NBT_WRITE_INTERRUPTS': choice((0, 0, 1, 5))}
             asked = {name: str(value) for name, value in asked.items()}
-            self.judge(words, given, unlike(self.ran(words, given, 'devices', **asked), made), rule, **asked)
+            self.judge(words, given, unlike(self.run(words, given, 'devices', **asked), made), rule, **asked)
 
     def without_memory(self, rule, words, given, made):
         """Some requests for memory are refused, one in each run."""
         path = f'{self.folder}/requests'
-        self.judge(words, given, unlike(self.ran(words, given, 'refuse_memory', NBT_REQUESTS=path), made), rule)
+        self.judge(words, given, unlike(self.run(words, given, 'refuse_memory', NBT_REQUESTS=path), made), rule)
         with open(path, encoding='ascii') as counted:
             requests = range(1, int(counted.read()) + 1)
         self.judge(words, given, '' if requests else 'it asks for no memory', rule)
         for which in self.rng.sample(requests, min(len(requests), 3)):
-            short = self.ran(words, given, 'refuse_memory', NBT_REFUSED=str(which))
-            is_right = of_command(made, short, words, (2,)) is not None
+            short = self.run(words, given, 'refuse_memory', NBT_REFUSED=str(which))
+            is_right = command(made, short, words) is not None
             self.judge(words, given, '' if is_right else f'it ends with {short.status}, {short.errors!r}', rule, NBT_REFUSED=which)
-
-
-def unlike(made, other):
-    """How a run differs from another, if it does."""
-    if (made.status, made.errors) != (other.status, other.errors):
-        return f'it ends with {made.status} and {made.errors!r}, not with {other.status} and {other.errors!r}'
-    return first_unlike(made.output.split(b'\n'), other.output.split(b'\n'))
 
 
 def main():

@@ -11,6 +11,7 @@ import argparse
 import collections
 import itertools
 import os
+import pathlib
 import re
 import shutil
 import subprocess
@@ -18,8 +19,8 @@ import sys
 import tempfile
 import textwrap
 
-TOP = os.path.join(os.path.dirname(os.path.abspath(__file__)), '..')
-CORPUS = os.path.join(TOP, 'tests', 'library', 'corpus.txt')
+TOP = pathlib.Path(__file__).resolve().parents[1]
+CORPUS = TOP / 'tests/library/corpus.txt'
 MOST_BYTES, LINE = 2_000_000, 8_000
 CLANGS = [os.environ.get('FUZZ_CLANG'), 'clang-22', 'clang-19', 'clang-16', 'clang']
 WRAPPED = '-Wl,--wrap=malloc,--wrap=realloc,--wrap=free'
@@ -36,20 +37,23 @@ def fail(text):
 
 
 def run(words, **how):
-    done = subprocess.run(words, stdout=subprocess.PIPE, stderr=subprocess.STDOUT, text=True, errors='replace', **how)
+    """What a command prints, which has to go well."""
+    done = ended(words, **how)
     if done.returncode:
         fail(f'{os.path.basename(words[0])}: {done.stdout.strip()[-300:]}')
     return done.stdout
 
 
+def ended(words, **how):
+    return subprocess.run(words, stdout=subprocess.PIPE, stderr=subprocess.STDOUT, text=True, errors='replace', **how)
+
+
 def fuzzing_clang(room):
     """A clang that has libFuzzer and AddressSanitizer."""
-    source = os.path.join(room, 'none.c')
-    with open(source, 'w', encoding='ascii') as file:
-        file.write('int LLVMFuzzerTestOneInput(const char *at, unsigned long size) { return !at && size; }\n')
+    source = 'int LLVMFuzzerTestOneInput(const char *at, unsigned long size) { return !at && size; }\n'
     for clang in filter(None, CLANGS):
-        words = [clang, '-fsanitize=address,fuzzer', '-o', os.path.join(room, 'none'), source]
-        if shutil.which(clang) and subprocess.run(words, capture_output=True).returncode == 0:
+        words = [clang, '-fsanitize=address,fuzzer', '-o', room / 'none', '-x', 'c', '-']
+        if shutil.which(clang) and ended(words, input=source).returncode == 0:
             return clang
     return fail('no clang has libFuzzer: install clang-22 and libclang-rt-22-dev, or clang and its libclang-rt')
 
@@ -60,43 +64,36 @@ def built(room, module):
     if not shutil.which('rt'):
         fail("rt, the command of the Rattle kit, isn't on PATH: install the kit first")
     kit = os.path.dirname(run(['rt', 'doc']).splitlines()[0])
-    clang, at = fuzzing_clang(room), lambda name: os.path.join(room, name)
+    clang = fuzzing_clang(room)
     words = [f'{kit}/toolchain/bin/clang', '--target=x86_64-unknown-linux-gnu', '-Wno-override-module', '-c', '-x', 'ir', module]
     # The functions of the module don't ask for AddressSanitizer, so they are made to.
-    run([*words, '-O2', '-fsanitize=address,fuzzer-no-link', '-mllvm', '-force-attribute=sanitize_address', '-o', at('library.o')])
-    run([*words, '-O0', '-fsanitize=fuzzer-no-link', '-o', at('blocks.o')])
-    with open(at('cases'), 'w', encoding='ascii') as file:
-        file.write(run([f'{TOP}/tests/library/payload_rows.py', 'cases'], input=''))
-    words = [clang, '-std=c11', '-g', '-O1', '-fsanitize=address', f'-I{TOP}/include', f'-DCASES="{at("cases")}"', *PROGRAM]
+    run([*words, '-O2', '-fsanitize=address,fuzzer-no-link', '-mllvm', '-force-attribute=sanitize_address', '-o', room / 'library.o'])
+    run([*words, '-O0', '-fsanitize=fuzzer-no-link', '-o', room / 'blocks.o'])
+    (room / 'cases').write_text(run([f'{TOP}/tests/library/payload_rows.py', 'cases'], input=''), encoding='ascii')
+    words = [clang, '-std=c11', '-g', '-O1', '-fsanitize=address', f'-I{TOP}/include', f'-DCASES="{room}/cases"', *PROGRAM]
     heap = f'{TOP}/bindings/heaps/malloc.c'
     for library, program in (('library.o', 'fuzz'), ('blocks.o', 'blocks')):
-        run([*words, '-DFUZZER', '-fsanitize=fuzzer', WRAPPED, heap, at(library), '-o', at(program)])
-    run([*words, WRAPPED, '-fsanitize=fuzzer-no-link', heap, at('library.o'), '-o', at('alone')])
-    return at('fuzz'), at('alone'), at('blocks')
+        run([*words, '-DFUZZER', '-fsanitize=fuzzer', WRAPPED, heap, room / library, '-o', room / program])
+    run([*words, WRAPPED, '-fsanitize=fuzzer-no-link', heap, room / 'library.o', '-o', room / 'alone'])
+    return room / 'fuzz', room / 'alone', room / 'blocks'
 
 
 def read_corpus(folder):
-    os.mkdir(folder)
-    with open(CORPUS, encoding='ascii') as file:
-        for number, digits in enumerate(file.read().split()):
-            with open(os.path.join(folder, f'{number:05}'), 'wb') as one:
-                one.write(bytes.fromhex(digits))
+    folder.mkdir()
+    for number, digits in enumerate(CORPUS.read_text(encoding='ascii').split()):
+        (folder / f'{number:05}').write_bytes(bytes.fromhex(digits))
 
 
 def inputs_in(folder):
-    for name in os.listdir(folder):
-        with open(os.path.join(folder, name), 'rb') as file:
-            yield file.read()
+    return [it.read_bytes() for it in folder.iterdir()]
 
 
 def write_corpus(folder):
     """Short inputs first, as many as the limit has room for."""
-    inputs = {it.hex() for it in inputs_in(folder)}
-    short_first = sorted(filter(None, inputs), key=lambda it: (len(it), it))
+    short_first = sorted({it.hex() for it in inputs_in(folder) if it}, key=lambda it: (len(it), it))
     sizes = itertools.accumulate(len(it) + 1 for it in short_first)
     kept = [digits for digits, size in zip(short_first, sizes) if size <= MOST_BYTES]
-    with open(CORPUS, 'w', encoding='ascii') as file:
-        file.write(textwrap.fill(' '.join(kept), LINE) + '\n')
+    CORPUS.write_text(textwrap.fill(' '.join(kept), LINE) + '\n', encoding='ascii')
 
 
 def lines_of(inputs):
@@ -108,10 +105,9 @@ def lines_of(inputs):
 def show_failures(room, said):
     """Prints each input for which something doesn't hold."""
     print(*dict.fromkeys(re.findall(r'.*not so: .*|SUMMARY: .*', said)), sep='\n')
-    for name in sorted(os.listdir(room)):
-        if re.match('(crash|leak|timeout|oom)-', name):
-            with open(os.path.join(room, name), 'rb') as file:
-                data = file.read()
+    for path in sorted(room.iterdir()):
+        if re.match('(crash|leak|timeout|oom)-', path.name):
+            data = path.read_bytes()
             lines = lines_of([data]).replace('table ', '# a saved table: ')
             print(re.sub(r'^(\d+) ', r'\1 0 ', lines, flags=re.M), f'input: {data.hex()}', sep='')
 
@@ -119,7 +115,7 @@ def show_failures(room, said):
 def is_judged(folder, alone):
     """Whether the calls answer of these inputs what tests/model does."""
     rows = run([f'{TOP}/tests/library/payload_rows.py'], input=lines_of(inputs_in(folder)))
-    done = subprocess.run([alone, 'judged'], input=rows, stdout=subprocess.PIPE, stderr=subprocess.STDOUT, text=True, errors='replace')
+    done = ended([alone, 'judged'], input=rows)
     print(f'beside the model: {done.stdout}', end='')
     return done.returncode == 0
 
@@ -134,31 +130,28 @@ def show_reached(said):
         print('reached, {}: {} of {} edges, {} of {} functions'.format(
             title, sum(it[0] for it in part.values()), sum(it[1] for it in part.values()), sum(it[0] > 0 for it in part.values()), len(part)))
     for name, (reached, of) in sorted(edges.items()):
-        if not reached and name.startswith('nb_'):
-            print(f'not reached: {name}, {of} edges')
-    for name, (reached, of) in sorted(edges.items()):
-        if reached and of - reached >= 4 and name.startswith('nb'):
-            print(f'reached in part: {name}, {reached} of {of} edges')
+        if name.startswith('nb') and of - reached >= (4 if reached else 0):
+            print(f'reached, {name}: {reached} of {of} edges')
 
 
 def main():
     parser = argparse.ArgumentParser()
     parser.add_argument('--seconds', type=int, default=60)
-    parser.add_argument('--module', default=os.path.join(TOP, 'out', 'nbt.bc'))
+    parser.add_argument('--module', default=TOP / 'out/nbt.bc')
     parser.add_argument('--keep', action='store_true')
     words = parser.parse_args()
     if not os.path.exists(words.module):
         fail(f'{words.module} is missing: run make targets first')
     symbolizer = shutil.which('llvm-symbolizer-22') or shutil.which('llvm-symbolizer') or fail('llvm-symbolizer is missing: install llvm')
     os.environ.update(ASAN_SYMBOLIZER_PATH=symbolizer, ASAN_OPTIONS='quarantine_size_mb=8:malloc_context_size=2')
-    with tempfile.TemporaryDirectory() as room:
+    with tempfile.TemporaryDirectory() as folder:
+        room = pathlib.Path(folder)
         fuzz, alone, blocks = built(room, words.module)
-        corpus, least = os.path.join(room, 'corpus'), os.path.join(room, 'least')
+        corpus, least = room / 'corpus', room / 'least'
         read_corpus(corpus)
-        os.mkdir(least)
+        least.mkdir()
         limits = [*LIMITS, f'-artifact_prefix={room}/']
-        done = subprocess.run([fuzz, *limits, f'-max_total_time={words.seconds}', corpus], stdout=subprocess.PIPE, stderr=subprocess.STDOUT,
-                              text=True, errors='replace')
+        done = ended([fuzz, *limits, f'-max_total_time={words.seconds}', corpus])
         print(*[line for line in done.stdout.splitlines() if re.search('INITED|DONE', line)], sep='\n')
         if done.returncode:
             show_failures(room, done.stdout)

@@ -11,7 +11,6 @@ import resource
 import select
 import shutil
 import signal
-import subprocess
 import sys
 import tempfile
 import time
@@ -20,8 +19,9 @@ sys.path[1:1] = [f'{sys.path[0]}/{it}' for it in ('lib', 'program')]
 from limits import MANY
 from parts import check, counts, enough, finish, least, part, skip
 from process_inputs import CAPTURE, COMMANDS, FRED, READING, captures, chained, forms, repeated, roomy
-from process_runs import bytes_of, closed, instructions, limited, lines_of, program, run, run_over, small_pipe, start, starts, wait
-from process_terminals import advised, at_terminals, dropped, looked, short_of_memory
+from process_runs import (bytes_of, closed, instructions, least_memory, left_open, limited, lines_of, opened, program, run,
+                          run_over, small_pipe, start, starts, wait, with_errors_shown)
+from process_terminals import advised, at_terminals, came_in_parts, meaning
 from served import requests as counted_requests
 
 
@@ -69,29 +69,31 @@ def closed_reports():
             wanted = (3, b'nbt: write\n') if taken < len(lines) else (0, b'')
             check(output == b''.join(report[:taken]) and wait(process) == wanted,
                   f'nbt {words[0]}, its report closed after line {taken}')
-    for words, taken in itertools.product((['show'], ['replay', 'FRED<20>']), (1, 100, 1_000)):
-        check(is_cut(words, b'tick 1\n' * 100_000, os.pipe(), taken), f'nbt {words[0]} of 100,000 lines, {taken} of them read')
+
+
+def long_outputs(size):
+    """Commands that print more than this, and their inputs, with so many keys."""
+    given = captures(size)
+    building = ['build', 'group', '10.0.0.5:138/0001', 'JOE<00>', 'FRED<20>', '5a' * 200, '1']
+    table = run(['save'], given)[1]
+    reading = [(words, given) for words in (['show'], ['replay', 'FRED<20>'], ['save'])]
+    return [*reading, (['list'], table), (['merge'], table), (building, b'')]
 
 
 def cut_reports():
-    """A reader that goes away after each line of a report that is there already, and inside a line."""
-    ticks = b'tick 1\n' * 1_500
-    table = run(['save'], captures(500))[1]
-    data = '5a' * 200
-    for words, given in [(['show'], ticks), (['replay', 'FRED<20>'], ticks), (['list'], table),
-                         (['build', 'group', '10.0.0.5:138/0001', 'JOE<00>', 'FRED<20>', data, '1'], b'')]:
-        for taken in range(100):
-            check(is_cut(words, given, small_pipe(), taken), f'nbt {words[0]}, {taken} lines of a report read')
-    for words, given in [(['save'], captures(500)), (['merge'], table)]:
-        for count in (1, 1_000, 10_000):
-            check(is_cut(words, given, small_pipe(), 0, count), f'nbt {words[0]}, {count} bytes of its line read')
+    """A reader that goes away after each line of a report that is there already, or inside the line of a table."""
+    for words, given in long_outputs(500):
+        of_lines = words[0] not in ('save', 'merge')
+        for taken in range(100) if of_lines else (1, 1_000, 10_000):
+            is_right = is_cut(words, given, taken, of_lines)
+            check(is_right, f'nbt {words[0]}, {taken} {"lines" if of_lines else "bytes"} of its output read')
 
 
-def is_cut(words, given, pipe, lines, count=0):
-    """Whether the output is right as far as it is read, some lines and some bytes, and then can't be written."""
+def is_cut(words, given, taken, of_lines):
+    """Whether the output is right as far as it is read, some lines or bytes, and then can't be written."""
     whole = run(words, given)[1]
-    size = sum(map(len, whole.splitlines(keepends=True)[:lines])) + count
-    reading, writing = pipe
+    size = sum(map(len, whole.splitlines(keepends=True)[:taken])) if of_lines else taken
+    reading, writing = small_pipe()
     with tempfile.TemporaryFile() as source:
         source.write(given)
         source.seek(0)
@@ -140,64 +142,38 @@ def stopping_input(words):
 def open_inputs():
     """An input that stays open after a line at which the command ends, or that can't be written: it doesn't wait for more."""
     for words in (['show'], ['replay', 'FRED<20>']):
-        with open('/dev/full', 'wb') as full:
-            process = start(words, stdout=full)
-        process.stdin.write(b'tick 1\n')
-        check(wait(process) == (3, b'nbt: write\n'), f'nbt {words[0]}, standard output full, an input that stays open')
-    for words, given, *wanted in [
-            (['show'], b'tick 1\nx\n', 1, b'1 tick 1\n', b'nbt: line 2\n'),
-            (['replay', 'FRED<20>'], b'tick 1\nx\n', 1, b'1 dropped 0\n', b'nbt: line 2\n'),
-            (['save'], b'tick 1\nx\n', 1, b'', b'nbt: line 2\n'),
-            (['save', '--keys', '1'], captures(2), 1, b'', b'nbt: full\n'),
-            (['save', '--per-source', '1'], captures(2), 1, b'', b'nbt: full source\n')]:
-        process = start(words)
-        process.stdin.write(given)
-        output = process.stdout.read()
-        status, errors = wait(process)
-        check([status, output, errors] == wanted, f'{named(words)}, an input that stays open')
+        with opened('full') as full:
+            ended = left_open(words, b'tick 1\n', stdout=full)
+        check(ended == (3, b'', b'nbt: write\n'), f'nbt {words[0]}, standard output full, an input that stays open')
+    malformed, two = b'tick 1\nx\n', captures(2)
+    for words, given in [(['show'], malformed), (['replay', 'FRED<20>'], malformed), (['save'], malformed),
+                         (['save', '--keys', '1'], two), (['save', '--per-source', '1'], two)]:
+        check(left_open(words, given) == run(words, given), f'{named(words)}, an input that stays open')
 
 
 def halting_inputs():
     """Each command's input, which stops after some bytes and then goes on: the program waits, and does as ever."""
     for words, given, *wanted in COMMANDS:
         for place in (1, len(given) // 2, len(given) - 1) if given else ():
-            process = start(words)
-            process.stdin.write(given[:place])
-            time.sleep(0.02)
-            waits = process.poll() is None
-            process.stdin.write(given[place:])
-            process.stdin.close()
-            output = process.stdout.read()
-            status, errors = wait(process)
-            check(waits and [status, output, errors] == wanted,
-                  f'{named(words)}, an input that stops after {place} bytes')
+            ended = run(words, (given[:place], given[place:]))
+            check(ended == tuple(wanted), f'{named(words)}, an input that stops after {place} bytes')
 
 
 def terminals():
     """A terminal as all three streams, and as standard error alone."""
-    for passed, name in itertools.chain(at_terminals(), advised(), looked(), dropped(), short_of_memory()):
+    for passed, name in itertools.chain(at_terminals(), advised(), came_in_parts()):
         check(passed, name)
 
 
-def full_disks():
-    """A disk that is full after some bytes: what it has is a front of the output."""
-    with tempfile.TemporaryDirectory() as folder:
-        mounting = ['mount', '-t', 'tmpfs', '-o', 'size=16k', 'nbt', folder]
-        if subprocess.run(mounting, stderr=subprocess.DEVNULL, timeout=60).returncode:
-            skip('full_disks', 'no tmpfs can be mounted here')
-            return
-        try:
-            full_disk('a tmpfs of 16 kB', os.path.join(folder, 'output'), None)
-            filled_disk(folder)
-        finally:
-            subprocess.run(['umount', folder], check=True, timeout=60)
-
-
 def short_files():
-    """A file that takes fewer bytes than there are: 16 kB, and each number below what the output has."""
+    """A file that takes fewer bytes than there are gets exactly those: each number below what the output has, and 16 kB."""
     with tempfile.TemporaryDirectory() as folder:
-        full_disk('files of at most 16 kB', os.path.join(folder, 'output'), small_files(16_384))
-        cut_files(os.path.join(folder, 'output'))
+        path = os.path.join(folder, 'output')
+        for words, given in (*(it[:2] for it in COMMANDS), *forms(), *long_outputs(1_000)):
+            output = run(words, given)[1]
+            for size in range(len(output)) if len(output) < 16_384 else (16_384,):
+                ended = ended_in(path, words, given, before=small_files(size))
+                check(ended == ((3, b'nbt: write\n'), output[:size]), f'{named(words)}, {size} bytes of room')
 
 
 def small_files(limit):
@@ -216,49 +192,12 @@ def ended_in(path, words, given, **how):
         return ended, stream.read()
 
 
-def cut_files(path):
-    """A file that takes fewer bytes than the output has, for each such number: it gets exactly those."""
-    for words, given in [*((words, given) for words, given, *_ in COMMANDS), *forms()]:
-        output = run(words, given)[1]
-        for room in range(len(output)):
-            ended = ended_in(path, words, given, before=small_files(room))
-            check(ended == ((3, b'nbt: write\n'), output[:room]), f'{named(words)}, {room} bytes of room')
-
-
-def full_disk(name, path, before):
-    """A file that takes 16 kB, as the output of each command whose output may be longer."""
-    given = captures(1_000)
-    table = run(['save'], given)[1]
-    building = ['build', 'group', '10.0.0.5:138/0001', 'JOE<00>', 'FRED<20>', '5a' * 200, '1']
-    for words, given in [(['show'], given), (['replay', 'FRED<20>'], given), (['save'], given), (['merge'], table),
-                         (['list'], table), (building, b'')]:
-        whole = run(words, given)[1]
-        ended, written = ended_in(path, words, given, before=before)
-        os.remove(path)
-        is_front = 0 < len(written) <= 16_384 < len(whole) and whole.startswith(written)
-        check(ended == (3, b'nbt: write\n') and is_front, f'nbt {words[0]}, {name}')
-
-
-def filled_disk(folder):
-    """A disk that is full already, as the output and as standard error of each command."""
-    with open(os.path.join(folder, 'filling'), 'wb', buffering=0) as filling, contextlib.suppress(OSError):
-        while True:
-            filling.write(bytes(4_096))
-    path = os.path.join(folder, 'output')
-    for words, given, status, output, errors in COMMANDS:
-        wanted = (3, b'nbt: write\n') if output else (status, errors)
-        check(ended_in(path, words, given) == (wanted, b''), f'{named(words)}, output to a full disk')
-        with open(path, 'wb') as stream:
-            ended = run(words, given, stderr=stream)[:2]
-        check(ended == (status, output), f'{named(words)}, errors to a full disk')
-
-
 def short_memory():
     """Each limit on the program's memory from 1 to 64 megabytes, and closer ones where it just starts.
 
     Below some limit it isn't the program that fails but its start: the system's loader maps the program and the C
     library before any of its code runs. That is told apart by the loader alone, which under the same limit is asked
-    for the libraries that it would load.
+    for the libraries that it would load. Errors of `save` go to a terminal, which shows what they mean too, or the line alone.
     """
     many = captures(3_000, '5a' * 150)
     table = run(['save', *MANY], many)[1]
@@ -267,25 +206,23 @@ def short_memory():
             (['replay', *MANY, 'FRED<20>'], many), (['save', *MANY], many),
             (['merge', *MANY], table * 2), (['list', *MANY], table * 2), (['agree'], table * 2),
             (['build', 'unique', '10.0.0.5:138/0001', 'JOE<00>', 'FRED<20>', '5a' * 40_000, '2'], b'')]
-    least = next(it for it in range(64, 65_536, 64) if starts([], it << 10))
+    least = least_memory([])
     print(f'the program starts from {least} kB of memory on')
     limits = [it << 20 for it in range(1, 65)] + [(least + it) << 10 for it in range(0, 2_048, 128)]
     for words, given in work:
         whole = run(words, given)
-        outcomes = set()
         for limit in limits:
-            ended = run(words, given, before=limited(limit))
-            outcomes.add(ended[0])
+            ended = (with_errors_shown if words[0] == 'save' else run)(words, given, before=limited(limit))
             check(is_told(ended, whole) if starts(words, limit) else not ended[1],
                   f'{named(words)} in {limit >> 10} kB: {ended[0]} {ended[2][:60]}')
-        check(whole[0] in outcomes, f'nbt {words[0]}: 64 megabytes are enough')
+        check(run(words, given, before=limited(64 << 20)) == whole, f'nbt {words[0]}: 64 megabytes are enough')
 
 
 def room():
     """Inputs that want a known room, in little more memory than that."""
-    for name, words, given, output, limit in roomy():
+    for name, words, given, limit in roomy():
         ended = run(words, given, before=limited(limit << 10))
-        check(ended == (0, output, b''), f'nbt {words[0]}, {name} in {limit} kB: {ended[0]} {ended[2][:60]}')
+        check(ended == (0, run(words, given)[1], b''), f'nbt {words[0]}, {name} in {limit} kB: {ended[0]} {ended[2][:60]}')
 
 
 def requests():
@@ -321,20 +258,20 @@ def short_stack():
             (['replay', *MANY, 'FRED<20>'], many), (['merge', *MANY], table * 2),
             (['list', *MANY], table * 2), (['agree'], table * 2), ([], b''), (['--help'], b''),
             (['replay', '--help'], b'')]
-    work = [(words, given, tuple(wanted)) for words, given, *wanted in COMMANDS]
-    for words, given, wanted in work + [(words, given, run(words, given)) for words, given in deep]:
+    for words, given in [*(it[:2] for it in COMMANDS), *deep]:
         endings = {run(words, given, before=limited(STACK, resource.RLIMIT_STACK), env={}) for _ in range(10)}
-        check(endings == {wanted}, f'{named(words)} with {STACK >> 10} kB of stack: {[it[0] for it in endings]}')
+        check(endings == {run(words, given)}, f'{named(words)} with {STACK >> 10} kB of stack: {[it[0] for it in endings]}')
 
 
 def is_told(ended, whole):
     """Whether a run ended as with ample memory, or says that memory ran out after a front of the output."""
     status, output, errors = ended
-    return ended == whole or (status, errors) == (3, b'nbt: memory\n') and whole[1].startswith(output)
+    is_said = errors == b'nbt: memory\n' or errors == b'nbt: memory\n' + meaning(b'nbt: memory\n')
+    return ended == whole or status == 3 and is_said and whole[1].startswith(output)
 
 
 for each in (ordinary, failing_outputs, closed_reports, cut_reports, inputs, open_inputs, halting_inputs, terminals,
-             full_disks, short_files, short_memory, room, requests, pointers, short_stack):
+             short_files, short_memory, room, requests, pointers, short_stack):
     part(each.__name__, each)
 enough(sum(counts.values()), sum(least().values()), 'all')
 sys.exit(finish())

@@ -51,11 +51,11 @@ streams() { PATH=$room/bin:$PATH counted_by lib/samples.py "$room/files" "$here/
 
 # ---- Each request for memory refused.
 
-# remembers INPUT COMMAND..: commands over an input, with each request refused; where their words have bad digits, form=digits.
+# remembers INPUT COMMAND..: commands over an input, with each request refused.
 remembers() {
     local input=$1 command
     for command in "${@:2}"; do
-        eval "counted_by lib/every_request.py ${form:-command} '$room/refuse_memory.so' '$input' '$program' $command"
+        eval "counted_by lib/every_request.py command '$room/refuse_memory.so' '$input' '$program' $command"
     done
 }
 
@@ -63,8 +63,7 @@ memory() {
     local group="build group 10.0.0.5:138/0001 'JOE<00>' 'FRED<20>'"
     remembers /dev/null "name 'FRED<20>.NETBIOS.COM'" "name --bytes $scoped" 'name FRED' "name --bytes ${fred}00" name 'name --help' "help 'bad text 4'" \
         --help '' replay "build registration 0002 'FRED<20>' 300000 0000 10.0.0.5" 'build message 616263' "$group empty 100" 'build query 0001 FRED' \
-        "$group 00010203040506070809 4"
-    form=digits remembers /dev/null 'name --bytes 0g'
+        "$group 00010203040506070809 4" 'name --bytes 0g'
     { nbt build query 0001 'FRED<20>.A' && printf 'tick 2\n139 0 00000003616263\nx\n'; } >"$room/packets"
     remembers "$room/packets" show 'show --brief' 'show --brief --json'
     { nbt build group 10.0.0.5:138/0001 'JOE<00>' 'FRED<20>' 000102030405 2 && echo tick 1; } >"$room/pieces"

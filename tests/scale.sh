@@ -18,13 +18,17 @@ merge() { ended "$program" merge --keys "$many"; }
 # engine NAME WORD..: $room/NAME, a tool by these words; its first word is the program.
 engine() { printf '#!/bin/sh\nexec %s--program "$@"\n' "$(printf '%q ' "${@:2}")" >"$1" && chmod +x "$1"; }
 
-# told STATUS TEXT TABLE WORD..: the command ends with the status, and at most a line on standard error, TEXT being a pattern; OUT is the
-# table, byte for byte, or isn't there where none is named. Nothing else is left of a command that ends well.
+# ends STATUS TEXT WORD..: whether the command ends with the status, and standard error has TEXT, a pattern.
+ends() {
+    ended "${@:3}" >output 2>errors </dev/null
+    [ $? -eq "$1" ] && [[ $(cat errors) == $2 ]]
+}
+
+# told STATUS TEXT TABLE WORD..: it does so, with at most a line there; OUT is the table, byte for byte, or isn't there where none is
+# named. Nothing else is left of a command that ends well.
 told() {
-    local status=$1 text=$2 table=$3
-    ended "${@:4}" out >output 2>errors </dev/null
-    [ $? -eq "$status" ] && [ "$(wc -l <errors)" -le 1 ] && [[ $(cat errors) == $text ]] && [ ! -s output ] &&
-        [[ $status -ne 0 || ! -e out.work ]] && if [ -n "$table" ]; then cmp -s "$table" out; else [ ! -e out ]; fi
+    ends "$1" "$2" "${@:4}" out && [ "$(wc -l <errors)" -le 1 ] && [ ! -s output ] && [[ $1 -ne 0 || ! -e out.work ]] &&
+        if [ -n "$3" ]; then cmp -s "$3" out; else [ ! -e out ]; fi
     count $? "${*:4}: $(cat errors)"
     rm -rf out out.work
 }
@@ -127,7 +131,6 @@ kills() {
 refusals() {
     local name=${1#./}
     refuses 1 "$name: bad: line 12345 is malformed (shard g0000-00000?)" "$2" "$program" bad
-    refuses 1 "$name: bad: line 12345 is malformed (shard g0000-00000?)" "$2" "$program" --by-source 2 bad
     refuses 1 "$name: ever: lines 1 to * has * bytes, *: keys live across *(--by-source 3)*(nbt-pcap2cap --no-ticks)*" "$1" "$program" ever
     refuses 1 "$name: $here/../examples/office.pcap is a pcap file, and a capture is wanted: nbt-pcap2cap --no-ticks makes one of it" \
         "$1" "$program" "$here/../examples/office.pcap"
@@ -135,8 +138,7 @@ refusals() {
     refuses 3 "$name: many: lines * (shard g0000-00000?): *signal 9 ended the program*" "$2" "$room/killed" many
     refuses 3 "$name: nowhere: no such file" "$1" "$program" many nowhere
     refuses 3 "$name: ./nbt: no such program*" "$1" ./nbt many
-    cp bad kept && ended "$1" "$program" many kept >output 2>errors
-    [ $? -eq 2 ] && cmp -s bad kept && [[ $(cat errors) == "$name: kept is there, and is no saved table"* ]]
+    cp bad kept && ends 2 "$name: kept is there, and is no saved table*" "$1" "$program" many kept && cmp -s bad kept
     count $? "$1: OUT is a capture: $(cat errors)"
     keeps_table "$2" "$program" --tables gaps.table
     keeps 2 "$name: out is there, and is a saved table: --force replaces it" "$1" "$program" gaps
@@ -149,8 +151,7 @@ keeps_table() {
     cp flow.table out
     gives gaps.table "$@" --force
     ended "$@" out >output 2>errors
-    ended "$@" out >output 2>errors
-    [ $? -eq 2 ] && cmp -s gaps.table out && [ ! -e out.work ]
+    ends 2 '*' "$@" out && cmp -s gaps.table out && [ ! -e out.work ]
     count $? "$*, the same words again: $(cat errors)"
     : >out
     gives gaps.table "$@"
@@ -162,26 +163,23 @@ wrong_programs() {
     keeps 3 "*gaps: lines * (shard g0000-00000?): *$room/lying printed isn't a saved table*truncated*" "$1" "$room/lying" --force gaps
 }
 
-# full_disk PART ENGINE: a full disk: OUT's folder is one of 1 MiB.
+# full_disk PART ENGINE OUTPUT ERRORS: a full disk: OUT's folder is one of 1 MiB; of one of 3 MiB what is left, and said.
 full_disk() {
     mkdir -p disk
     if unshare -rm mount -t tmpfs none disk 2>/dev/null; then
-        part "$1" fills_disk "$2"
+        part "$1" fills_disk "${@:2}"
     else
         skip "$1" 'no tmpfs can be mounted here'
     fi
 }
 
 fills_disk() {
-    ended unshare -rm bash -c 'mount -t tmpfs -o size=1m none disk; echo 4e425432 >disk/out
-        "$1" "$2" --force many disk/out; echo $?; cat disk/out; ls disk' - "$1" "$program" >output 2>errors
-    printf '3\n4e425432\nout\n' | cmp -s - <(grep -v out.work output) && [[ $(cat errors) == nbt-*": No space left on device" ]]
+    ends 0 'nbt-*: No space left on device' unshare -rm bash -c 'mount -t tmpfs -o size=1m none disk; echo 4e425432 >disk/out
+        "$1" "$2" --force many disk/out; echo $?; cat disk/out; ls disk' - "$1" "$program" &&
+        printf '3\n4e425432\nout\n' | cmp -s - <(grep -v out.work output)
     count $? "$1: a full disk: $(cat errors)"
-    ended unshare -rm bash -c 'mount -t tmpfs -o size=3m none disk; "$1" "$2" gaps disk/out; echo $?; ls disk' - "$1" "$program" >output 2>errors
-    case $1 in
-    ./nbt-parallel) printf '3\nout.work\n' | cmp -s - output && [[ $(cat errors) == "nbt-parallel: $room/disk/out.work"*": No space left on device" ]] ;;
-    *) printf '0\nout\n' | cmp -s - output && [ ! -s errors ] ;;
-    esac
+    ends 0 "$3" unshare -rm bash -c 'mount -t tmpfs -o size=3m none disk; "$1" "$2" gaps disk/out; echo $?; ls disk' - "$1" "$program" &&
+        printf "$2" | cmp -s - output
     count $? "$1: a disk that a table fills: $(cat errors)"
 }
 
@@ -230,8 +228,7 @@ folders() {
 
 # left_alone FILES NAME WORD..: OUT.work has these files after the run too, and the one of this name is a capture as before.
 left_alone() {
-    ended ./nbt-parallel "$program" "${@:3}" out >output 2>errors
-    [ $? -eq 2 ] && [ "$(cat errors)" = "nbt-parallel: $room/out.work is there, and isn't of an earlier run: it is left as it is" ] &&
+    ends 2 "nbt-parallel: $room/out.work is there, and isn't of an earlier run: it is left as it is" ./nbt-parallel "$program" "${@:3}" out &&
         [ ! -e out ] && [ "$(ls out.work | xargs)" = "$1" ] && cmp -s gaps "out.work/$2"
     count $? "nbt-parallel: OUT.work has $1: $(cat errors)"
     rm -rf out.work
@@ -242,8 +239,8 @@ programs() {
     refuses 3 'nbt-parallel: gaps: merge g0000-level01-000000.table: *' ./nbt-parallel "$room/unjoining" --shard-bytes $((line + 1)) gaps
     ended ./nbt-parallel "$room/unjoining" --shard-bytes $((line + 1)) gaps out >output 2>errors
     : >started
-    ended ./nbt-parallel "$room/slow" --shard-bytes $((line + 1)) gaps out >output 2>errors && cmp -s gaps.table out && [ "$(wc -l <started)" -ge 8 ] &&
-        [[ $(cat errors) == *'out.work is of other captures, of another program, or of other words: begun anew' ]]
+    ends 0 '*out.work is of other captures, of another program, or of other words: begun anew' ./nbt-parallel "$room/slow" \
+        --shard-bytes $((line + 1)) gaps out && cmp -s gaps.table out && [ "$(wc -l <started)" -ge 8 ]
     count $? "nbt-parallel, after another program: $(cat errors)"
     rm -f out
     # An OUT of other words, of a run that was killed before it took OUT.work away.
@@ -263,15 +260,10 @@ settings() {
     count $? 'nbt-parallel leaves nothing in the home folder'
     TMPDIR=$room/nowhere gives gaps.table ./nbt-parallel "$program" gaps
     for word in x '' 1.5 -- 9999999; do
-        ended "$tools/nbt-parallel" --jobs "$word" --program "$program" gaps out >output 2>errors
-        [ $? -eq 2 ] && [[ $(tail -n 1 errors) == 'nbt-parallel: error: argument --jobs: '* ]] && [ ! -e out ]
+        ends 2 '*nbt-parallel: error: argument --jobs: *' "$tools/nbt-parallel" --jobs "$word" --program "$program" gaps out && [ ! -e out ]
         count $? "nbt-parallel --jobs '$word': $(tail -n 1 errors)"
     done
-    for word in 200% +1 -1; do
-        ended "$tools/nbt-parallel" --jobs "$word" --program "$program" gaps out >output 2>errors && cmp -s gaps.table out
-        count $? "nbt-parallel --jobs $word: $(cat errors)"
-        rm -rf out out.work
-    done
+    for word in 200% +1 -1; do gives gaps.table "$tools/nbt-parallel" --jobs "$word" --program "$program" gaps; done
     printf '#!/bin/sh\n[ "$1" = --version ] || kill -9 $$\nexec %s "$@"\n' "$(command -v parallel)" >killing/parallel && chmod +x killing/parallel
     PATH=$room/killing:$PATH refuses 3 'nbt-parallel: gaps: lines 1 to 4440 (shard g0000-000000): signal 9 ended GNU parallel; the same words again go on' \
         ./nbt-parallel "$program" gaps
@@ -279,8 +271,7 @@ settings() {
 
 # lists_nothing STATUS TEXT FILE: what can't be listed.
 lists_nothing() {
-    "$tools/nbt-parallel" --program "$program" --list "$3" >output 2>errors
-    [ $? -eq "$1" ] && [ "$(cat errors)" = "$2" ]
+    ends "$1" "$2" "$tools/nbt-parallel" --program "$program" --list "$3"
     count $? "nbt-parallel --list: $(cat errors)"
 }
 
@@ -310,7 +301,7 @@ with_parallel() {
     grouped 3 flow.table --shard-bytes $((line + 1)) said
 
     # An OUT of several lines.
-    "$tools/nbt-parallel" --program "$program" --list lines >output 2>errors && [ ! -s errors ] &&
+    ends 0 '' "$tools/nbt-parallel" --program "$program" --list lines &&
         sort output | cmp -s - <("$program" list --keys "$many" <flow.table | sort)
     count $? "nbt-parallel --list: $(cat errors)"
     "$tools/nbt-parallel" --list lines --program "$program" 2>errors | head -c 1 >output
@@ -371,7 +362,7 @@ part inputs inputs
 if [[ $(parallel --version 2>/dev/null) == 'GNU parallel'* ]]; then
     engine nbt-parallel "$tools/nbt-parallel" --jobs 2
     part nbt-parallel with_parallel
-    full_disk nbt-parallel-disk ./nbt-parallel
+    full_disk nbt-parallel-disk ./nbt-parallel '3\nout.work\n' "nbt-parallel: $room/disk/out.work*: No space left on device"
 else
     lacks nbt-parallel 'GNU parallel'
     lacks nbt-parallel-disk 'GNU parallel'
@@ -382,7 +373,7 @@ done
 if [ -n "$python" ]; then
     engine nbt-dask "$python" "$tools/nbt-dask" --workers 2
     part nbt-dask with_dask
-    full_disk nbt-dask-disk ./nbt-dask
+    full_disk nbt-dask-disk ./nbt-dask '0\nout\n' ''
 else
     lacks nbt-dask python3-distributed
     lacks nbt-dask-disk python3-distributed

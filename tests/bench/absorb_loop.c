@@ -1,9 +1,11 @@
 /* What it costs that a station takes in a table of one key: fills a station with KEYS keys, and then does what WHAT says: `nothing`,
  * `absorb` a table of one further key, `save` that key from a station of its own, `load` it into a station of no keys, or `look` at
  * each of the keys by giving its fragment again. Usage: absorb_loop KEYS WHAT. Prints the nanoseconds of processor time of that. */
-#define _GNU_SOURCE
-#include "payloads.h"
 #include <nbt.h>
+#include <stdio.h>
+#include <stdlib.h>
+#include <string.h>
+#include <time.h>
 
 /* The first fragment of a group datagram from JOE<00> to FRED<20>, of which more is to come, and where its identifier stands. */
 static const char fragment[] = "\x11\3\0\0" "\x0a\0\0\5" "\0\x8a" "\0\x45" "\0\0"
@@ -50,11 +52,11 @@ int main(int argc, char **argv) {
     const char *what = argc > 2 ? argv[2] : "nothing";
     struct nbt_station held = empty(), one = empty(), none = empty();
     uint8_t table[1024];
-    long long began;
+    clock_t began;
     give_all(&held, keys);
     give(&one, keys);
     must(nbt_station_save(&one, table, sizeof table, &used));
-    began = processor_time();
+    began = clock();
     if (strcmp(what, "absorb") == 0)
         must(nbt_station_absorb(&held, 0, table, used, NULL, 0, &used, &at));
     else if (strcmp(what, "save") == 0)
@@ -63,7 +65,7 @@ int main(int argc, char **argv) {
         must(nbt_station_absorb(&none, 0, table, used, NULL, 0, &used, &at));
     else if (strcmp(what, "look") == 0)
         give_all(&held, keys);
-    printf("%s %lld\n", what, processor_time() - began);
+    printf("%s %lld\n", what, (long long)(clock() - began) * (1000000000 / CLOCKS_PER_SEC));
     nbt_station_free(held);
     nbt_station_free(one);
     nbt_station_free(none);

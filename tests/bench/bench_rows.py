@@ -8,6 +8,8 @@ import time
 from dataclasses import dataclass
 from typing import Optional
 
+from parts import check, counts
+
 RUNS = 5
 # By how much a bar may be missed: what differs from run to run, and from compiler to compiler.
 SLACK = 1.05
@@ -37,36 +39,19 @@ class Row:
         return f'{self.of:.2f} of {self.most:.2f}' + (f', known to be {self.known:.2f}' if self.known and self.of > self.most else '')
 
 
-class Bars:
-    """Prints rows as they are measured. How many are within their bars, which are past them, and how many numbers couldn't be had."""
+def heading(*words):
+    print(f'| {" | ".join(words)} |\n|{"---|" * len(words)}', flush=True)
 
-    def __init__(self):
-        self.within, self.past, self.skipped = 0, [], 0
 
-    @staticmethod
-    def heading(*words):
-        print(f'| {" | ".join(words)} |\n|{"---|" * len(words)}', flush=True)
-
-    def row(self, row):
-        """Prints a row, and judges it."""
+def show(rows):
+    """Prints rows as they are measured, and judges each that has a bar; a number that couldn't be had is left out."""
+    for row in rows:
         print(row, flush=True)
         if row.most is not None and row.of is None:
-            self.skipped += 1
+            counts['skipped'] += 1
         elif row.most is not None:
             most = max(row.most, row.known)
-            self.counts(row.of <= most * SLACK, f'{row.title}: {row.of:.2f}, where at most {most:.2f} was expected')
-
-    def counts(self, good, what):
-        self.within += good
-        if not good:
-            self.past.append(what)
-
-    def end(self):
-        """Prints which are past their bars, and the counts; the status."""
-        for each in self.past:
-            print('failed: ' + each)
-        print(f'{self.within} passed, {len(self.past)} failed, {self.skipped} skipped')
-        return 1 if self.past else 0
+            check(row.of <= most * SLACK, f'{row.title}: {row.of:.2f}, where at most {most:.2f} was expected')
 
 
 HEADING = ('Way', 'Instructions', 'Seconds', 'Times, of at most')
@@ -132,11 +117,3 @@ def processor_seconds(command, path):
 
 def least(measure, *words):
     return min(measure(*words) for _ in range(RUNS))
-
-
-def compiled(folder, source, library, include):
-    """A program in C over the library."""
-    made = os.path.join(folder, os.path.splitext(os.path.basename(source))[0])
-    subprocess.run([os.environ.get('CC', 'cc'), '-O2', '-I' + include, '-o', made, source, os.path.join(library, 'libnbt.a')],
-                   check=True)
-    return made

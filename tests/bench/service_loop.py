@@ -1,6 +1,7 @@
-"""What reading packets of port 137 costs from Python: nbt's ServicePacket.read, with all values read, beside dpkt and samba, whose
-binding is C. Usage: service_loop.py READER.. <CAPTURE, where READER is nbt, dpkt or samba. Each payload is read once by each, a
-thousand at a time by turns. A line for each reader has its name, the values that it read, and its nanoseconds of processor time.
+"""What calls cost from Python: nbt's show, and ServicePacket.read, with all values read, beside dpkt and samba, whose binding is C.
+Usage: service_loop.py ROUNDS READER.. <CAPTURE, where READER is show, nbt, dpkt or samba. In each round each payload is read once by
+each, a thousand at a time by turns. A line for each reader has its name, the values or letters that it read, and its nanoseconds of
+processor time.
 
 Of dpkt are read the attributes that it has: names stay the 32 letters that stand in the packet, and RDATA of type NB its bytes.
 """
@@ -8,6 +9,11 @@ import sys
 import time
 
 BLOCK = 1_000
+
+
+def show_reader():
+    from nbt import show
+    return show
 
 
 def nbt_reader():
@@ -20,7 +26,7 @@ def nbt_reader():
             return [read]
         return [(entry.address, entry.flags) for entry in read]
 
-    def values(payload):
+    def values(_, payload):
         packet = ServicePacket.read(payload)
         found = [packet.identifier, packet.response, packet.op, packet.rcode]
         found += [(question.name, question.type, question.class_number) for question in packet.questions]
@@ -34,7 +40,7 @@ def nbt_reader():
 def dpkt_reader():
     from dpkt.netbios import NS, NS_NBSTAT
 
-    def values(payload):
+    def values(_, payload):
         packet = NS(payload)
         found = [packet.id, packet.qr, packet.opcode, packet.rcode]
         found += [(question.name, question.type, question.cls) for question in packet.qd]
@@ -56,7 +62,7 @@ def samba_reader():
             return [(entry.ipaddr, entry.nb_flags) for entry in read.addresses]
         return [read.data]
 
-    def values(payload):
+    def values(_, payload):
         packet = ndr_unpack(nbt.name_packet, payload)
         found = [packet.name_trn_id, packet.operation]
         found += [(question.name.name, question.name.type, question.question_type, question.question_class)
@@ -68,19 +74,21 @@ def samba_reader():
     return values
 
 
-READERS = {'nbt': nbt_reader, 'dpkt': dpkt_reader, 'samba': samba_reader}
+READERS = {'show': show_reader, 'nbt': nbt_reader, 'dpkt': dpkt_reader, 'samba': samba_reader}
 
 
 def main():
-    payloads = [bytes.fromhex(line.split()[2].replace('empty', '')) for line in sys.stdin]
-    readers = [(name, READERS[name]()) for name in sys.argv[1:]]
-    counts, spent = dict.fromkeys(sys.argv[1:], 0), dict.fromkeys(sys.argv[1:], 0)
-    for start in range(0, len(payloads), BLOCK):
+    rounds, *names = sys.argv[1:]
+    lines = [line.split() for line in sys.stdin]
+    payloads = [(int(port), bytes.fromhex(digits.replace('empty', ''))) for port, _, digits in lines]
+    readers = [(name, READERS[name]()) for name in names]
+    counts, spent = dict.fromkeys(names, 0), dict.fromkeys(names, 0)
+    for start in list(range(0, len(payloads), BLOCK)) * int(rounds):
         for name, values in readers:
             began = time.process_time_ns()
-            counts[name] += sum(len(values(payload)) for payload in payloads[start:start + BLOCK])
+            counts[name] += sum(len(values(port, payload)) for port, payload in payloads[start:start + BLOCK])
             spent[name] += time.process_time_ns() - began
-    for name in sys.argv[1:]:
+    for name in names:
         print(name, counts[name], spent[name])
 
 

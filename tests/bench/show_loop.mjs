@@ -1,4 +1,4 @@
-// What show of nbt.mjs costs: the same as tests/bench/show_loop.c. Usage: node show_loop.mjs FOLDER ROUNDS <CAPTURE
+// What show of nbt.mjs costs: the same as nbt_show by tests/bench/service_loop.c. Usage: node show_loop.mjs FOLDER ROUNDS <CAPTURE
 import { readFileSync } from 'node:fs';
 import { pathToFileURL } from 'node:url';
 

@@ -15,10 +15,10 @@ page of the sources.
 '''
 CALLS_HEAD = '''# Calls
 
-Each public call of the libraries, and each function of the command that has a contract: its signature, the comment that stands above it, its
-errors, and the labels of the clauses of its contract, which is proved. A clause without a label is `one`; what `requires` says a caller owes.
-After those of a crate stands what else a caller can name of it, so that each change of what is public is one of this page; laws are in
-docs/LAWS.md. docs/PROMISES.md says what these amount to. tests/docs/pages.py makes this page of the sources.
+Each public call of the libraries, and each function of the command that has a contract or is public: its signature, the comment
+that stands above it, its errors, and the labels of the clauses of its contract, which is proved. A clause without a label is `one`; what
+`requires` says a caller owes. After those of a crate stands what else a caller can name of it, so that each change of what is public is
+one of this page; laws are in docs/LAWS.md. docs/PROMISES.md says what these amount to. tests/docs/pages.py makes this page of the sources.
 '''
 DEFINITIONS_HEAD = '''# Definitions
 
@@ -55,48 +55,34 @@ def laws(crates):
 
 
 def calls(crate):
-    """The calls of a crate that have a row: those that are public, and of the command each function with a contract."""
-    law = law_files(crate)
-    found = [it for path in sources(crate) if path not in law for it in functions(path)]
-    if crate == 'nbt':
-        return [it for it in found if it.is_public and not it.trait and it.clauses]
-    surface = surface_of(crate)
-    return [it for it in found if surface.hands_out(it) and it.trait not in PLAIN_TRAITS and (it.doc or it.clauses)]
+    """The calls of a crate that have a row: those that a caller can name, and of the command each function with a contract."""
+    law, surface = law_files(crate), surface_of(crate)
+    for it in (it for path in sources(crate) if path not in law for it in functions(path)):
+        is_named = surface.hands_out(it) and (it.trait not in PLAIN_TRAITS or it.owner == it.trait)
+        if it.is_public and not it.trait and (is_named or it.clauses) if crate == 'nbt' else is_named and (it.doc or it.clauses):
+            yield it
 
 
-def is_of(words, function):
-    """Whether a line of the surface is that of a function, by its signature."""
-    return words.endswith(one_line(function.head))
-
-
-def signature(function, lines):
-    """How a call is called: its own line of the surface, which is taken out, or its head where none is its."""
-    name = f'{function.owner}::{function.name}' if function.owner else function.name
-    of_name = [it for it in lines if it[1] == name and re.search(r'\bfn ', it[2])]
-    found = next((it for it in of_name if is_of(it[2], function)), None)
-    if found:
-        lines.remove(found)
-    words = found[2] if found else one_line(function.head)
-    # A block with bounds of its own is shown with them.
+def signature(function):
+    """How a call is called. A block with bounds of its own is shown with them."""
+    words = one_line(f'{function.block}: {function.head}' if function.owner and not function.trait else function.head)
     head = re.fullmatch(rf'(?:impl(?:<[^:>]*>)? ({function.owner}\b[^:]*): )?(?:pub )?fn ({function.name}\b.*)', words)
     return words if not head else f'{head[1] or function.owner}::{head[2]}' if function.owner else head[2]
 
 
-def row(function, lines):
+def row(function):
     """The row of a call: its signature, its comment with the errors, and the labels of its clauses."""
     says = [function.doc or f'As `{function.trait}` has it.', *([f'Errors: {function.errors}'] if function.errors else [])]
     owed = [f'requires `{words}`' for kind, words in function.clauses if kind == 'requires']
     labels = [f'`{label}`' if label else 'one' for label, _ in function.clauses if label != 'requires']
-    return f'| `{signature(function, lines)}` | {plain(" ".join(says))} | {plain(", ".join(dict.fromkeys(owed + labels)))} |'
+    return f'| `{signature(function)}` | {plain(" ".join(says))} | {plain(", ".join(dict.fromkeys(owed + labels)))} |'
 
 
-def others(crate, lines):
+def others(crate):
     """What else is public, a line for each item: its own declaration, what is derived for it, and the traits that are implemented."""
-    laws_here = {it.name for path in law_files(crate) for it in functions(path)}
     found = collections.defaultdict(list)
-    for module, item, words in lines:
-        if not (item in laws_here and words == f'pub fn {item}()'):
-            found[module, item].append(words)
+    for module, item, words in sorted(surface_of(crate).lines):
+        found[module, item].append(words)
     for (module, item), words in found.items():
         first, *rest = sorted(words, key=lambda it: (not it.startswith('pub '), it))
         rest = [it.removeprefix('impl ').removesuffix(f' for {item}') for it in rest]
@@ -107,9 +93,8 @@ def calls_page(crates):
     """The page of the calls."""
     lines = [CALLS_HEAD]
     for crate in crates:
-        left = surface_of(crate).surface()
-        lines += [f'## {crate}\n', '| Call | What it says | Clauses |', '|---|---|---|', *(row(it, left) for it in calls(crate)), '']
-        lines += [*(f'- {it}' for it in others(crate, left)), '']
+        lines += [f'## {crate}\n', '| Call | What it says | Clauses |', '|---|---|---|', *map(row, calls(crate)), '']
+        lines += [*(f'- {it}' for it in others(crate)), '']
     return '\n'.join(lines)
 
 

@@ -95,15 +95,10 @@ def rows(text):
             yield [it.strip() for it in re.split(r'(?<!\\)\|', line)[1:-1]]
 
 
-def called(name):
-    """The crate, the type and the function of a call as docs/PROMISES.md names it."""
-    crate, *owner, function = name.split('::')
-    return crate, owner[-1] if owner else '', function
-
-
 def calls_of(name):
-    """The functions that a call of docs/PROMISES.md names."""
-    crate, owner, function = called(name)
+    """The functions that a call of docs/PROMISES.md names, by its crate, its type, if it has one, and its own name."""
+    crate, *path = name.split('::')
+    owner, function = ('', *path)[-2:]
     types = {owner, aliases(crate).get(owner)}
     paths = [it for it in sources(crate) if it not in law_files(crate)]
     return [it for path in paths for it in functions(path) if it.name == function and (it.owner in types if owner[:1].isupper() else not it.owner)]

@@ -33,11 +33,11 @@ class Source:
         self.code = blank(self.plain, QUOTED)
 
 
-def closed(text, start):
+def closed(text, start, pair='{}'):
     """The place after the brace that closes the one at the start."""
     depth = 0
     for place in range(start, len(text)):
-        depth += {'{': 1, '}': -1}.get(text[place], 0)
+        depth += (text[place] == pair[0]) - (text[place] == pair[1])
         if depth == 0:
             return place + 1
     raise ValueError(f'no brace closes {text[start:start + 60]!r}')
@@ -54,13 +54,7 @@ def owner_of(head):
     if head.split()[-2:-1] == ['trait']:
         return head.split()[-1], head.split()[-1]
     rest = re.sub(r'^(unsafe\s+)?impl\s*', '', head)
-    if rest.startswith('<'):
-        depth = 0
-        for place, each in enumerate(rest):
-            depth += {'<': 1, '>': -1}.get(each, 0)
-            if depth == 0:
-                rest = rest[place + 1:]
-                break
+    rest = rest[closed(rest, 0, '<>') if rest.startswith('<') else 0:]
     trait, is_of, of = re.split(r'\bwhere\b', rest)[0].partition(' for ')
     return (type_name(of), type_name(trait)) if is_of else (type_name(trait), '')
 
@@ -69,7 +63,7 @@ def blocks(code):
     """Where each `impl` and each trait begins and ends, with its head."""
     for found in BLOCK.finditer(code):
         brace = code.find('{', found.start())
-        if brace < 0 or ';' in code[found.start():brace] or re.search(r'[(,:<]\s*(?:&\S*\s*)?$|->\s*$', code[:found.start()][-20:]):
+        if brace < 0 or re.search(r';(?! \d)', code[found.start():brace]) or re.search(r'[(,:<]\s*(?:&\S*\s*)?$|->\s*$', code[:found.start()][-20:]):
             continue
         head = found[0] if 'trait' in found[0] else code[found.start():brace]
         yield brace, closed(code, brace), ' '.join(head.split())

@@ -1,18 +1,18 @@
 """The public surface of each crate, by its sources, for docs/CALLS.md, in which a change of it is seen.
 
-A line is a crate and its module, an item, and its signature without clauses: types with their public fields and variants, what is
-derived for them, their methods, constants, and the traits that are implemented; traits with their calls; functions; what is handed on
-from a crate below. Only what a caller can name is there: of public modules, and what `pub use` hands out; of a program what its
-main.rt takes from its modules. The examples' crates have no callers.
+A line is a module, an item, and its words: types with their public fields and variants, what is derived for them, constants and types of
+theirs and of traits, and the traits that are implemented; what is handed on from a crate below. Functions have rows of their own there. Only
+what a caller can name counts: of public modules, and what `pub use` hands out; of a program what its main.rt takes from its modules.
+The examples' crates have no callers.
 """
 import re
 
-from sources import BLOCK, CRATES, Source, closed, end_of_head, owner_of
+from sources import CRATES, Source, blocks, closed, end_of_head, owner_of
 
 ITEM = re.compile(
     r'^pub (?:(?:const |unsafe |extern\s+)*fn|struct|enum|trait|type|const|static) (?P<name>\w+)', re.MULTILINE)
 DERIVED = re.compile(r'#\[derive\(([^)]*)\)\]')
-METHOD = re.compile(r'^    (?:pub )?(?:(?:final |const |unsafe |extern\s+)*fn|const|type) (?P<name>\w+)', re.MULTILINE)
+MEMBER = re.compile(r'^    (?:pub )?(?:const|type) (?!fn )(?P<name>\w+)', re.MULTILINE)
 FLAGS = re.compile(r'^bitflag_items! \{\n    impl (\w+): (\w+) \{(.*?)\n    \}', re.MULTILINE | re.DOTALL)
 USE = re.compile(r'^(pub )?use ([^;]+);', re.MULTILINE)
 
@@ -27,10 +27,6 @@ class Items(Source):
     def words(self, start, end):
         """A part of the file in one line, without attributes."""
         return one_line(re.sub(r'#\[[^\]]*\]', ' ', self.plain[start:end]))
-
-    def head(self, start):
-        """A head of a function, or what stands before the semicolon of another item."""
-        return self.words(start, end_of_head(self.code, start))
 
 
 def one_line(code):
@@ -86,15 +82,15 @@ class Crate:
         self.name, self.src = name, CRATES / name / 'src'
         self.sources = {path.relative_to(self.src).with_suffix('').parts: Items(path) for path in sorted(self.src.rglob('*.rt'))}
         self.is_program = ('main',) in self.sources
-        self.lines, self.types, self.traits = [], {}, set()
+        self.lines, self.types, self.traits, self.names = set(), {}, set(), set()
+        self.text = '\n'.join(it.code for it in self.sources.values())
         self.walk((), 'main' if self.is_program else 'lib')
-        self.names = {item for _, item, _ in self.lines}
         for source in self.sources.values():
             self.blocks(source)
 
     def add(self, module, item, words):
         """A line of the surface."""
-        self.lines.append((module, item, words))
+        self.lines.add((module, item, words))
 
     def walk(self, module, top=None):
         """What a public module hands out."""
@@ -125,54 +121,46 @@ class Crate:
     def hand_out(self, module, source, name):
         """An item of a file, which stands in a public module."""
         start = source.items[name]
-        self.add(module, name, declared(source, start))
-        if source.code.startswith(('pub struct', 'pub enum', 'pub type'), start):
+        self.names.add(name)
+        words = declared(source, start)
+        if not re.search(r'\bfn$', words.partition(f' {name}')[0]):
+            self.add(module, name, words)
+        if words.startswith(('pub struct', 'pub enum', 'pub type')):
             self.types[name] = module
-            before = source.code[:start].rstrip().splitlines()
-            for line in reversed(before):
-                if met := DERIVED.match(line):
-                    self.add(module, name, f'derives {", ".join(sorted(it.strip() for it in met[1].split(",")))}')
-                if not line.startswith('#['):
-                    break
-        elif source.code.startswith('pub trait', start):
+            attributes = re.search(r'(?:^#\[.*\n)*\Z', source.code[:start], re.MULTILINE)[0]
+            for derived in DERIVED.findall(attributes):
+                self.add(module, name, f'derives {", ".join(sorted(it.strip() for it in derived.split(",")))}')
+        elif words.startswith('pub trait'):
             self.traits.add(name)
             brace = source.code.index('{', start)
-            self.calls(module, name, source, brace, closed(source.code, brace), '')
+            self.members(module, name, source, brace, closed(source.code, brace), '')
 
-    def calls(self, module, name, source, start, end, head):
-        """The methods, constants and types that stand in a block: of a type those that are public."""
-        for it in METHOD.finditer(source.code, start, end):
+    def members(self, module, name, source, start, end, head):
+        """The constants and types that stand in a block: of a type those that are public."""
+        for it in MEMBER.finditer(source.code, start, end):
             if it[0].startswith('    pub ') or not head:
-                self.add(module, f'{name}::{it["name"]}', head + source.head(it.start() + 4))
+                self.add(module, f'{name}::{it["name"]}', head + source.words(it.start() + 4, end_of_head(source.code, it.start() + 4)))
 
     def blocks(self, source):
-        """The methods of types that are handed out, and the traits that are implemented for them."""
-        for it in re.finditer(r'^' + BLOCK.pattern, source.code, re.MULTILINE):
-            brace = source.code.find('{', it.start())
-            if 'trait' in it[0]:
-                continue
-            head = source.words(it.start(), brace)
+        """What stands in blocks of types that are handed out, and the traits that are implemented for them."""
+        for brace, end, head in blocks(source.code):
             owner, trait = owner_of(head)
-            is_own = re.search(rf'\b(?:struct|enum|type) {owner}\b', self.text()) is not None
-            if owner not in self.types if is_own else trait not in self.traits:
+            is_own = re.search(rf'\b(?:struct|enum|type) {owner}\b', self.text) is not None
+            if head.split()[-2:-1] == ['trait'] or (owner not in self.types if is_own else trait not in self.traits):
                 continue
             if not trait:
-                self.calls(self.types[owner], owner, source, brace, closed(source.code, brace), f'{head}: ')
-            elif trait in self.traits or not re.search(rf'^(?:pub(?:\(\w+\))? )?trait {trait}\b', self.text(), re.MULTILINE):
-                self.add(self.types.get(owner, ()), owner if owner in self.types else trait, head)
+                self.members(self.types[owner], owner, source, brace, end, f'{one_line(head)}: ')
+            elif trait in self.traits or not self.has_private(trait):
+                self.add(self.types.get(owner, ()), owner if owner in self.types else trait, one_line(head))
         for name, bits, inner in FLAGS.findall(source.code):
             for flag, value in re.findall(r'\bconst (\w+) = (\w+);', inner) if name in self.types else ():
                 self.add(self.types[name], f'{name}::{flag}', f'pub const {flag}: {bits} = {value}')
 
+    def has_private(self, trait):
+        """Whether a trait of this name stands in the crate."""
+        return re.search(rf'^(?:pub(?:\(\w+\))? )?trait {trait}\b', self.text, re.MULTILINE) is not None
+
     def hands_out(self, function):
         """Whether a caller can name a public function: a free one, or one of a type or a trait that is handed out, but for private traits."""
-        is_private = function.trait not in self.traits and re.search(rf'^(?:pub\(\w+\) )?trait {function.trait}\b', self.text(), re.MULTILINE)
-        return function.is_public and not (function.trait and is_private) and (function.owner or function.name) in self.names
-
-    def text(self):
-        """All that the crate's sources say."""
-        return '\n'.join(it.code for it in self.sources.values())
-
-    def surface(self):
-        """Its lines as modules, items and words, in the order of modules and names."""
-        return sorted(set(self.lines))
+        is_private = function.trait and function.trait not in self.traits and self.has_private(function.trait)
+        return function.is_public and not is_private and (function.owner or function.name) in self.names

@@ -7,36 +7,23 @@
  * NBT_READ_FAILS        which read of standard input fails, the first being 1; interrupted ones aren't counted
  * NBT_END_FAILS         the end of standard input is a failure instead
  * NBT_WRITE_FAILS       which write to standard output fails, the first being 1; interrupted ones aren't counted
- * NBT_OUTPUT_ROOM       how many bytes standard output takes before it fails
- * NBT_ERRORS_ROOM       the same of standard error
  * NBT_WRITES            a file that gets the number of writes to standard output, in decimal, when the program ends
  *
  * A word `@FILE` of the program is replaced by what the file holds. The program reads and writes by read and write
  * alone. */
 #define _GNU_SOURCE
-#include <dlfcn.h>
 #include <errno.h>
 #include <stdio.h>
 #include <stdlib.h>
+#include <sys/syscall.h>
 #include <unistd.h>
 
-typedef ssize_t (*read_some)(int, void *, size_t);
-typedef ssize_t (*write_some)(int, const void *, size_t);
-
-struct interrupts {
-    unsigned long each;
-    unsigned long waiting;
-};
-
-static struct interrupts read_interrupts;
-static struct interrupts write_interrupts;
+/* Calls of one stream: how many there were, which one fails, and how many interrupts come before each, and before the next. */
+static struct calls {
+    unsigned long count, failing, interrupts, waiting;
+} reads, writes;
 static unsigned long most;
-static unsigned long reads;
-static unsigned long failing_read;
 static int end_fails;
-static unsigned long writes;
-static unsigned long failing_write;
-static unsigned long rooms[3];
 
 static unsigned long asked(const char *name, unsigned long otherwise) {
     const char *number = getenv(name);
@@ -48,54 +35,31 @@ static ssize_t fails(int why) {
     return -1;
 }
 
-static int is_interrupted(struct interrupts *interrupts) {
-    if (interrupts->waiting == 0) {
-        interrupts->waiting = interrupts->each;
-        return 0;
+/* The fault of a stream's next call, or 0. */
+static int fault_of(struct calls *calls) {
+    if (calls->waiting > 0) {
+        calls->waiting -= 1;
+        return EINTR;
     }
-    interrupts->waiting -= 1;
-    return 1;
+    calls->waiting = calls->interrupts;
+    calls->count += 1;
+    return calls->count == calls->failing ? EIO : 0;
 }
 
 ssize_t read(int descriptor, void *bytes, size_t size) {
-    static read_some next;
+    int fault = descriptor == 0 ? fault_of(&reads) : 0;
     ssize_t count;
-    if (next == NULL)
-        next = (read_some)dlsym(RTLD_NEXT, "read");
-    if (descriptor != 0)
-        return next(descriptor, bytes, size);
-    if (is_interrupted(&read_interrupts))
-        return fails(EINTR);
-    reads += 1;
-    if (reads == failing_read)
-        return fails(EIO);
-    count = next(descriptor, bytes, size < most ? size : most);
-    return count == 0 && end_fails ? fails(EIO) : count;
+    if (fault != 0)
+        return fails(fault);
+    count = syscall(SYS_read, descriptor, bytes, descriptor == 0 && size > most ? most : size);
+    return descriptor == 0 && count == 0 && end_fails ? fails(EIO) : count;
 }
 
 ssize_t write(int descriptor, const void *bytes, size_t size) {
-    static write_some next;
-    ssize_t count;
-    if (next == NULL)
-        next = (write_some)dlsym(RTLD_NEXT, "write");
-    if (descriptor != 1 && descriptor != 2)
-        return next(descriptor, bytes, size);
-    if (descriptor == 1 && is_interrupted(&write_interrupts))
-        return fails(EINTR);
-    if (descriptor == 1)
-        writes += 1;
-    if (descriptor == 1 && writes == failing_write)
-        return fails(EIO);
-    if (rooms[descriptor] == 0)
-        return fails(ENOSPC);
-    if (descriptor == 1 && size > most)
-        size = most;
-    if (size > rooms[descriptor])
-        size = rooms[descriptor];
-    count = next(descriptor, bytes, size);
-    if (count > 0)
-        rooms[descriptor] -= (unsigned long)count;
-    return count;
+    int fault = descriptor == 1 ? fault_of(&writes) : 0;
+    if (fault != 0)
+        return fails(fault);
+    return syscall(SYS_write, descriptor, bytes, descriptor == 1 && size > most ? most : size);
 }
 
 /* What a file holds, as a word. */
@@ -114,13 +78,11 @@ static char *word_of(const char *path) {
 __attribute__((constructor)) static void begin(int count, char **words) {
     int i;
     most = asked("NBT_MOST", 1UL << 30);
-    read_interrupts.each = read_interrupts.waiting = asked("NBT_READ_INTERRUPTS", 0);
-    write_interrupts.each = write_interrupts.waiting = asked("NBT_WRITE_INTERRUPTS", 0);
-    failing_read = asked("NBT_READ_FAILS", 0);
-    failing_write = asked("NBT_WRITE_FAILS", 0);
+    reads.interrupts = reads.waiting = asked("NBT_READ_INTERRUPTS", 0);
+    writes.interrupts = writes.waiting = asked("NBT_WRITE_INTERRUPTS", 0);
+    reads.failing = asked("NBT_READ_FAILS", 0);
+    writes.failing = asked("NBT_WRITE_FAILS", 0);
     end_fails = getenv("NBT_END_FAILS") != NULL;
-    rooms[1] = asked("NBT_OUTPUT_ROOM", 1UL << 40);
-    rooms[2] = asked("NBT_ERRORS_ROOM", 1UL << 40);
     for (i = 1; i < count; i++)
         if (words[i][0] == '@')
             words[i] = word_of(words[i] + 1);
@@ -129,7 +91,7 @@ __attribute__((constructor)) static void begin(int count, char **words) {
 __attribute__((destructor)) static void report(void) {
     const char *path = getenv("NBT_WRITES");
     FILE *file;
-    unsigned long count = writes;
+    unsigned long count = writes.count;
     if (path == NULL || (file = fopen(path, "w")) == NULL)
         return;
     fprintf(file, "%lu\n", count);

@@ -7,8 +7,8 @@ The program reads INPUT. SHIM is tests/lib/refuse_memory.c, compiled. With ample
 with, and with a request refused that no longer comes it has to do so too. What it may do where one is refused, the FORM says:
 
 - `command`: end with status 3, `nbt: memory` and what the command leaves then: show and replay a front of the output that ends
-  where a line does, the others nothing. Of words that are no command line it may also end as ever, but not at each request.
-- `digits`: the same, where the words have digits that are bad.
+  where a line does, the others nothing. Of words that are no command line, and of bad digits, it may also end as ever, but not at each
+  request.
 - `examples`: answer as ever but for one example, whose answer is that memory ran out; or end with status 3 and `nb_examples: memory`.
   An answer may stay as ever, but not at each request.
 
@@ -24,36 +24,12 @@ import tempfile
 from parts import tally
 from served import Program, Served
 
-# The commands that write as they read.
-WRITING = ('show', 'replay')
-
-
-def with_ample(program):
-    """What a program does with ample memory, and how many requests it makes."""
-    with tempfile.NamedTemporaryFile('r') as counted:
-        ran = program.run(NBT_REQUESTS=counted.name)
-        return ran, int(counted.read() or 0)
-
-
-def is_front(front, whole):
-    """Whether some output is a front of another that ends where a line does."""
-    return not front or whole.startswith(front) and front.endswith(b'\n')
-
-
-def of_command(ample, ran, words, as_ever):
-    """What a command did, which may do as ever with this status."""
-    if ran.status == 3 and ran.errors == b'nbt: memory\n':
-        left = is_front(ran.output, ample.output) if words[:1] and words[0] in WRITING else not ran.output
-        return 'refused' if left else None
-    return 'as ever' if ran == ample and ran.status in as_ever else None
-
 
 def command(ample, ran, words):
-    return of_command(ample, ran, words, (2,))
-
-
-def digits(ample, ran, words):
-    return of_command(ample, ran, words, (1, 2))
+    if ran.status == 3 and ran.errors == b'nbt: memory\n':
+        is_front = words[:1] in (['show'], ['replay']) and ample.output.startswith(ran.output) and ran.output.endswith(b'\n')
+        return 'refused' if is_front or not ran.output else None
+    return 'as ever' if ran == ample and (ran.status == 2 or ran.errors == b'nbt: bad hex\n') else None
 
 
 def examples(ample, ran, _):
@@ -68,12 +44,13 @@ def examples(ample, ran, _):
     return 'refused' if ran.status == 1 and [len(it) for it in (counts, calls, answers)] == [2, 1, 1] else None
 
 
-FORMS = {'command': command, 'digits': digits, 'examples': examples}
+FORMS = {'command': command, 'examples': examples}
 
 
 def tried(form, program):
     """Each case, whether it went well, and why not."""
-    ample, requests = with_ample(program)
+    with tempfile.NamedTemporaryFile('r') as counted:
+        ample, requests = program.run(NBT_REQUESTS=counted.name), int(counted.read() or 0)
     yield f'{requests} requests for memory', requests > 0, 'there is none'
     refused = 0
     with Served(program) as served:

@@ -4,24 +4,13 @@
 Its input, a pipe, has the bytes of FILE and no end. Its output goes to the file OUT. Ctrl-C comes so many seconds after the shell at the
 front of a tool has begun Python, or once OUT has TEXT. The status is that of the command; 124 is one that waits two minutes for that.
 """
+import pathlib
 import signal
 import subprocess
 import sys
 import time
 
 PATIENCE = 120
-
-
-def name_of(process):
-    """The program that a process runs now."""
-    with open(f'/proc/{process.pid}/comm', encoding='utf-8', errors='replace') as name:
-        return name.read().strip()
-
-
-def text_of(path):
-    """The bytes of a file."""
-    with open(path, 'rb') as file:
-        return file.read()
 
 
 def waited(process, held):
@@ -39,9 +28,11 @@ def main():
     when, given, path, *command = sys.argv[1:]
     with open(path, 'wb') as out:
         process = subprocess.Popen(command, stdin=subprocess.PIPE, stdout=out, bufsize=0)
-    process.stdin.write(text_of(given))
+    process.stdin.write(pathlib.Path(given).read_bytes())
     is_time = when.replace('.', '', 1).isdigit()
-    if not waited(process, lambda: name_of(process).startswith('python') if is_time else when.encode() in text_of(path)):
+    # What the process runs now, or what it has written.
+    looked_at, text = (f'/proc/{process.pid}/comm', 'python') if is_time else (path, when)
+    if not waited(process, lambda: text.encode() in pathlib.Path(looked_at).read_bytes()):
         return 124
     time.sleep(float(when) if is_time else 0)
     process.send_signal(signal.SIGINT)

@@ -10,8 +10,6 @@
  * A request is a call of malloc or realloc, which are all that the program's allocator calls. A program marks a call of
  * its own by two requests of an odd size, which no other request has: one of MARK bytes right before the call, and right
  * after it a larger one for the same block. Neither is a request of the call, and neither is refused as one. */
-#define _GNU_SOURCE
-#include <dlfcn.h>
 #include <errno.h>
 #include <stdio.h>
 #include <stdlib.h>
@@ -21,17 +19,15 @@
 #define MARK 50021
 #define MOST_CALLS 1000000
 
-typedef void *(*allocate)(size_t);
-typedef void *(*reallocate)(void *, size_t);
+/* Those of the C library, by its own names. */
+extern void *__libc_malloc(size_t);
+extern void *__libc_realloc(void *, size_t);
 
-static unsigned long requests;
-static unsigned long refused;
+static unsigned long requests, refused;
 
 /* The block of the mark before the call that is being made, and the requests of each call. */
 static void *mark;
-static unsigned long call_refused;
-static unsigned long calls;
-static unsigned long call_requests[MOST_CALLS + 1];
+static unsigned long call_refused, calls, call_requests[MOST_CALLS + 1];
 
 static int is_refused(void) {
     int is_of_call = 0;
@@ -47,28 +43,22 @@ static int is_refused(void) {
 }
 
 void *malloc(size_t size) {
-    static allocate next;
     void *block;
-    if (next == NULL)
-        next = (allocate)dlsym(RTLD_NEXT, "malloc");
     if (size == MARK)
         mark = NULL;
-    block = is_refused() ? NULL : next(size);
+    block = is_refused() ? NULL : __libc_malloc(size);
     if (size == MARK)
         mark = block;
     return block;
 }
 
 void *realloc(void *block, size_t size) {
-    static reallocate next;
-    if (next == NULL)
-        next = (reallocate)dlsym(RTLD_NEXT, "realloc");
     if (mark != NULL && block == mark) {
         mark = NULL;
         if (calls < MOST_CALLS)
             calls += 1;
     }
-    return is_refused() ? NULL : next(block, size);
+    return is_refused() ? NULL : __libc_realloc(block, size);
 }
 
 static unsigned long asked(const char *name) {

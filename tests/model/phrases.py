@@ -25,6 +25,10 @@ REFUSALS = {
     0x83: 'called name present, but insufficient resources', 0x8f: 'unspecified error',
 }
 DATAGRAMS = {'unique': 'datagram', 'group': 'group datagram', 'broadcast': 'broadcast datagram'}
+SESSIONS = {
+    'message': 'sends {size}', 'request': 'calls {called} as {calling}', 'positive': 'accepts', 'negative': 'refuses: {refusal}',
+    'retarget': 'sends the caller to {address}, port {to_port}', 'keepalive': 'keeps the session alive',
+}
 RELAYED = {
     'find': 'asks whether datagrams are relayed to', 'found': 'answers: datagrams are relayed to',
     'missing': 'answers: no datagrams are relayed to',
@@ -121,31 +125,16 @@ def addresses_of(record):
 
 def datagram(fields):
     """A packet of port 138."""
-    kind = fields['kind']
-    if kind == 'error':
+    if fields['kind'] in RELAYED:
+        return f'{RELAYED[fields["kind"]]} {fields["destination"]}'
+    if fields['kind'] == 'error':
         return f'error: {coded(ERRORS, fields["code"])}'
-    if kind in RELAYED:
-        return f'{RELAYED[kind]} {fields["destination"]}'
-    parties = f'{DATAGRAMS[kind]} from {fields["source"]} to {fields["destination"]}'
-    return f'{parties}, {extent(len(fields["data"]) // 2, fields["offset"], int(fields["flags"], 16) & MORE)}'
-
-
-def extent(size, offset, goes_on):
-    """Which bytes a fragment has."""
-    if goes_on:
-        return f'{sized(size)} at offset {offset} of one that goes on'
-    return f'{sized(size)} at offset {offset}, the last' if offset else sized(size)
+    size, offset, goes_on = sized(len(fields['data']) // 2), fields['offset'], int(fields['flags'], 16) & MORE
+    extent = f'{size} at offset {offset}{" of one that goes on" if goes_on else ", the last"}' if goes_on or offset else size
+    return f'{DATAGRAMS[fields["kind"]]} from {fields["source"]} to {fields["destination"]}, {extent}'
 
 
 def session(fields):
     """A packet of port 139."""
-    kind = fields['kind']
-    if kind == 'message':
-        return f'sends {sized(fields["length"])}'
-    if kind == 'request':
-        return f'calls {fields["called"]} as {fields["calling"]}'
-    if kind == 'negative':
-        return f'refuses: {coded(REFUSALS, fields["code"])}'
-    if kind == 'retarget':
-        return f'sends the caller to {fields["address"]}, port {fields["to_port"]}'
-    return {'positive': 'accepts', 'keepalive': 'keeps the session alive'}[kind]
+    refusal, size = coded(REFUSALS, fields.get('code', '00')), sized(fields.get('length', 0))
+    return SESSIONS[fields['kind']].format(**fields | {'refusal': refusal, 'size': size})

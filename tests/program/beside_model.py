@@ -28,13 +28,16 @@ from model.objects import SECTIONS
 from object_inputs import OPTIONS
 from parts import check, finish
 from payloads import longest_phrases
-from printed import COMMANDS, Unknown, is_of_clap, wanted
+from printed import COMMANDS, MOST, Unknown, is_of_clap, parsed, wanted
 from samples import parts_in
 from seeds import first_unlike
+from served import Run
 
 SECONDS, LONGEST_PRINTED = 600, 1_000
 NUMBER = re.compile('[0-9]+')
 COMMAND = re.compile(rf'(?=.*\bnbt\b).*\b(?:{"|".join(COMMANDS)})\b')
+# Commands that read the same.
+READERS = ('merge', 'list', 'agree'), ('show', 'save', 'replay')
 STATION = ['FRED<20>', 'JOE<00>', 'ANN<03>.A']
 LONGEST_EXAMPLE, IN_CAPTURE, FRONTS = 400, 500, 10_000
 RECORDER = f'''#!/bin/sh
@@ -51,10 +54,8 @@ exec "$NBT_PROGRAM" "$@"
 DEVICES = '''#!/bin/sh
 exec env "$@"
 '''
-KINDS = (
-    'none of 137', '137 with items', '137 without', 'none of 138', '138 without names', '138 with source',
-    '138 with both', '138 of no kind', 'none of 139', '139 of a kind', '139 of no kind',
-)
+KINDS = ('137', '137 id', '137 id items', '138', '138 kind', '138 kind source', '138 kind source destination', '138 type', '139',
+         '139 kind', '139 type')
 PHRASES = re.compile(r'^\| .* \| `([^`]+)` \|$', re.MULTILINE)
 BY = re.compile(r'[A-Z]+|[.*+?^$()\[\]{}|\\]')
 # The status of a node that has a unit and no names, which chance makes too seldom.
@@ -78,17 +79,18 @@ class Cases:
             made = self.run([command, *form, *rest], given)
             try:
                 model = found['model'] = found.get('model') or wanted([command, *rest], given)
-                why = unlike(made, model, bool(form))
+                why = unlike(made, Run(model.status, model.output(bool(form)), model.errors))
                 self.refused.add(NUMBER.sub('4', model.errors.decode()))
             except Unknown:
-                is_well = is_of_clap(made.returncode, made.stdout, made.stderr)
-                why = '' if is_well else f'clap ends with {made.returncode}, {made.stdout[:100]}, {made.stderr[:100]}'
+                is_well = is_of_clap(made.status, made.output, made.errors)
+                why = '' if is_well else f'clap ends with {made.status}, {made.output[:100]}, {made.errors[:100]}'
             self.judge([command, *form, *rest], given, why)
         if 'model' in found and command == 'show':
             self.remember(rest, found['model'].objects)
 
     def run(self, words, given):
-        return subprocess.run([self.program, *words], input=given, capture_output=True, timeout=SECONDS, check=False)
+        made = subprocess.run([self.program, *words], input=given, capture_output=True, timeout=SECONDS, check=False)
+        return Run(made.returncode, made.stdout, made.stderr)
 
     def judge(self, words, given, why):
         well(why and f'nbt {shlex.join(words)}: {why}, input {given[:300]!r}')
@@ -110,24 +112,17 @@ def well(why):
     check(not why, why[:LONGEST_PRINTED])
 
 
-def unlike(made, model, is_json):
-    """How a run isn't as the model has it, if it isn't."""
-    if (made.returncode, made.stderr) != (model.status, model.errors):
-        return f'it ends as {made.returncode}, {made.stderr}, not as {model.status}, {model.errors}'
-    right = model.output(is_json)
-    return '' if made.stdout == right else first_unlike(made.stdout.split(b'\n'), right.split(b'\n'))
+def unlike(made, other):
+    """How a run differs from what it should be, if it does."""
+    if (made.status, made.errors) != (other.status, other.errors):
+        return f'it ends as {made.status}, {made.errors}, not as {other.status}, {other.errors}'
+    return '' if made.output == other.output else first_unlike(made.output.split(b'\n'), other.output.split(b'\n'))
 
 
 def kind_of(front):
-    """Which kind of front an object has."""
-    port = front['port']
-    if port == 137:
-        return 'none of 137' if 'id' not in front else '137 with items' if any(front.get(it) for it in SECTIONS) else '137 without'
-    if 'type' in front or 'kind' not in front:
-        return f'{port} of no kind' if 'type' in front else f'none of {port}'
-    if port == 139:
-        return '139 of a kind'
-    return '138 with both' if 'destination' in front else '138 with source' if 'source' in front else '138 without names'
+    """Which kind of front an object has: its port, and what of it stands."""
+    items = ['items'] if any(front.get(it) for it in SECTIONS) else []
+    return ' '.join([str(front['port']), *(it for it in ('id', 'type', 'kind', 'source', 'destination') if it in front), *items])
 
 
 def known_commands(files):
@@ -165,13 +160,15 @@ def recorded(cases, chosen):
 
 def alike(words):
     """The command lines that read what this one reads, with the same limits."""
-    command, *options = words
-    if command in ('merge', 'list'):
-        return [['list' if command == 'merge' else 'merge', *(it for it in options if it != '--json')]]
-    if command in ('show', 'save') and not {'--brief', '--partial'}.intersection(options):
-        words = [it for it in options if it not in ('--json', '--comments')]
-        return [['replay', *words, '--', 'FRED<20>'], *([['save', *words]] if command == 'show' else [])]
-    return []
+    try:
+        options, _ = parsed(words)
+    except Unknown:
+        return
+    limits = {option: f'{option}={most}' for option, most in options.items() if option in MOST}
+    readers = next((it for it in READERS if words[0] in it and not {'--brief', '--partial'}.intersection(options)), ())
+    for command in readers:
+        if command != words[0]:
+            yield [command, *(limits[it] for it in OPTIONS[command] if it in limits), *(['FRED<20>'] if command == 'replay' else [])]
 
 
 def samples(cases, payloads):

@@ -1,5 +1,6 @@
 """What a command line prints of an input by the model (tests/model), with `--json` and without, and how it ends: options, comments, malformed lines
 and limits, from docs/FORMATS.md. For tests/program/beside_model.py and tests/fuzz.py."""
+import getopt
 import json
 import re
 from dataclasses import dataclass
@@ -65,40 +66,26 @@ def is_of_clap(status, output, errors):
 
 
 def parsed(words):
-    """The options of a command line with their values, and the words that aren't options."""
+    """The options of a command line with their values, and the words that are none. Options aren't shortened, or said twice."""
     if words[0] not in COMMANDS:
         raise Unknown(words[0])
-    options, names, rest, known = {}, [], list(words[1:]), NAMING if words[0] == 'name' else OPTIONS[words[0]]
-    while rest:
-        word = rest.pop(0)
-        if word == '--':
-            names += rest
-            break
-        if word == '-' or not word.startswith('-'):
-            names.append(word)
-            continue
-        option, joined_by, value = word.partition('=')
-        if option not in known or option in options:
-            raise Unknown(word)
-        options[option] = value_of(option, joined_by, value, rest)
-    if len(names) != 1 if words[0] == 'name' else bool(names) != (words[0] in ('build', 'replay')):
-        raise Unknown('names')
-    return options, names
+    known = NAMING if words[0] == 'name' else OPTIONS[words[0]]
+    try:
+        given, names = getopt.gnu_getopt(words[1:], '', [it[2:] + '=' * (it in MOST) for it in known])
+    except getopt.GetoptError as fault:
+        raise Unknown(str(fault)) from None
+    read = words[1:words.index('--') if '--' in words else len(words)]
+    unknown = [it for it in read if it.startswith('--') and it.partition('=')[0] not in known]
+    unknown += [value for option, value in given if option in MOST and not is_limit(value, MOST[option])]
+    count = 1 if words[0] == 'name' else len(names) or 1 if words[0] in ('build', 'replay') else 0
+    if unknown or len(dict(given)) < len(given) or len(names) != count:
+        raise Unknown(unknown)
+    return {option: int(value) if option in MOST else True for option, value in given}, names
 
 
-def value_of(option, joined_by, value, rest):
-    """The value of an option, which may be the next word."""
-    if option not in MOST:
-        if joined_by:
-            raise Unknown(option)
-        return True
-    if not joined_by:
-        if not rest:
-            raise Unknown(option)
-        value = rest.pop(0)
-    if not re.fullmatch(r'\+?[0-9]+', value) or not 1 <= int(value) <= MOST[option]:
-        raise Unknown(value)
-    return int(value)
+def is_limit(value, most):
+    """Whether a word is a number that a limit may be."""
+    return re.fullmatch(r'\+?[0-9]+', value) is not None and 1 <= int(value) <= most
 
 
 def number_of(options, option):

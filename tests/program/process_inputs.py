@@ -22,7 +22,7 @@ COMMANDS = [
     (['name', '--bytes', FRED], b'', 0, b'FRED<20>\n', b''),
     (['name', 'FRED'], b'', 1, b'', b'nbt: bad text 4\n'),
     (['build', 'keepalive'], b'', 0, b'139 0 85000000\n', b''),
-    (['build', 'nonsense'], b'', 1, b'', b'nbt: arguments\n'),
+    (['build', 'query', '0001', 'FRED'], b'', 1, b'', b'nbt: bad text 4\n'),
     (['show'], b'tick 1\n139 2 85000000\n', 0, b'1 tick 1\n2 139 keepalive used=4\n', b''),
     (['show'], b'tick 1\nx\n', 1, b'1 tick 1\n', b'nbt: line 2\n'),
     (['replay', 'FRED<20>'], CAPTURE, 0, b''.join(REPORT), b''),
@@ -63,18 +63,16 @@ def repeated(count):
 
 
 def pieces(*rows):
-    """A capture of pieces with more to come, each an identifier, an offset and data, and what a replay says of them."""
-    lines = (f'138 0 {packet(key, 1 if offset else 3, offset, data)}\n' for key, offset, data in rows)
-    report = (f'{number} kept 10.0.0.5:138/{key:04x}\n' for number, (key, _, _) in enumerate(rows, 1))
-    return ''.join(lines).encode(), ''.join(report).encode()
+    """A capture of pieces with more to come, each an identifier, an offset and data."""
+    return ''.join(f'138 0 {packet(key, 1 if offset else 3, offset, data)}\n' for key, offset, data in rows).encode()
 
 
 def passing(addresses):
     """A capture of first fragments, each of another address, and after each hundred a look at the clock, which drops them."""
     start, end = packet(1).split('0a000005')
-    return b''.join(
-        f'138 {2_000 * (it // 100)} {start}{it:08x}{end}\n'.encode() + (b'tick %d\n' % (2_000 * (it // 100 + 1)) if it % 100 == 99 else b'')
-        for it in range(addresses))
+    lines = (f'138 {2_000 * (it // 100)} {start}{it:08x}{end}\n' + (f'tick {2_000 * (it // 100 + 1)}\n' if it % 100 == 99 else '')
+             for it in range(addresses))
+    return ''.join(lines).encode()
 
 
 def chained(place):
@@ -88,7 +86,7 @@ def chained(place):
 
 
 def roomy():
-    """(name, words, input, output, kB of memory) of inputs that want a known room.
+    """(name, words, input, kB of memory) of inputs that want a known room.
 
     No contract says how much room is reserved beside what is held. Each limit is the least in which the program did
     its work, and 15 percent more. Where a piece of a byte takes much more than its byte, long pieces take twice their
@@ -104,9 +102,7 @@ def roomy():
             ('120 keys of 64,000 bytes', 12_600, [(key, 0, long) for key in range(120)]),
             ('120 keys of two pieces of 32,000 bytes', 15_200,
              [(key, offset, half) for offset in (0, 32_000) for key in range(120)])]:
-        given, report = pieces(*rows)
-        yield name, ['replay', *MANY, 'FRED<20>'], given, report, limit
-    yield 'ever new addresses, a key each', ['save', '--per-source', '1'], passing(90_000), b'4e42543200000000\n', 3_700
-    comments = (b'#' * 4_000 + b'\n') * 4_000
-    for words, output in [(['show'], b''), (['replay', 'FRED<20>'], b''), (['save'], b'4e42543200000000\n')]:
-        yield '16 MB of comments', words, comments, output, 3_500
+        yield name, ['replay', *MANY, 'FRED<20>'], pieces(*rows), limit
+    yield 'ever new addresses, a key each', ['save', '--per-source', '1'], passing(90_000), 3_700
+    for words in (['show'], ['replay', 'FRED<20>'], ['save']):
+        yield '16 MB of comments', words, (b'#' * 4_000 + b'\n') * 4_000, 3_500

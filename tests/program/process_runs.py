@@ -10,6 +10,7 @@ import signal
 import subprocess
 import sys
 import termios
+import time
 
 TESTS = os.path.dirname(os.path.dirname(os.path.abspath(__file__)))
 PROGRAM = os.path.join(TESTS, '..', 'crates', 'nbt', 'out', 'nbt')
@@ -33,10 +34,25 @@ def start(words, stdin=subprocess.PIPE, stdout=subprocess.PIPE, stderr=subproces
 
 
 def run(words, given=b'', **how):
-    """The status, the output and the errors of a whole run over an input."""
+    """The status, the output and the errors of a whole run over an input. One of several parts stops between them; there is no status
+    where the program doesn't wait then."""
+    process, waits = start(words, **how), True
+    *fronts, last = given if isinstance(given, tuple) else (given,)
+    for each in fronts:
+        process.stdin.write(each)
+        time.sleep(0.02)
+        waits = waits and process.poll() is None
+    output, errors = process.communicate(last if process.stdin else None)
+    return process.returncode if waits else None, output or b'', errors or b''
+
+
+def left_open(words, given, **how):
+    """The same of an input that doesn't end."""
     process = start(words, **how)
-    output, errors = process.communicate(given if process.stdin else None)
-    return process.returncode, output or b'', errors or b''
+    process.stdin.write(given)
+    output = process.stdout.read() if process.stdout else b''
+    status, errors = wait(process)
+    return status, output, errors
 
 
 @contextlib.contextmanager
@@ -93,6 +109,11 @@ def limited(limit, what=resource.RLIMIT_AS):
 def starts(words, limit):
     """Whether the system's loader can load the program, with these words, within a limit."""
     return run(words, before=limited(limit), env={**os.environ, 'LD_TRACE_LOADED_OBJECTS': '1'})[0] == 0
+
+
+def least_memory(words):
+    """From how many kB on it can."""
+    return next(it for it in range(64, 65_536, 64) if starts(words, it << 10))
 
 
 def small_pipe():

@@ -1,19 +1,14 @@
 """What the program prints at a terminal, for tests/process.py; each function gives (whether it is right, a name) for each case."""
 import functools
 import os
-import time
 
-from limits import MANY, MOST_NAMES
-from process_inputs import COMMANDS, FRED, READING, captures, packet
-from process_runs import at_terminal, limited, lines_of, quiet_terminal, rest_of_terminal, run, start, starts, wait, with_errors_shown
+from limits import MOST_NAMES
+from process_inputs import COMMANDS, FRED, captures
+from process_runs import at_terminal, lines_of, quiet_terminal, run, start, wait, with_errors_shown
 
 LOOK = b'a pcap or pcapng file: `nbt-look FILE` shows it, `nbt-pcap2cap FILE` makes a capture of it\n'
-# What a terminal shows of `nbt build nonsense` besides; tests/cases/terminal.txt has more of such lines.
-NO_PACKET = (b'arguments: WHAT is one of query, status, registration, refresh, release, response, request, message, positive, negative, retarget, '
-             b'keepalive, unique, group, broadcast, error, find, found, missing, and not nonsense\n')
 KEYED = ['10.0.0.5:138/0001', 'JOE<00>', 'FRED<20>']
-# What a pcap file begins with, in both byte orders, of microseconds and nanoseconds; and a pcapng file.
-PCAPS = ['a1b2c3d4', 'd4c3b2a1', 'a1b23c4d', '4d3cb2a1', '0a0d0d0a']
+PCAP = b'\xd4\xc3\xb2\xa1\n'
 
 
 @functools.lru_cache(None)
@@ -25,9 +20,8 @@ def meaning(errors):
 
 
 def shown(errors):
-    """What a command prints at a terminal on standard error, that prints this otherwise."""
-    if errors == b'nbt: arguments\n':
-        return errors + NO_PACKET
+    """What a command prints at a terminal on standard error, that prints this otherwise; tests/cases/terminal.txt has what stands
+    beside `arguments`."""
     return errors + meaning(errors) if errors.startswith(b'nbt: ') else errors
 
 
@@ -54,81 +48,32 @@ def at_terminals():
                f'nbt {words[0]}, its terminal gone')
 
 
-# (words, input, the reason on standard error) of refusals: by words, by the input, of any command, with a number and without.
+# Words and inputs that are refused: by the words, by the input, of any command, with a number and without.
 REFUSED = [
-    *((words, b'', 'bad text 4') for words in (['name', 'FRED'], ['replay', 'FRED'], ['build', 'query', '0001', 'FRED'])),
-    (['name', 'A' * 16 + '<20>'], b'', 'too long'), (['build', 'unique', *KEYED, '00' * 65_500, '65535'], b'', 'too long'),
-    *((['name', '--bytes', digits], b'', reason) for digits, reason in (
-        ('0', 'bad hex'), (FRED + '00', 'trailing bytes 34'), ('20', 'truncated 1'), ('40', 'reserved label 0'),
-        ('c00c', 'pointer not allowed 0'), ('0000', 'not netbios 0'))),
-    (['replay', *(f'N{it}<20>' for it in range(MOST_NAMES + 1))], b'', 'too many names'),
-    *((words, b'x\n', 'line 1') for words in READING[:3]),
-    (['merge'], b'00\n', 'bad magic'), (['merge'], b'4e425432\n', 'truncated'), (['list'], b'4e4254320000000000\n', 'not canonical 8'),
-    (['merge'], b'', 'no tables'), (['agree'], b'', 'two tables wanted'),
-    (['save', '--keys', '1'], captures(2), 'full'), (['save', '--per-source', '1'], captures(2), 'full source'),
-    (['show', '--input-limit', '1'], b'tick 1\n', 'read'),
+    *((words, b'') for words in (['name', 'A' * 16 + '<20>'], ['replay', 'FRED'])),
+    *((['name', '--bytes', digits], b'') for digits in ('0', FRED + '00', '20', '40', 'c00c', '0000')),
+    (['build', 'unique', *KEYED, '00' * 65_500, '65535'], b''),
+    (['replay', *(f'N{it}<20>' for it in range(MOST_NAMES + 1))], b''),
+    (['merge'], b'00\n'), (['merge'], b'4e425432\n'), (['list'], b'4e4254320000000000\n'),
+    (['save', '--keys', '1'], captures(2)), (['show', '--input-limit', '1'], b'tick 1\n'),
+    *((words, given) for words, given, _, _, errors in COMMANDS if errors),
 ]
 
 
 def advised():
     """A command that is refused prints one line, and to a terminal that line and what `nbt help` says of it."""
-    for words, given, reason in REFUSED:
-        name, errors = f'nbt {" ".join(words)[:60]}', f'nbt: {reason}\n'.encode()
-        status, output, plain_errors = run(words, given)
-        yield plain_errors == errors, f'{name}: {errors}'
-        yield with_errors_shown(words, given) == (status, output, errors + meaning(errors)), f'{name}, errors at a terminal'
+    for words, given in REFUSED:
+        status, output, errors = run(words, given)
+        ended = with_errors_shown(words, given)
+        yield ended == (status, output, shown(errors)), f'nbt {" ".join(words)[:60]}, errors at a terminal'
     with open('/dev/full', 'wb') as full:
         ended = with_errors_shown(['name', 'FRED<20>'], stdout=full)
     yield ended == (3, b'', b'nbt: write\n' + meaning(b'nbt: write\n')), 'nbt name, a full output, errors at a terminal'
 
 
-def looked():
-    """Of an input that begins as a pcap file does, what shows it; not of one with fewer bytes of that."""
-    for front in PCAPS:
-        given = bytes.fromhex(front) + b'\x02\x00\x04\x00\n\n'
-        for words in READING:
-            status, output, errors = run(words, given)
-            yield status == 1 and output == b'' and errors.count(b'\n') == 1, f'nbt {words[0]} of a pcap, {front}'
-            yield with_errors_shown(words, given) == (1, b'', errors + LOOK), f'nbt {words[0]} of a pcap, {front}, at a terminal'
+def came_in_parts():
+    """Of an input that begins as a pcap file does a terminal shows what shows it, also where its first bytes come one after the
+    other; tests/cases/terminal.txt has other inputs."""
     for taken in (1, 2, 3):
-        yield came_by_parts(bytes.fromhex(PCAPS[1]) + b'\n', taken) == (1, b'nbt: line 1\n' + LOOK), f'a pcap, {taken} bytes of it first'
-    for given in (b'\xd4\xc3\xb2\n', b'\n\r\r\r', b'x\xd4\xc3\xb2\xa1\n'):
-        _, _, errors = run(['show'], given)
-        yield with_errors_shown(['show'], given) == (1, b'', errors + meaning(errors)), f'nbt show of {given}, at a terminal'
-
-
-def came_by_parts(given, taken):
-    """The status and the errors, at a terminal, of `show` of an input that stops after some bytes."""
-    terminal, slave = quiet_terminal()
-    process = start(['show'], stderr=slave)
-    os.close(slave)
-    process.stdin.write(given[:taken])
-    time.sleep(0.05)
-    process.stdin.write(given[taken:])
-    process.stdin.close()
-    status, _ = wait(process)
-    return status, rest_of_terminal(terminal)
-
-
-def dropped():
-    """A terminal shows how many keys ticks dropped of what `save` printed, where they dropped any."""
-    late = f'138 5000 {packet(9)}\n'.encode()
-    for name, given, count in [('no tick', captures(3), 0), ('a tick that drops none', captures(3) + b'tick 1999\n', 0),
-                               ('a tick', captures(3) + b'tick 2000\n', 3),
-                               ('two ticks', captures(3) + b'tick 2000\n' + late + b'tick 7000\n', 4)]:
-        status, output, errors = run(['save'], given)
-        yield (status, errors) == (0, b''), f'nbt save, {name}'
-        wanted = f'nbt: keys that ticks dropped: {count}\n'.encode() if count else b''
-        yield with_errors_shown(['save'], given) == (0, output, wanted), f'nbt save, {name}, errors at a terminal'
-
-
-def short_of_memory():
-    """With little memory a terminal shows the line alone, or what it means too."""
-    many = captures(3_000, '5a' * 150)
-    words = ['save', *MANY]
-    whole = run(words, many)
-    refused_so = [(3, b'', b'nbt: memory\n' + said) for said in (b'', meaning(b'nbt: memory\n'))]
-    least = next(it for it in range(64, 65_536, 64) if starts(words, it << 10))
-    for limit in range(least, least + 2_048, 64):
-        ended = with_errors_shown(words, many, before=limited(limit << 10))
-        yield ended == whole or ended in refused_so, f'nbt save in {limit} kB, errors at a terminal'
+        ended = with_errors_shown(['show'], (PCAP[:taken], PCAP[taken:]))
+        yield ended == (1, b'', b'nbt: line 1\n' + LOOK), f'a pcap, {taken} bytes of it first, at a terminal'

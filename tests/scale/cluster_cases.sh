@@ -75,8 +75,8 @@ asks_in_vain() {
 lonely() {
     local client wait='*nbt-dask: the scheduler tcp:* has no workers: waiting'
     scheduler
-    ended "$tools/nbt-dask" gaps out --wait 2 --program "$program" --scheduler "$address" >output 2>errors
-    [ $? -eq 3 ] && [[ $(cat errors) == $wait\ 2\ seconds\ for\ one$'\n'"nbt-dask: the scheduler $address has no workers, 2 seconds long" ]] && [ ! -e out ]
+    ends 3 "$wait 2 seconds for one"$'\n'"nbt-dask: the scheduler $address has no workers, 2 seconds long" \
+        "$tools/nbt-dask" gaps out --wait 2 --program "$program" --scheduler "$address" && [ ! -e out ]
     count $? "nbt-dask without workers: $(cat errors)"
     unclustered
 

@@ -47,7 +47,7 @@ commands() {
 }
 commands
 cp "$top"/examples/*.pcap "$room/states"
-"$here/plugin/plugin_files.py" "$room/states"
+"$here/plugin/plugin.py" files "$room"
 chmod 644 "$room/states"/*.pcap
 
 for each in built payloads states streams tools shown bad again valgrind page; do

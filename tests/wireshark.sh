@@ -57,7 +57,7 @@ snapped() {
 
 # A network's packets, by tests/captures/network.py.
 network() {
-    "$here/captures/network.py" "$files/network.pcap" >"$files/expected"
+    "$here/captures/network.py" network "$files/network.pcap" >"$files/expected"
     mkdir "$files/own" && echo 'ip.defragment: FALSE' >"$files/own/preferences" && echo udp >"$files/own/disabled_protos"
     cases network
 }

@@ -1,4 +1,5 @@
 """Packets of IP, UDP, TCP and NetBIOS, and pcap and pcapng files of frames, for the scripts that make such files or send packets."""
+import os
 import struct
 
 # The moment from which times in files are counted, in microseconds.
@@ -36,6 +37,11 @@ def ip6(protocol, data):
 
 def udp(source, target, payload):
     return struct.pack('>HHHH', source, target, 8 + len(payload), 0) + payload
+
+
+def sent(port, payload, *ends):
+    """A packet of UDP from a port to the same port."""
+    return ip(UDP, udp(port, port, payload), *ends)
 
 
 def tcp(source, target, sequence, payload=b'', flags=ACK, acknowledged=1, options=b''):
@@ -95,6 +101,19 @@ def pcap(frames, link=1):
     return pcap_header(link) + b''.join(pcap_record(*each) for each in frames)
 
 
+def spaced(frames, between=1_000):
+    """Whole frames with their times, so many microseconds apart."""
+    return [(number * between, frame, None) for number, frame in enumerate(frames)]
+
+
+def written(path, data):
+    """Writes a file, which others may read; its path."""
+    with open(path, 'wb') as file:
+        file.write(data)
+    os.chmod(path, 0o644)
+    return path
+
+
 def block(kind, body, order='<'):
     """A block of pcapng."""
     body += bytes(-len(body) % 4)
@@ -105,6 +124,16 @@ def block(kind, body, order='<'):
 def section(order='<'):
     """The block that begins a file of pcapng."""
     return block(0x0a0d0d0a, struct.pack(order + 'LHHq', 0x1a2b3c4d, 1, 0, -1), order)
+
+
+def interface(link=1, options=b'', order='<'):
+    """The block of an interface."""
+    return block(1, struct.pack(order + 'HHL', link, 0, 262_144) + options, order)
+
+
+def timed(number, at, captured, size, order='<'):
+    """A frame of an interface at so many units of its time, of so many bytes."""
+    return block(6, struct.pack(order + 'LLLLL', number, at >> 32, at % 2**32, len(captured), size) + captured, order)
 
 
 class Frames:

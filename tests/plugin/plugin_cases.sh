@@ -4,6 +4,9 @@
 with() { ended "$room/with/$1" "${@:2}"; }
 without() { ended "$room/without/$1" "${@:2}"; }
 
+# said PART WORD..: the cases of a part of tests/plugin/plugin.py.
+said() { NBT_LIBRARY=$library/libnbt.so.0 counted_by plugin/plugin.py "$1" "$room" "${@:2}"; }
+
 # same WANTED NAME: whether standard input is what is wanted.
 same() {
     diff <(printf '%s\n' "$1") - >"$room/difference"
@@ -51,17 +54,15 @@ refused_by_others() {
 
 # What is said of payloads is what nbt_brief says of them.
 part_payloads() {
-    NBT_LIBRARY=$library/libnbt.so.0 counted_by plugin/plugin_payloads.py "$room/with/tshark" "$room" 5000
+    said payloads
     grep -v -e '^failed: ' -e ' passed, ' "$room/counted"
 }
 
 # What becomes of datagrams is what nbt replay reports, in captures that one process reads one after the other.
-part_states() {
-    counted_by plugin/plugin_states.py "$room/with/sharkd" "$room/with/tshark" "$program" "$room/states" 200
-}
+part_states() { said states "$program"; }
 
 # What is said of connections to port 139 is what a model says that has each stream whole.
-part_streams() { NBT_LIBRARY=$library/libnbt.so.0 counted_by plugin/plugin_streams.py "$room/with/tshark" "$room/states" 40; }
+part_streams() { said streams; }
 
 # The tools print the same beside the plugin: they ask tshark for the bytes of these ports.
 part_tools() {
@@ -115,10 +116,10 @@ ROWS
 
 # Changed captures, snap lengths and files that were joined, in one pass and in two: no crash, no link to a frame that isn't there, and the same
 # phrases, faults and states.
-part_bad() { counted_by plugin/plugin_changed.py "$room/with/tshark" "$room/states" 50 "$room"/states/{office,samba,pieces,sessions}.pcap; }
+part_bad() { said bad 50 "$room"/states/{office,samba,pieces,sessions}.pcap; }
 
 # Files one after the other in one process, and the same one again; frames that are left out while a file is read.
-part_again() { counted_by plugin/plugin_reloads.py "$room/with/sharkd" "$room/with/tshark" "$room"/states/{office,samba,pieces,sessions}.pcap; }
+part_again() { said again "$room"/states/{office,samba,pieces,sessions}.pcap; }
 
 # Errors of memory: none; and nothing is lost that the plugin asked for, by names that are kept after Wireshark let it go.
 part_valgrind() {

@@ -1,29 +1,53 @@
-#!/usr/bin/env python3
-"""Captures that the plugin for Wireshark is tried with.  Usage: tests/plugin/plugin_files.py FOLDER
+"""Captures that the plugin for Wireshark is tried with, and what tshark prints of the fields of one.
 
 pieces.pcap has datagrams in many pieces, some lost, changed and repeated; sessions.pcap connections to port 139 in segments of all sizes,
 in order and not, with bytes of no packet, headers that ask for more than a packet has, and starts that the file lacks. marked.pcap has refused
 packets, one of which comes in two segments, and an SMB echo in a datagram of two fragments; overlaps.pcap segments that come again with
 other bytes; gaps.pcap pieces of no bytes; untimed.pcap frames without a time.
 """
-import os
 import random
 import struct
-import sys
+import subprocess
 
-sys.dont_write_bytecode = True
-sys.path[1:1] = [f'{sys.path[0]}/../{it}' for it in ('captures', 'lib')]
-from plugin_captures import Made
-from plugin_pcap import datagram_frame, framed, segment_frame, spaced, write_pcap
 from random_streams import Ends, Side, mixed, stream
-from wire import KEEPALIVE, QUERY, REQUEST, block, datagram, section, session
+from wire import ACK, CLIENT, KEEPALIVE, QUERY, REQUEST, SERVER, START, TCP, block, datagram, ethernet, interface, ip, pcap, section, sent, session, spaced, \
+    tcp, timed, written
 
+# Of a fragment, as sharkd and the model of plugin_captures.py have it.
+COLUMNS = ('nbt.state', 'nbt.key', 'nbt.datagram', 'nbt.whole_in', 'nbt.spoilt_in', 'nbt.missing', 'nbt.fragment')
+# Between fields, and between the values of one.
+FIELDS, VALUES = '\x1f', '\x1e'
 NO_PACKETS = (b'\x81\x01\xff\xff' + bytes(30), b'\x00\xfe\xff\xff' + bytes(50), b'GET / HTTP/1.0\r\n\r\n', b'\x85\0\0\1x',
               b'\x81\0\0\x44' + b'\x20' + b'Z' * 67)
 
 
+def fields_of(room, path, fields, *words):
+    """Of each frame the values of these fields, a list for each. tshark writes a backslash as two."""
+    command = [f'{room}/with/tshark', '-n', '-r', path, *words, '-T', 'fields', '-E', 'separator=' + FIELDS, '-E', 'aggregator=' + VALUES]
+    command += [f'-e{each}' for each in fields]
+    done = subprocess.run(command, capture_output=True, text=True, check=True, timeout=300)
+    rows = done.stdout.replace('\\\\', '\\').split('\n')[:-1]
+    return [[value.split(VALUES) if value else [] for value in row.split(FIELDS)] for row in rows]
+
+
+def framed(packet):
+    """A frame with its padding."""
+    return ethernet(packet).ljust(60, b'\0')
+
+
+def datagram_frame(port, payload, *ends):
+    return framed(sent(port, payload, *ends))
+
+
+def segment_frame(port, sequence, payload, flags=ACK, source=CLIENT, target=SERVER):
+    """Bytes of a connection by its client, which has this port, or by its server."""
+    ports = (139, port) if source == SERVER else (port, 139)
+    return framed(ip(TCP, tcp(*ports, sequence, payload, flags), source, target))
+
+
 def pieces():
     """Frames of several captures, one behind the other."""
+    from plugin_captures import Made
     frames, start = [], 0
     for number in range(12):
         made = Made(random.Random(f'pieces-{number}'))
@@ -69,31 +93,24 @@ def marked():
 def overlaps():
     """A call in segments that bring bytes once more with other values, to the end of what came and past it."""
     changed = bytes(byte ^ 1 for byte in REQUEST)
-    sent = ((0, REQUEST[:30]), (0, changed[:30]), (20, changed[20:30] + REQUEST[30:50]), (0, changed[:50] + REQUEST[50:]), (72, KEEPALIVE))
-    return spaced(segment_frame(1_024, 1 + start, data) for start, data in sent)
+    segments = ((0, REQUEST[:30]), (0, changed[:30]), (20, changed[20:30] + REQUEST[30:50]), (0, changed[:50] + REQUEST[50:]), (72, KEEPALIVE))
+    return spaced(segment_frame(1_024, 1 + start, data) for start, data in segments)
 
 
 def gaps():
     """Datagrams with pieces of no bytes: between two runs, past the last one, and as the end."""
-    sent = ((1, 3, 0, b''), (1, 1, 2, b''), (1, 0, 4, b'ef'), (2, 3, 0, b'ab'), (2, 1, 5, b''), (3, 3, 0, b'ab'), (3, 1, 4, b''), (3, 0, 5, b''))
-    return spaced(datagram_frame(138, datagram(number, data, flags=flags, offset=offset)) for number, flags, offset, data in sent)
+    some = ((1, 3, 0, b''), (1, 1, 2, b''), (1, 0, 4, b'ef'), (2, 3, 0, b'ab'), (2, 1, 5, b''), (3, 3, 0, b'ab'), (3, 1, 4, b''), (3, 0, 5, b''))
+    return spaced(datagram_frame(138, datagram(number, data, flags=flags, offset=offset)) for number, flags, offset, data in some)
 
 
 def untimed():
     """A pcapng file of a datagram in three fragments, of which the first and the last have no time."""
     first, second, third = parts(bytes(60), 20, 40)
-    moment = 1_700_000_000_000_000
-    return b''.join((section(), block(1, struct.pack('<HHL', 1, 0, 0)), block(3, struct.pack('<L', len(first)) + first),
-                     block(6, struct.pack('<LLLLL', 0, moment >> 32, moment % 2**32, len(second), len(second)) + second),
-                     block(3, struct.pack('<L', len(third)) + third)))
+    simple = lambda frame: block(3, struct.pack('<L', len(frame)) + frame)
+    return b''.join((section(), interface(), simple(first), timed(0, START, second, len(second)), simple(third)))
 
 
-def main():
+def make(room):
     for each in (pieces, sessions, marked, overlaps, gaps):
-        write_pcap(os.path.join(sys.argv[1], f'{each.__name__}.pcap'), each())
-    with open(os.path.join(sys.argv[1], 'untimed.pcap'), 'wb') as file:
-        file.write(untimed())
-
-
-if __name__ == '__main__':
-    main()
+        written(f'{room}/states/{each.__name__}.pcap', pcap(each()))
+    written(f'{room}/states/untimed.pcap', untimed())

@@ -3,7 +3,7 @@ import struct
 
 from wire import ACK, FIN, RST, SYN, TCP, UDP, ip, tcp
 
-IPV4, IPV6 = 0x0800, 0x86dd
+IPV4 = b'\x08\0'
 TYPES = (0x00, 0x00, 0x00, 0x00, 0x81, 0x82, 0x83, 0x84, 0x85)
 FRAGMENT_HEADER = 44
 

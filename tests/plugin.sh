@@ -14,6 +14,7 @@ shopt -s lastpipe
 top=$(realpath "$here/..")
 library=$(realpath "${1:-$top/out/lib}")
 program=$(realpath "${2:-$top/crates/nbt/out/nbt}")
+only=${*:3}
 
 for each in tshark sharkd editcap pkg-config setpriv; do
     command -v $each >/dev/null && continue
@@ -50,8 +51,5 @@ cp "$top"/examples/*.pcap "$room/states"
 "$here/plugin/plugin.py" files "$room"
 chmod 644 "$room/states"/*.pcap
 
-for each in built payloads states streams tools shown bad again valgrind page; do
-    [ $# -lt 3 ] || [[ " ${*:3} " == *" $each "* ]] || continue
-    part $each part_$each
-done
-if [ $# -lt 3 ]; then finish; else total; fi
+for each in built payloads states streams tools shown bad again valgrind page; do part $each part_$each; done
+finish

@@ -4,30 +4,32 @@
 Usage: tests/captures/network.py PART PCAP >EXPECTED, where PART is network, of which the summary isn't printed, or one of what networks seldom
 send: tunnels, aggregates, ports_again, fragments or counts
 """
-import socket
+import datetime
+import ipaddress
 import struct
 import sys
-import time
 
 sys.dont_write_bytecode = True
 sys.path.insert(1, f'{sys.path[0]}/../lib')
 from wire import *
 
 WIFI = 105
-SERVICES = (137, 138, 139)
 SHORT_UDP = ' is left out: its UDP length is %d, and the file has %d bytes of its payload'
 TUNNEL = b'\x08' + bytes(7 + 12) + b'\x08\x00'
 DAY = 86_400_000
 ASKED = sent(137, QUERY)
 
 
+def vxlan(packet, wrap=ip):
+    return wrap(UDP, udp(50_000, 4789, TUNNEL + packet))
+
+
 def ends(packet):
     """Where a packet comes from, and where it goes, and the port of its service."""
-    six = packet[0] >> 4 == 6
-    family, form, first, size, ports = (socket.AF_INET6, '[%s]:%d', 8, 16, 40) if six else (socket.AF_INET, '%s:%d', 12, 4, 20)
-    numbers = struct.unpack('>HH', packet[ports:ports + 4])
-    hosts = (socket.inet_ntop(family, packet[at:at + size]) for at in (first, first + size))
-    return ' > '.join(form % each for each in zip(hosts, numbers)), next((each for each in numbers if each in SERVICES), None)
+    form, first, size = ('[%s]:%d', 8, 16) if packet[0] >> 4 == 6 else ('%s:%d', 12, 4)
+    numbers = struct.unpack_from('>HH', packet, first + 2 * size)
+    hosts = (ipaddress.ip_address(packet[at:at + size]) for at in (first, first + size))
+    return ' > '.join(form % each for each in zip(hosts, numbers)), next((each for each in numbers if each in (137, 138, 139)), None)
 
 
 class Network:
@@ -49,12 +51,11 @@ class Network:
     def gives(self, moment, packet, *given):
         """The lines that this packet of the latest frame gives: of bytes the comment on the frame and a payload, of a number a tick, of a
         text what is said of the frame, or of a stream where it begins with #."""
-        when = 1_700_000_000_700 + moment
-        shown = time.strftime('%Y-%m-%dT%H:%M:%S', time.gmtime(when // 1000)) + '.%06dZ' % (when % 1000 * 1000)
+        when = datetime.datetime.fromtimestamp(1_700_000_000, datetime.timezone.utc) + datetime.timedelta(milliseconds=700 + moment)
         comment, port = ends(packet)
         for each in given:
             if isinstance(each, bytes):
-                print(f'# frame {self.number} {shown} {comment}\n{port} {moment} {each.hex() or "empty"}')
+                print(f'# frame {self.number} {when:%Y-%m-%dT%H:%M:%S.%fZ} {comment}\n{port} {moment} {each.hex() or "empty"}')
             elif isinstance(each, int):
                 print('tick', each)
             else:
@@ -134,7 +135,7 @@ def overlaps(network):
 def rarities(network):
     """A tunnel in UDP (VXLAN), a fragment alone, and UDP lengths other than IP's."""
     query = udp(137, 137, QUERY)
-    network.frame(20_500, ip(UDP, udp(50_000, 4789, TUNNEL + ASKED)), QUERY, inner=ASKED)
+    network.frame(20_500, vxlan(ASKED), QUERY, inner=ASKED)
     network.frame(20_600, ip(UDP, query[:32], fragment=0x2000, identifier=8))
     network.frame(20_700, ip(UDP, query + b'surplus'), QUERY)
     network.frame(20_800, ip(UDP, struct.pack('>HHHH', 137, 137, 3, 0) + QUERY), SHORT_UDP % (3, 0))
@@ -166,8 +167,7 @@ def starts(network):
     """A stream without its start: short segments, and bytes before what is taken for the start."""
     client = Side(network, 1032, 139, 100)
     client.sends(20_960, 0, b'abc', ' is left out: it has 3 bytes of a stream whose start the file lacks')
-    client.sends(20_961, 10, KEEPALIVE,
-                 '# stream 7 from 10.0.0.5 port 1032: frame 52 is taken for its start, which the file lacks', KEEPALIVE)
+    client.sends(20_961, 10, KEEPALIVE, '# stream 7 from 10.0.0.5 port 1032: frame 52 is taken for its start, which the file lacks', KEEPALIVE)
     client.sends(20_962, 6, KEEPALIVE, ' is left out: 4 bytes before the start of stream 7 from 10.0.0.5 port 1032')
 
 
@@ -191,14 +191,13 @@ def tunnels(network):
     # The first frame, which is always read: GRE, cut after the first bytes of the inner header of IP: of which ports it is nobody knows.
     network.frame(0, ip(47, b'\0\0\x08\0' + ASKED), captured=34 + 4 + 2)
     for wrap, header in ((ip, 34), (ip6, 54)):
-        outer = wrap(UDP, udp(50_000, 4789, TUNNEL + ASKED))
+        outer = vxlan(ASKED, wrap)
         whole = header + 8 + len(TUNNEL) + len(ASKED)
         network.frame(0, outer, QUERY, inner=ASKED)
         network.frame(0, outer, SHORT_UDP % (8 + len(QUERY), 0), captured=whole - len(QUERY))
         network.frame(0, outer, ' is left out: the file ends before its ports', captured=whole - len(QUERY) - 6)
     segment = ip(TCP, tcp(1025, 139, 0, SHORT, acknowledged=0))
-    network.frame(0, ip(UDP, udp(50_000, 4789, TUNNEL + segment)), ' is left out: the file ends inside its TCP header',
-                  captured=34 + 8 + len(TUNNEL) + 20 + 8)
+    network.frame(0, vxlan(segment), ' is left out: the file ends inside its TCP header', captured=34 + 8 + len(TUNNEL) + 20 + 8)
     print('8 frames, 5 of these ports, 5 left out: 5 cut by the snap length')
 
 
@@ -250,10 +249,8 @@ def fragments(network):
 
     def piece(moment, whole, start, end, *given):
         more = end < len(whole)
-        if six:
-            packet = ip6(44, struct.pack('>BBHL', UDP, 0, start | more, 7) + whole[start:end])
-        else:
-            packet = ip(UDP, whole[start:end], fragment=start // 8 | (0x2000 if more else 0), identifier=7)
+        of_six = lambda: ip6(44, struct.pack('>BBHL', UDP, 0, start | more, 7) + whole[start:end])
+        packet = of_six() if six else ip(UDP, whole[start:end], fragment=start // 8 | more << 13, identifier=7)
         network.frame(moment, packet, *given, inner=(ip6 if six else ip)(UDP, whole))
 
     moment = 0

@@ -43,8 +43,9 @@ enough() {
     [ "$2" -gt 0 ] && [ "$1" -ge "$2" ] || count 1 "$3: $1 cases, of $2 at least (tests/counts.txt)"
 }
 
-# part NAME COMMAND..: runs the cases of a part, and prints how many there are.
+# part NAME COMMAND..: runs the cases of a part, and prints how many there are; where $only has names, those of these parts alone.
 part() {
+    [ -z "${only:-}" ] || [[ " $only " == *" $1 "* ]] || return 0
     local before=$((passed + failed + skipped)) number
     "${@:2}"
     number=$((passed + failed + skipped - before))
@@ -138,6 +139,6 @@ total() {
 
 # Ends the script with its last line.
 finish() {
-    enough $((passed + failed + skipped)) "$(least "$script" all)" all
+    [ -n "${only:-}" ] || enough $((passed + failed + skipped)) "$(least "$script" all)" all
     total
 }

@@ -15,10 +15,12 @@ import sys
 import tempfile
 
 sys.dont_write_bytecode = True
-sys.path[1:1] = [f'{sys.path[0]}/../{it}' for it in ('captures', 'lib')]
+sys.path[1:1] = [f'{sys.path[0]}/../{it}' for it in ('.', 'captures', 'lib')]
+from fuzz_traffic import Traffic
+from model.names import Name, spelling_of
 from parts import tally
 import summary
-from wire import ACK, NB, NBSTAT, NS, NULL, SYN, Frames, datagram, first_level, pcap, record, service, session
+from wire import ACK, NB, NBSTAT, NS, NULL, SYN, Frames, first_level, pcap, record, service, session, written
 
 AT_ONCE, PART = 2, 20
 UNREAD = 'not read here'         # what the page says alone
@@ -42,11 +44,13 @@ class RandomNetwork(Frames):
         self.stations = [bytes([10, 0, 0, each]) for each in rng.sample(range(5, 100), rng.randint(2, 6))]
         # Some have a second address, with the same MAC or another one.
         self.seconds = {each: bytes([10, 1, 0, each[3]]) for each in self.stations if rng.random() < 0.3}
-        self.names = [first_level(rng.choice(('FRED', 'JOE', 'ANN', 'OFFICE')) + str(number), rng.choice(SUFFIXES)) for number in range(rng.randint(1, 4))]
+        self.known = [Name((rng.choice((b'FRED', b'JOE', b'ANN', b'OFFICE')) + b'%d' % number).ljust(15) + bytes([rng.choice(SUFFIXES)]), ())
+                      for number in range(rng.randint(2, 4))]
+        self.names = list(map(spelling_of, self.known))
         self.units = {each: rng.choice((bytes(6), b'\x02\0\0\0\0' + each[3:])) for each in self.stations}
         self.broadcasts = {each: rng.random() < 0.55 for each in self.names}
         self.snap, self.now, self.asked, self.ports = rng.choice(SNAPS), 0, [], {}
-        acts = (self.request,) * 6 + (self.answer,) * 6 + (self.demand, self.call, self.datagram)
+        acts = (self.request,) * 6 + (self.answer,) * 6 + (self.demand, self.call, self.datagrams)
         for _ in range(rng.randint(4, 40)):
             self.now += rng.choice((3, 30, 100, 245, 400, 3_000, 12_000, 70_000, 400_000)) + rng.randint(0, 999) / 1_000
             rng.choice(acts)()
@@ -119,9 +123,9 @@ class RandomNetwork(Frames):
         self.sent(self.now, sender, source, 137, service(identifier, R | word & ~B | how | code, name, told=told))
 
     def node_status(self, station):
-        names = self.random.sample(self.names, self.random.randint(0, len(self.names)))
+        names = self.random.sample(self.known, self.random.randint(0, len(self.known)))
         flags = [self.random.choice((ACTIVE, ACTIVE, ACTIVE | GROUP, ACTIVE | CONFLICT)) for _ in names]
-        rows = b''.join(sixteen(name) + struct.pack('>H', each) for name, each in zip(names, flags))
+        rows = b''.join(name.bytes + struct.pack('>H', each) for name, each in zip(names, flags))
         return record(NBSTAT, bytes([len(names)]) + rows + self.units.get(station, bytes(6)))
 
     def demand(self):
@@ -152,27 +156,13 @@ class RandomNetwork(Frames):
             if middle < len(data) and rng.random() < 0.8:
                 self.sent(at + 1, source, target, 139, data[middle:])
 
-    def datagram(self):
-        """The pieces of a datagram in any order, some lost, doubled, or otherwise; perhaps again, where its key is or isn't held any more."""
-        rng, source, target = self.random, self.random.choice(self.stations), self.random.choice(self.stations)
-        data, kind, identifier = rng.randbytes(rng.randint(1, 40)), rng.choice((0x10, 0x11, 0x12)), rng.randint(1, 40)
-        names = rng.choice(self.names) + rng.choice(self.names)
-        size = -(-len(data) // rng.choice((1, 1, 2, 3, 5)))
-        pieces = [(at, data[at:at + size]) for at in range(0, len(data), size)]
-        for again in range(rng.choice((1, 1, 1, 2))):
-            at = self.now + again * rng.choice((1_000, 1_999, 2_500, 9_000))
-            order = rng.sample(pieces, len(pieces)) if rng.random() < 0.5 else pieces
-            for place, piece in order[rng.random() < 0.15:] + order[:rng.random() < 0.15]:
-                at += rng.randint(-1, 40)
-                flags = (0x02 if place == 0 or rng.random() < 0.02 else 0) | (0x01 if place + len(piece) < len(data) else 0)
-                piece = bytes(byte ^ 1 for byte in piece) if rng.random() < 0.05 else piece
-                spelled = names if rng.random() < 0.97 else names[:34] + rng.choice(self.names)
-                self.sent(max(at, 0), source, target, 138, datagram(identifier, piece, source, kind, flags, place, spelled))
-
-
-def sixteen(name):
-    """The bytes of a spelled name."""
-    return bytes((high - ord('A')) << 4 | low - ord('A') for high, low in zip(name[1:33:2], name[2:33:2]))
+    def datagrams(self):
+        """The pieces of some datagrams between its names, in any order, some lost, doubled, or otherwise, and what is none."""
+        rng, at = self.random, self.now
+        for payload in Traffic(rng, self.known, self.stations).payloads():
+            at += rng.choice((0, 1, 40, 40, 500)) - rng.randint(0, 1)
+            source = payload[4:8] if payload[4:8] in self.stations else rng.choice(self.stations)
+            self.sent(max(at, 0), source, rng.choice(self.stations), 138, payload)
 
 
 def changed(frames, rng):
@@ -193,10 +183,7 @@ def main():
     count, first = int(sys.argv[1]), int(sys.argv[2]) if sys.argv[2:] else 1
     program = summary.program_of(sys.argv[3:])
     with tempfile.TemporaryDirectory() as folder:
-        paths = [f'{folder}/{seed}.pcap' for seed in range(first, first + count)]
-        for seed, path in enumerate(paths, first):
-            with open(path, 'wb') as file:
-                file.write(pcap(RandomNetwork(seed).frames))
+        paths = [written(f'{folder}/{seed}.pcap', pcap(RandomNetwork(seed).frames)) for seed in range(first, first + count)]
         # Some at a time, since each time may take so long alone.
         by_page = [each for at in range(0, count, PART) for each in summary.shown_by_page(program, paths[at:at + PART])]
         with concurrent.futures.ProcessPoolExecutor(AT_ONCE) as pool:
@@ -205,15 +192,9 @@ def main():
 
 def difference(path, page, tool):
     """The tables that the page and the tool don't show alike; a capture of which they do so is kept."""
-    titles = [each for each in sorted((page.keys() | tool.keys()) - {UNREAD}) if rows_of(page, each) != rows_of(tool, each)]
-    if not titles:
-        return ''
-    kept = shutil.copy(path, os.path.join(tempfile.gettempdir(), f'network-{os.path.basename(path)}'))
-    return f'{kept}: ' + '; '.join(f'{each}: the page {rows_of(page, each)}, nbt-look {rows_of(tool, each)}' for each in titles)
-
-
-def rows_of(tables, title):
-    return tables[title].rows if title in tables else []
+    page, tool = ({title: table.rows for title, table in each.items() if title != UNREAD and table.rows} for each in (page, tool))
+    differ = [f'{each}: the page {page.get(each)}, nbt-look {tool.get(each)}' for each in sorted(page.keys() | tool.keys()) if page.get(each) != tool.get(each)]
+    return differ and '; '.join([shutil.copy(path, os.path.join(tempfile.gettempdir(), f'network-{os.path.basename(path)}')), *differ])
 
 
 if __name__ == '__main__':

@@ -21,10 +21,20 @@ OWN = ('blob:', 'data:', 'about:', 'chrome://', 'chrome-extension://', 'devtools
 # What has to have a name, by its role in the accessibility tree.
 NAMED = {'button', 'link', 'textbox', 'searchbox', 'combobox', 'grid', 'columnheader', 'dialog', 'progressbar', 'navigation', 'img', 'region',
          'table', 'main', 'complementary'}
+VIEWS = ('packets', 'names', 'reassembly', 'taps', 'export')
+DROP = '''
+const [name, kind, transfer] = arguments;
+const files = new DataTransfer();
+files.items.add(new File(["139 0 85000000\\n"], name));
+const event = new Event(kind, { bubbles: true, cancelable: true });
+event[transfer] = files;
+document.body.dispatchEvent(event)'''
 
 
 class Browser(Seen):
     """One window, with the page in it."""
+
+    keys = Keys
 
     def __init__(self, folder, width=1400, height=800):
         self.folder = folder
@@ -44,20 +54,29 @@ class Browser(Seen):
         self.pages.add(f'file://{page}')
         self.driver.get(f'file://{page}{place}')
 
+    def js(self, script, *words):
+        return self.driver.execute_script(script, *words)
+
     def id(self, name):
         return self.driver.find_element(By.ID, name)
+
+    def is_shown(self, name):
+        return self.id(name).is_displayed()
 
     def all(self, selector):
         return self.driver.find_elements(By.CSS_SELECTOR, selector)
 
     def text(self, name):
-        return self.driver.execute_script('return document.getElementById(arguments[0]).textContent', name)
+        return self.js('return document.getElementById(arguments[0]).textContent', name)
 
     def texts(self, selector):
         """The texts of elements; of what is hidden none."""
-        return self.driver.execute_script(
-            'return Array.from(document.querySelectorAll(arguments[0])).filter((each) => each.offsetParent !== null)'
-            '.map((each) => each.textContent)', selector)
+        return self.js('return Array.from(document.querySelectorAll(arguments[0])).filter((each) => each.offsetParent !== null)'
+                       '.map((each) => each.textContent)', selector)
+
+    def focus(self):
+        """The element that has the keys: its id."""
+        return self.driver.switch_to.active_element.get_attribute('id')
 
     def wait(self, what, seconds=60):
         """Waits until a function has an answer that counts as true, and answers that."""
@@ -70,19 +89,28 @@ class Browser(Seen):
 
     def give(self, *paths, answer=''):
         """Chooses files, answers where they go if others are open, and waits until they are read or refused."""
-        self.driver.execute_script('document.getElementById("live").textContent = ""; document.getElementById("dismiss").click()')
-        self.id('file').send_keys('\n'.join(paths))
+        self.js('document.getElementById("live").textContent = ""')
+        self.dismiss()
+        self.put(*paths)
         if answer:
             self.answer(answer)
         self.wait(lambda: self.is_read() and (self.text('live') or self.message()), LONG)
 
+    def put(self, *paths):
+        """Chooses files, and doesn't wait for them."""
+        self.id('file').send_keys('\n'.join(paths))
+
+    def drop(self, name, event='drop', transfer='dataTransfer'):
+        """Drops a file of one packet on the page, or pastes it."""
+        self.js(DROP, name, event, transfer)
+
     def answer(self, words):
         """Answers where a file goes, by the button that begins so."""
-        self.wait(lambda: self.id('placing').is_displayed())
+        self.wait(lambda: self.is_shown('placing'))
         next(each for each in self.all('#placing-answers button') if each.text.startswith(words)).click()
 
     def sample(self):
-        self.driver.execute_script('document.getElementById("live").textContent = ""')
+        self.js('document.getElementById("live").textContent = ""')
         self.id('try').click()
         self.wait(lambda: self.text('live'))
 
@@ -91,31 +119,42 @@ class Browser(Seen):
 
     def message(self):
         """The line of a fault, if one is shown."""
-        return self.text('words-of-message') if self.id('message').is_displayed() else ''
+        return self.text('words-of-message') if self.is_shown('message') else ''
+
+    def dismiss(self):
+        self.js('document.getElementById("dismiss").click()')
 
     def rows(self):
         """The cells of the rows that are in sight."""
-        return self.driver.execute_script(
-            'return Array.from(document.querySelectorAll(".sight .row")).filter((row) => !row.hidden)'
-            '.map((row) => Array.from(row.children, (cell) => cell.textContent))')
+        return self.js('return Array.from(document.querySelectorAll(".sight .row:not([hidden])"), (row) => Array.from(row.children, (cell) => cell.textContent))')
 
     def tables(self):
         """The tables of the view that is shown: titles, and rows of cells, the head first."""
-        return dict(self.driver.execute_script(
+        return dict(self.js(
             'return Array.from(document.querySelectorAll(".view:not([hidden]) table")).map((table) => [table.caption?.textContent ?? "",'
             'Array.from(table.rows, (row) => Array.from(row.cells, (cell) => cell.textContent))])'))
 
     def view(self, name, until=None):
         """Shows a view, and waits until it has what is asked for."""
         self.id(f'to-{name}').click()
-        self.wait(lambda: self.id(f'view-{name}').is_displayed())
+        self.wait(lambda: self.is_shown(f'view-{name}'))
         return until and self.wait(until)
+
+    def views(self, *names):
+        """Shows each view, or these, one after the other."""
+        for name in names or VIEWS:
+            self.view(name)
+            yield name
 
     def choose(self, frame):
         """Chooses the row of a frame, or of a line, that is in sight, and waits for its packet."""
         row = next(each for each in self.all('.sight .row:not([hidden])') if each.text.split('\n')[0] == str(frame))
         row.click()
-        self.wait(lambda: self.texts('#packet h2') in ([f'Frame {frame}'], [f'Line {frame}']))
+        self.chosen(f'Frame {frame}', f'Line {frame}')
+
+    def chosen(self, *titles):
+        """Waits until the packet of one of these titles is shown."""
+        self.wait(lambda: self.texts('#packet h2') in [[each] for each in titles])
 
     def key(self, *keys):
         self.driver.switch_to.active_element.send_keys(*keys)
@@ -154,5 +193,3 @@ class Browser(Seen):
     def close(self):
         self.driver.quit()
 
-
-__all__ = ['Browser', 'Keys', 'By']

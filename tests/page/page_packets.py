@@ -2,7 +2,7 @@
 import re
 
 import look_captures
-import page_files
+import page_program
 from parts import check, equal
 
 
@@ -22,7 +22,7 @@ class PacketCases:
     def faults(self):
         """Of a refused packet the byte is marked, and what `nbt help` says of it is shown."""
         self.browser.open(self.page)
-        lines = page_files.refused(self.program)
+        lines = page_program.refused(self.program)
         self.browser.give(self.path('refused.txt', ''.join(lines).encode()))
         for number, line in enumerate(lines, 1):
             told = self.program.told(line)
@@ -43,15 +43,15 @@ class PacketCases:
 
     def filters(self):
         """The box, what is chosen of the counts, and how many rows are left."""
-        self.opened(f'{self.top}/examples/samba.pcap')
         path = f'{self.top}/examples/samba.pcap'
+        self.opened(path)
         for words, options in (('query', ['--kind', 'query']), ('138', ['--port', '138']), ('registration response', None)):
             self.filter(words)
-            wanted = len(self.program.listed(path, *options)) if options else None
+            wanted = f'{len(self.program.listed(path, *options))} of ' if options else ''
             shown = self.browser.wait(lambda: ' of ' in self.browser.text('shown') and self.browser.text('shown'))
-            check(wanted is None or shown.startswith(f'{wanted} of '), f'{words}: {shown}, not {wanted}')
+            check(shown.startswith(wanted), f'{words}: {shown}, not {wanted}')
         self.filter('')
-        for option in self.browser.driver.execute_script('return Array.from(document.querySelectorAll("#kind option"), (each) => each.textContent).slice(1)'):
+        for option in self.browser.js('return Array.from(document.querySelectorAll("#kind option"), (each) => each.textContent).slice(1)'):
             kind, count = option.split(' ')
             equal(count, f'({len(self.program.listed(path, "--kind", kind))})', f'how many are {kind}')
         self.browser.choose(1)
@@ -68,63 +68,58 @@ class PacketCases:
             self.filter(words)
             self.browser.wait(lambda: self.browser.text('shown').startswith('3 of'))
             equal([row[0] for row in self.browser.rows()], ['2', '3', '22'], f'the packets of {words}')
-            check(not self.browser.id('hint').is_displayed(), f'no hint at {words}')
-        self.filter('nobody has this')
-        self.browser.wait(lambda: self.browser.id('hint').is_displayed())
-        check('No row fits “nobody has this”. The box takes words' in self.browser.text('hint'), f"no row fits: {self.browser.text('hint')}")
-        self.filter('ip.addr==10.0.0.9')
-        self.browser.wait(lambda: 'is a filter of Wireshark' in self.browser.text('hint'))
+            check(not self.browser.is_shown('hint'), f'no hint at {words}')
+        for words, hint in (('nobody has this', 'No row fits “nobody has this”. The box takes words'), ('ip.addr==10.0.0.9', 'is a filter of Wireshark')):
+            self.filter(words)
+            check(self.browser.wait(lambda: self.browser.is_shown('hint') and hint in self.browser.text('hint')), f'the hint at {words}')
         equal(self.browser.texts('#hint button'), ['Filter by 10.0.0.9'], 'words in place of a filter of Wireshark')
         self.browser.all('#hint button')[0].click()
-        self.browser.wait(lambda: not self.browser.id('hint').is_displayed())
+        self.browser.wait(lambda: not self.browser.is_shown('hint'))
         equal([row[0] for row in self.browser.rows()], ['4', '5'], 'the packets of these words')
-        equal(self.browser.driver.execute_script('return document.activeElement === words && words.value'), '10.0.0.9', 'the box has the words, and the keys')
+        equal(self.browser.js('return document.activeElement === words && words.value'), '10.0.0.9', 'the box has the words, and the keys')
 
     def filter(self, words):
-        self.browser.driver.execute_script(
-            'const box = document.getElementById("words"); box.value = arguments[0]; box.dispatchEvent(new Event("input"))', words)
+        self.browser.js('const box = document.getElementById("words"); box.value = arguments[0]; box.dispatchEvent(new Event("input"))', words)
 
     def keys(self):
         """Keys, and the address."""
-        from browser import Keys
         self.opened()
-        self.browser.key(Keys.ARROW_DOWN)
-        self.browser.wait(lambda: self.browser.texts('#packet h2') == ['Frame 1'])
-        self.browser.id('grid').send_keys(Keys.ARROW_DOWN, Keys.ARROW_DOWN)
-        self.browser.wait(lambda: self.browser.texts('#packet h2') == ['Frame 3'])
+        self.browser.key(self.browser.keys.ARROW_DOWN)
+        self.browser.chosen('Frame 1')
+        self.browser.id('grid').send_keys(self.browser.keys.ARROW_DOWN, self.browser.keys.ARROW_DOWN)
+        self.browser.chosen('Frame 3')
         check(self.browser.driver.current_url.endswith('#packets?frame=3'), f'the address keeps the frame: {self.browser.driver.current_url}')
         equal(self.browser.id('grid').get_attribute('aria-activedescendant'), self.browser.all('[aria-selected=true]')[0].get_attribute('id'), 'the selected row')
         self.browser.key('/')
-        self.browser.wait(lambda: self.browser.driver.switch_to.active_element.get_attribute('id') == 'words')
+        self.browser.wait(lambda: self.browser.focus() == 'words')
         self.browser.key('FRED<20> query')
         self.browser.wait(lambda: self.browser.text('shown') == '1 of 15 rows')
-        self.browser.key(Keys.ESCAPE)
+        self.browser.key(self.browser.keys.ESCAPE)
         self.browser.wait(lambda: self.browser.text('shown') == '15 rows')
-        equal(self.browser.driver.switch_to.active_element.get_attribute('id'), 'grid', 'Escape goes back')
+        equal(self.browser.focus(), 'grid', 'Escape goes back')
         self.browser.key('?')
-        check(self.browser.id('help').is_displayed(), '? opens the help')
-        self.browser.key(Keys.ESCAPE)
-        check(not self.browser.id('help').is_displayed(), 'Escape closes it')
+        check(self.browser.is_shown('help'), '? opens the help')
+        self.browser.key(self.browser.keys.ESCAPE)
+        check(not self.browser.is_shown('help'), 'Escape closes it')
         self.opened(place='#packets?frame=9')
-        self.browser.wait(lambda: self.browser.texts('#packet h2') == ['Frame 9'])
+        self.browser.chosen('Frame 9')
         self.browser.key('3')
-        self.browser.wait(lambda: self.browser.id('view-reassembly').is_displayed())
+        self.browser.wait(lambda: self.browser.is_shown('view-reassembly'))
         check('#reassembly?frame=9' in self.browser.driver.current_url, 'the address keeps the view')
         self.browser.driver.back()
-        self.browser.wait(lambda: self.browser.id('view-packets').is_displayed())
+        self.browser.wait(lambda: self.browser.is_shown('view-packets'))
         self.list_keys()
 
     def list_keys(self):
         """The list has the keys after each way to it."""
-        from browser import Keys
         self.browser.view('names', self.browser.tables)
         self.browser.all('#view-names a[href*="frame="]')[0].click()
-        self.browser.wait(lambda: self.browser.id('view-packets').is_displayed())
-        equal(self.browser.driver.switch_to.active_element.get_attribute('id'), 'grid', 'a link to a frame leads to the list')
+        self.browser.wait(lambda: self.browser.is_shown('view-packets'))
+        equal(self.browser.focus(), 'grid', 'a link to a frame leads to the list')
         last = self.browser.rows()[-1][0]
-        for before, key, frame in (('names', Keys.END, last), ('packets', Keys.HOME, '1')):
+        for before, key, frame in (('names', self.browser.keys.END, last), ('packets', self.browser.keys.HOME, '1')):
             self.browser.view(before)
             self.browser.view('packets')
             self.browser.key(key)
-            self.browser.wait(lambda: self.browser.texts('#packet h2') == [f'Frame {frame}'])
-            equal(self.browser.driver.switch_to.active_element.get_attribute('id'), 'grid', f'from {before} to the list')
+            self.browser.chosen(f'Frame {frame}')
+            equal(self.browser.focus(), 'grid', f'from {before} to the list')

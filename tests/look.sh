@@ -4,30 +4,16 @@
 # are run. Where tshark isn't installed all of it is left out.
 set -uo pipefail
 . "$(dirname "$0")/lib/counting.sh"
-# The page reads captures beside the tools: some of its modules are made of theirs.
-"$here/../tools/lists.py" --made || exit
-program=$(realpath "${1:-$here/../crates/nbt/out/nbt}")
 only=${*:2}
-
-if ! command -v tshark >/dev/null; then
-    lacks all tshark
-    finish
-    exit
-fi
-with_tools "$program"
-PATH=$room/bin:$PATH
-files=$room/files
+of_tools "${1:-}"
 
 # What the samples have at hand: captures, the tool apart from this repository, and two commands.
 prepared() {
-    mkdir "$files" "$files/elsewhere"
-    ln -s "$(realpath "$here/..")" "$files/top"
-    ln -s top/examples "$files/examples"
+    mkdir "$files/elsewhere"
     "$here/captures/look_captures.py" "$files"
     cp -r "$here"/../tools/{nbt_look,nbt_pcap,nbt_shards,nbt-look} "$files/elsewhere"
     echo '<p><script type="application/octet-stream" id="given" data-name=""></script>' >"$files/elsewhere/nbt.html"
     printf 'no\tcapture\n' >"$files/other"
-    : >"$files/empty"
     nbt-look "$here/../examples/office.pcap" >"$files/list"
     nbt-pcap2cap --quiet "$here/../examples/office.pcap" >"$files/capture"
     # numbers: those of the frames of a list. terminal COLUMNS COMMAND..: what a command shows on a terminal of so many columns.

@@ -4,28 +4,14 @@
 # 'N passed, M failed, K skipped'. Where tshark isn't installed all of it is left out.
 set -uo pipefail
 . "$(dirname "$0")/lib/counting.sh"
-# The page reads captures beside the tools: some of its modules are made of theirs.
-"$here/../tools/lists.py" --made || exit
 . "$here/wireshark/live_cases.sh"
-program=$(realpath "${1:-$here/../crates/nbt/out/nbt}")
-
-if ! command -v tshark >/dev/null; then
-    lacks all tshark
-    finish
-    exit
-fi
-with_tools "$program"
-PATH=$room/bin:$PATH
-files=$room/files
+of_tools "${1:-}"
 
 # What the samples of tests/wireshark/cases.txt have at hand.
-mkdir "$files" "$files/bare"
-ln -s "$(realpath "$here/..")" "$files/top"
-ln -s top/examples "$files/examples"
+mkdir "$files/bare"
 ln -s "$(realpath "$here/../tools/pcap2cap")" "$(realpath "$here/../tools/cap2pcap")" "$room/bin"
 ln -s "$(command -v cat)" "$(command -v env)" "$(python3 -c 'import sys; print(sys.executable)')" "$files/bare"
 echo '{"a": 1}' >"$files/words"
-: >"$files/empty"
 
 # cases PART: its samples.
 cases() { counted_by lib/samples.py "$files" "$here/wireshark/cases.txt" "$1"; }

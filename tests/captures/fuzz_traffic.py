@@ -36,10 +36,10 @@ class Datagram:
 class Traffic:
     """Datagrams of some senders, cut in many ways, with faults."""
 
-    def __init__(self, rng, names=(), addresses=()):
+    def __init__(self, rng):
         self.rng = rng
-        self.names = names or [self.name() for _ in range(4)]
-        addresses = addresses or [bytes([10, 0, 0, rng.randrange(256)]) for _ in range(rng.choice((1, 2, 4)))]
+        self.names = [self.name() for _ in range(4)]
+        addresses = [bytes([10, 0, 0, rng.randrange(256)]) for _ in range(rng.choice((1, 2, 4)))]
         self.keys = [(rng.choice(addresses), rng.choice((138, 138, 0, 65_535)), rng.choice((0, 1, 2, 255, 256, 65_535)))
                      for _ in range(rng.choice((1, 2, 3, 6)))]
         self.datagrams = [self.datagram(key) for key in dict.fromkeys(self.keys)]

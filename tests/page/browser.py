@@ -9,7 +9,8 @@ from selenium.webdriver.chrome.service import Service
 from selenium.webdriver.common.by import By
 from selenium.webdriver.common.keys import Keys
 
-from page_seen import Seen
+from page_seen import BROKEN, FAINT
+from parts import equal
 
 CHROMIUM, DRIVER = '/usr/bin/chromium', '/usr/bin/chromedriver'
 WORDS = ('--headless=new', '--no-sandbox', '--disable-dev-shm-usage', '--disable-background-networking', '--disable-component-update',
@@ -31,7 +32,7 @@ event[transfer] = files;
 document.body.dispatchEvent(event)'''
 
 
-class Browser(Seen):
+class Browser:
     """One window, with the page in it."""
 
     keys = Keys
@@ -74,9 +75,21 @@ class Browser(Seen):
         return self.js('return Array.from(document.querySelectorAll(arguments[0])).filter((each) => each.offsetParent !== null)'
                        '.map((each) => each.textContent)', selector)
 
-    def focus(self):
-        """The element that has the keys: its id."""
-        return self.driver.switch_to.active_element.get_attribute('id')
+    def state(self, name):
+        """What `until` compares."""
+        known = {'focus': lambda: self.js('return document.activeElement.id'), 'packet': lambda: ' '.join(self.texts('#packet h2')),
+                 'frames': lambda: [row[0] for row in self.rows()], 'address': lambda: self.js('return location.hash'), 'message': self.message, 'rows': self.rows}
+        place = name.replace('_', '-').removesuffix('-shown')
+        return known[name]() if name in known else self.is_shown(place) if name.endswith('_shown') else self.text(place)
+
+    def until(self, what='', **wanted):
+        """A case: the page becomes so. `focus` is the id of what has the keys, `packet` the title of what is chosen, `frames` those of the rows in
+        sight, `address` what follows # and `message` the line of a fault; of other ids, with _ for -, it is the text, or behind _shown whether it is
+        shown."""
+        end = time.monotonic() + 60
+        while (found := {name: self.state(name) for name in wanted}) != wanted and time.monotonic() < end:
+            time.sleep(0.01)
+        equal(found, wanted, what)
 
     def wait(self, what, seconds=60):
         """Waits until a function has an answer that counts as true, and answers that."""
@@ -150,14 +163,19 @@ class Browser(Seen):
         """Chooses the row of a frame, or of a line, that is in sight, and waits for its packet."""
         row = next(each for each in self.all('.sight .row:not([hidden])') if each.text.split('\n')[0] == str(frame))
         row.click()
-        self.chosen(f'Frame {frame}', f'Line {frame}')
+        self.wait(lambda: self.state('packet') in (f'Frame {frame}', f'Line {frame}'))
 
-    def chosen(self, *titles):
-        """Waits until the packet of one of these titles is shown."""
-        self.wait(lambda: self.texts('#packet h2') in [[each] for each in titles])
-
-    def key(self, *keys):
+    def key(self, *keys, **wanted):
+        """Presses keys, after which the page becomes as is wanted."""
         self.driver.switch_to.active_element.send_keys(*keys)
+        if wanted:
+            self.until(f'after {keys!r}', **wanted)
+
+    def click(self, selector, at=0, **wanted):
+        """Clicks one of the elements, after which the page becomes as is wanted."""
+        self.all(selector)[at].click()
+        if wanted:
+            self.until(f'after a click on {selector}', **wanted)
 
     def saved(self, button, name):
         """What a button saves: the bytes of the file with this name."""
@@ -184,6 +202,17 @@ class Browser(Seen):
                 url = message['params']['request']['url']
                 if not url.startswith(OWN) and url.split('#')[0] not in self.pages:
                     self.requests.append(url)
+
+    def broken(self):
+        return self.js(BROKEN)
+
+    def faint(self):
+        return self.js(FAINT)
+
+    def media(self, kind='', dark=False, **features):
+        """Shows the page as on paper, or on a screen, dark or light."""
+        features |= {'prefers-color-scheme': 'dark' if dark else 'light'}
+        self.driver.execute_cdp_cmd('Emulation.setEmulatedMedia', {'media': kind, 'features': [{'name': name, 'value': value} for name, value in features.items()]})
 
     def picture(self, path, dark=False):
         self.media(dark=dark)

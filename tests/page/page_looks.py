@@ -45,13 +45,12 @@ class LookCases:
         for view in self.browser.views():
             equal(self.browser.faint(), [], f'faint texts in {view}, dark: {dark}')
         self.browser.view('packets')
-        self.filter('ip.addr==10.0.0.77')
-        self.browser.wait(lambda: self.browser.is_shown('hint'))
+        self.filter('ip.addr==10.0.0.77', hint_shown=True)
         self.browser.put(path)
-        self.browser.wait(lambda: self.browser.is_shown('placing'))
+        self.browser.until('a question', placing_shown=True)
         equal(self.browser.faint(), [], f'faint texts of a hint and a question, dark: {dark}')
-        self.browser.id('placing-cancel').click()
-        self.filter('')
+        self.browser.click('#placing-cancel')
+        self.filter('', hint_shown=False)
         self.browser.media()
 
     def paper(self):
@@ -113,7 +112,7 @@ class LookCases:
         self.letters_of(200)
         equal(self.browser.js(script), ['28px', '25px', 48], 'the sizes with letters of 200 %')
         self.browser.id('grid').send_keys(self.browser.keys.END)
-        self.browser.chosen('Frame 16')
+        self.browser.until('the last row', packet='Frame 16')
         reach = 'return document.querySelector(".row.selected").getBoundingClientRect().bottom - document.querySelector(".scroller").getBoundingClientRect().bottom'
         self.browser.wait(lambda: self.browser.all('.row.selected'))
         check(self.browser.js(reach) <= 1, f'the last row is in sight: {self.browser.js(reach)}')
@@ -121,7 +120,7 @@ class LookCases:
 
     def forced(self):
         """In forced colours the selected row, and the view that is shown, can be told from others."""
-        self.browser.driver.execute_cdp_cmd('Emulation.setEmulatedMedia', {'media': '', 'features': [{'name': 'forced-colors', 'value': 'active'}]})
+        self.browser.media(**{'forced-colors': 'active'})
         one, other = self.browser.js(SELECTED)
         check(one != other, f'the selected row in forced colours: {one} and {other}')
         shown, hidden = (self.browser.id(f'to-{view}').value_of_css_property('background-color') for view in ('packets', 'names'))
@@ -134,18 +133,16 @@ class LookCases:
         self.turn(False)
         for key in ('3', '/', '?'):
             self.browser.key(key)
-        equal([self.browser.is_shown('view-packets'), self.browser.focus() == 'words',
-               self.browser.is_shown('help'), self.browser.texts('.keys')], [True, False, False, []], 'keys that are off')
+        self.browser.until('keys that are off', view_packets_shown=True, help_shown=False)
+        equal([self.browser.state('focus') == 'words', self.browser.texts('.keys')], [False, []], 'what these keys lead to')
         self.opened()
-        self.browser.key('3')
-        check(self.browser.is_shown('view-packets'), 'keys that are off the next time')
+        self.browser.key('3', view_packets_shown=True)
         self.turn(True)
-        self.browser.key('3')
-        self.browser.wait(lambda: self.browser.is_shown('view-reassembly'))
+        self.browser.key('3', view_reassembly_shown=True)
         check(len(self.browser.texts('.keys')) == 1, 'keys that are on again')
 
     def turn(self, on):
-        self.browser.id('to-help').click()
+        self.browser.click('#to-help')
         equal(self.browser.id('single-keys').is_selected(), not on, 'the keys before')
-        self.browser.id('single-keys').click()
-        self.browser.id('close-help').click()
+        for each in ('single-keys', 'close-help'):
+            self.browser.click(f'#{each}')

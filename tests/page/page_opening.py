@@ -55,39 +55,30 @@ class OpeningCases:
 
     def given(self):
         """A capture that is pasted or dropped, and one that is in the page from the start."""
-        self.paste('139 0 85000000\n', self.browser.rows)
+        self.paste('139 0 85000000\n', frames=['1'])
         equal(self.browser.rows()[0][5], 'keeps the session alive', 'pasted text')
         for event, transfer in (('drop', 'dataTransfer'), ('paste', 'clipboardData')):
             self.browser.open(self.page)
             self.browser.drop('keep.txt', event, transfer)
-            self.browser.wait(self.browser.rows)
-            equal(self.browser.text('title'), 'keep.txt', f'a file by {event}')
+            self.browser.until(f'a file by {event}', frames=['1'], title='keep.txt')
         for text, why in PASTED:
-            self.paste(text, self.browser.message)
-            equal(self.browser.message(), why + FORM, f'pasted {text}')
-            equal([self.browser.id('pasted').get_attribute('value'), self.browser.is_shown('start')], [text, True], f'what was pasted stays, {text}')
-        self.lines()
-        self.browser.open(self.program.page(self.page, f'{self.top}/examples/office.pcap'))
-        self.browser.wait(self.browser.rows)
-        equal([self.browser.text('title'), len(self.browser.rows())], ['office.pcap', 15], 'nbt-look --html')
-
-    def paste(self, text, until):
-        self.browser.open(self.page)
-        self.browser.id('pasted').send_keys(text)
-        self.browser.id('read').click()
-        self.browser.wait(until)
-
-    def lines(self):
-        """A line without a frame has neither a date nor a filter of Wireshark."""
-        self.paste('139 5 85000000\n# frame 7 2026-01-01T00:00:00.250000Z 10.0.0.5:1024 > 10.0.0.9:139\n139 250 85000000\n', self.browser.rows)
+            self.paste(text, message=why + FORM, start_shown=True)
+            equal(self.browser.id('pasted').get_attribute('value'), text, 'what was pasted stays')
+        # A line without a frame has neither a date nor a filter of Wireshark.
+        self.paste('139 5 85000000\n# frame 7 2026-01-01T00:00:00.250000Z 10.0.0.5:1024 > 10.0.0.9:139\n139 250 85000000\n', frames=['1', '7'])
         equal(self.browser.texts('.head .frame'), ['line'], 'the column of lines')
         self.browser.choose(1)
-        equal(self.browser.texts('#packet dt')[:2], ['moment', 'payload'], 'what is known of a line')
-        equal(self.browser.texts('#packet dd')[0], '5 ms', 'the moment of a line')
+        equal([*self.browser.texts('#packet dt')[:2], self.browser.texts('#packet dd')[0]], ['moment', 'payload', '5 ms'], 'what is known of a line')
         check(not re.search('1970|Wireshark|captured', self.browser.text('packet')), f"a line without a frame: {self.browser.text('packet')}")
         self.browser.choose(7)
-        equal(self.browser.texts('#packet h2'), ['Frame 7'], 'a line with a frame')
-        check(re.search('(?s)2026-01-01T00:00:00.250000Z.*frame.number == 7', self.browser.text('packet')), f"a line with a frame: {self.browser.text('packet')}")
+        check(re.search('(?s)^Frame 7.*2026-01-01T00:00:00.250000Z.*frame.number == 7', self.browser.text('packet')), f"a line with a frame: {self.browser.text('packet')}")
+        self.browser.open(self.program.page(self.page, f'{self.top}/examples/office.pcap'))
+        self.browser.until('nbt-look --html', title='office.pcap', shown='15 rows')
+
+    def paste(self, text, **wanted):
+        self.browser.open(self.page)
+        self.browser.id('pasted').send_keys(text)
+        self.browser.click('#read', **wanted)
 
     def stop(self):
         """A long file is stopped: what was read stays, and can be looked at."""
@@ -111,81 +102,61 @@ class OpeningCases:
         check(not self.browser.is_read(), 'it is being read')
         self.browser.put(self.path('third.png'))
         self.browser.answer('Instead of tap 2')
-        bad = lambda: 'third.png: no pcap' in self.browser.wait(self.browser.message)
-        check(bad(), f'a bad file meanwhile: {self.browser.message()}')
+        said = self.browser.wait(self.browser.message)
+        check('third.png: no pcap' in said, f'a bad file meanwhile: {said}')
         self.browser.wait(lambda: self.browser.is_read() and self.browser.text('live').startswith('long.pcap: '), 300)
-        equal(self.browser.text('shown'), whole, 'all of it is read')
-        check(bad(), f'the message stays: {self.browser.message()}')
+        self.browser.until('all of it is read, and the message stays', shown=whole, message=said)
 
     def placing(self):
         """A file that is opened beside others: it is asked where it goes, and each answer does what it says."""
         self.opened(self.path('one.txt'))
-        self.asked(self.path('two.txt'), 'Open two.txt', NAMES)
+        self.asked('two.txt', NAMES)
         self.browser.key('3')
-        self.browser.key(self.browser.keys.ESCAPE)
-        self.browser.wait(lambda: not self.browser.is_shown('placing'))
-        equal(self.title(), 'one.txt', 'Escape opens nothing')
-        check(self.browser.is_shown('view-packets'), 'no key reaches the page meanwhile')
-        self.asked(self.path('two.txt'), 'Open two.txt', NAMES)
-        self.browser.key(self.browser.keys.ENTER)
-        self.browser.wait(lambda: self.title() == 'one.txt and two.txt')
+        self.browser.key(self.browser.keys.ESCAPE, placing_shown=False, title='one.txt', view_packets_shown=True)
+        self.asked('two.txt', NAMES)
+        self.browser.key(self.browser.keys.ENTER, title='one.txt and two.txt')
         # A third file replaces nothing unasked, and a bad one nothing at all.
-        self.asked(self.path('three.txt'), 'Open three.txt', BOTH)
-        self.browser.id('placing-cancel').click()
-        equal(self.title(), 'one.txt and two.txt', 'Cancel opens nothing')
+        self.asked('three.txt', BOTH)
+        self.browser.click('#placing-cancel', title='one.txt and two.txt')
         for names, answer, title in OPENED:
             if names == ['dropped.txt']:
                 self.browser.drop(*names)
                 self.browser.answer(answer)
-                self.browser.wait(lambda: self.title() == title)
-                check(not self.browser.is_shown('tap'), 'one tap is left')
+                self.browser.until(answer, title=title, tap_shown=False)
             else:
                 self.browser.give(*map(self.path, names), answer=answer)
-                equal(self.title(), title, f'{names}: {answer}')
+                self.browser.until(f'{names}: {answer}', title=title)
         self.closing()
-        self.closing_while_reading()
+        # A tap closes while it is read: no row of it comes after that, and another file is read.
+        self.reading('closed.pcap')
+        self.close('closed.pcap', title='nbt')
+        check(self.browser.is_read(), 'nothing is read any more')
+        self.browser.give(self.path('one.txt'))
+        self.browser.until('another file after that', title='one.txt', shown='1 row', message='')
 
-    def asked(self, path, title, answers):
+    def asked(self, name, answers):
         """Gives a file, and waits for the question: its title, its answers, and that the keys are there."""
-        self.browser.put(path)
-        self.browser.wait(lambda: self.browser.is_shown('placing'))
-        equal(self.browser.texts('#placing-title'), [title], 'the question')
-        equal(self.browser.texts('#placing-answers button'), answers, f'the answers to {title}')
-        equal(self.browser.driver.switch_to.active_element.text, answers[0], f'the focus at {title}')
-        equal(self.browser.unnamed(), [], f'controls without a name, {title}')
-
-    def title(self):
-        return self.browser.text('title')
+        self.browser.put(self.path(name))
+        self.browser.until('the question', placing_shown=True, placing_title=f'Open {name}')
+        equal(self.browser.texts('#placing-answers button'), answers, f'the answers to {name}')
+        equal(self.browser.driver.switch_to.active_element.text, answers[0], f'the focus at {name}')
+        equal(self.browser.unnamed(), [], f'controls without a name, {name}')
 
     def closing(self):
         """A tap closes, and the other one is shown; after the last one the page is as at first."""
-        self.opened(self.path('one.txt'), self.path('two.txt', 2 * KEEP))
-        equal(self.browser.text('shown'), '2 rows', 'the second tap is shown')
-        self.close('two.txt', 'one.txt', '1 row')
-        equal(self.browser.focus(), 'grid', 'the focus after that')
-        self.browser.give(self.path('two.txt', 2 * KEEP), answer=NAMES[0])
-        self.close('one.txt', 'two.txt', '2 rows')
+        one, two = self.path('one.txt'), self.path('two.txt', 2 * KEEP)
+        self.opened(one, two)
+        self.browser.until('the second tap is shown', shown='2 rows')
+        self.close('two.txt', title='one.txt', shown='1 row', focus='grid')
+        self.browser.give(two, answer=NAMES[0])
+        self.close('one.txt', title='two.txt', shown='2 rows')
         self.browser.choose(2)
         self.browser.view('taps')
         check('Open a second file' in self.browser.text('view-taps'), 'two taps without one of them')
-        self.browser.give(self.path('one.txt'), answer='As a second tap, beside two.txt')
-        equal(self.title(), 'one.txt and two.txt', 'a tap in the place of the one that was closed')
-        self.close('one.txt', 'two.txt', '2 rows')
-        self.close('two.txt', 'nbt', '')
-        check(self.browser.is_shown('start'), 'the page is as at first')
-        equal(self.browser.focus(), 'choose', 'the focus at the end')
-        equal(self.browser.js('return location.hash'), '#packets', 'the address at the end')
+        self.browser.give(one, answer='As a second tap, beside two.txt')
+        self.browser.until('a tap in the place of the one that was closed', title='one.txt and two.txt')
+        self.close('one.txt')
+        self.close('two.txt', title='nbt', start_shown=True, focus='choose', address='#packets')
 
-    def close(self, name, *left):
-        """Closes a tap; the title and the number of rows that are left."""
-        self.browser.all(f'#title button[aria-label="Close {name}"]')[0].click()
-        self.browser.wait(lambda: self.browser.text('live') == f'{name} is closed')
-        equal((self.title(), *self.browser.texts('#shown') or ['']), left, f'{name} is closed')
-
-    def closing_while_reading(self):
-        """A tap closes while it is read: no row of it comes after that, and another file is read."""
-        self.reading('closed.pcap')
-        self.close('closed.pcap', 'nbt', '')
-        check(self.browser.is_read(), 'nothing is read any more')
-        self.browser.give(self.path('one.txt'))
-        equal([self.title(), self.browser.text('shown'), self.browser.message()], ['one.txt', '1 row', ''], 'another file after that')
+    def close(self, name, **wanted):
+        self.browser.click(f'#title button[aria-label="Close {name}"]', live=f'{name} is closed', **wanted)

@@ -1,4 +1,4 @@
-"""What the browser makes of the page: words that break inside, texts that are hard to read, what is printed."""
+"""Scripts that find what the browser makes of the page: words that break inside, texts that are hard to read, fields that nobody sees."""
 
 # The words that stand in two lines. A name of many parts, or digits of many bytes, have to break somewhere.
 BROKEN = r'''
@@ -74,21 +74,3 @@ return Array.from(document.querySelectorAll('nav, .tools, .split')).filter((each
 SELECTED = '''
 const [one, other] = [document.querySelector('.sight .row.selected'), document.querySelector('.sight .row:not(.selected):not([hidden])')];
 return [one, other].map((each) => getComputedStyle(each).backgroundColor)'''
-
-
-class Seen:
-    """A part of Browser."""
-
-    def broken(self):
-        return self.js(BROKEN)
-
-    def faint(self):
-        return self.js(FAINT)
-
-    def media(self, kind='', dark=False):
-        """Shows the page as on paper, or on a screen, dark or light."""
-        scheme = {'name': 'prefers-color-scheme', 'value': 'dark' if dark else 'light'}
-        self.driver.execute_cdp_cmd('Emulation.setEmulatedMedia', {'media': kind, 'features': [scheme]})
-
-    def color(self, element):
-        return self.js('return getComputedStyle(arguments[0]).color', element)

@@ -41,16 +41,14 @@ class ViewCases:
 
     def losers(self):
         """Who holds a name and who was refused it is said, and has another color."""
-        equal(self.browser.text('to-names'), 'Names 3', 'how many conflicts there are')
+        self.browser.until('how many conflicts there are', to_names='Names 3')
         equal(self.browser.texts('#view-names .lead'), ['3 names are in conflict.'], 'how many names are in conflict')
         frames = {'FRED<20>': 150, 'FRED<03>': 153, 'FRED<00>': 156}
         equal(self.browser.texts('.outcomes li'), [f'{name}: 10.0.0.6 holds it; 10.0.0.5 was refused it. frame {frame}' for name, frame in frames.items()],
               'how the conflicts ended')
-        plain = self.browser.color(self.browser.id('view-names'))
-        colors = [self.browser.color(each) == plain for each in self.browser.all('#view-names td[data-column=address]')[:7]]
-        equal(colors, [False, True, False, True, False, True, True], 'the colors of losers, of holders, and of a name that is in no conflict')
-        self.browser.all('.outcomes a')[1].click()
-        self.browser.chosen('Frame 153')
+        plain, *colors = (each.value_of_css_property('color') for each in self.browser.all('#view-names, #view-names td[data-column=address]')[:8])
+        equal([each == plain for each in colors], [False, True, False, True, False, True, True], 'the colors of losers, of holders, and of a name that is in no conflict')
+        self.browser.click('.outcomes a', 1, packet='Frame 153')
 
     def deliveries(self):
         """What a station is handed is what `nbt replay` delivers."""
@@ -59,14 +57,14 @@ class ViewCases:
             self.opened(path)
             self.browser.view('reassembly', lambda: self.browser.texts('#handed p'))
             self.browser.js('document.getElementById("station").value = "FRED<20>"; document.getElementById("handed").textContent = ""')
-            self.browser.all('#station-form button')[0].click()
+            self.browser.click('#station-form button')
             self.browser.wait(lambda: self.browser.texts('#handed p'))
             given = [row[2:5] for row in self.browser.tables().get('handed over', [[]])[1:]]
             equal(given, self.program.delivered(path, 'FRED<20>'), f'{name}, what FRED<20> is handed')
             keys = self.program.keys(path)
             equal([row[:2] for row in self.browser.tables()['keys'][1:]], keys, f'{name}, the keys')
             count = sum(state == 'partial' for _, state in keys)
-            equal(self.browser.text('to-reassembly'), f'Reassembly {count}' if count else 'Reassembly', f'{name}, how many keys are incomplete')
+            self.browser.until(f'{name}, how many keys are incomplete', to_reassembly=f'Reassembly {count}' if count else 'Reassembly')
         self.first_frames()
 
     def first_frames(self):
@@ -74,9 +72,8 @@ class ViewCases:
         self.opened(self.path('pieces.txt', page_program.taps(self.program)[1].encode()))
         self.browser.view('reassembly', lambda: self.browser.texts('#keys a'))
         equal([each.get_attribute('href').split('#')[1] for each in self.browser.all('#keys a')], ['packets?frame=1', 'packets?frame=3'], 'the first frames')
-        self.browser.wait(lambda: self.browser.text('to-reassembly') == 'Reassembly 1')
-        self.browser.all('#keys a')[1].click()
-        self.browser.chosen('Line 3')
+        self.browser.until('how many keys are incomplete', to_reassembly='Reassembly 1')
+        self.browser.click('#keys a', 1, packet='Line 3')
         check('10.0.0.6:138/0002' in self.browser.texts('#packet dd'), f"the packet of the key: {self.browser.texts('#packet dd')}")
 
     def taps(self):
@@ -96,9 +93,8 @@ class ViewCases:
         self.folded()
         self.browser.give(self.path('third.png'), answer='Instead of tap 1')
         check('third.png: no pcap' in self.browser.message(), f'a bad third file: {self.browser.message()}')
-        equal(self.browser.text('title'), 'one.txt and two.txt', 'both taps stay')
         equal(self.browser.wait(self.browser.tables), tables, 'what the taps have stays')
-        check(self.browser.text('live').startswith('two.txt: 4 packets'), f"the footer: {self.browser.text('live')}")
+        self.browser.until('both taps stay', title='one.txt and two.txt', live='two.txt: 4 packets, 0 malformed, 0 left out')
         self.sides()
 
     def folded(self):
@@ -121,8 +117,7 @@ class ViewCases:
         equal(self.browser.texts('#view-taps .lead'),
               ['Joined, 3 of 4 datagrams are whole. Of 1 the fragments contradict each other. Of 3 the taps know different things.'], 'what comes of them')
         check('1 key is the same at both taps.' in self.browser.texts('#view-taps .quiet'), 'the key that is the same')
-        self.browser.all('#view-taps a')[1].click()
-        self.browser.chosen('Line 1')
+        self.browser.click('#view-taps a', 1, packet='Line 1')
         equal([self.browser.id('tap').get_attribute('value'), '10.0.0.5:138/0002' in self.browser.texts('#packet dd')], ['1', True], 'the tap of a key')
 
     def exports(self):
@@ -144,15 +139,14 @@ class ViewCases:
         inner = sent(137, QUERY)
         radio = bytes([0, 0, 8, 0, 0, 0, 0, 0, 8]) + bytes(23) + bytes.fromhex('aaaa030000000800') + inner
         self.opened(self.path('radio.pcap', pcap_header(127) + 6 * pcap_record(0, radio)))
-        equal(self.browser.text('counts'), '0 packets · 0 names · 0 malformed · 0 left out · 6 not read here', 'the counts of a capture of radiotap')
-        equal(self.browser.text('live'), 'radio.pcap: 0 packets, 0 malformed, 0 left out, 6 not read here', 'the footer of it')
-        equal(self.browser.texts('#unread'), ["6 frames of what this page doesn't read: link type radiotap (127). nbt-look reads them."], 'the line above its rows')
+        self.browser.until('a capture of radiotap', counts='0 packets · 0 names · 0 malformed · 0 left out · 6 not read here', unread_shown=True,
+                           live='radio.pcap: 0 packets, 0 malformed, 0 left out, 6 not read here',
+                           unread="6 frames of what this page doesn't read: link type radiotap (127). nbt-look reads them.")
         self.browser.view('names', self.browser.tables)
         equal(self.browser.tables()['not read here'], [['link type', 'why', 'frames', 'frame'], ['radiotap (127)', 'link type', '6', '1']], 'the table of it')
         gre = ip(47, b'\0\0\x08\0' + inner)
         self.opened(self.path('tunnel.pcap', pcap(spaced(map(ethernet, (inner, gre, gre))))))
-        equal(self.browser.texts('#unread'), ["2 frames of what this page doesn't read: GRE. nbt-look reads them."], 'the line of a tunnel')
-        equal(len(self.browser.rows()), 1, 'what is read beside it')
+        self.browser.until('a tunnel, and what is read beside it', unread="2 frames of what this page doesn't read: GRE. nbt-look reads them.", frames=['1'])
         equal(len(self.program.listed(f'{self.folder}/tunnel.pcap')), 3, 'nbt-look reads them')
         self.browser.give(f'{self.top}/examples/office.pcap', answer='Instead of')
         equal([self.browser.texts('#unread'), 'not read' in self.browser.text('counts')], [[], False], 'a capture without such frames')
@@ -169,22 +163,21 @@ class ViewCases:
             check('0 datagrams' not in wanted[0], f'{name}, before: {wanted}')
             counts = self.browser.text('counts')
             change(path)
-            self.browser.all('#station-form button')[0].click()
+            self.browser.click('#station-form button')
             self.says_change(name, 'handed over')
             equal(self.browser.texts('#handed p'), [], f'{name}, what is handed over then')
             self.browser.view('export')
             for form in ('json', 'capture'):
-                self.browser.id(f'save-{form}').click()
+                self.browser.click(f'#save-{form}')
                 self.says_change(name, form)
                 equal(self.browser.texts('#view-export .card [role=status]'), ['', '', ''], f'{name}, what is saved as {form}')
-            check(self.browser.text('counts') == counts, f'{name}: what was read stays')
+            self.browser.until(f'{name}: what was read stays', counts=counts)
             self.browser.view('names')
             self.says_change(name, 'names')
             check('stations' in self.browser.wait(self.browser.tables), f'{name}: the other tables stay')
 
     def says_change(self, name, when):
-        self.browser.wait(self.browser.message)
-        equal(self.browser.message(), f'{name}: it changed on disk, or is gone, since it was opened: open it again', f'{name}, {when}')
+        self.browser.until(f'{name}, {when}', message=f'{name}: it changed on disk, or is gone, since it was opened: open it again')
         self.browser.dismiss()
 
     def addressed(self):
@@ -192,11 +185,9 @@ class ViewCases:
         for view, shown in (('names', '#view-names .lead'), ('reassembly', '#keys .lead'), ('export', '#view-export .lead'), ('taps', '#view-taps p')):
             self.opened(f'{self.top}/examples/office.pcap', place=f'#{view}')
             self.browser.wait(lambda: self.browser.texts(shown))
-            self.browser.wait(lambda: self.browser.text('live').startswith('office.pcap: 15 packets'))
-            equal(self.browser.message(), '', f'a file at #{view}')
+            self.browser.until(f'a file at #{view}', live='office.pcap: 15 packets, 0 malformed, 0 left out', message='')
             self.browser.give(f'{self.top}/examples/capture.txt', answer='As a second tap')
-            self.browser.wait(lambda: self.browser.text('live').startswith('capture.txt: '))
-            equal([self.browser.message(), self.browser.is_shown(f'view-{view}')], ['', True], f'a second file at #{view}')
+            self.browser.until(f'a second file at #{view}', live='capture.txt: 6 packets, 0 malformed, 0 left out', message='', **{f'view_{view}_shown': True})
         self.in_commands()
 
     def in_commands(self):
@@ -215,9 +206,9 @@ class ViewCases:
             plain = f'{self.top}/examples/{name}'
             path = self.path(f'{name}.gz', gzipped(plain))
             self.opened(plain)
-            wanted = [self.browser.rows(), self.browser.text('counts')]
+            rows, counts = self.browser.rows(), self.browser.text('counts')
             self.opened(path)
-            equal([self.browser.rows(), self.browser.text('counts'), self.browser.message()], [*wanted, ''], f'{name}.gz, what is shown')
+            self.browser.until(f'{name}.gz, what is shown', rows=rows, counts=counts, message='')
             self.browser.view('export')
             equal(self.browser.texts('#view-export code'), [each.format(f'{name}.gz') for each in commands], f'{name}.gz, the commands')
             self.gives_out(f'{name}.gz', plain)
@@ -231,10 +222,10 @@ class ViewCases:
         fault = 'what gzip packed is cut or damaged, or something follows it: what stands before that is read'
         for name, data, is_read in (('cut.gz', whole[:len(whole) // 2], True), ('longer.gz', whole + b'more', True), ('none.gz', b'\x1f\x8b' + bytes(40), False)):
             self.opened(self.path(name, data))
-            equal(self.browser.message(), f'{name}: {fault}', name)
+            self.browser.until(name, message=f'{name}: {fault}')
             check(bool(self.browser.rows()) == is_read, f'{name}, what stands before: {len(self.browser.rows())} rows')
         self.opened(self.path('table.gz', gzip.compress(self.program.table(f'{self.top}/examples/office.pcap'))))
-        equal([self.browser.message(), self.browser.text('live')], ['', 'table.gz is a saved table'], 'a saved table')
+        self.browser.until('a saved table', message='', live='table.gz is a saved table')
         self.opened(self.path('keep.txt'))
         self.browser.give(self.path('none.gz', b'\x1f\x8b' + bytes(40)), answer='Instead of')
-        equal([self.browser.message(), self.browser.text('title')], [f'none.gz: {fault}', 'keep.txt'], 'what was open stays')
+        self.browser.until('what was open stays', message=f'none.gz: {fault}', title='keep.txt')

@@ -1,7 +1,7 @@
 """What a random capture holds: datagrams, fragments and TCP streams, each a list of frames in the order of their times."""
 import struct
 
-from wire import ACK, FIN, RST, SYN, TCP, UDP, ip, tcp
+from wire import ACK, FIN, RST, SYN, TCP, UDP, ip, ip6, session, tcp, udp
 
 IPV4 = b'\x08\0'
 TYPES = (0x00, 0x00, 0x00, 0x00, 0x81, 0x82, 0x83, 0x84, 0x85)
@@ -22,9 +22,8 @@ class Ends:
         if not self.six:
             return ip(protocol, data, source, target, (0x2000 if more else 0) | offset // 8, identifier)
         if fragment:
-            data = struct.pack('>BBHL', protocol, 0, offset | bool(more), identifier) + data
-            protocol = FRAGMENT_HEADER
-        return struct.pack('>LHBB', 0x60000000, len(data), protocol, 64) + source + target + data
+            return ip6(FRAGMENT_HEADER, struct.pack('>BBHL', protocol, 0, offset | bool(more), identifier) + data, source, target)
+        return ip6(protocol, data, source, target)
 
 
 def datagrams(rng, ends):
@@ -46,21 +45,37 @@ def fragments(rng, ends):
 
 def datagram_in_fragments(rng, ends, identifier):
     payload = rng.randbytes(rng.randrange(40, 200))
-    whole = struct.pack('>HHHH', 138, 138, 8 + len(payload), 0) + payload
+    whole = udp(138, 138, payload)
     cuts = sorted(rng.sample(range(8, len(whole), 8), rng.randrange(1, 4)))
     pieces = [(start, whole[start:end], end < len(whole)) for start, end in zip([0] + cuts, cuts + [len(whole)])]
-    if rng.random() < 0.3:
-        rng.shuffle(pieces)
-    if rng.random() < 0.2:
-        pieces.pop(rng.randrange(len(pieces)))
-    if rng.random() < 0.3:
-        pieces.insert(rng.randrange(len(pieces) + 1), rng.choice(pieces))
-    if rng.random() < 0.2:
-        start, data, more = rng.choice(pieces)
-        pieces.insert(rng.randrange(len(pieces) + 1), (start, rng.randbytes(len(data)), more))
     pause = rng.choice((0.01,) * 6 + (25.0, 70.0))
-    for start, data, more in pieces:
+    for start, data, more in disordered(rng, pieces):
         yield pause, ends.packet(UDP, data, more=more, offset=start, identifier=identifier, fragment=True)
+
+
+def disordered(rng, items, *further):
+    """Items, each with a place and bytes, as a network delivers them: one is lost, is late, comes again, otherwise perhaps, or as a further function
+    has it, which for TCP keeps alive or cuts otherwise."""
+    for _ in range(rng.choice((0, 0, 1, 3))):
+        at, kind = rng.randrange(len(items)), rng.randrange(4 + len(further))
+        place, data, flags = items[at]
+        if kind == 0 and len(items) > 1:
+            items.pop(at)
+        elif kind == 1:
+            items.insert(rng.randrange(len(items)), items.pop(at))
+        elif kind > 1:
+            again = further[kind - 4](place, data) if kind > 3 else items[at] if kind == 2 else (place, rng.randbytes(len(data)), flags)
+            items.insert(rng.randrange(at, len(items)) + 1, again)
+    return items
+
+
+def session_bytes(rng):
+    """Session packets, at times with a header that none has among them, or only a part of the last."""
+    data = b''
+    for _ in range(rng.randrange(1, 8)):
+        body = rng.randbytes(rng.choice((0, 0, 5, 40, 150)))
+        data += session(rng.choice(TYPES) if rng.random() < 0.97 else 0x47, body)
+    return data[:-rng.choice((1, 3, 6))] or data if rng.random() < 0.2 else data
 
 
 class Side:
@@ -70,20 +85,11 @@ class Side:
         self.rng, self.ends, self.ports, self.back = rng, ends, ports, back
         self.first = rng.choice((rng.randrange(2**32), 2**32 - rng.randrange(1, 200)))
 
-    def bytes(self):
-        """Session packets, at times with a header that none has among them, or only a part of the last."""
-        data = b''
-        for _ in range(self.rng.randrange(1, 8)):
-            size = self.rng.choice((0, 0, 5, 40, 150))
-            kind = self.rng.choice(TYPES) if self.rng.random() < 0.97 else 0x47
-            data += struct.pack('>BBH', kind, 0, size) + self.rng.randbytes(size)
-        return data[:-self.rng.choice((1, 3, 6))] or data if self.rng.random() < 0.2 else data
-
     def segments(self, data, ending):
         cuts = sorted(self.rng.sample(range(1, len(data)), min(self.rng.randrange(0, 6), len(data) - 1)))
         segments = [(start, data[start:end], ACK) for start, end in zip([0] + cuts, cuts + [len(data)])]
-        for _ in range(self.rng.choice((0, 0, 1, 3))):
-            self.disorder(segments, data)
+        recut = lambda begin: (begin, data[begin:begin + self.rng.randrange(1, 60)], ACK)
+        disordered(self.rng, segments, lambda start, part: (start + len(part) - 1, b'\0', ACK), lambda *_: recut(self.rng.randrange(len(data))))
         if ending == FIN:
             start, part, flags = segments.pop() if self.rng.random() < 0.5 else (len(data), b'', ACK)
             segments.append((start, part, flags | FIN))
@@ -91,41 +97,23 @@ class Side:
             segments.append((len(data), b'' if self.rng.random() < 0.7 else b'reset', RST))
         return segments
 
-    def disorder(self, segments, data):
-        """One thing that a network does: a segment is lost, is late, comes again, otherwise perhaps, or keeps alive."""
-        at, kind = self.rng.randrange(len(segments)), self.rng.randrange(6)
-        start, part, _ = segments[at]
-        if kind == 0 and len(segments) > 1:
-            segments.pop(at)
-        elif kind == 1:
-            segments.insert(self.rng.randrange(len(segments) + 1), segments.pop(at))
-        elif kind == 2:
-            segments.insert(self.rng.randrange(at, len(segments)) + 1, segments[at])
-        elif kind == 3:
-            segments.insert(at + 1, (start, self.rng.randbytes(len(part)), ACK))
-        elif kind == 4:
-            segments.insert(at + 1, (start + len(part) - 1, b'\0', ACK))
-        else:
-            begin = self.rng.randrange(len(data))
-            segments.insert(self.rng.randrange(len(segments) + 1), (begin, data[begin:begin + self.rng.randrange(1, 60)], ACK))
-
     def packet(self, place, data, flags, options=b''):
         source, target = self.ports[::-1] if self.back else self.ports
         return self.ends.packet(TCP, tcp(source, target, self.first + place, data, flags, 0, options), self.back)
 
 
-def stream(rng, ends, side_of=Side):
+def stream(rng, ends, data_of=session_bytes):
     """A TCP stream of both ends, or one that has the ports of one that ended, and no SYN."""
     ports = rng.randrange(1_024, 30_000), 139
     for life in range(rng.choice((1, 1, 1, 2))):
         ending = rng.choice((0, FIN, FIN, RST)) if life == 0 else FIN
-        sides = [side_of(rng, ends, ports, back) for back in (False, True)[:rng.randrange(1, 3)]]
+        sides = [Side(rng, ends, ports, back) for back in (False, True)[:rng.randrange(1, 3)]]
         sent = []
         for side in sides:
             options = rng.choice((b'', bytes([2, 4, 5, 180]), bytes([1]) * 20))
             if rng.random() < 0.8 and life == 0:
                 yield 0.002, side.packet(-1, b'', SYN | (ACK if side.back else 0), options)
-            sent.append([side.packet(*each) for each in side.segments(side.bytes(), ending)])
+            sent.append([side.packet(*each) for each in side.segments(data_of(rng), ending)])
         for packet in mixed(rng, sent):
             yield 0.002, packet
 

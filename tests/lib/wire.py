@@ -31,8 +31,8 @@ def ip(protocol, data, source=CLIENT, target=SERVER, fragment=0, identifier=0):
     return struct.pack('>BBHHHBBH', 0x45, 0, size, identifier, fragment, 64, protocol, 0) + source + target + data
 
 
-def ip6(protocol, data):
-    return struct.pack('>LHBB', 0x60000000, len(data), protocol, 64) + bytes(15) + b'\x01' + bytes(15) + b'\x02' + data
+def ip6(protocol, data, source=bytes(15) + b'\x01', target=bytes(15) + b'\x02'):
+    return struct.pack('>LHBB', 0x60000000, len(data), protocol, 64) + source + target + data
 
 
 def udp(source, target, payload):

@@ -1,7 +1,6 @@
 #!/usr/bin/env python3
 """The cases of tests/summary/, captures as text, and the tables that they have (docs/SUMMARY.md has the rules), through tools/nbt-look --summary,
-or with --page through the modules of the page, in node: each has the tables that stand there, and no others. nbt-look reads those as text whose
-packets text can have, and the others, as the page does all, from a pcap file.
+or with --page through the modules of the page, in node: each has the tables that stand there, and no others.
 
 Usage: tests/look/summary.py [--page] [--only=WORD] [PROGRAM], with nbt on PATH for nbt-look, or PROGRAM in its place where packets are
 made, and where the page asks the library. The last line is 'N passed, M failed'.
@@ -29,11 +28,9 @@ import os
 import re
 import runpy
 import shutil
-import struct
 import subprocess
 import sys
 import tempfile
-import time
 from dataclasses import dataclass, field
 
 sys.dont_write_bytecode = True
@@ -43,7 +40,7 @@ sys.path[1:1] = [*(f'{HERE}/../{it}' for it in ('captures', 'lib')), TOOLS]
 from bundled import bundled
 from nbt_look import looking, page  # noqa: F401: what the tool would import anew for each capture
 from parts import tally
-from wire import ACK, START, SYN, UDP, Frames, pcap, written
+from wire import ACK, SYN, Frames, pcap, written
 
 TOOL = f'{TOOLS}/nbt-look'
 PACKETS = re.compile(r'([\d.,]+) +(\S+) (> \S+) +(.*)')
@@ -180,21 +177,6 @@ def frames_of(case, program):
     return network.frames
 
 
-def as_text(frames):
-    """The frames as lines of a capture; nothing where lines can't say all: what is cut or of TCP, or comes with the MAC of another station."""
-    if any(snap or data[23] != UDP or data[11] != data[29] for _, data, snap in frames):
-        return b''
-    lines = []
-    for number, (at, data, _) in enumerate(frames, 1):
-        second, part = divmod(START + at, 10**6)
-        ports = struct.unpack('>HH', data[34:38])
-        ends = ' > '.join('%d.%d.%d.%d:%d' % (*data[host:host + 4], port) for host, port in zip((26, 30), ports))
-        service = next(each for each in (137, 138) if each in ports)
-        lines += [f'# frame {number} {time.strftime("%Y-%m-%dT%H:%M:%S", time.gmtime(second))}.{part:06d}Z {ends}\n',
-                  f'{service} {max(0, at - frames[0][0]) // 1_000} {data[42:].hex() or "empty"}\n']
-    return ''.join(lines).encode()
-
-
 def tables_in(text):
     """The tables of a summary: of each title the columns, and rows of cells."""
     found = {}
@@ -230,10 +212,8 @@ def main():
     program = program_of(words)
     chosen = [each for each in cases() if only in f'{each.file}: {each.what}']
     with tempfile.TemporaryDirectory() as folder:
-        is_page = '--page' in sys.argv
-        made = [frames_of(each, program) for each in chosen]
-        paths = [written(f'{folder}/{number}', not is_page and as_text(each) or pcap(each)) for number, each in enumerate(made)]
-        shown = shown_by_page(program, paths) if is_page else list(map(shown_by_tool, paths))
+        paths = [written(f'{folder}/{number}', pcap(frames_of(each, program))) for number, each in enumerate(chosen)]
+        shown = shown_by_page(program, paths) if '--page' in sys.argv else list(map(shown_by_tool, paths))
     return tally((f'{each.file}: {each.what}', difference(each, tables)) for each, tables in zip(chosen, shown))
 
 

@@ -9,7 +9,7 @@ import random
 import struct
 import subprocess
 
-from random_streams import Ends, Side, mixed, stream
+from random_streams import Ends, mixed, stream
 from wire import ACK, CLIENT, KEEPALIVE, QUERY, REQUEST, SERVER, START, TCP, block, datagram, ethernet, interface, ip, pcap, section, sent, session, spaced, \
     tcp, timed, written
 
@@ -63,16 +63,9 @@ def packets(rng, longest):
     return found + ([rng.choice(NO_PACKETS)] if rng.random() < 0.4 else [])
 
 
-class Caller(Side):
-    """A side that sends such packets."""
-
-    def bytes(self):
-        return b''.join(packets(self.rng, 20_000))
-
-
 def sessions():
-    rng = random.Random('sessions')
-    return spaced(framed(packet) for _, packet in mixed(rng, [stream(rng, Ends(rng, number), Caller) for number in range(16)]))
+    rng, data_of = random.Random('sessions'), lambda rng: b''.join(packets(rng, 20_000))
+    return spaced(framed(packet) for _, packet in mixed(rng, [stream(rng, Ends(rng, number), data_of) for number in range(16)]))
 
 
 def parts(data, *cuts):

@@ -15,7 +15,7 @@ from parts import tally
 def main():
     part, *words = sys.argv[1:]
     if part == 'files':
-        from plugin_files import make
+        from plugin_captures import make
         return make(*words)
     if part in ('payloads', 'streams'):
         import plugin_said as cases

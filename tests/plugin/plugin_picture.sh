@@ -14,9 +14,9 @@ export HOME=$room/home DISPLAY=:97
 mkdir -p "$HOME/.config/wireshark"
 
 # The capture: a session that is opened and a name that is claimed, asked for, and asked for by a pointer that leads nowhere.
-PYTHONPATH=$here:$here/../lib:$here/../captures python3 - "$room/refused.pcap" <<'FRAMES'
+PYTHONPATH=$here:$here/..:$here/../lib:$here/../captures:$here/../../tools python3 - "$room/refused.pcap" <<'FRAMES'
 import sys
-from plugin_files import datagram_frame, segment_frame
+from plugin_captures import datagram_frame, segment_frame
 from wire import CLIENT, DATAGRAM, POSITIVE, QUERY, REQUEST, RESPONSE, SERVER, pcap, spaced, written
 
 # A query whose name begins with a pointer to itself.

@@ -6,7 +6,7 @@ import os
 import re
 import subprocess
 
-from plugin_files import COLUMNS, fields_of
+from plugin_captures import COLUMNS, fields_of
 
 CHANCES, SNAPS = ('0.002', '0.01', '0.05'), (20, 43, 50, 60, 90, 150)
 SAME = ['nbt.says', 'nbt.refused', 'nbt.place', 'nbt.follow', 'nbt.key', 'nbt.state', 'nbt.datagram', 'nbt.fragment']

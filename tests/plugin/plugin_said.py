@@ -5,7 +5,7 @@ import re
 import nbt
 from fuzz_inputs import capture_lines, example_bytes
 from object_inputs import LONGEST_PAYLOAD, Inputs
-from plugin_files import datagram_frame, fields_of, packets, segment_frame
+from plugin_captures import datagram_frame, fields_of, packets, segment_frame
 from wire import SYN, pcap, spaced, written
 
 REFUSED = re.compile(r'refused: (.*?)(?:, at byte (\d+)(?: of the name)?)?')

@@ -5,8 +5,7 @@ import random
 import subprocess
 
 from limits import MANY
-from plugin_captures import Made
-from plugin_files import fields_of
+from plugin_captures import Made, fields_of
 from plugin_runs import Sharkd
 from wire import pcap, written
 

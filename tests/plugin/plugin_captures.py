@@ -3,7 +3,7 @@
 pieces.pcap has datagrams in many pieces, some lost, changed and repeated; sessions.pcap connections to port 139 in segments of all sizes,
 in order and not, with bytes of no packet, headers that ask for more than a packet has, and starts that the file lacks. marked.pcap has refused
 packets, one of which comes in two segments, and an SMB echo in a datagram of two fragments; overlaps.pcap segments that come again with
-other bytes; gaps.pcap pieces of no bytes; untimed.pcap frames without a time.
+other bytes; gaps.pcap pieces of no bytes; untimed.pcap frames without a time; refused.pcap is that of the picture of docs/GUIDE.md.
 """
 import itertools
 import random
@@ -16,8 +16,7 @@ from model.names import Refused, text_of
 from model.packets import MORE, read_fragment
 from nbt_pcap.capture import Capture, Output
 from random_pcap import Ends, mixed, stream
-from wire import ACK, CLIENT, FRED, KEEPALIVE, QUERY, REQUEST, SERVER, START, TCP, block, datagram, ethernet, interface, ip, pcap, section, sent, session, \
-    spaced, tcp, timed, written
+from wire import *
 
 KEPT_MILLISECONDS = 2_000
 # What a frame may have: an IP packet isn't longer. Wireshark hands no empty payloads on.
@@ -29,6 +28,8 @@ OTHERS = ((137, QUERY), (137, QUERY[:7]), (139, KEEPALIVE), (138, b'\x13\x02\0\x
 COLUMNS = ('nbt.state', 'nbt.key', 'nbt.datagram', 'nbt.whole_in', 'nbt.spoilt_in', 'nbt.missing', 'nbt.fragment')
 # Between fields, and between the values of one.
 FIELDS, VALUES = '\x1f', '\x1e'
+# A query whose name is a pointer to itself.
+REFUSED = QUERY[:12] + b'\xc0\x0c' + QUERY[46:]
 NO_PACKETS = (b'\x81\x01\xff\xff' + bytes(30), b'\x00\xfe\xff\xff' + bytes(50), b'GET / HTTP/1.0\r\n\r\n', b'\x85\0\0\1x',
               b'\x81\0\0\x44' + b'\x20' + b'Z' * 67)
 
@@ -184,8 +185,14 @@ def marked():
     """A query whose name is a pointer to itself, a call whose second name has too long a label, and the echo."""
     call = REQUEST[:38] + b'\x40' + REQUEST[39:]
     echo = b'\xffSMB\x2b' + bytes(27) + b'\x01\x01\0\x02\0hi'
-    return spaced((datagram_frame(137, QUERY[:12] + b'\xc0\x0c' + QUERY[46:]), segment_frame(1_024, 1, call[:20]), segment_frame(1_024, 21, call[20:]),
+    return spaced((datagram_frame(137, REFUSED), segment_frame(1_024, 1, call[:20]), segment_frame(1_024, 21, call[20:]),
                    *parts(echo, 20)))
+
+
+def refused():
+    """A session that is opened and a name that is claimed, asked for, and asked for by a pointer that leads nowhere."""
+    opened = segment_frame(1_024, 1, REQUEST), segment_frame(1_024, 1, POSITIVE, source=SERVER, target=CLIENT)
+    return spaced((datagram_frame(137, QUERY), datagram_frame(137, RESPONSE, SERVER), *opened, datagram_frame(138, DATAGRAM), datagram_frame(137, REFUSED)), 100_000)
 
 
 def overlaps():
@@ -209,6 +216,6 @@ def untimed():
 
 
 def make(room):
-    for each in (pieces, sessions, marked, overlaps, gaps):
+    for each in (pieces, sessions, marked, refused, overlaps, gaps):
         written(f'{room}/states/{each.__name__}.pcap', pcap(each()))
     written(f'{room}/states/untimed.pcap', untimed())

@@ -5,14 +5,13 @@ import os
 import random
 import re
 import shutil
-import struct
 import subprocess
 import tempfile
 
 import random_pcap
 from limits import MANY
 from summary import tables_in
-from wire import block, interface, pcap_header, pcap_record, section
+from wire import interface, pcap_header, pcap_record, section
 
 PCAP, SECTION, INTERFACE = pcap_header(), section(), interface()
 KEEP = b'139 0 85000000\n'

@@ -215,7 +215,7 @@ def untimed():
     return b''.join((section(), interface(), simple(first), timed(0, START, second, len(second)), simple(third)))
 
 
-def make(room):
+def files(room):
     for each in (pieces, sessions, marked, refused, overlaps, gaps):
         written(f'{room}/states/{each.__name__}.pcap', pcap(each()))
     written(f'{room}/states/untimed.pcap', untimed())

@@ -12,7 +12,7 @@ import time
 
 sys.dont_write_bytecode = True
 TESTS = os.path.dirname(os.path.abspath(__file__))
-sys.path[1:1] = [f'{TESTS}/page', f'{TESTS}/lib']
+sys.path.insert(1, f'{TESTS}/page')
 from browser import Browser
 
 PAGE = os.path.realpath(sys.argv[1] if sys.argv[1:] else f'{TESTS}/../out/nbt.html')

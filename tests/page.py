@@ -5,7 +5,6 @@ Usage: tests/page.py [--pictures] [--part=NAME].. [FOLDER [PROGRAM]]; its last l
 without it out is meant. --pictures writes the pictures of README.md too. --part runs this part alone, and others so named. What can't run is a failure where CI is true.
 """
 import glob
-import importlib.util
 import os
 import re
 import shutil
@@ -17,14 +16,17 @@ sys.dont_write_bytecode = True
 TESTS = os.path.dirname(os.path.abspath(__file__))
 TOP = os.path.realpath(f'{TESTS}/..')
 sys.path[1:1] = [f'{TESTS}/{it}' for it in ('captures', 'lib', 'look', 'page')]
+import page_files
 import page_program
 from bundled import bundled
+from page_access import AccessCases
 from page_looks import LookCases
 from page_opening import OpeningCases
 from page_packets import PacketCases
+from page_placing import PlacingCases
+from page_sources import SourceCases
 from page_views import ViewCases
 from parts import check, counts, finish, part, skip
-from wire import written
 
 WORDS = [each for each in sys.argv[1:] if not each.startswith('--')]
 ONLY = [each.removeprefix('--part=') for each in sys.argv[1:] if each.startswith('--part=')]
@@ -36,8 +38,12 @@ EMPTY_CATCH = re.compile(r'catch\s*(?:\(\w*\))?\s*\{\s*\}|catch\(\(\w*\) => \{\s
 
 
 def is_lacking():
-    tools = map(shutil.which, ('chromium', 'chromedriver', 'esbuild', 'node', 'tsc', 'tshark'))
-    return not all((*tools, importlib.util.find_spec('selenium')))
+    tools = all(map(shutil.which, ('chromium', 'chromedriver', 'esbuild', 'node', 'tsc', 'tshark')))
+    try:
+        import selenium  # noqa: F401
+    except ImportError:
+        return True
+    return not tools
 
 
 def modules():
@@ -71,10 +77,10 @@ def counted(words):
     counts['failed'] += int(failed)
 
 
-class Cases(PacketCases, ViewCases, OpeningCases, LookCases):
+class Cases(PacketCases, ViewCases, OpeningCases, PlacingCases, SourceCases, AccessCases, LookCases):
     """The parts, over one window."""
 
-    top = TOP
+    top, tests = TOP, TESTS
 
     def __init__(self, browser, folder, program):
         self.browser, self.folder, self.program = browser, folder, program
@@ -88,17 +94,11 @@ class Cases(PacketCases, ViewCases, OpeningCases, LookCases):
         else:
             self.browser.sample()
 
-    def path(self, name, data=None):
-        """Writes a file, of one packet or as a picture where nothing is said of its bytes, and answers its path."""
-        return written(f'{self.folder}/{name}', data if data is not None else b'\x89PNG' if name.endswith('.png') else page_program.KEEP)
-
-    def reading(self, name):
-        """Opens a long file that is made, whose rows come while it is read; its path."""
+    def path(self, name, data=page_files.KEEP):
+        """Writes a file, and answers its path."""
         path = f'{self.folder}/{name}'
-        subprocess.run([f'{TESTS}/captures/big_pcap.py', '60000', path], check=True)
-        self.browser.open(self.page)
-        self.browser.put(path)
-        self.browser.wait(lambda: self.browser.id('stop').is_enabled() and self.browser.rows())
+        with open(path, 'wb') as file:
+            file.write(data)
         return path
 
 
@@ -128,7 +128,7 @@ def run(folder):
         for name in ONLY or PARTS:
             part(name, lambda: tried(cases, name))
         if '--pictures' in sys.argv:
-            page_program.pictures(browser, cases.page, f'{TOP}/docs')
+            page_files.pictures(browser, cases.page, f'{TOP}/docs')
     finally:
         browser.close()
 

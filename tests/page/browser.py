@@ -9,8 +9,7 @@ from selenium.webdriver.chrome.service import Service
 from selenium.webdriver.common.by import By
 from selenium.webdriver.common.keys import Keys
 
-from page_seen import BROKEN, FAINT
-from parts import equal
+from page_seen import Seen
 
 CHROMIUM, DRIVER = '/usr/bin/chromium', '/usr/bin/chromedriver'
 WORDS = ('--headless=new', '--no-sandbox', '--disable-dev-shm-usage', '--disable-background-networking', '--disable-component-update',
@@ -22,20 +21,10 @@ OWN = ('blob:', 'data:', 'about:', 'chrome://', 'chrome-extension://', 'devtools
 # What has to have a name, by its role in the accessibility tree.
 NAMED = {'button', 'link', 'textbox', 'searchbox', 'combobox', 'grid', 'columnheader', 'dialog', 'progressbar', 'navigation', 'img', 'region',
          'table', 'main', 'complementary'}
-VIEWS = ('packets', 'names', 'reassembly', 'taps', 'export')
-DROP = '''
-const [name, kind, transfer] = arguments;
-const files = new DataTransfer();
-files.items.add(new File(["139 0 85000000\\n"], name));
-const event = new Event(kind, { bubbles: true, cancelable: true });
-event[transfer] = files;
-document.body.dispatchEvent(event)'''
 
 
-class Browser:
+class Browser(Seen):
     """One window, with the page in it."""
-
-    keys = Keys
 
     def __init__(self, folder, width=1400, height=800):
         self.folder = folder
@@ -55,41 +44,20 @@ class Browser:
         self.pages.add(f'file://{page}')
         self.driver.get(f'file://{page}{place}')
 
-    def js(self, script, *words):
-        return self.driver.execute_script(script, *words)
-
     def id(self, name):
         return self.driver.find_element(By.ID, name)
-
-    def is_shown(self, name):
-        return self.id(name).is_displayed()
 
     def all(self, selector):
         return self.driver.find_elements(By.CSS_SELECTOR, selector)
 
     def text(self, name):
-        return self.js('return document.getElementById(arguments[0]).textContent', name)
+        return self.driver.execute_script('return document.getElementById(arguments[0]).textContent', name)
 
     def texts(self, selector):
         """The texts of elements; of what is hidden none."""
-        return self.js('return Array.from(document.querySelectorAll(arguments[0])).filter((each) => each.offsetParent !== null)'
-                       '.map((each) => each.textContent)', selector)
-
-    def state(self, name):
-        """What `until` compares."""
-        known = {'focus': lambda: self.js('return document.activeElement.id'), 'packet': lambda: ' '.join(self.texts('#packet h2')),
-                 'frames': lambda: [row[0] for row in self.rows()], 'address': lambda: self.js('return location.hash'), 'message': self.message, 'rows': self.rows}
-        place = name.replace('_', '-').removesuffix('-shown')
-        return known[name]() if name in known else self.is_shown(place) if name.endswith('_shown') else self.text(place)
-
-    def until(self, what='', **wanted):
-        """A case: the page becomes so. `focus` is the id of what has the keys, `packet` the title of what is chosen, `frames` those of the rows in
-        sight, `address` what follows # and `message` the line of a fault; of other ids, with _ for -, it is the text, or behind _shown whether it is
-        shown."""
-        end = time.monotonic() + 60
-        while (found := {name: self.state(name) for name in wanted}) != wanted and time.monotonic() < end:
-            time.sleep(0.01)
-        equal(found, wanted, what)
+        return self.driver.execute_script(
+            'return Array.from(document.querySelectorAll(arguments[0])).filter((each) => each.offsetParent !== null)'
+            '.map((each) => each.textContent)', selector)
 
     def wait(self, what, seconds=60):
         """Waits until a function has an answer that counts as true, and answers that."""
@@ -102,28 +70,19 @@ class Browser:
 
     def give(self, *paths, answer=''):
         """Chooses files, answers where they go if others are open, and waits until they are read or refused."""
-        self.js('document.getElementById("live").textContent = ""')
-        self.dismiss()
-        self.put(*paths)
+        self.driver.execute_script('document.getElementById("live").textContent = ""; document.getElementById("dismiss").click()')
+        self.id('file').send_keys('\n'.join(paths))
         if answer:
             self.answer(answer)
         self.wait(lambda: self.is_read() and (self.text('live') or self.message()), LONG)
 
-    def put(self, *paths):
-        """Chooses files, and doesn't wait for them."""
-        self.id('file').send_keys('\n'.join(paths))
-
-    def drop(self, name, event='drop', transfer='dataTransfer'):
-        """Drops a file of one packet on the page, or pastes it."""
-        self.js(DROP, name, event, transfer)
-
     def answer(self, words):
         """Answers where a file goes, by the button that begins so."""
-        self.wait(lambda: self.is_shown('placing'))
+        self.wait(lambda: self.id('placing').is_displayed())
         next(each for each in self.all('#placing-answers button') if each.text.startswith(words)).click()
 
     def sample(self):
-        self.js('document.getElementById("live").textContent = ""')
+        self.driver.execute_script('document.getElementById("live").textContent = ""')
         self.id('try').click()
         self.wait(lambda: self.text('live'))
 
@@ -132,50 +91,34 @@ class Browser:
 
     def message(self):
         """The line of a fault, if one is shown."""
-        return self.text('words-of-message') if self.is_shown('message') else ''
-
-    def dismiss(self):
-        self.js('document.getElementById("dismiss").click()')
+        return self.text('words-of-message') if self.id('message').is_displayed() else ''
 
     def rows(self):
         """The cells of the rows that are in sight."""
-        return self.js('return Array.from(document.querySelectorAll(".sight .row:not([hidden])"), (row) => Array.from(row.children, (cell) => cell.textContent))')
+        return self.driver.execute_script(
+            'return Array.from(document.querySelectorAll(".sight .row")).filter((row) => !row.hidden)'
+            '.map((row) => Array.from(row.children, (cell) => cell.textContent))')
 
     def tables(self):
         """The tables of the view that is shown: titles, and rows of cells, the head first."""
-        return dict(self.js(
+        return dict(self.driver.execute_script(
             'return Array.from(document.querySelectorAll(".view:not([hidden]) table")).map((table) => [table.caption?.textContent ?? "",'
             'Array.from(table.rows, (row) => Array.from(row.cells, (cell) => cell.textContent))])'))
 
     def view(self, name, until=None):
         """Shows a view, and waits until it has what is asked for."""
         self.id(f'to-{name}').click()
-        self.wait(lambda: self.is_shown(f'view-{name}'))
+        self.wait(lambda: self.id(f'view-{name}').is_displayed())
         return until and self.wait(until)
-
-    def views(self, *names):
-        """Shows each view, or these, one after the other."""
-        for name in names or VIEWS:
-            self.view(name)
-            yield name
 
     def choose(self, frame):
         """Chooses the row of a frame, or of a line, that is in sight, and waits for its packet."""
         row = next(each for each in self.all('.sight .row:not([hidden])') if each.text.split('\n')[0] == str(frame))
         row.click()
-        self.wait(lambda: self.state('packet') in (f'Frame {frame}', f'Line {frame}'))
+        self.wait(lambda: self.texts('#packet h2') in ([f'Frame {frame}'], [f'Line {frame}']))
 
-    def key(self, *keys, **wanted):
-        """Presses keys, after which the page becomes as is wanted."""
+    def key(self, *keys):
         self.driver.switch_to.active_element.send_keys(*keys)
-        if wanted:
-            self.until(f'after {keys!r}', **wanted)
-
-    def click(self, selector, at=0, **wanted):
-        """Clicks one of the elements, after which the page becomes as is wanted."""
-        self.all(selector)[at].click()
-        if wanted:
-            self.until(f'after a click on {selector}', **wanted)
 
     def saved(self, button, name):
         """What a button saves: the bytes of the file with this name."""
@@ -203,17 +146,6 @@ class Browser:
                 if not url.startswith(OWN) and url.split('#')[0] not in self.pages:
                     self.requests.append(url)
 
-    def broken(self):
-        return self.js(BROKEN)
-
-    def faint(self):
-        return self.js(FAINT)
-
-    def media(self, kind='', dark=False, **features):
-        """Shows the page as on paper, or on a screen, dark or light."""
-        features |= {'prefers-color-scheme': 'dark' if dark else 'light'}
-        self.driver.execute_cdp_cmd('Emulation.setEmulatedMedia', {'media': kind, 'features': [{'name': name, 'value': value} for name, value in features.items()]})
-
     def picture(self, path, dark=False):
         self.media(dark=dark)
         time.sleep(0.3)
@@ -222,3 +154,5 @@ class Browser:
     def close(self):
         self.driver.quit()
 
+
+__all__ = ['Browser', 'Keys', 'By']

@@ -1,4 +1,4 @@
-"""Scripts that find what the browser makes of the page: words that break inside, texts that are hard to read, fields that nobody sees."""
+"""What the browser makes of the page: words that break inside, texts that are hard to read, what is printed."""
 
 # The words that stand in two lines. A name of many parts, or digits of many bytes, have to break somewhere.
 BROKEN = r'''
@@ -44,33 +44,21 @@ for (const element of document.querySelectorAll('body, body *')) {
     if (ratio(getComputedStyle(element).color, paper(element)) < 4.5) found.add(element.textContent.slice(0, 40));
 }
 return Array.from(found);'''
-# The fields whose edge stands out from what is around them by less than 3 to 1 (WCAG 2.2, 1.4.11), or whose placeholder by less than 4.5 to 1 (1.4.3).
-PALE = COLORS + r'''
-const found = [];
-for (const element of document.querySelectorAll('input:not([type=checkbox]), select, textarea')) {
-    if (!element.checkVisibility()) continue;
-    const edge = getComputedStyle(element).borderTopColor;
-    if (ratio(edge, paper(element)) < 3 || ratio(edge, paper(element.parentElement)) < 3) found.push(`the edge of ${element.id}`);
-    const hint = getComputedStyle(element, '::placeholder');
-    if (element.placeholder && (ratio(hint.color, paper(element)) < 4.5 || hint.opacity !== '1')) found.push(`the placeholder of ${element.id}`);
-}
-return found;'''
-# The fields that stand out of the window, and selects whose word doesn't fit.
-CLIPPED = r'''
-const context = document.createElement('canvas').getContext('2d');
-return Array.from(document.querySelectorAll('select, input, textarea')).filter((each) => each.checkVisibility()).filter((each) => {
-    const style = getComputedStyle(each);
-    context.font = style.font;
-    const inside = each.clientWidth - parseFloat(style.paddingLeft) - parseFloat(style.paddingRight);
-    const box = each.getBoundingClientRect();
-    const word = each.matches('#kind, #sender, #reason') ? context.measureText(each.options[0].text).width : 0;
-    return box.left < 0 || box.right > innerWidth + 0.5 || word > inside;
-}).map((each) => each.id);'''
-# The parts of the page that end below where the footer begins.
-COVERED = '''
-const end = document.querySelector('footer').getBoundingClientRect().top;
-return Array.from(document.querySelectorAll('nav, .tools, .split')).filter((each) => each.checkVisibility() && each.getBoundingClientRect().bottom > end + 1)
-    .map((each) => each.className || each.tagName)'''
-SELECTED = '''
-const [one, other] = [document.querySelector('.sight .row.selected'), document.querySelector('.sight .row:not(.selected):not([hidden])')];
-return [one, other].map((each) => getComputedStyle(each).backgroundColor)'''
+
+
+class Seen:
+    """A part of Browser."""
+
+    def broken(self):
+        return self.driver.execute_script(BROKEN)
+
+    def faint(self):
+        return self.driver.execute_script(FAINT)
+
+    def media(self, kind='', dark=False):
+        """Shows the page as on paper, or on a screen, dark or light."""
+        scheme = {'name': 'prefers-color-scheme', 'value': 'dark' if dark else 'light'}
+        self.driver.execute_cdp_cmd('Emulation.setEmulatedMedia', {'media': kind, 'features': [scheme]})
+
+    def color(self, element):
+        return self.driver.execute_script('return getComputedStyle(arguments[0]).color', element)

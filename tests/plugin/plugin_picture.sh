@@ -13,7 +13,18 @@ width=1100 height=620
 export HOME=$room/home DISPLAY=:97
 mkdir -p "$HOME/.config/wireshark"
 
-mkdir "$room/states" && "$here/plugin.py" files "$room"
+# The capture: a session that is opened and a name that is claimed, asked for, and asked for by a pointer that leads nowhere.
+PYTHONPATH=$here:$here/../lib python3 - "$room/refused.pcap" <<'FRAMES'
+import sys
+from plugin_pcap import datagram_frame, segment_frame, spaced, write_pcap
+from wire import CLIENT, DATAGRAM, POSITIVE, QUERY, REQUEST, RESPONSE, SERVER
+
+# A query whose name begins with a pointer to itself.
+REFUSED = QUERY[:12] + b'\xc0\x0c' + QUERY[46:]
+write_pcap(sys.argv[1], spaced((datagram_frame(137, QUERY), datagram_frame(137, RESPONSE, SERVER), segment_frame(1_024, 1, REQUEST),
+                                segment_frame(1_024, 1, POSITIVE, source=SERVER, target=CLIENT), datagram_frame(138, DATAGRAM),
+                                datagram_frame(137, REFUSED)), 100_000))
+FRAMES
 place=$(tshark -G folders 2>/dev/null | sed -n 's/^Personal Plugins:[[:space:]]*//p')/epan
 install -D -m 644 "$plugin" "$place/nbt.so"
 printf '%s\n' 'nbt.info: TRUE' 'gui.update.enabled: FALSE' 'gui.column.format: "No.", "%m", "Source", "%s", "Protocol", "%p", "Info", "%i"' \
@@ -28,7 +39,7 @@ fi
 Xvfb $DISPLAY -screen 0 ${width}x${height}x24 >"$room/xvfb" 2>&1 &
 started+=($!)
 sleep 3
-XDG_RUNTIME_DIR=$HOME "${as[@]}" wireshark -n -r "$room/states/refused.pcap" -g 6 >"$room/wireshark" 2>&1 &
+XDG_RUNTIME_DIR=$HOME "${as[@]}" wireshark -n -r "$room/refused.pcap" -g 6 >"$room/wireshark" 2>&1 &
 started+=($!)
 sleep "${SECONDS_TO_WAIT:-25}"
 

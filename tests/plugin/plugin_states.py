@@ -1,46 +1,66 @@
-"""What the plugin for Wireshark says of datagrams, beside the report of `nbt replay`."""
+#!/usr/bin/env python3
+"""What the plugin for Wireshark says of datagrams, beside the report of `nbt replay`.
+
+Usage: tests/plugin/plugin_states.py SHARKD TSHARK PROGRAM FOLDER COUNT [SEED]
+
+So many captures of fragments that are shuffled, lost, repeated and changed, with pauses, times that go back, packets of other kinds and
+ports and frames that are cut. All are read by one sharkd, which has the plugin, one after the other, for a station with names or for all,
+with the timer or without it; the program replays the same with the ticks of nbt-pcap2cap or without. Of each payload of port 138 the
+state, the key and the data have to be those of the report, and the links and what is missing those of a plain model. sharkd shows the
+front of long data: of one capture in ten tshark prints all of it. A case is a capture; the last line is 'N passed, M failed'.
+"""
 import collections
+import json
 import os
 import random
 import subprocess
+import sys
 
+sys.dont_write_bytecode = True
+sys.path.insert(1, f'{sys.path[0]}/../lib')
 from limits import MANY
-from plugin_captures import Made, fields_of
-from plugin_runs import Sharkd
-from wire import pcap, written
+from parts import tally
+from plugin_captures import Made
+from plugin_pcap import fields_of, write_pcap
 
+COLUMNS = ('nbt.state', 'nbt.key', 'nbt.datagram', 'nbt.whole_in', 'nbt.spoilt_in', 'nbt.missing', 'nbt.fragment')
 # How sharkd shows no bytes, and of how many digits it shows the front.
 NO_BYTES, DIGITS = '<MISSING>', 72
 WHOLE_OF, TIMER_OF = 10, 4
 BOOLEANS = ('FALSE', 'TRUE')
 
 
-def states(room, program, count=200, seed='states'):
-    """So many captures of fragments that are shuffled, lost, repeated and changed, with pauses, times that go back, packets of other kinds and
-    ports and frames that are cut. All are read by one sharkd, which has the plugin, one after the other, for a station with names or for all,
-    with the timer or without it; the program replays the same with the ticks of nbt-pcap2cap or without. Of each payload of port 138 the
-    state, the key and the data have to be those of the report, and the links and what is missing those of a plain model. sharkd shows the
-    front of long data: of one capture in ten tshark prints all of it. A case is a capture; what is reported is counted."""
-    sharkd, seen = Sharkd(room), collections.Counter()
-    for number in range(int(count)):
-        timer, name = number % TIMER_OF != TIMER_OF - 1, f'{seed}-{number}'
-        made = Made(random.Random(name), timer)
-        path = written(f'{room}/states/states.pcap', pcap(made.frames))
-        names = sorted(made.names) or ['FRED<20>']
-        asked = names[::2] if number % 2 else []
-        sharkd.set(names=' '.join(asked), timer=BOOLEANS[timer])
-        report = report_of(program, made.lines, asked or names)
-        seen.update(words.split(' ')[0] for words in report.values())
-        states = {frame: wanted_of(report[line]) for frame, line in made.datagrams.items()}
-        difference = first_difference(made, sharkd.rows(path), states)
-        if number % WHOLE_OF == number // WHOLE_OF % 2:
-            difference = difference or data_differ(room, path, asked, timer, states)
-        if difference:
-            os.rename(path, kept := f'{room}/states/states-{name}.pcap')
-            difference += f' ({kept})'
-        yield name, difference
-    yield 'the end of sharkd', sharkd.end()
-    print(', '.join(f'{number} {each}' for each, number in sorted(seen.items())))
+class Sharkd:
+    """sharkd as a process: requests, and their answers."""
+
+    def __init__(self, command):
+        self.process = subprocess.Popen([command, '-'], stdin=subprocess.PIPE, stdout=subprocess.PIPE, stderr=subprocess.DEVNULL, text=True)
+        self.count = 0
+
+    def ask(self, method, **words):
+        self.count += 1
+        request = {'jsonrpc': '2.0', 'id': self.count, 'method': method}
+        if words:
+            request['params'] = words
+        self.process.stdin.write(json.dumps(request) + '\n')
+        self.process.stdin.flush()
+        while line := self.process.stdout.readline():
+            answer = json.loads(line)
+            if answer.get('id') == self.count:
+                if 'error' in answer:
+                    raise ValueError(f'{method}: {answer["error"]}')
+                return answer['result']
+        raise ValueError(f'{method}: sharkd ended with status {self.process.wait()}')
+
+    def rows(self, path):
+        """Of each frame the columns."""
+        self.ask('load', file=path)
+        columns = {f'column{number}': each + ':0' for number, each in enumerate(COLUMNS)}
+        return {frame['num']: frame['c'] for frame in self.ask('frames', **columns)}
+
+    def end(self):
+        self.process.stdin.close()
+        return self.process.wait(timeout=60)
 
 
 def report_of(program, lines, names):
@@ -67,7 +87,7 @@ def shown(data):
 def first_difference(made, rows, states):
     """The first frame that isn't as wanted, in words; '' where there is none."""
     links = made.links({frame: state[0] for frame, state in states.items()})
-    for frame in range(1, len(made.frames) + 1):
+    for frame in range(1, made.count + 1):
         state, key, data = states.get(frame, ['', '', None])
         wanted = [[state, key, text, *links.get(frame, ['', '', '', ''])] for text in shown(data)]
         if rows[frame] not in wanted:
@@ -75,8 +95,39 @@ def first_difference(made, rows, states):
     return ''
 
 
-def data_differ(room, path, asked, timer, states):
+def data_differ(tshark, path, asked, timer, states):
     """The first frame whose data isn't that of the report, in words; '' where there is none."""
-    rows = fields_of(room, path, ['nbt.datagram'], '-o', 'nbt.names:' + ' '.join(asked), '-o', f'nbt.timer:{BOOLEANS[timer]}')
-    return next((f'frame {frame}: {rows[frame - 1]}, not {data}' for frame, (_state, _key, data) in states.items()
-                 if ''.join(rows[frame - 1][0]).replace(NO_BYTES, '') != (data or '')), '')
+    rows = fields_of(tshark, path, ['nbt.datagram'], '-o', 'nbt.names:' + ' '.join(asked), '-o', f'nbt.timer:{BOOLEANS[timer]}')
+    for frame, (_state, _key, data) in states.items():
+        if ''.join(rows[frame - 1][0]).replace(NO_BYTES, '') != (data or ''):
+            return f'frame {frame}: {rows[frame - 1]}, not {data}'
+    return ''
+
+
+def cases(command, tshark, program, folder, count, seed='states'):
+    """Each capture, and what is wrong with what is said of it; what is reported is counted."""
+    sharkd, seen = Sharkd(command), collections.Counter()
+    for number in range(int(count)):
+        timer, path = number % TIMER_OF != TIMER_OF - 1, os.path.join(folder, 'states.pcap')
+        made = Made(random.Random(f'{seed}-{number}'), timer)
+        names = sorted(made.names) or ['FRED<20>']
+        asked = names[::2] if number % 2 else []
+        write_pcap(path, made.frames)
+        sharkd.ask('setconf', name='nbt.names', value=' '.join(asked))
+        sharkd.ask('setconf', name='nbt.timer', value=BOOLEANS[timer])
+        report = report_of(program, made.lines, asked or names)
+        seen.update(words.split(' ')[0] for words in report.values())
+        states = {frame: wanted_of(report[line]) for frame, line in made.datagrams.items()}
+        difference = first_difference(made, sharkd.rows(path), states)
+        if number % WHOLE_OF == number // WHOLE_OF % 2:
+            difference = difference or data_differ(tshark, path, asked, timer, states)
+        if difference:
+            os.rename(path, kept := os.path.join(folder, f'states-{seed}-{number}.pcap'))
+            difference += f' ({kept})'
+        yield f'{seed}-{number}', difference
+    yield 'the end of sharkd', sharkd.end()
+    print(', '.join(f'{number} {each}' for each, number in sorted(seen.items())))
+
+
+if __name__ == '__main__':
+    sys.exit(tally(cases(*sys.argv[1:])))

@@ -4,30 +4,16 @@
 # are run. Where tshark isn't installed all of it is left out.
 set -uo pipefail
 . "$(dirname "$0")/lib/counting.sh"
-# The page reads captures beside the tools: some of its modules are made of theirs.
-"$here/../tools/lists.py" --made || exit
-program=$(realpath "${1:-$here/../crates/nbt/out/nbt}")
 only=${*:2}
-
-if ! command -v tshark >/dev/null; then
-    lacks all tshark
-    finish
-    exit
-fi
-with_tools "$program"
-PATH=$room/bin:$PATH
-files=$room/files
+of_tools "${1:-}"
 
 # What the samples have at hand: captures, the tool apart from this repository, and two commands.
 prepared() {
-    mkdir "$files" "$files/elsewhere"
-    ln -s "$(realpath "$here/..")" "$files/top"
-    ln -s top/examples "$files/examples"
+    mkdir "$files/elsewhere"
     "$here/captures/look_captures.py" "$files"
     cp -r "$here"/../tools/{nbt_look,nbt_pcap,nbt_shards,nbt-look} "$files/elsewhere"
     echo '<p><script type="application/octet-stream" id="given" data-name=""></script>' >"$files/elsewhere/nbt.html"
     printf 'no\tcapture\n' >"$files/other"
-    : >"$files/empty"
     nbt-look "$here/../examples/office.pcap" >"$files/list"
     nbt-pcap2cap --quiet "$here/../examples/office.pcap" >"$files/capture"
     # numbers: those of the frames of a list. terminal COLUMNS COMMAND..: what a command shows on a terminal of so many columns.
@@ -48,7 +34,7 @@ samba() {
     cases samba
 }
 
-# Ctrl-C while a tool begins: no traceback, and at most one line.
+# Ctrl-C while a tool begins: no traceback, and at most one line. Those that read and write pcaps tests/wireshark/cases.txt has.
 early() {
     local seconds
     while IFS=' ' read -r -a words; do
@@ -59,8 +45,6 @@ early() {
         done
     done <<'END'
 nbt-look -
-pcap2cap -
-cap2pcap
 nbt-station --port 20139 FRED<20>
 nbt-parallel --quiet capture early.table
 nbt-dask --quiet --workers 1 capture early.table
@@ -97,11 +81,7 @@ live() {
         echo 'skipped: nbt-look -i lo, 1 case (tshark may not listen to lo here)'
         return
     fi
-    (sleep 2; python3 -c 'import socket, time
-sent = socket.socket(socket.AF_INET, socket.SOCK_DGRAM)
-for number in range(18):
-    sent.sendto(b"abc", ("127.0.0.1", 137 + number % 2))
-    time.sleep(0.5)') &
+    (sleep 2; for each in {0..17}; do printf abc >/dev/udp/127.0.0.1/$((137 + each % 2)); sleep 0.5; done) &
     timeout --preserve-status -s INT 12 nbt-look -i lo --host 127.0.0.1 >"$room/output" 2>"$room/errors"
     [ $? -eq 0 ] && [ "$(cat "$room/errors")" = 'nbt-look: listening on lo; Ctrl-C ends it' ] &&
         [ "$(grep -c 'refused: truncated' "$room/output")" -ge 2 ] &&
@@ -111,8 +91,7 @@ for number in range(18):
 }
 
 prepared
-is_wanted() { [ -z "$only" ] || [[ " $only " == *" $1 "* ]]; }
-for each in list filters objects summary tables words programs guesses frames cut pages bad terminals; do ! is_wanted $each || part $each cases $each; done
-for each in samba summaries early random growing live; do ! is_wanted $each || part $each $each; done
-if ! is_wanted colours; then :; elif /usr/bin/python3 -c 'import rich' 2>/dev/null; then part colours colours; else lacks colours python3-rich; fi
-if [ -z "$only" ]; then finish; else total; fi
+for each in list filters objects summary tables words programs guesses frames cut pages bad terminals; do part $each cases $each; done
+parts samba summaries early random growing live
+if /usr/bin/python3 -c 'import rich' 2>/dev/null; then part colours colours; else lacks colours python3-rich; fi
+finish

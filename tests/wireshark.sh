@@ -4,28 +4,13 @@
 # 'N passed, M failed, K skipped'. Where tshark isn't installed all of it is left out.
 set -uo pipefail
 . "$(dirname "$0")/lib/counting.sh"
-# The page reads captures beside the tools: some of its modules are made of theirs.
-"$here/../tools/lists.py" --made || exit
-. "$here/wireshark/live_cases.sh"
-program=$(realpath "${1:-$here/../crates/nbt/out/nbt}")
-
-if ! command -v tshark >/dev/null; then
-    lacks all tshark
-    finish
-    exit
-fi
-with_tools "$program"
-PATH=$room/bin:$PATH
-files=$room/files
+of_tools "${1:-}"
 
 # What the samples of tests/wireshark/cases.txt have at hand.
-mkdir "$files" "$files/bare"
-ln -s "$(realpath "$here/..")" "$files/top"
-ln -s top/examples "$files/examples"
+mkdir "$files/bare"
 ln -s "$(realpath "$here/../tools/pcap2cap")" "$(realpath "$here/../tools/cap2pcap")" "$room/bin"
 ln -s "$(command -v cat)" "$(command -v env)" "$(python3 -c 'import sys; print(sys.executable)')" "$files/bare"
 echo '{"a": 1}' >"$files/words"
-: >"$files/empty"
 
 # cases PART: its samples.
 cases() { counted_by lib/samples.py "$files" "$here/wireshark/cases.txt" "$1"; }
@@ -36,8 +21,7 @@ pcap2cap() { ended "$here/../tools/pcap2cap" "$@"; }
 # The packets of `nbt build`, by the cases of tests/wireshark/dissected.txt.
 built() { counted_by wireshark/dissected.py "$room/built.pcap"; }
 
-# ---- What a snap length leaves of payloads: with --cut their fronts, without it those alone that are whole. The frames of
-# examples/office.pcap have 28 bytes before a payload of UDP.
+# ---- What a snap length leaves of payloads, by --cut. The frames of examples/office.pcap have 28 bytes before a payload of UDP.
 
 snapped() {
     local length
@@ -47,17 +31,12 @@ snapped() {
         pcap2cap --cut --bare --no-ticks --quiet "$room/snapped.pcap" | grep '^13[78]' >"$room/cut"
         awk -v size=$((length > 28 ? 2 * (length - 28) : 0)) 'size { print $1, $2, substr($3, 1, size) }' "$room/whole" | cmp -s - "$room/cut"
         count $? "pcap2cap --cut: $length bytes of each frame"
-        [ "$(nbt show --partial <"$room/cut" | grep -c '^[0-9]')" -eq "$(wc -l <"$room/cut")" ]
-        count $? "nbt show --partial: $length bytes of each frame"
-        pcap2cap --bare --no-ticks --quiet "$room/snapped.pcap" | grep '^13[78]' >"$room/uncut"
-        awk -v size=$((2 * (length - 28))) 'length($3) <= size' "$room/whole" | cmp -s - "$room/uncut"
-        count $? "pcap2cap: $length bytes of each frame"
     done
 }
 
 # A network's packets, by tests/captures/network.py.
 network() {
-    "$here/captures/network.py" "$files/network.pcap" >"$files/expected"
+    "$here/captures/network.py" network "$files/network.pcap" >"$files/expected"
     mkdir "$files/own" && echo 'ip.defragment: FALSE' >"$files/own/preferences" && echo udp >"$files/own/disabled_protos"
     cases network
 }
@@ -92,6 +71,70 @@ growing() {
     small=$(peak pcap2cap --quiet "$files/10000.pcap") large=$(peak pcap2cap --quiet "$files/50000.pcap")
     [ "${small% *}" = 0 ] && [ "${large% *}" = 0 ] && [ "${large#* }" -lt $((${small#* } + 16000)) ]
     count $? "pcap2cap, peak of memory: $small and $large"
+}
+
+# ---- Packets of the loopback interface.
+
+# thrice NAME COMMAND..: a command that other work on this machine may be in the way of: it has three tries, the last of its words being how many
+# times as long it then has.
+thrice() {
+    local times
+    for times in 1 3 9; do
+        "${@:2}" $times && break
+        wait
+    done
+    count $? "$1: $(cat "$room/errors")"
+    wait
+}
+
+# live TIMES: a packet, a pause, another one, and Ctrl-C; what tshark has to begin and to end is so many times as long.
+live() {
+    (sleep $((2 * $1)); printf abc >/dev/udp/127.0.0.1/20137; sleep 4; printf last >/dev/udp/127.0.0.1/138) &
+    timeout --preserve-status -s INT $((5 * $1 + 4)) "$here/../tools/pcap2cap" -i lo --port 137=20137 >"$room/output" 2>"$room/errors"
+    [ $? -eq 0 ] && [ "$(cat "$room/errors")" = '2 frames, 2 of these ports, 0 left out' ] &&
+        sed -E 's/^(# frame [12]) 2[-0-9T:.]+Z 127.0.0.1:[0-9]+/\1/; s/^(138 4)[0-9]+/\1/; 9q' "$room/output" | diff - <(printf '%s\n' \
+            '# frame 1 > 127.0.0.1:20137' '137 0 616263' 'tick 1000' 'tick 2000' 'tick 3000' 'tick 4000' '# frame 2 > 127.0.0.1:138' \
+            '138 4 6c617374' 'tick 5000')
+}
+
+# heard TIMES: frames with tags, PPPoE and extension headers, by the capture filter of -i.
+heard() {
+    (sleep $((3 * $1)); "$here/captures/live.py" send) &
+    timeout --preserve-status -s INT $((6 * $1)) "$here/../tools/pcap2cap" -i lo --bare --quiet --port 138=20137 2>"$room/errors" |
+        sed -n 's/^138 [0-9]* //p' | diff <("$here/captures/live.py" expected) -
+}
+
+# answered CAPTURE ANSWER: each packet is answered within a second.
+answered() { ended "$here/captures/live.py" 20138 "$1" "$2" >"$room/output" 2>"$room/errors"; }
+
+# answers CAPTURE: by both commands that read captures as they grow.
+answers() {
+    local each
+    for each in show "replay 'FRED<20>'"; do thrice "$1 | nbt $each" answered "$1" "'$program' $each"; done
+}
+
+# The same of packets that come from tcpdump by a pipe, which ends with tcpdump.
+dumped() {
+    if ! command -v tcpdump >/dev/null; then
+        lacks dumped tcpdump
+    elif ! timeout --preserve-status -s INT 1 tcpdump -i lo -w - >"$room/output" 2>"$room/errors"; then
+        skip dumped 'tcpdump may not listen to lo here'
+    else
+        answers "bash -c \"exec tcpdump -i lo --immediate-mode -U -w - udp port 20138 2>'$room/dump' \
+            > >(exec '$here/../tools/pcap2cap' --quiet --port 138=20138 -)\""
+    fi
+}
+
+waits() {
+    cases waits
+    if ended tshark -i lo -a duration:0 >"$room/output" 2>&1; then
+        thrice 'pcap2cap -i lo' live
+        answers "'$here/../tools/pcap2cap' -i lo --quiet --port 138=20138"
+        thrice 'pcap2cap -i lo: frames with tags, PPPoE and extension headers' heard
+    else
+        skipped=$((skipped + 4))
+        echo 'skipped: pcap2cap -i lo, 4 cases (tshark may not listen to lo here)'
+    fi
 }
 
 parts built snapped network

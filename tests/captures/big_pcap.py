@@ -12,7 +12,7 @@ import sys
 
 sys.dont_write_bytecode = True
 sys.path.insert(1, f'{sys.path[0]}/../lib')
-from wire import ACK, FIN, FRED, NB, POSITIVE, REQUEST, SYN, TCP, UDP, datagram, ip, pcap_header, pcap_record, record, service, session, tcp, udp
+from wire import ACK, FIN, FRED, NB, POSITIVE, REQUEST, SYN, TCP, datagram, ip, pcap_header, pcap_record, record, sent, service, session, tcp
 
 STREAMS = 64
 LAST_HOST = 250
@@ -34,9 +34,9 @@ def main():
 def packet(rng, streams):
     kind = rng.randrange(10)
     if kind < 4:
-        return ip(UDP, udp(137, 137, names(rng)), host(rng), host(rng))
+        return sent(137, names(rng), host(rng), host(rng))
     if kind < 7:
-        return ip(UDP, udp(138, 138, some_datagram(rng)), host(rng), host(rng))
+        return sent(138, datagram(rng.randrange(65_536), rng.randbytes(rng.randrange(20, 401)), host(rng)), host(rng), host(rng))
     place = rng.randrange(STREAMS)
     while (segment := next(streams[place], None)) is None:
         streams[place] = stream(rng)
@@ -55,19 +55,15 @@ def names(rng):
     return service(number, 0x8500, FRED, told=record(NB, b'\x60\0' + host(rng), 300_000))
 
 
-def some_datagram(rng):
-    return datagram(rng.randrange(65_536), rng.randbytes(rng.randrange(20, 401)), host(rng))
-
-
 def stream(rng):
     """The segments of a session: a request, its answer, some messages, and the end of both sides."""
     client, server, port = host(rng), host(rng), rng.randrange(1_024, 65_536)
-    sent = [rng.randrange(2**32), rng.randrange(2**32)]
+    due = [rng.randrange(2**32), rng.randrange(2**32)]
 
     def segment(side, flags, payload=b''):
         source, target = ((port, 139), (139, port))[side]
-        packet = tcp(source, target, sent[side], payload, flags, sent[1 - side])
-        sent[side] = (sent[side] + len(payload) + bool(flags & (SYN | FIN))) % 2**32
+        packet = tcp(source, target, due[side], payload, flags, due[1 - side])
+        due[side] = (due[side] + len(payload) + bool(flags & (SYN | FIN))) % 2**32
         return ip(TCP, packet, *((client, server), (server, client))[side])
 
     yield segment(0, SYN)

@@ -8,76 +8,32 @@ sys.dont_write_bytecode = True
 sys.path.insert(1, f'{sys.path[0]}/../lib')
 from wire import *
 
-ETHERNET, USB = 1, 189
+USB = 189
 EVIL = b'\x1b]0;x\x07\xff\x9b2J'
+ENDS = (CLIENT, 1025), (SERVER, 139)
+# Port 445, and NetBEUI.
+SMB = ethernet(ip(TCP, tcp(50_000, 445, 1, flags=SYN)))
+NETBEUI = b'\x03\0\0\0\0\x01\x02\0\0\0\0\x05' + struct.pack('>H', 47) + b'\xf0\xf0\x03' + struct.pack('<HH', 44, 0xefff) + b'\x0a' + bytes(39)
 
 
-def option(number, data):
-    return struct.pack('<HH', number, len(data)) + data + bytes(-len(data) % 4)
+def pcapng(names, *frames):
+    """A file with an interface of each name, and the frames, a microsecond apart, of one interface after the other."""
+    option = lambda number, data: struct.pack('<HH', number, len(data)) + data + bytes(-len(data) % 4)
+    interfaces = (interface(options=(option(2, each) if each else b'') + option(0, b'')) for each in names)
+    return b''.join((section(), *interfaces, *(timed(each, START + each, data, len(data)) for each, data in enumerate(frames))))
 
 
-def pcapng(names, frames):
-    """A file with an interface of each name; of each frame the interface, the time and the bytes."""
-    whole = section()
-    for name in names:
-        whole += block(1, struct.pack('<HHL', ETHERNET, 0, 262_144) + (option(2, name) if name else b'') + option(0, b''))
-    for interface, at, data in frames:
-        high, low = divmod(START + at, 2**32)
-        whole += block(6, struct.pack('<LLLLL', interface, high, low, len(data), len(data)) + data)
-    return whole
+def query(name, number=3):
+    return ethernet(sent(137, service(number, 0x0110, name, NB)))
 
 
-def query(name, source=CLIENT, number=3):
-    return ethernet(ip(UDP, udp(137, 137, service(number, 0x0110, name, NB)), source))
+def tagged(tags):
+    return query(FRED)[:12] + tags + query(FRED)[12:]
 
 
-def snapped():
-    """What `tcpdump -s 96` leaves of a registration and datagrams, beside a query that is whole."""
-    large = ethernet(ip(UDP, udp(138, 138, DATAGRAM)))
-    return pcap([(0, query(FRED), None)] + [(each * 1000, large, 96) for each in range(1, 601)])
-
-
-def evil():
-    """A name, and an interface, of bytes that act on a terminal."""
-    name = first_level(EVIL, 0x20)[:-1] + b'\x05\x1b[31m\0'
-    return pcapng([b'eth0', EVIL], [(0, 0, query(name)), (1, 1, query(name))])
-
-
-def backwards():
-    return pcap([(2_000_000, query(FRED), None), (500_000, query(JOE), None), (3_000_000, query(FRED), None)])
-
-
-def nameless():
-    """Three interfaces, of which the second one has a name."""
-    frames = [(each, each, query(FRED, number=each)) for each in range(3)]
-    return pcapng([b'', b'eth0', b''], frames)
-
-
-def qinq():
-    """A query below a service tag and a customer tag, below two of the first kind, and below one of them."""
-    whole = query(FRED)
-    tags = (b'\x88\xa8\0\x64\x81\0\0\xc8', b'\x88\xa8\0\x64\x88\xa8\0\xc8', b'\x88\xa8\0\x64')
-    return pcap([(number, whole[:12] + each + whole[12:], None) for number, each in enumerate(tags)])
-
-
-def others():
-    """Port 445 and NetBEUI, and nothing of these ports."""
-    smb = ethernet(ip(TCP, tcp(50_000, 445, 1, flags=SYN)))
-    netbeui = b'\x03\0\0\0\0\x01\x02\0\0\0\0\x05' + struct.pack('>H', 47) + b'\xf0\xf0\x03' + struct.pack('<HH', 44, 0xefff) + b'\x0a' + bytes(39)
-    return pcap([(0, smb, None), (1, netbeui, None), (2, netbeui, None)])
-
-
-def usb():
-    return pcap([(each, bytes(64), None) for each in range(3)], USB)
-
-
-def fragments():
-    """The first fragment of a datagram whose rest never comes, one of another port, and a last one without its first."""
-    packet = udp(138, 138, DATAGRAM)
-    first = ethernet(ip(UDP, packet[:800], fragment=0x2000, identifier=7))
-    other = ethernet(ip(UDP, udp(53, 53, bytes(900))[:800], fragment=0x2000, identifier=8))
-    last = ethernet(ip(UDP, packet[800:], fragment=100, identifier=9))
-    return pcap([(0, first, None), (1, other, None), (2, last, None), (3, query(FRED), None)])
+def fragment(packet, start, end, number):
+    """A fragment of IP, which more follow where it has an end."""
+    return ethernet(ip(UDP, packet[start:end], fragment=(0x2000 if end else 0) | start // 8, identifier=number))
 
 
 def address(last):
@@ -115,13 +71,12 @@ def life():
     names = b''.join(each.ljust(15) + struct.pack('>BH', last, flags)
                      for each, last, flags in ((b'FRED', 0x20, 0x0400), (b'FRED', 0, 0x0400), (b'WORK', 0x1e, 0x8400)))
     lan.says(1250, 6, 5, 137, service(7, 0x8400, anybody, told=record(NBSTAT, b'\x03' + names + MAC + b'\x06' + bytes(40))))
-    client, server = (CLIENT, 1025), (SERVER, 139)
-    lan.add(1300, client, server, 139, REQUEST)
+    lan.add(1300, *ENDS, 139, REQUEST)
     lan.says(1400, 5, 6, 138, datagram(1, b'', kind=0x10, names=JOE + b'\xc0\x0e'))
     lan.says(1450, 5, 6, 138, datagram(9, bytes(600)), 96)
     for at, number, flags, offset, data in ((1500, 1, 3, 0, b'abcd'), (1510, 1, 3, 0, b'abcx'), (1520, 2, 3, 0, b'abcd'), (1530, 2, 0, 8, b'ijkl')):
         lan.says(at, 5, 6, 138, datagram(number, data, flags=flags, offset=offset))
-    lan.add(1600, server, client, 139, session(0x83, b'\x82'))
+    lan.add(1600, *ENDS[::-1], 139, session(0x83, b'\x82'))
     lan.says(1700, 8, 6, 137, service(8, 0xad87, FRED, told=entry(6)))
     return pcap(lan.frames)
 
@@ -129,39 +84,28 @@ def life():
 def fronts():
     """Packets of all kinds, of which a snap length leaves fronts."""
     rest = (b'\x01X\0' + entry(8)) * 2
-    lan, number = Lan(), 0
-
-    def says(port, payload):
-        nonlocal number
-        lan.says(number, 5, 6, port, payload)
-        number += 1
-
-    says(137, service(1, 0x0110, FRED, NB))
-    says(137, service(2, 0x0000, FRED, NBSTAT) + bytes(20))
-    for each, word in enumerate((0x2910, 0x3110, 0x4110, 0x7910, 0x1910, 0x2800), 3):
-        says(137, service(each, word, FRED, NB, entry(6)))
-    says(137, service(9, 0x8580, FRED, told=entry(6)) + bytes(40))
-    for each, word in enumerate((0x8580, 0x8583, 0xad80, 0xad86, 0xad00, 0xad87, 0xb400, 0xb406, 0xbc00, 0x9c00), 10):
-        says(137, service(each, word, FRED, told=entry(6)) + rest)
-    for each, kind in enumerate((0x10, 0x11, 0x12), 30):
-        says(138, datagram(each, bytes(range(256)) * 4, kind=kind))
     whole = datagram(33, b'x' * 100, kind=0x10)
-    says(138, whole[:10] + b'\0\x28' + whole[12:])         # it ends in its second name
-    says(138, datagram(34, b'', kind=0x13))
-    says(137, b'\xff' * 80)
-    return pcap(lan.frames)
+    payloads = [(137, each) for each in (
+        service(1, 0x0110, FRED, NB), service(2, 0x0000, FRED, NBSTAT) + bytes(20),
+        *(service(each, word, FRED, NB, entry(6)) for each, word in enumerate((0x2910, 0x3110, 0x4110, 0x7910, 0x1910, 0x2800), 3)),
+        service(9, 0x8580, FRED, told=entry(6)) + bytes(40),
+        *(service(each, word, FRED, told=entry(6)) + rest for each, word in enumerate(
+            (0x8580, 0x8583, 0xad80, 0xad86, 0xad00, 0xad87, 0xb400, 0xb406, 0xbc00, 0x9c00), 10)))]
+    payloads += [(138, each) for each in (
+        *(datagram(each, bytes(range(256)) * 4, kind=kind) for each, kind in enumerate((0x10, 0x11, 0x12), 30)),
+        whole[:10] + b'\0\x28' + whole[12:],            # it ends in its second name
+        datagram(34, b'', kind=0x13))]
+    return pcap(spaced(ethernet(sent(*each)) for each in [*payloads, (137, b'\xff' * 80)]))
 
 
 def gaps():
     """A session packet in two segments, one after 1000 missing bytes; fragments of a datagram without the middle one, and of a whole one."""
-    lan, ends = Lan(), ((CLIENT, 1025), (SERVER, 139))
+    lan = Lan()
     for at, gap, data in ((0, 0, REQUEST), (1, 0, SHORT[:6]), (2, 0, SHORT[6:]), (3, 1000, OTHER), (4, 0, KEEPALIVE)):
-        lan.due[ends] = lan.due.get(ends, 100) + gap
-        lan.add(at, *ends, 139, data)
-    packet = udp(138, 138, DATAGRAM)
+        lan.due[ENDS] = lan.due.get(ENDS, 100) + gap
+        lan.add(at, *ENDS, 139, data)
     for at, number, start, end in ((5, 7, 0, 400), (6, 7, 800, None), (7, 8, 0, 400), (8, 8, 400, None)):
-        fragment = (0x2000 if end else 0) | start // 8
-        lan.frames.append((at * 1000, ethernet(ip(UDP, packet[start:end], fragment=fragment, identifier=number)), None))
+        lan.frames.append((at * 1000, fragment(udp(138, 138, DATAGRAM), start, end, number), None))
     return pcap(lan.frames)
 
 
@@ -172,14 +116,25 @@ def chance():
     return pcap([(each, rng.choice(heads) + rng.randbytes(rng.randrange(1, 200)), rng.choice((None, 20, 40, 60))) for each in range(2_000)])
 
 
-CAPTURES = (snapped, evil, backwards, nameless, qinq, others, usb, fragments, life, fronts, gaps, chance)
-
-
-def main():
-    for each in CAPTURES:
-        with open(f'{sys.argv[1]}/{each.__name__}.pcap', 'wb') as file:
-            file.write(each())
+CAPTURES = {
+    # What `tcpdump -s 96` leaves of a registration and datagrams, beside a query that is whole.
+    'snapped': pcap([(0, query(FRED), None)] + [(each * 1000, ethernet(sent(138, DATAGRAM)), 96) for each in range(1, 601)]),
+    # A name, and an interface, of bytes that act on a terminal.
+    'evil': pcapng([b'eth0', EVIL], *[query(first_level(EVIL, 0x20)[:-1] + b'\x05\x1b[31m\0')] * 2),
+    'backwards': pcap([(2_000_000, query(FRED), None), (500_000, query(JOE), None), (3_000_000, query(FRED), None)]),
+    # Three interfaces, of which the second one has a name.
+    'nameless': pcapng([b'', b'eth0', b''], *(query(FRED, each) for each in range(3))),
+    # A query below a service tag and a customer tag, below two of the first kind, and below one of them.
+    'qinq': pcap(spaced(map(tagged, (b'\x88\xa8\0\x64\x81\0\0\xc8', b'\x88\xa8\0\x64\x88\xa8\0\xc8', b'\x88\xa8\0\x64')), 1)),
+    # Nothing of these ports.
+    'others': pcap(spaced((SMB, NETBEUI, NETBEUI), 1)),
+    'usb': pcap(spaced([bytes(64)] * 3, 1), USB),
+    # The first fragment of a datagram whose rest never comes, one of another port, and a last one without its first.
+    'fragments': pcap(spaced((fragment(udp(138, 138, DATAGRAM), 0, 800, 7), fragment(udp(53, 53, bytes(900)), 0, 800, 8),
+                              fragment(udp(138, 138, DATAGRAM), 800, None, 9), query(FRED)), 1)),
+    'life': life(), 'fronts': fronts(), 'gaps': gaps(), 'chance': chance()}
 
 
 if __name__ == '__main__':
-    main()
+    for name, capture in CAPTURES.items():
+        written(f'{sys.argv[1]}/{name}.pcap', capture)

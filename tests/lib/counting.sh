@@ -43,8 +43,9 @@ enough() {
     [ "$2" -gt 0 ] && [ "$1" -ge "$2" ] || count 1 "$3: $1 cases, of $2 at least (tests/counts.txt)"
 }
 
-# part NAME COMMAND..: runs the cases of a part, and prints how many there are.
+# part NAME COMMAND..: runs the cases of a part, and prints how many there are; where $only has names, those of these parts alone.
 part() {
+    [ -z "${only:-}" ] || [[ " $only " == *" $1 "* ]] || return 0
     local before=$((passed + failed + skipped)) number
     "${@:2}"
     number=$((passed + failed + skipped - before))
@@ -111,6 +112,24 @@ with_tools() {
     export WIRESHARK_CONFIG_DIR=$room/settings
 }
 
+# of_tools PROGRAM: the same for a script of these tools, whose samples run in $files, which has this repository, an empty file and the examples;
+# the page has some modules of theirs. Where tshark isn't installed all of the script is left out.
+of_tools() {
+    "$here/../tools/lists.py" --made || exit
+    program=$(realpath "${1:-$here/../crates/nbt/out/nbt}") files=$room/files
+    if ! command -v tshark >/dev/null; then
+        lacks all tshark
+        finish
+        exit
+    fi
+    with_tools "$program"
+    PATH=$room/bin:$PATH
+    mkdir "$files"
+    ln -s "$(realpath "$here/..")" "$files/top"
+    ln -s top/examples "$files/examples"
+    : >"$files/empty"
+}
+
 # peak TOOL WORD..: the status of a tool of tools/ and its most memory, in kB; that of tshark and nbt comes from other processes.
 peak() {
     PYTHONPATH=$here/../tools ended python3 -c 'import resource, runpy, sys
@@ -138,6 +157,6 @@ total() {
 
 # Ends the script with its last line.
 finish() {
-    enough $((passed + failed + skipped)) "$(least "$script" all)" all
+    [ -n "${only:-}" ] || enough $((passed + failed + skipped)) "$(least "$script" all)" all
     total
 }

@@ -13,27 +13,19 @@ import time
 PATIENCE = 120
 
 
-def waited(process, held):
-    """Waits until something holds, or the process has ended; whether it did so in time."""
-    until = time.monotonic() + PATIENCE
-    while process.poll() is None and not held():
-        if time.monotonic() > until:
-            process.kill()
-            return False
-        time.sleep(0.001)
-    return True
-
-
 def main():
     when, given, path, *command = sys.argv[1:]
+    is_time = when.replace('.', '', 1).isdigit()
     with open(path, 'wb') as out:
         process = subprocess.Popen(command, stdin=subprocess.PIPE, stdout=out, bufsize=0)
     process.stdin.write(pathlib.Path(given).read_bytes())
-    is_time = when.replace('.', '', 1).isdigit()
-    # What the process runs now, or what it has written.
-    looked_at, text = (f'/proc/{process.pid}/comm', 'python') if is_time else (path, when)
-    if not waited(process, lambda: text.encode() in pathlib.Path(looked_at).read_bytes()):
-        return 124
+    watched, sign = (f'/proc/{process.pid}/comm', 'python') if is_time else (path, when)
+    until = time.monotonic() + PATIENCE
+    while process.poll() is None and sign.encode() not in pathlib.Path(watched).read_bytes():
+        if time.monotonic() > until:
+            process.kill()
+            return 124
+        time.sleep(0.001)
     time.sleep(float(when) if is_time else 0)
     process.send_signal(signal.SIGINT)
     try:

@@ -1,4 +1,5 @@
 """Packets of IP, UDP, TCP and NetBIOS, and pcap and pcapng files of frames, for the scripts that make such files or send packets."""
+import os
 import struct
 
 # The moment from which times in files are counted, in microseconds.
@@ -6,7 +7,7 @@ START = 1_700_000_000 * 10**6
 
 UDP, TCP, ICMP = 17, 6, 1
 FIN, SYN, RST, ACK = 0x01, 0x02, 0x04, 0x10
-NB, NBSTAT, NULL, NS = 0x20, 0x21, 0x0a, 0x02
+NB, NBSTAT, NULL = 0x20, 0x21, 0x0a
 CLIENT, SERVER = bytes([10, 0, 0, 5]), bytes([10, 0, 0, 6])
 # All of a MAC but its last byte.
 MAC = b'\x02\0\0\0\0'
@@ -30,12 +31,17 @@ def ip(protocol, data, source=CLIENT, target=SERVER, fragment=0, identifier=0):
     return struct.pack('>BBHHHBBH', 0x45, 0, size, identifier, fragment, 64, protocol, 0) + source + target + data
 
 
-def ip6(protocol, data):
-    return struct.pack('>LHBB', 0x60000000, len(data), protocol, 64) + bytes(15) + b'\x01' + bytes(15) + b'\x02' + data
+def ip6(protocol, data, source=bytes(15) + b'\x01', target=bytes(15) + b'\x02'):
+    return struct.pack('>LHBB', 0x60000000, len(data), protocol, 64) + source + target + data
 
 
 def udp(source, target, payload):
     return struct.pack('>HHHH', source, target, 8 + len(payload), 0) + payload
+
+
+def sent(port, payload, *ends):
+    """A packet of UDP from a port to the same port."""
+    return ip(UDP, udp(port, port, payload), *ends)
 
 
 def tcp(source, target, sequence, payload=b'', flags=ACK, acknowledged=1, options=b''):
@@ -95,6 +101,19 @@ def pcap(frames, link=1):
     return pcap_header(link) + b''.join(pcap_record(*each) for each in frames)
 
 
+def spaced(frames, between=1_000):
+    """Whole frames with their times, so many microseconds apart."""
+    return [(number * between, frame, None) for number, frame in enumerate(frames)]
+
+
+def written(path, data):
+    """Writes a file, which others may read; its path."""
+    with open(path, 'wb') as file:
+        file.write(data)
+    os.chmod(path, 0o644)
+    return path
+
+
 def block(kind, body, order='<'):
     """A block of pcapng."""
     body += bytes(-len(body) % 4)
@@ -105,6 +124,16 @@ def block(kind, body, order='<'):
 def section(order='<'):
     """The block that begins a file of pcapng."""
     return block(0x0a0d0d0a, struct.pack(order + 'LHHq', 0x1a2b3c4d, 1, 0, -1), order)
+
+
+def interface(link=1, options=b'', order='<'):
+    """The block of an interface."""
+    return block(1, struct.pack(order + 'HHL', link, 0, 262_144) + options, order)
+
+
+def timed(number, at, captured, size, order='<'):
+    """A frame of an interface at so many units of its time, of so many bytes."""
+    return block(6, struct.pack(order + 'LLLLL', number, at >> 32, at % 2**32, len(captured), size) + captured, order)
 
 
 class Frames:

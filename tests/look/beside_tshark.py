@@ -42,12 +42,19 @@ def main():
 def first_difference(path, beside):
     """What the tool shows of a capture that the others don't find, or the other way round."""
     done, other = (run(f'{TOOLS}/{tool}', *words, path) for tool, words in (('nbt-look', ['--json']), ('pcap2cap', [])))
-    objects = [json.loads(line) for line in done.stdout.splitlines()]
+    objects = [json.loads(line, object_pairs_hook=members) for line in done.stdout.splitlines()]
     packets = [each for each in objects if 'left_out' not in each and 'cut' not in each]
     given, wanted = collections.Counter(map(head_of, packets)), collections.Counter(PAYLOAD.findall(other.stdout))
     if given != wanted:
         return f'{list((given - wanted).items())[:3]} in place of {list((wanted - given).items())[:3]}'
     return beside(objects, found_by_tshark(path)) or miscounted(done.stderr, objects, packets, other.stderr)
+
+
+def members(pairs):
+    """An object of JSON: no two of its members have one name, and flags are a text."""
+    found = dict(pairs)
+    assert len(found) == len(pairs) and isinstance(found.get('flags', ''), str), pairs
+    return found
 
 
 def unseen(objects, theirs):

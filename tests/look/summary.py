@@ -1,18 +1,37 @@
 #!/usr/bin/env python3
-"""The cases of tests/summary/ through tools/nbt-look --summary, or with --page through the modules of the page, in node: each has the
-tables that stand there, and no others. nbt-look reads those as text whose packets text can have, and the others, as the page does all,
-from a pcap file.
+"""The cases of tests/summary/, captures as text, and the tables that they have (docs/SUMMARY.md has the rules), through tools/nbt-look --summary,
+or with --page through the modules of the page, in node: each has the tables that stand there, and no others.
 
 Usage: tests/look/summary.py [--page] [--only=WORD] [PROGRAM], with nbt on PATH for nbt-look, or PROGRAM in its place where packets are
 made, and where the page asks the library. The last line is 'N passed, M failed'.
+
+A file has cases, each after a line `== WHAT`. A line of packets is `MOMENTS FROM > TO WORDS`, with ` < WORDS` behind it for each packet
+that comes back, and ` > WORDS` for further ones. MOMENTS are milliseconds with commas between: one for each of them, or those at which a
+single one is sent again. FROM and TO are addresses, with a port where it isn't the service's own. WORDS are
+
+  bytes PORT HEX  a payload
+  syn, ack        a SYN, or a SYN with ACK, of the session service
+  skip N          N bytes of a stream that aren't in the capture; below 0 it goes back, by 100,000 more before a SYN that comes again
+  ad86 ..         a response with this flag word to the line's first packet: the kind of its record where it isn't 0020, its TTL and its RDATA
+  others          those of `nbt build`: a packet each of what it prints
+
+and before them an option is cut=N, a snap length; mac=DIGITS, the last two of the sender's MAC; patch=AT:HEX, other bytes of the payload,
+from AT on; front=N, so many bytes of the payload alone; by=ADDRESS, another sender; or pick=N,.., at each moment the N-th packet alone. A
+row of a table, which is named as --summary has it, is `TABLE: CELL | CELL ..`; a cell is COLUMN=TEXT, or the text of the first column,
+and after a last ` |` the row goes on. Tables that aren't there must not be shown, but for those of what is left out and, unless it is
+there, of stations.
 """
+import functools
+import glob
 import json
 import os
+import re
 import runpy
 import shutil
 import subprocess
 import sys
 import tempfile
+from dataclasses import dataclass, field
 
 sys.dont_write_bytecode = True
 HERE = os.path.dirname(os.path.abspath(__file__))
@@ -21,22 +40,181 @@ sys.path[1:1] = [*(f'{HERE}/../{it}' for it in ('captures', 'lib')), TOOLS]
 from bundled import bundled
 from nbt_look import looking, page  # noqa: F401: what the tool would import anew for each capture
 from parts import tally
-import summary_cases
-from wire import pcap
+from wire import ACK, SYN, Frames, pcap, written
 
 TOOL = f'{TOOLS}/nbt-look'
+PACKETS = re.compile(r'([\d.,]+) +(\S+) (> \S+) +(.*)')
+STEPS = re.compile(r' +([<>]) ')
+OPTION = re.compile(r'(cut|mac|patch|front|pick|by)=(\S+) +')
+FLAG_WORD = re.compile('[0-9a-f]{4}')
+BETWEEN = ' | '
+TITLES = {'queries': 'queries without an answer', 'failed': 'failed datagrams', 'left-out': 'left out'}
+# What is shown of nearly each capture, or counted elsewhere.
+BESIDES = ('stations', 'left out')
+
+
+@dataclass
+class Table:
+    """The rows of a table, as texts, by its columns."""
+
+    columns: list
+    rows: list = field(default_factory=list)
+
+
+@dataclass
+class Case:
+    """A capture, and by its title each table that it has: of each row the cells that are compared, where '' is the first column."""
+
+    file: str
+    what: str
+    packets: list = field(default_factory=list)
+    tables: dict = field(default_factory=dict)
+
+
+def cases():
+    """All cases."""
+    for path in sorted(glob.glob(f'{HERE}/../summary/*.txt')):
+        yield from cases_in(path)
+
+
+def cases_in(path):
+    found = []
+    with open(path, encoding='utf-8') as file:
+        lines = file.read().replace(' |\n', BETWEEN).splitlines()
+    for line in lines:
+        if line.startswith('== '):
+            found.append(Case(os.path.basename(path), line[3:]))
+        elif line[:1].isdigit():
+            found[-1].packets.append(line)
+        elif line and not line.startswith('#'):
+            name, _, cells = line.partition(': ')
+            parted = (each.rpartition('=') for each in cells.split(BETWEEN))
+            found[-1].tables.setdefault(TITLES.get(name, name), []).append({column: text for column, _, text in parted})
+    return found
+
+
+class Network(Frames):
+    """The frames of a case."""
+
+    def __init__(self, program):
+        super().__init__()
+        self.program = program
+
+    def says(self, line):
+        """Adds the packets of a line."""
+        moments, source, target, rest = PACKETS.fullmatch(line).groups()
+        moments, (_, *steps) = moments.split(','), STEPS.split(f' > {rest}')
+        ways, said = steps[::2], [options_of(each) for each in steps[1::2]]
+        assert len(said) in (1, len(moments)), line
+        asked = [each for each in said[0][1] if each != '--broadcast'][1:3]
+        for number, moment in enumerate(moments):
+            options, words = said[number % len(said)]
+            ends = (source, target[2:]) if ways[number % len(said)] == '>' else (options.get('by', target[2:]), source)
+            words = answer(words, asked) if FLAG_WORD.fullmatch(words[0]) else words
+            for port, payload, flags in self.payloads(words, options, ends, number):
+                snap = int(options['cut']) if 'cut' in options else None
+                mac = bytes.fromhex(options.get('mac', ''))
+                self.add(float(moment), *(ends_of(each, port) for each in ends), port, payload, flags, snap, mac)
+
+    def payloads(self, words, options, ends, number):
+        """Port, payload and flags of TCP of each packet; `number` is that of its moment."""
+        verb = words[0]
+        if verb in ('syn', 'ack'):
+            return [(139, b'', SYN if verb == 'syn' else SYN | ACK)]
+        if verb == 'skip':
+            key = tuple(ends_of(each, 139) for each in ends)
+            self.due[key] = self.due.get(key, 1_000) + int(words[1])
+            return []
+        if verb == 'bytes':
+            return [(int(words[1]), changed(bytes.fromhex(words[2]), options), ACK)]
+        lines = built(self.program, *words)
+        lines = lines[int(options['pick'].split(',')[number]) - 1:][:1] if 'pick' in options else lines
+        parted = [line.split() for line in lines]
+        return [(int(port), changed(b'' if digits == 'empty' else bytes.fromhex(digits), options), ACK) for port, _, digits in parted]
+
+
+@functools.cache
+def built(program, *words):
+    """The lines of `nbt build`."""
+    return subprocess.run([program, 'build', *words], stdout=subprocess.PIPE, check=True, text=True).stdout.splitlines()
+
+
+def options_of(text):
+    """The options of a packet, and its words."""
+    options = {}
+    while match := OPTION.match(text):
+        options[match[1]] = match[2]
+        text = text[match.end():]
+    return options, text.split()
+
+
+def answer(words, asked):
+    """The words of `nbt build` for a response with a flag word, about the identifier and the name of what was asked."""
+    word, *kind, lifetime, data = words
+    identifier, name = asked
+    return ['response', identifier, word, name, *(kind or ['0020']), lifetime, data]
+
+
+def ends_of(text, port):
+    address, _, given = text.partition(':')
+    return bytes(map(int, address.split('.'))), int(given or port)
+
+
+def changed(payload, options):
+    """A payload after patch= and front=."""
+    if 'patch' in options:
+        place, _, digits = options['patch'].partition(':')
+        data = bytes.fromhex(digits)
+        payload = payload[:int(place)] + data + payload[int(place) + len(data):]
+    return payload[:int(options['front'])] if 'front' in options else payload
+
+
+def frames_of(case, program):
+    """The frames of a case."""
+    network = Network(program)
+    for line in case.packets:
+        network.says(line)
+    return network.frames
+
+
+def tables_in(text):
+    """The tables of a summary: of each title the columns, and rows of cells."""
+    found = {}
+    for block in text.split('\n\n'):
+        title, *lines = block.splitlines()
+        if not lines or not lines[0].startswith('  '):
+            continue
+        starts = [match.start() for match in re.finditer(r'(?<=  )\S', lines[0])]
+        parted = [[line[start:end].strip() for start, end in zip(starts, [*starts[1:], None])] for line in lines]
+        found[title] = Table(parted[0], parted[1:])
+    return found
+
+
+def difference(case, shown):
+    """What is shown that isn't there, and the other way round; nothing where all is well."""
+    for title in shown.keys() | case.tables.keys():
+        wanted, given = case.tables.get(title), shown.get(title)
+        if wanted is None:
+            if title not in BESIDES:
+                return f'{title} are shown: {given.rows}'
+        elif given is None:
+            return f'{title} are not shown'
+        else:
+            rows = [dict(zip(given.columns, row)) | {'': row[0]} for row in given.rows]
+            if len(rows) != len(wanted) or not all(one.items() <= other.items() for one, other in zip(wanted, rows)):
+                return f'{title}: {given.rows}, not {wanted}'
+    return ''
 
 
 def main():
     words = [each for each in sys.argv[1:] if not each.startswith('--')]
     only = next((each.removeprefix('--only=') for each in sys.argv[1:] if each.startswith('--only=')), '')
     program = program_of(words)
-    chosen = [each for each in summary_cases.cases() if only in f'{each.file}: {each.what}']
+    chosen = [each for each in cases() if only in f'{each.file}: {each.what}']
     with tempfile.TemporaryDirectory() as folder:
-        is_page = '--page' in sys.argv
-        paths = [captured(summary_cases.frames_of(each, program), not is_page, f'{folder}/{number}') for number, each in enumerate(chosen)]
-        shown = shown_by_page(program, paths) if is_page else list(map(shown_by_tool, paths))
-    return tally((f'{each.file}: {each.what}', summary_cases.difference(each, tables)) for each, tables in zip(chosen, shown))
+        paths = [written(f'{folder}/{number}', pcap(frames_of(each, program))) for number, each in enumerate(chosen)]
+        shown = shown_by_page(program, paths) if '--page' in sys.argv else list(map(shown_by_tool, paths))
+    return tally((f'{each.file}: {each.what}', difference(each, tables)) for each, tables in zip(chosen, shown))
 
 
 def program_of(words):
@@ -45,12 +223,6 @@ def program_of(words):
     if not program or not os.access(program, os.X_OK):
         sys.exit(f'{sys.argv[0]}: {program or "nbt on PATH, or PROGRAM in its place,"} is missing: `make build` makes it')
     return program
-
-
-def captured(frames, is_text, path):
-    with open(path, 'wb') as file:
-        file.write(is_text and summary_cases.as_text(frames) or pcap(frames))
-    return path
 
 
 def shown_by_tool(path):
@@ -68,14 +240,14 @@ def shown_by_tool(path):
             os._exit(70)
         status = os.waitpid(child, 0)[1]
         shown.seek(0)
-        return summary_cases.tables_in(shown.read().decode()) if not status else {f'status {status}': summary_cases.Table([])}
+        return tables_in(shown.read().decode()) if not status else {f'status {status}': Table([])}
 
 
 def shown_by_page(program, paths):
     with tempfile.TemporaryDirectory() as folder:
         script, = bundled(folder, 'summary.mjs')
         done = subprocess.run(['node', script, program, *paths], stdout=subprocess.PIPE, text=True, timeout=300, check=True)
-    return [{title: summary_cases.Table(**each) for title, each in json.loads(line).items()} for line in done.stdout.splitlines()]
+    return [{title: Table(**each) for title, each in json.loads(line).items()} for line in done.stdout.splitlines()]
 
 
 if __name__ == '__main__':

@@ -8,7 +8,7 @@ import subprocess
 import tempfile
 
 from limits import MANY
-from summary_cases import tables_in
+from summary import tables_in
 
 COUNTS = re.compile(r'(\d+ frames?, )?\d+ packets?, \d+ malformed, ')
 ROW = re.compile(r' *(\d+) +(\S+) +(\S+) +(\S+) +(.*)')

@@ -15,7 +15,7 @@ sys.dont_write_bytecode = True
 sys.path[1:1] = [f'{sys.path[0]}/../{it}' for it in ('captures', 'lib')]
 from plugin_captures import Made
 from plugin_pcap import datagram_frame, framed, segment_frame, spaced, write_pcap
-from random_streams import Ends, Side, mixed, stream
+from random_pcap import Ends, mixed, stream
 from wire import KEEPALIVE, QUERY, REQUEST, block, datagram, section, session
 
 NO_PACKETS = (b'\x81\x01\xff\xff' + bytes(30), b'\x00\xfe\xff\xff' + bytes(50), b'GET / HTTP/1.0\r\n\r\n', b'\x85\0\0\1x',
@@ -39,16 +39,9 @@ def packets(rng, longest):
     return found + ([rng.choice(NO_PACKETS)] if rng.random() < 0.4 else [])
 
 
-class Caller(Side):
-    """A side that sends such packets."""
-
-    def bytes(self):
-        return b''.join(packets(self.rng, 20_000))
-
-
 def sessions():
-    rng = random.Random('sessions')
-    return spaced(framed(packet) for _, packet in mixed(rng, [stream(rng, Ends(rng, number), Caller) for number in range(16)]))
+    rng, data_of = random.Random('sessions'), lambda rng: b''.join(packets(rng, 20_000))
+    return spaced(framed(packet) for _, packet in mixed(rng, [stream(rng, Ends(rng, number), data_of) for number in range(16)]))
 
 
 def parts(data, *cuts):

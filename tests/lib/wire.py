@@ -7,7 +7,7 @@ START = 1_700_000_000 * 10**6
 
 UDP, TCP, ICMP = 17, 6, 1
 FIN, SYN, RST, ACK = 0x01, 0x02, 0x04, 0x10
-NB, NBSTAT, NULL = 0x20, 0x21, 0x0a
+NB, NBSTAT, NULL, NS = 0x20, 0x21, 0x0a, 0x02
 CLIENT, SERVER = bytes([10, 0, 0, 5]), bytes([10, 0, 0, 6])
 # All of a MAC but its last byte.
 MAC = b'\x02\0\0\0\0'

@@ -20,17 +20,14 @@ files() {
     local module=${MODULE:-} archive arm=$out/lib/aarch64
     if [ ! -s "$module" ]; then
         module=$room/nbt.bc
-        "$top/tools/module" "$module" >"$room/log" 2>&1
-        count $? "tools/module: $(tail -n 1 "$room/log")"
+        does tools/module "$top/tools/module" "$module"
     fi
-    "$top/tools/targets" make "$module" "$out" "$room/root" >"$room/log" 2>&1
-    count $? "tools/targets: $(tail -n 1 "$room/log")"
+    does tools/targets "$top/tools/targets" make "$module" "$out" "$room/root"
     cp "$module" "$out/nbt.bc" && cp "$module.verdict" "$out/nbt.bc.verdict"
     count $? 'the module and its verdict'
     archive=$module.a
     [ -s "$archive" ] || archive=$top/crates/nb_c/out/libnb_c.a
-    "$top/tools/library" "$archive" "$out/lib" >"$room/log" 2>&1
-    count $? "the library for x86-64: $(tail -n 1 "$room/log")"
+    does 'the library for x86-64' "$top/tools/library" "$archive" "$out/lib"
     well_made aarch64-linux-gnu- "$arm"
     grep -c "^prefix=$room/root$" "$arm/nbt.pc" | same 1 'nbt.pc of aarch64'
     [ "$(gzip -9c "$out/nbt.wasm" | wc -c)" -lt 120000 ]
@@ -39,14 +36,6 @@ files() {
     "$top/tools/targets" make "$module" "$room/again" "$room/root" >"$room/log" 2>&1 && diff -r "$out/lib/aarch64" "$room/again/lib/aarch64" \
         && cmp "$out/nbt.wasm" "$room/again/nbt.wasm"
     count $? "the same files once more: $(tail -n 1 "$room/log")"
-}
-
-# alike NAME WANTED COMMAND..: what a command prints is what a file has, and it ends well.
-alike() {
-    ended "${@:3}" >"$room/output" 2>"$room/errors"
-    count $? "$1: $(tail -n 1 "$room/errors")"
-    cmp -s "$2" "$room/output"
-    count $? "$1 answers the same: $(diff "$2" "$room/output" | head -c 300)"
 }
 
 # All calls, with the same words.
@@ -97,8 +86,8 @@ corpus() {
 # The package for JavaScript: its tests, and the program of its page.
 javascript() {
     local each
-    ended "${node[@]}" --expose-gc "$top/bindings/javascript/tests/nbt.test.mjs" "$out" "$top/include/nbt.h" >"$room/log" 2>&1
-    count $? "bindings/javascript/tests: $(grep -m 3 -E "^not ok|^ +error:" "$room/log" | tr '\n' ' ')"
+    does bindings/javascript/tests ended "${node[@]}" --expose-gc "$top/bindings/javascript/tests/nbt.test.mjs" "$out" "$top/include/nbt.h"
+    grep -m 3 -E '^not ok|^ +error:' "$room/log"
     passed=$((passed + $(grep -c '^ok ' "$room/log")))
     said "$room/values" "$here/captures/payloads.py" --seed 14 values 9000
     for each in asked values; do
@@ -112,9 +101,8 @@ javascript() {
 
 # The types of the package for JavaScript, and of calls that use them.
 types() {
-    (cd "$top/bindings/javascript" && ended tsc --strict --noEmit --module es2022 --moduleResolution nodenext --target es2022 --lib es2022,dom \
-        tests/typed_calls.mts) >"$room/log" 2>&1
-    count $? "tsc --strict: $(head -n 3 "$room/log")"
+    does 'tsc --strict' env -C "$top/bindings/javascript" "$timeout" 300 tsc --strict --noEmit --module es2022 --moduleResolution nodenext \
+        --target es2022 --lib es2022,dom tests/typed_calls.mts
 }
 
 # says NAME TEXT COMMAND..: a command fails, and says so in one line that has a text.
@@ -134,8 +122,7 @@ missing() {
     ln -s /bin/true "$few/llvm-symbolizer"
     says 'no clang with libFuzzer' 'no clang has libFuzzer: install ' env -u FUZZ_CLANG PATH="$few" "$python" "$here/fuzz_coverage.py" --module "$out/nbt.bc"
     says 'no dpkg-deb' 'dpkg-deb is missing: install dpkg' env PATH="$few" "$python" "$top/tools/dist" "$out" "$out/lib" "$program" "$room/dist4"
-    env -u CI PATH="$few" "$BASH" "$here/targets.sh" "$program" >"$room/output" 2>&1
-    count $? 'without tools nothing is tried, and nothing fails'
+    does 'without tools nothing is tried, and nothing fails' env -u CI PATH="$few" "$BASH" "$here/targets.sh" "$program"
     ! env CI=true PATH="$few" "$BASH" "$here/targets.sh" "$program" >"$room/output" 2>&1 && grep -q '^failed: calls: CI has to install aarch64-linux-gnu-gcc$' "$room/output"
     count $? "where CI is true it does: $(tail -n 1 "$room/output")"
     rm "$few/rt"

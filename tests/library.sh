@@ -185,7 +185,7 @@ types() {
 
 # tools/nbt-station on sockets of the loopback interface.
 station() {
-    NBT_LIBRARY=$built/libnbt.so.0 counted "$timeout" -k 5 600 "$here/library/station.py" "$top/tools/nbt-station" "$program"
+    NBT_LIBRARY=$built/libnbt.so.0 counted "$timeout" -k 5 600 "$here/library/station.py" "$top/tools/nbt-station"
 }
 
 # Installed in another folder, and found by pkg-config.

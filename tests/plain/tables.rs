@@ -11,6 +11,7 @@ const LONGEST_DATAGRAM: u32 = 65_535;
 const HELD_FOR: u64 = 2_000;
 
 /// What is known of a datagram.
+#[derive(Default)]
 pub struct Datagram {
     pub kind: u8,
     /// Two spellings of names, in place.
@@ -25,14 +26,8 @@ pub struct Datagram {
 
 impl Datagram {
     fn new(fragment: &Fragment) -> Datagram {
-        Datagram {
-            kind: fragment.kind,
-            names: ArrayVec::try_from(fragment.names).expect("at most two names"),
-            runs: BTreeMap::new(),
-            end: None,
-            promise: None,
-            handed_over: false,
-        }
+        let names = ArrayVec::try_from(fragment.names).expect("at most two names");
+        Datagram { kind: fragment.kind, names, ..Datagram::default() }
     }
 
     fn agrees(&self, fragment: &Fragment) -> bool {
@@ -181,9 +176,7 @@ impl Table {
             *state = None;
             return Some(Change::Spoilt);
         }
-        let Some(datagram) = state else {
-            return Some(Change::Kept);
-        };
+        let Some(datagram) = state else { return Some(Change::Kept) };
         Some(if datagram.add(fragment) { Change::Whole(datagram) } else { Change::Kept })
     }
 

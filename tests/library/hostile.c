@@ -128,25 +128,27 @@ static void varied(const struct sample *it) {
             changed(it, input);
 }
 
-int vary_rows(const char *text) {
-    static struct sample samples[MOST_SAMPLES];
+static struct sample samples[MOST_SAMPLES];
+static int is_varied[MOST_SAMPLES];
+static size_t sample_count;
+
+/* What its row says. Few rows of a call with one status are varied, which would take long of all. */
+void vary_row(struct sample *row) {
     static size_t alike[CALLS][256];
-    static int is_varied[MOST_SAMPLES];
-    size_t sample_count = 0, i;
-    while (next_row(&text, &samples[sample_count]))
-        expect(++sample_count < MOST_SAMPLES, "room for rows");
-    trials = (struct trials){.most = 3};
-    /* Few rows of a call with one status are varied, which would take long of all. */
-    for (i = 0; i < sample_count; i++)
-        is_varied[i] = alike[samples[i].of][sampled(&samples[i])]++ < MOST_ALIKE;
+    expect(sample_count < MOST_SAMPLES, "room for rows");
+    trials.most = 3;
+    samples[sample_count] = *row;
+    is_varied[sample_count] = alike[row->of][sampled(&samples[sample_count])]++ < MOST_ALIKE;
+    sample_count++;
+    hold(kept_mark());
+}
+
+void vary_all(void) {
+    size_t i;
     for (i = 0; i < sample_count; i++)
         if (is_varied[i])
             varied(&samples[i]);
-    free_stations();
     moved();
     no_entries();
-    expect(memory.blocks == 0, "all stations give back what they took");
     print_statuses();
-    fprintf(stderr, "%lu calls\n", call_count);
-    return 0;
 }

@@ -83,7 +83,7 @@ corpus() {
     count $? 'the corpus has less than 2 MB'
 }
 
-# The package for JavaScript: its tests, and the program of its page.
+# The package for JavaScript: its tests, and what it answers. The part npm runs the program of its page.
 javascript() {
     local each
     does bindings/javascript/tests ended "${node[@]}" --expose-gc "$top/bindings/javascript/tests/nbt.test.mjs" "$out" "$top/include/nbt.h"
@@ -93,10 +93,6 @@ javascript() {
     for each in asked values; do
         answers tests/library/answers.mjs "$room/$each" ended "${node[@]}" "$here/library/answers.mjs" "$out"
     done
-    mkdir -p "$room/user/node_modules/nbt"
-    cp "$out/nbt.mjs" "$out/nbt.wasm" "$top/bindings/javascript/package.json" "$room/user/node_modules/nbt"
-    block js "$top/bindings/javascript/README.md" >"$room/user/first.mjs"
-    ended "${node[@]}" "$room/user/first.mjs" 2>&1 | same "$(block text "$top/bindings/javascript/README.md")" 'the program of bindings/javascript/README.md'
 }
 
 # The types of the package for JavaScript, and of calls that use them.

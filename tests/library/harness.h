@@ -78,10 +78,9 @@ struct sample {
     struct bytes answer;
 };
 
-/* Passes over lines up to a row, which is read, and answers whether there is one. Names hold until the next `line`, those before the
- * first one for ever. What is kept for a row may be released once it is done. */
+/* Passes over lines up to a row, which is read, and answers whether there is one. Names hold until the next `line`. What is kept
+ * for a row may be released once it is done. */
 int next_row(const char **text, struct sample *made);
-struct bytes bytes_named(const char *name);
 void free_stations(void);
 
 /* Whether a call answered what its row says; ends the program where it didn't. */

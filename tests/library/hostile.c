@@ -102,8 +102,10 @@ static void changed(const struct sample *it, int input) {
 /* A station that is moved, and one that is given back: none stands where it was, until another one does. */
 static void moved(void) {
     struct nbt_station station, other;
+    struct bytes piece = CALL(datagram_write, .in = {BYTES("JOE<00>"), BYTES("FRED<20>"), BYTES("hello")}, .n = {0x11, 10, 1, 138, 512}).bytes;
     CALL(station_create, .station = &station, .in = {BYTES("FRED<20>")}, .n = {0, 0, 1, 1});
-    expect(CALL(station_take, .station = &station, .in = {bytes_named("HELLO")}).status == NBT_DONE, "a datagram that is handed over");
+    piece = (struct bytes){piece.at + 2, piece.length - 2};
+    expect(CALL(station_take, .station = &station, .in = {piece}).bytes.length > 0, "a datagram that is handed over");
     other = station;
     station.at = NULL;
     expect(CALL(station_save, .station = &station).status == NBT_NO_STATION, "no station where one was");
@@ -114,7 +116,7 @@ static void moved(void) {
 
 /* Room for no question and no record is enough, if nothing is to be filled in. */
 static void no_entries(void) {
-    struct bytes it = bytes_named("REGISTRATION");
+    const struct bytes it = BYTES("\0\1\0\0\0\1\0\0\0\0\0\0" "\0" "\0\x20\0\1");
     size_t count = UNSAID, at = UNSAID;
     expect(nbt_service_items(it.at, it.length, 0, 12, NULL, 0, &count, &at) == NBT_DONE && count == 0 && at == UNSAID, "room for no entry");
 }

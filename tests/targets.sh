@@ -137,9 +137,7 @@ missing() {
 node=(node)
 command -v node >/dev/null && ! node -e "$memory64" && node=(node --experimental-wasm-memory64)
 lacking=
-for tool in aarch64-linux-gnu-gcc qemu-aarch64 node; do
-    command -v $tool >/dev/null || lacking=${lacking:-$tool}
-done
+for tool in aarch64-linux-gnu-gcc qemu-aarch64 node; do command -v $tool >/dev/null || lacking=${lacking:-$tool}; done
 [ -n "$lacking" ] || "${node[@]}" -e "$memory64" 2>/dev/null || lacking='a node with memory64'
 parts=(files calls memory examples corpus javascript types dist lintian debian wheels npm crate missing)
 if [ -n "$lacking" ]; then

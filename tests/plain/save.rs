@@ -10,20 +10,17 @@ pub const MAGIC: &[u8] = b"NBT2";
 pub const SPOILT: u8 = 0;
 pub const HELD: u8 = 1;
 
-fn take(table: &mut Table, moment: u64, payload: &[u8]) -> Option<()> {
-    if let Packet::Direct(fragment) = decode(payload)? {
-        table.insert(moment, &fragment)?;
-    }
-    Some(())
-}
-
 /// Prints the table of a capture.
 pub fn save(report: &mut Report) -> io::Result<()> {
     let mut table = Table::default();
     each_line(|_, line, payload| {
         match line {
             Line::Tick(now) => drop(table.tick(now)),
-            Line::Payload(138, moment) => take(&mut table, moment, payload)?,
+            Line::Payload(138, moment) => {
+                if let Packet::Direct(fragment) = decode(payload)? {
+                    table.insert(moment, &fragment)?;
+                }
+            }
             Line::Payload(..) => {}
         }
         Some(())

@@ -5,7 +5,7 @@ use crate::capture::{read_digits, read_input};
 use crate::names::read_name;
 use crate::packets::{four_bytes, two_bytes, Key};
 use crate::report::Report;
-use crate::save::{save_front, save_held, save_spoilt, HELD, MAGIC, SPOILT};
+use crate::save::{save_front, save_held, save_run, save_spoilt, HELD, MAGIC, SPOILT};
 use std::io;
 
 /// An entry as it is saved, its key left out, and what it says, if its key isn't spoilt.
@@ -144,12 +144,11 @@ impl Joined {
         self.runs.last().map_or(0, |(start, at)| start + (self.bytes.len() - at) as u32)
     }
 
-    fn runs(&self) -> impl ExactSizeIterator<Item = (u32, &[u8])> {
-        (0..self.runs.len()).map(|index| {
-            let (start, at) = self.runs[index];
+    fn save(&self, report: &mut Report) {
+        for (index, (start, at)) in self.runs.iter().enumerate() {
             let end = self.runs.get(index + 1).map_or(self.bytes.len(), |(_, next)| *next);
-            (start, &self.bytes[at..end])
-        })
+            save_run(*start, &self.bytes[*at..end], report);
+        }
     }
 }
 
@@ -175,7 +174,8 @@ fn join(entries: &[Entry], joined: &mut Joined, report: &mut Report) -> Option<(
     if !held.iter().all(same) || !end.is_none_or(within) {
         return None;
     }
-    save_held(entries[0].key, [held[0].kind_and_names, &[]], [end, promise], joined.runs(), report);
+    save_held(entries[0].key, &[held[0].kind_and_names], [end, promise], joined.runs.len(), report);
+    joined.save(report);
     Some(())
 }
 

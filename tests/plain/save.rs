@@ -3,12 +3,19 @@
 use crate::capture::{each_line, Line};
 use crate::packets::{decode, Key, Packet};
 use crate::report::Report;
-use crate::tables::Table;
+use crate::tables::{Datagram, Table};
 use std::io;
 
 pub const MAGIC: &[u8] = b"NBT2";
 pub const SPOILT: u8 = 0;
 pub const HELD: u8 = 1;
+
+fn take(table: &mut Table, moment: u64, payload: &[u8]) -> Option<()> {
+    if let Packet::Direct(fragment) = decode(payload)? {
+        table.insert(moment, &fragment)?;
+    }
+    Some(())
+}
 
 /// Prints the table of a capture.
 pub fn save(report: &mut Report) -> io::Result<()> {
@@ -16,11 +23,7 @@ pub fn save(report: &mut Report) -> io::Result<()> {
     each_line(|_, line, payload| {
         match line {
             Line::Tick(now) => drop(table.tick(now)),
-            Line::Payload(138, moment) => {
-                if let Packet::Direct(fragment) = decode(payload)? {
-                    table.insert(moment, &fragment)?;
-                }
-            }
+            Line::Payload(138, moment) => take(&mut table, moment, payload)?,
             Line::Payload(..) => {}
         }
         Some(())
@@ -30,10 +33,7 @@ pub fn save(report: &mut Report) -> io::Result<()> {
     for (key, datagram) in sorted {
         match datagram {
             None => save_spoilt(key, report),
-            Some(it) => {
-                let runs = it.runs.iter().map(|(start, bytes)| (*start, bytes.as_slice()));
-                save_held(key, [&[it.kind], &it.names], [it.end, it.promise], runs, report)
-            }
+            Some(datagram) => save_datagram(key, datagram, report),
         }
     }
     report.words("\n");
@@ -48,25 +48,34 @@ pub fn save_spoilt(key: Key, report: &mut Report) {
     report.digits(&key.to_be_bytes()).digits(&[SPOILT]);
 }
 
-/// What is known of a datagram: its kind and its names, where it ends and what is promised, and its runs.
-pub fn save_held<'a>(
-    key: Key,
-    [kind, names]: [&[u8]; 2],
-    places: [Option<u32>; 2],
-    runs: impl ExactSizeIterator<Item = (u32, &'a [u8])>,
-    report: &mut Report,
-) {
-    report.digits(&key.to_be_bytes()).digits(&[HELD]).digits(kind).digits(names);
+/// What of a datagram stands before its runs, and their number.
+pub fn save_held(key: Key, kind_and_names: &[&[u8]], places: [Option<u32>; 2], runs: usize, report: &mut Report) {
+    report.digits(&key.to_be_bytes()).digits(&[HELD]);
+    for bytes in kind_and_names {
+        report.digits(bytes);
+    }
     for place in places {
-        report.digits(&[place.is_some() as u8]).digits(place.map(number).as_ref().map_or(&[], |bytes| bytes));
+        match place {
+            None => report.digits(&[0]),
+            Some(place) => report.digits(&[1]).digits(&number(place)),
+        };
     }
-    report.digits(&number(runs.len() as u32));
-    for (start, bytes) in runs {
-        report.digits(&number(start)).digits(&number(bytes.len() as u32)).digits(bytes);
-    }
+    report.digits(&number(runs as u32));
 }
 
 /// A number of at most 65,535.
 fn number(number: u32) -> [u8; 2] {
     (number as u16).to_be_bytes()
+}
+
+pub fn save_run(start: u32, bytes: &[u8], report: &mut Report) {
+    report.digits(&number(start)).digits(&number(bytes.len() as u32)).digits(bytes);
+}
+
+fn save_datagram(key: Key, datagram: &Datagram, report: &mut Report) {
+    let places = [datagram.end, datagram.promise];
+    save_held(key, &[&[datagram.kind], &datagram.names], places, datagram.runs.len(), report);
+    for (start, bytes) in &datagram.runs {
+        save_run(*start, bytes, report);
+    }
 }

@@ -6,7 +6,7 @@ use crate::bad;
 use crate::capture::{each_line, Line};
 use crate::names::{is_netbios, labels};
 use crate::packets::{four_bytes, two_bytes};
-use crate::service::{nodes, rdata, read, Entry, ADDRESSES, STATUS};
+use crate::service::{nodes, rdata, read, Entry, ADDRESSES, QUESTIONS, STATUS};
 use std::io;
 
 /// The sum of a packet's values, or 0 where there is none.
@@ -30,7 +30,7 @@ fn sum_of_name(packet: &[u8], entry: &Entry) -> u64 {
 }
 
 fn sum_of_fields(packet: &[u8], entry: &Entry) -> u64 {
-    if !entry.is_record() {
+    if entry.section == QUESTIONS {
         return (entry.fields + 4) as u64;
     }
     let rdata = rdata(packet, entry.fields);

@@ -20,7 +20,7 @@ for (const row of rows.values()) {
 const SPACE = 1 << 21, WRITTEN_SPACE = 6144 * 4096, big = BigInt;
 const base = Number(nbt.heap_take(big(4 * SPACE + WRITTEN_SPACE)));
 const [numbers, ...inputs] = [0, 1, 2, 3].map((which) => base + which * SPACE), into = base + 4 * SPACE;
-const [used, at, filled] = [numbers, numbers + 8, numbers + 1024];
+const [used, at, filled] = [numbers, numbers + 8, numbers + 1024], stationAt = (which) => numbers + 64 + 8 * which;
 const names = new Map(), stations = new Map();
 let memory, view, out, number, refusals = 0;
 
@@ -49,26 +49,27 @@ function sumOf(bytes) {
     return (sum >>> 0).toString(16).padStart(8, '0');
 }
 
-/** The place of a station's pointer, by its name. */
-function stationOf(name) {
-    if (!stations.has(name)) stations.set(name, numbers + 64 + 8 * stations.size);
-    return big(stations.get(name));
-}
+// What is asked, by the words of a row of calls.def, as each of them stands there.
+const isGiven = (word) => /^(IN|N|L|B|STATION|MADE)\b/.test(word);
 
-// What a call is given, by the kinds of words that a row of calls.def has for it.
-const GIVEN = {
-    IN: (word, place, own) => [big(inputs[place]), big((own[place] = bytesOf(word)).length)],
-    N: (word) => [Number(BigInt.asIntN(32, big(word)))], L: (word) => [big(word)], B: (word) => [Number(word !== '0')],
-    STATION: (word) => [stationOf(word)], MADE: (word) => [stationOf(word)],
-};
-
-/** What a row is given, by its words as they stand in calls.def, and its inputs. */
 function askedOf(row, given) {
-    const asked = { inputs: [], values: new Map() }, rest = [...given];
-    for (const word of row.words) {
-        const [kind, place] = word.split(/[()]/);
-        if (GIVEN[kind]) asked.values.set(word, GIVEN[kind](rest.shift(), place, asked.inputs));
-    }
+    const asked = { inputs: [], values: new Map() };
+    row.words.filter(isGiven).forEach((word, index) => {
+        const place = Number(/\d/.exec(word)?.[0]);
+        if (word.startsWith('IN')) {
+            asked.inputs[place] = bytesOf(given[index]);
+            asked.values.set(word, [big(inputs[place]), big(asked.inputs[place].length)]);
+        } else if (word.startsWith('N')) {
+            asked.values.set(word, [Number(BigInt.asIntN(32, big(given[index])))]);
+        } else if (word.startsWith('L')) {
+            asked.values.set(word, [big(given[index])]);
+        } else if (word.startsWith('B')) {
+            asked.values.set(word, [given[index] === '0' ? 0 : 1]);
+        } else {
+            if (!stations.has(given[index])) stations.set(given[index], stationAt(stations.size));
+            asked.values.set(word, [big(stations.get(given[index]))]);
+        }
+    });
     return asked;
 }
 

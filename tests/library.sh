@@ -23,11 +23,13 @@ files() {
     local archive=$top/crates/nb_c/out/libnb_c.a
     if [ -n "${AFTER_RT_CI:-}" ]; then
         archive=$room/libnb_c.a
-        does 'nb_c is proved and built' "$here/library/archive" "$archive" "${MODULE:-$room/nbt.bc}"
+        "$here/library/archive" "$archive" "${MODULE:-$room/nbt.bc}"
     else
-        does 'nb_c is proved and built' env -C "$top/crates/nb_c" rt lib
-    fi
-    does tools/library "$top/tools/library" "$archive" "$built" "$room/root"
+        (cd "$top/crates/nb_c" && rt lib)
+    fi >"$room/log" 2>&1
+    count $? "nb_c is proved and built: $(tail -n 1 "$room/log")"
+    "$top/tools/library" "$archive" "$built" "$room/root" >"$room/log" 2>&1
+    count $? "tools/library: $(tail -n 1 "$room/log")"
     sed -n 's/^#define NBT_VERSION "\(.*\)"$/nbt \1/p' "$top/include/nbt.h" | same "$("$program" --version)" 'the version of the header'
     well_made '' "$built"
 }
@@ -35,15 +37,19 @@ files() {
 # Each call of the header stands in an example.
 examples() {
     local each run
-    for each in $(calls); do does "an example of $each" grep -w "$each" "$top"/bindings/c/*.c; done
+    for each in $(calls); do
+        grep -qw "$each" "$top"/bindings/c/*.c
+        count $? "an example of $each"
+    done
     for each in "$top"/bindings/c/*.c; do
         run=(env "LD_LIBRARY_PATH=$built")
         example "$each" shared "$CC" "$each" "-L$built" -lnbt
         run=()
         example "$each" sanitized "$CC" "${sanitized[@]}" "$each" "$built/libnbt.a"
     done
-    printf '#include <nbt.h>\nint main() { return nbt_status_text(0, nullptr, 0, nullptr) == NBT_DONE; }\n' \
-        | does 'the header in C++' c++ -Wall -Wextra -Werror "-I$top/include" -c -o "$room/header.o" -x c++ -
+    printf '#include <nbt.h>\nint main() { return nbt_status_text(0, nullptr, 0, nullptr) == NBT_DONE; }\n' >"$room/header.cpp"
+    c++ -Wall -Wextra -Werror "-I$top/include" -c -o "$room/header.o" "$room/header.cpp" >"$room/log" 2>&1
+    count $? "the header in C++: $(head -n 1 "$room/log")"
 }
 
 under_valgrind() {
@@ -66,7 +72,8 @@ sys.stdout.buffer.write(struct.pack(">6H BHHLH", 1, 0x8500, 0, records + 1, 0, 0
 # records that are 4 and 16 times as many, some 4 and 16 times as much.
 chains() {
     local each counted base=0
-    does tests/library/service_chain.c "$CC" "${strict[@]}" -O2 -o "$room/chain" "$here/library/service_chain.c" "$built/libnbt.a"
+    $CC "${strict[@]}" -O2 -o "$room/chain" "$here/library/service_chain.c" "$built/libnbt.a" >"$room/log" 2>&1
+    count $? "tests/library/service_chain.c: $(head -n 1 "$room/log")"
     for each in 1 4 16; do
         counted=$(chain $((511 * each)) $((236 * each)) | ended valgrind --tool=callgrind --callgrind-out-file=/dev/null "$room/chain" 2>&1 >"$room/output" \
             | sed -n 's/.*Collected : *//p')
@@ -96,8 +103,8 @@ refused() {
 short_of_memory() {
     local granted leaks=0 source=$top/bindings/c/station.c
     wanted "$source" >"$room/wanted"
-    does 'station.c over tests/library/memory.c' "$CC" "${strict[@]}" -fsanitize=address "${wrapped[@]}" -o "$room/example" "$source" \
-        "$here/library/memory.c" "$built/libnbt.a"
+    $CC "${strict[@]}" -fsanitize=address "${wrapped[@]}" -o "$room/example" "$source" "$here/library/memory.c" "$built/libnbt.a" >"$room/log" 2>&1
+    count $? "station.c over tests/library/memory.c: $(head -n 1 "$room/log")"
     for ((granted = 0; granted < 200; granted++)); do
         NBT_GRANTED=$granted ended "$room/example" >"$room/output" 2>"$room/errors" \
             && sed 's/ *$//' "$room/output" | cmp -s - "$room/wanted" && break
@@ -122,7 +129,8 @@ limits() {
     "$here/library/payload_rows.py" cases limits </dev/null >"$room/limits"
     ended "$room/sanitized" varied <"$room/limits" >"$room/statuses" 2>"$room/errors"
     count $? "calls at each limit: $(tail -n 3 "$room/errors" | head -c 500)"
-    does 'each call answers what the header lists' "$here/library/statuses_reached.py" "$top/include/nbt.h" <"$room/statuses"
+    "$here/library/statuses_reached.py" "$top/include/nbt.h" <"$room/statuses" >"$room/output" 2>&1
+    count $? "each call answers what the header lists: $(head -n 3 "$room/output" | head -c 300)"
     { "$here/captures/payloads.py" --seed 5 library 500; "$here/captures/payloads.py" worst 6; } \
         | "$here/library/payload_rows.py" cases limits | ended "$room/plain" measured >"$room/output" 2>"$room/errors"
     count $? "the stack and the texts of calls: $(tail -n 1 "$room/errors")"
@@ -158,7 +166,8 @@ programs() {
         "$top/tools/pcap2cap" --quiet --bare "$top/examples/$each.pcap" >"$room/$each.txt" 2>"$room/errors"
         count $? "examples/$each.pcap: $(tail -n 1 "$room/errors")"
     done
-    does examples/claims.c "$CC" "${strict[@]}" -o "$room/claims" "$top/examples/claims.c" "$built/libnbt.a"
+    $CC "${strict[@]}" -o "$room/claims" "$top/examples/claims.c" "$built/libnbt.a" >"$room/log" 2>&1
+    count $? "examples/claims.c: $(head -n 1 "$room/log")"
     ended "$room/claims" <"$room/office.txt" | same "$(printf 'FRED<20> 10.0.0.6\n%.0s' 1 2 3)" 'the claims of the office'
     ended "$room/claims" <"$room/samba.txt" | grep -c 'group$' | same 28 'the claims of groups that Samba sends'
     in_python "$top/examples/claimants.py" <"$room/office.txt" | same 'no name has two claimants' 'the claimants of the office'
@@ -168,33 +177,38 @@ programs() {
 
 # The package for Python, over the shared object.
 python() {
-    local each
-    does 'python3 -m unittest' in_python -m unittest discover -v "$top/bindings/python/tests"
+    (cd "$top/bindings/python" && NBT_LIBRARY=$built/libnbt.so.0 PYTHONDONTWRITEBYTECODE=1 PYTHONPATH=. \
+        ended python3 -m unittest discover -v tests) >"$room/log" 2>&1
+    count $? "python3 -m unittest: $(tail -n 3 "$room/log" | head -c 300)"
     passed=$((passed + $(grep -cE '\.\.\. ok$' "$room/log")))
-    for each in asked values; do answers tests/library/answers.py "$room/$each" in_python "$here/library/answers.py"; done
+    answers tests/library/answers.py "$room/asked" in_python "$here/library/answers.py"
+    answers tests/library/answers.py "$room/values" in_python "$here/library/answers.py"
 }
 
 # The types of the package, and of calls that use them, by mypy's strict rules for the oldest Python that it is for.
 types() {
-    local each
+    local each words=(--strict --python-version 3.10 --cache-dir "$room/mypy")
     for each in '-p nbt' tests/typed_calls.py; do
-        does "mypy --strict $each" env -C "$top/bindings/python" MYPYPATH=. "$timeout" 300 \
-            mypy --strict --python-version 3.10 --cache-dir "$room/mypy" $each
+        (cd "$top/bindings/python" && MYPYPATH=. ended mypy "${words[@]}" $each) >"$room/log" 2>&1
+        count $? "mypy --strict $each: $(head -n 3 "$room/log")"
     done
 }
 
 # tools/nbt-station on sockets of the loopback interface.
 station() {
-    NBT_LIBRARY=$built/libnbt.so.0 counted "$timeout" -k 5 600 "$here/library/station.py" "$top/tools/nbt-station"
+    NBT_LIBRARY=$built/libnbt.so.0 counted "$timeout" -k 5 600 "$here/library/station.py" "$top/tools/nbt-station" "$program"
 }
 
 # Installed in another folder, and found by pkg-config.
 installed() {
     local each flags
-    library install-lib "$room/root"
+    make -s -C "$top" install-lib LIBRARY="$built" DESTDIR= PREFIX="$room/root" >"$room/log" 2>&1
+    count $? "make install-lib: $(tail -n 1 "$room/log")"
     for each in '' --static; do
-        flags=$(PKG_CONFIG_PATH=$room/root/lib/pkgconfig pkg-config --cflags --libs $each nbt)
-        does "a program by pkg-config $each" "$CC" -std=c11 -o "$room/example" "$top/bindings/c/show.c" $flags ${each:+-static}
+        flags=$(PKG_CONFIG_PATH=$room/root/lib/pkgconfig pkg-config --cflags --libs $each nbt 2>"$room/errors")
+        count $? "pkg-config $each: $(head -n 1 "$room/errors")"
+        $CC -std=c11 -o "$room/example" "$top/bindings/c/show.c" $flags ${each:+-static} >"$room/log" 2>&1
+        count $? "a program by pkg-config $each: $(head -n 1 "$room/log")"
         LD_LIBRARY_PATH=$room/root/lib ended "$room/example" | same "$(wanted "$top/bindings/c/show.c")" "a program by pkg-config $each"
     done
     # The programs of docs/CALLING.md, of which its commands run the first ones, and what it says that they print.
@@ -209,9 +223,6 @@ installed() {
     installed_below "$room/it's a place & more"
 }
 
-# library TARGET PREFIX: make install-lib or uninstall-lib.
-library() { does "make $1 PREFIX=$2" make -s -C "$top" "$1" LIBRARY="$built" DESTDIR= PREFIX="$2"; }
-
 # commands NUMBER FOLDER: a block of commands of docs/CALLING.md, over what is installed below $room/root, where no variable leads.
 commands() {
     (
@@ -225,14 +236,15 @@ commands() {
 # does the package for Python. uninstall-lib leaves nothing of it.
 installed_below() {
     local flags
-    library install-lib "$1"
+    make -s -C "$top" install-lib LIBRARY="$built" DESTDIR= PREFIX="$1" >"$room/log" 2>&1
+    count $? "make install-lib PREFIX=$1: $(tail -n 1 "$room/log")"
     flags=$(PKG_CONFIG_PATH=$1/lib/pkgconfig pkg-config --cflags --libs nbt)
-    eval "does \"a program by pkg-config below \$1\" $CC -std=c11 -Wall -Wextra -Werror -o \"\$room/example\" \"\$room/page/first.c\" $flags \
-        \"-Wl,-rpath,\$1/lib\""
+    eval "$CC -std=c11 -Wall -Wextra -Werror -o \"\$room/example\" \"\$room/page/first.c\" $flags \"-Wl,-rpath,\$1/lib\"" >"$room/log" 2>&1
+    count $? "a program by pkg-config below $1: $(head -n 1 "$room/log")"
     ended env -u LD_LIBRARY_PATH "$room/example" | same "$(block text "$page")" "a program below $1"
     env -u NBT_LIBRARY PYTHONPATH="$1/share/nbt/python" PYTHONDONTWRITEBYTECODE=1 "$timeout" 120 python3 "$room/page/first.py" 2>&1 \
         | same "$(block text "$page" 2)" "the package for Python below $1"
-    library uninstall-lib "$1"
+    make -s -C "$top" uninstall-lib LIBRARY="$built" DESTDIR= PREFIX="$1" >"$room/log" 2>&1
     find "$1" ! -type d | wc -l | same 0 "make uninstall-lib PREFIX=$1"
 }
 
@@ -255,9 +267,12 @@ in_rust() {
 
 # in_rust_too TOOL COMMAND [OPTION]..: the same, where cargo has this tool.
 in_rust_too() {
-    cargo "$1" --version >/dev/null 2>&1 && in_rust "$@" && return
-    skipped=$((skipped + 1))
-    echo "skipped: cargo $1 (it isn't installed)"
+    if cargo "$1" --version >/dev/null 2>&1; then
+        in_rust "$@"
+    else
+        skipped=$((skipped + 1))
+        echo "skipped: cargo $1 (it isn't installed)"
+    fi
 }
 
 # The crate for Rust: its tests over the shared object, also in a program that links libnbt.a, and beside the model.
@@ -272,8 +287,10 @@ rust() {
         in_rust_too clippy "${debian[@]}" --features "$each" --all-targets -- -D warnings
         RUSTDOCFLAGS='-D warnings' in_rust doc "${debian[@]}" --features "$each" --no-deps
     done
+    released
+    in_rust build --offline --release --manifest-path "$room/released/Cargo.toml"
     for each in asked values; do
-        CARGO_PROFILE_DEV_OPT_LEVEL=3 answers tests/library/answers.rs "$room/$each" user_program answers "$here/library/answers.rs"
+        LD_LIBRARY_PATH=$room/root/lib answers tests/library/answers.rs "$room/$each" ended "$room/target/release/answers"
     done
     block rust "$page" >"$room/first.rs"
     user_program first "$room/first.rs" </dev/null | same "$(block text "$page" 6)" 'the program in Rust of docs/CALLING.md'
@@ -284,6 +301,13 @@ rust() {
         | same "$(block text "$page" 7)" 'the program in Rust of docs/CALLING.md with serde'
     status_answers
     [ ! -f "$room/samba.txt" ] || node_statuses
+}
+
+# released: a package of tests/library/answers.rs as a program: the crate itself would have it compiled with what its tests need too.
+released() {
+    mkdir "$room/released"
+    printf '[package]\nname = "released"\nversion = "0.1.0"\nedition = "2021"\n\n[dependencies]\nnbt.path = "%s"\n\n[[bin]]\nname = "answers"\npath = "%s"\n' \
+        "$room/bindings/rust" "$here/library/answers.rs" >"$room/released/Cargo.toml"
 }
 
 # The program of examples/ in Rust that answers: two requests of its own names and one of any, and neither another name nor a query.

@@ -20,14 +20,17 @@ files() {
     local module=${MODULE:-} archive arm=$out/lib/aarch64
     if [ ! -s "$module" ]; then
         module=$room/nbt.bc
-        does tools/module "$top/tools/module" "$module"
+        "$top/tools/module" "$module" >"$room/log" 2>&1
+        count $? "tools/module: $(tail -n 1 "$room/log")"
     fi
-    does tools/targets "$top/tools/targets" make "$module" "$out" "$room/root"
+    "$top/tools/targets" make "$module" "$out" "$room/root" >"$room/log" 2>&1
+    count $? "tools/targets: $(tail -n 1 "$room/log")"
     cp "$module" "$out/nbt.bc" && cp "$module.verdict" "$out/nbt.bc.verdict"
     count $? 'the module and its verdict'
     archive=$module.a
     [ -s "$archive" ] || archive=$top/crates/nb_c/out/libnb_c.a
-    does 'the library for x86-64' "$top/tools/library" "$archive" "$out/lib"
+    "$top/tools/library" "$archive" "$out/lib" >"$room/log" 2>&1
+    count $? "the library for x86-64: $(tail -n 1 "$room/log")"
     well_made aarch64-linux-gnu- "$arm"
     grep -c "^prefix=$room/root$" "$arm/nbt.pc" | same 1 'nbt.pc of aarch64'
     [ "$(gzip -9c "$out/nbt.wasm" | wc -c)" -lt 120000 ]
@@ -36,6 +39,14 @@ files() {
     "$top/tools/targets" make "$module" "$room/again" "$room/root" >"$room/log" 2>&1 && diff -r "$out/lib/aarch64" "$room/again/lib/aarch64" \
         && cmp "$out/nbt.wasm" "$room/again/nbt.wasm"
     count $? "the same files once more: $(tail -n 1 "$room/log")"
+}
+
+# alike NAME WANTED COMMAND..: what a command prints is what a file has, and it ends well.
+alike() {
+    ended "${@:3}" >"$room/output" 2>"$room/errors"
+    count $? "$1: $(tail -n 1 "$room/errors")"
+    cmp -s "$2" "$room/output"
+    count $? "$1 answers the same: $(diff "$2" "$room/output" | head -c 300)"
 }
 
 # All calls, with the same words.
@@ -83,22 +94,27 @@ corpus() {
     count $? 'the corpus has less than 2 MB'
 }
 
-# The package for JavaScript: its tests, and what it answers. The part npm runs the program of its page.
+# The package for JavaScript: its tests, and the program of its page.
 javascript() {
     local each
-    does bindings/javascript/tests ended "${node[@]}" --expose-gc "$top/bindings/javascript/tests/nbt.test.mjs" "$out" "$top/include/nbt.h"
-    grep -m 3 -E '^not ok|^ +error:' "$room/log"
+    ended "${node[@]}" --expose-gc "$top/bindings/javascript/tests/nbt.test.mjs" "$out" "$top/include/nbt.h" >"$room/log" 2>&1
+    count $? "bindings/javascript/tests: $(grep -m 3 -E "^not ok|^ +error:" "$room/log" | tr '\n' ' ')"
     passed=$((passed + $(grep -c '^ok ' "$room/log")))
     said "$room/values" "$here/captures/payloads.py" --seed 14 values 9000
     for each in asked values; do
         answers tests/library/answers.mjs "$room/$each" ended "${node[@]}" "$here/library/answers.mjs" "$out"
     done
+    mkdir -p "$room/user/node_modules/nbt"
+    cp "$out/nbt.mjs" "$out/nbt.wasm" "$top/bindings/javascript/package.json" "$room/user/node_modules/nbt"
+    block js "$top/bindings/javascript/README.md" >"$room/user/first.mjs"
+    ended "${node[@]}" "$room/user/first.mjs" 2>&1 | same "$(block text "$top/bindings/javascript/README.md")" 'the program of bindings/javascript/README.md'
 }
 
 # The types of the package for JavaScript, and of calls that use them.
 types() {
-    does 'tsc --strict' env -C "$top/bindings/javascript" "$timeout" 300 tsc --strict --noEmit --module es2022 --moduleResolution nodenext \
-        --target es2022 --lib es2022,dom tests/typed_calls.mts
+    (cd "$top/bindings/javascript" && ended tsc --strict --noEmit --module es2022 --moduleResolution nodenext --target es2022 --lib es2022,dom \
+        tests/typed_calls.mts) >"$room/log" 2>&1
+    count $? "tsc --strict: $(head -n 3 "$room/log")"
 }
 
 # says NAME TEXT COMMAND..: a command fails, and says so in one line that has a text.
@@ -118,7 +134,8 @@ missing() {
     ln -s /bin/true "$few/llvm-symbolizer"
     says 'no clang with libFuzzer' 'no clang has libFuzzer: install ' env -u FUZZ_CLANG PATH="$few" "$python" "$here/fuzz_coverage.py" --module "$out/nbt.bc"
     says 'no dpkg-deb' 'dpkg-deb is missing: install dpkg' env PATH="$few" "$python" "$top/tools/dist" "$out" "$out/lib" "$program" "$room/dist4"
-    does 'without tools nothing is tried, and nothing fails' env -u CI PATH="$few" "$BASH" "$here/targets.sh" "$program"
+    env -u CI PATH="$few" "$BASH" "$here/targets.sh" "$program" >"$room/output" 2>&1
+    count $? 'without tools nothing is tried, and nothing fails'
     ! env CI=true PATH="$few" "$BASH" "$here/targets.sh" "$program" >"$room/output" 2>&1 && grep -q '^failed: calls: CI has to install aarch64-linux-gnu-gcc$' "$room/output"
     count $? "where CI is true it does: $(tail -n 1 "$room/output")"
     rm "$few/rt"
@@ -137,7 +154,9 @@ missing() {
 node=(node)
 command -v node >/dev/null && ! node -e "$memory64" && node=(node --experimental-wasm-memory64)
 lacking=
-for tool in aarch64-linux-gnu-gcc qemu-aarch64 node; do command -v $tool >/dev/null || lacking=${lacking:-$tool}; done
+for tool in aarch64-linux-gnu-gcc qemu-aarch64 node; do
+    command -v $tool >/dev/null || lacking=${lacking:-$tool}
+done
 [ -n "$lacking" ] || "${node[@]}" -e "$memory64" 2>/dev/null || lacking='a node with memory64'
 parts=(files calls memory examples corpus javascript types dist lintian debian wheels npm crate missing)
 if [ -n "$lacking" ]; then

@@ -2,33 +2,41 @@
 
 use std::collections::HashMap;
 use std::error::Error;
+use std::fmt::Write as _;
 use std::io::{self, BufRead, Write as _};
 use std::net::SocketAddrV4;
 
 use nbt::datagram::{self, write_error, write_query, Body, Datagram, Header};
-use nbt::service::{self, Answer, Entry, Packet, Rdata, Record, Request, Response};
-use nbt::station::{Delivery, Outcome};
-use nbt::{brief, capture_line, differ, json, list_table, merge, session, show_into, spell, table_json, text};
+use nbt::service::{self, Answer, Entry, Packet, Rdata, Record, Request, Response, Section};
+use nbt::session::{self, Next};
+use nbt::station::{Key, Outcome};
+use nbt::{brief, capture_line, differ, json, list_table, merge, show_into, spell, table_json, text};
 use nbt::{Limits, Line, Name, Result, Spelling, Station, Status};
 
 fn main() -> std::result::Result<(), Box<dyn Error>> {
     let mut out = io::BufWriter::new(io::stdout().lock());
-    let mut stations = HashMap::new();
+    let mut stations = Stations::new();
     for line in io::stdin().lock().lines() {
         let line = line?;
         let words: Vec<_> = line.split(' ').collect();
-        let said = answer(words[0], &words[1..], &mut stations).unwrap_or_else(|error| format!("! {error}"));
-        writeln!(out, "{said}")?;
+        match answer(words[0], &words[1..], &mut stations) {
+            Ok(said) => writeln!(out, "{said}")?,
+            Err(error) => writeln!(out, "! {error}")?,
+        }
     }
     Ok(out.flush()?)
 }
 
+type Stations = HashMap<String, Station>;
+
 /// What a call answers that is given these words.
-fn answer(call: &str, words: &[&str], stations: &mut HashMap<String, Station>) -> Result<String> {
+fn answer(call: &str, words: &[&str], stations: &mut Stations) -> Result<String> {
     let of = |at: usize| bytes_of(words[at]);
     let limits = |at: usize| Limits { keys: number(words[at]), per_source: number(words[at + 1]) };
     Ok(match call {
-        "137" | "138" | "139" => format!(": {}", payload_lines(call, &of(0))),
+        "137" => format!(": {}", service_lines(&of(0))),
+        "138" => format!(": {}", datagram_lines(&of(0))),
+        "139" => format!(": {}", session_lines(&of(0))),
         "status_text" => written(Status::try_from(number::<u32>(words[0]))?.to_string()),
         "name_spell" => written(spell(&text_of(words[0]))?),
         "name_text" => written(text(&of(0))?),
@@ -41,7 +49,8 @@ fn answer(call: &str, words: &[&str], stations: &mut HashMap<String, Station>) -
         "table_json" => written(table_json(&of(0))?),
         "table_differ" => format!(": {}", differ(&of(0), &of(1))?.map_or("none".into(), |key| key.to_string())),
         "station_create" => {
-            let texts = Some(text_of(words[0])).filter(|it| !it.is_empty());
+            let texts = text_of(words[0]);
+            let texts = texts.split(' ').filter(|_| !texts.is_empty());
             stations.insert(words[5].into(), Station::new(texts, sender(words, 1), limits(3))?);
             ":".into()
         }
@@ -60,9 +69,10 @@ fn on_station(call: &str, station: &mut Station, words: &[&str]) -> Result<Strin
         "station_save" => written(station.save()?),
         "station_list" => written(station.list()?),
         _ => {
-            let found = station.absorb(number(words[1]), &bytes_of(words[2]))?;
-            let said = found.map(handed).collect::<Vec<_>>().join(" and ");
-            format!(": {}", if said.is_empty() { "none" } else { &said })
+            let table = bytes_of(words[2]);
+            let found = station.absorb(number(words[1]), &table)?;
+            let said: Vec<_> = found.map(|it| handed(it.key, it.kind, [it.source, it.destination], it.data)).collect();
+            format!(": {}", if said.is_empty() { "none".into() } else { said.join(" and ") })
         }
     })
 }
@@ -73,8 +83,13 @@ fn packet(call: &str, words: &[&str]) -> Result<Vec<u8>> {
     match call {
         "service_request" => {
             let entry = Entry { nb_flags: number(words[5]), address: number::<u32>(words[6]).into() };
-            let [claim, again] = [Request::Registration, Request::Refresh].map(|it| it(entry, number(words[4])));
-            let requests = [Request::Query, Request::NodeStatus, claim, again, Request::Release(entry)];
+            let requests = [
+                Request::Query,
+                Request::NodeStatus,
+                Request::Registration(entry, number(words[4])),
+                Request::Refresh(entry, number(words[4])),
+                Request::Release(entry),
+            ];
             requests[number::<usize>(words[0])].write(number(words[1]), &text(3), words[2] == "1")
         }
         "service_response" => response(Response {
@@ -124,11 +139,14 @@ fn sender(words: &[&str], at: usize) -> SocketAddrV4 {
 
 /// Bytes as digits.
 fn digits_of(bytes: &[u8]) -> String {
-    let half = |it: u8| char::from(b"0123456789abcdef"[usize::from(it)]);
-    match bytes {
-        [] => "empty".into(),
-        _ => bytes.iter().flat_map(|byte| [half(byte >> 4), half(byte & 15)]).collect(),
+    let mut digits = String::new();
+    for byte in bytes {
+        let _ = write!(digits, "{byte:02x}");
     }
+    if digits.is_empty() {
+        digits += "empty";
+    }
+    digits
 }
 
 fn written(bytes: impl AsRef<[u8]>) -> String {
@@ -151,15 +169,17 @@ fn line_words(found: Option<Line>) -> String {
 }
 
 /// The words of `nbt replay` for a datagram that is handed over.
-fn handed(it: Delivery<'_>) -> String {
-    format!("{} {} {} {} {}", it.key, it.kind, it.source, it.destination, digits_of(it.data))
+fn handed(key: Key, kind: datagram::Kind, [source, destination]: [Spelling<'_>; 2], data: &[u8]) -> String {
+    format!("{key} {kind} {source} {destination} {}", digits_of(data))
 }
 
 /// The words of `nbt replay` for what became of a payload.
 fn taken(outcome: Outcome<'_>) -> String {
     let error = |answer: Option<&[u8]>| answer.map_or(String::new(), |it| format!(" error {}", digits_of(it)));
     match outcome {
-        Outcome::Delivered(it) => format!("delivered {}", handed(it)),
+        Outcome::Delivered(it) => {
+            format!("delivered {}", handed(it.key, it.kind, [it.source, it.destination], it.data))
+        }
         Outcome::Kept(key) => format!("kept {key}"),
         Outcome::Spoilt(key) => format!("spoilt {key}"),
         Outcome::Unheard { key, answer } => format!("unheard {key}{}", error(answer)),
@@ -178,51 +198,44 @@ fn response(response: Response<'_>) -> Result<Vec<u8>> {
 
 // Payloads, in the words of tests/model/values.py.
 
-/// The packet, or its fault, by which both readers have to agree, and what stands of it or at its front.
-fn payload_lines(port: &str, payload: &[u8]) -> String {
-    let (line, fault, stands) = match port {
-        "137" => {
-            let (read, front) = (service::read(payload), service::read_front(payload));
-            (read.map(|_| "whole".into()), front.fault, read.ok().or(front.packet).map(standing))
-        }
-        "138" => {
-            let front = datagram::read_front(payload);
-            (datagram::read(payload).map(datagram_line), front.fault, front.header.map(datagram_front))
-        }
-        _ => {
-            let front = session::read_front(payload);
-            (session::Packet::try_from(payload).map(session_line), front.fault, front.header.map(session_front))
-        }
+/// The number of a status, and its place.
+fn refused(error: &nbt::Error) -> String {
+    let place = error.at().map_or("-".to_string(), |at| at.to_string());
+    format!("refused {} {place}", error.number())
+}
+
+/// The lines of a payload of port 137: its packet, and what stands of it.
+fn service_lines(payload: &[u8]) -> String {
+    let front = service::read_front(payload);
+    let mut said = match service::read(payload) {
+        Ok(_) => "whole".to_string(),
+        Err(error) => refused(&error),
     };
-    assert_eq!(line.as_ref().err(), fault.as_ref());
-    let stands = stands.map_or(String::new(), |it| format!(", {it}"));
-    line.unwrap_or_else(refused) + &stands
+    assert_eq!(front.fault, service::read(payload).err());
+    if let Some(packet) = service::read(payload).ok().or(front.packet) {
+        said += &standing(&packet);
+    }
+    said
 }
 
-/// The number of a status, and its place, or how many bytes are missing.
-fn refused(error: nbt::Error) -> String {
-    let place = error.at().map_or("-".into(), |at| at.to_string());
-    error.missing().map_or_else(|| format!("refused {} {place}", error.number()), |missing| format!("more {missing}"))
-}
-
-/// The lines of a packet of port 137, or of what stands of one.
-fn standing(packet: Packet<'_>) -> String {
+/// The lines of a packet, or of what stands of one.
+fn standing(packet: &Packet<'_>) -> String {
     let (header, [qd, an, ns, ar]) = (packet.header, packet.header.counts);
-    let mut lines =
-        vec![format!("header {:04x} {:04x} {qd} {an} {ns} {ar} used {}", header.identifier, header.word, packet.used)];
-    lines.extend(packet.questions().map(|it| format!("0 {} {:04x} {:04x}", marked(it.name), it.kind, it.class)));
+    let mut said =
+        format!(", header {:04x} {:04x} {qd} {an} {ns} {ar} used {}", header.identifier, header.word, packet.used);
+    for it in packet.questions() {
+        said += &format!(", 0 {} {:04x} {:04x}", marked(it.name), it.kind, it.class);
+    }
     let parts = [packet.answers(), packet.authorities(), packet.additional()];
-    assert_eq!(packet.records().len(), parts.iter().map(|it| it.len()).sum());
-    for (section, records) in (1..).zip(parts) {
-        for it in records {
-            let (name, kind, class, seconds) = (marked(it.name), it.kind(), it.class, it.time_to_live);
-            lines.push(format!("{section} {name} {kind:04x} {class:04x} {seconds} {}", rdata_words(&it.rdata())));
-            if it.name.is_netbios() {
-                is_read_again(header, &it);
-            }
+    let count: usize = parts.iter().map(|it| it.len()).sum();
+    assert_eq!(packet.records().len(), count);
+    for it in parts.into_iter().flatten() {
+        said += &record_line(&it);
+        if it.name.is_netbios() {
+            is_read_again(header, &it);
         }
     }
-    lines.join(", ")
+    said
 }
 
 /// A response that says what a record does, of its values.
@@ -247,6 +260,18 @@ fn is_read_again(header: service::Header, it: &Record<'_>) {
     assert_eq!(rdata_words(&again.rdata()), rdata_words(&it.rdata()));
 }
 
+/// The line of a record.
+fn record_line(it: &Record<'_>) -> String {
+    let section = match it.section {
+        Section::Answer => 1,
+        Section::Authority => 2,
+        Section::Additional => 3,
+    };
+    let said = rdata_words(&it.rdata());
+    let (name, kind, class, seconds) = (marked(it.name), it.kind(), it.class, it.time_to_live);
+    format!(", {section} {name} {kind:04x} {class:04x} {seconds} {said}")
+}
+
 /// A name, with what it is before one that is no NetBIOS name.
 fn marked(name: Name) -> String {
     let mark = if name.is_netbios() { "" } else { "labels:" };
@@ -255,49 +280,84 @@ fn marked(name: Name) -> String {
 
 /// What RDATA says.
 fn rdata_words(rdata: &Rdata<'_>) -> String {
-    let list_of = |parts: Vec<String>| format!("[{}]", parts.join(" "));
     match rdata {
-        Rdata::Addresses(found) => {
-            list_of(found.clone().map(|it| format!("{}/{:04x}", it.address, it.nb_flags)).collect())
+        Rdata::Addresses(addresses) => {
+            list_of(addresses.clone().map(|it| format!("{}/{:04x}", it.address, it.nb_flags)))
         }
         Rdata::NodeStatus(status) => {
             let unit = status.unit.map_or(String::new(), |it| format!("/{}", digits_of(&it)));
-            list_of(status.names.clone().map(|it| format!("{:04x}/{}", it.flags, it.name)).collect()) + &unit
+            list_of(status.names.clone().map(|it| format!("{:04x}/{}", it.flags, it.name))) + &unit
         }
         Rdata::NameServer(name) => name.to_string(),
         Rdata::Other(data) => digits_of(data),
     }
 }
 
+/// The parts of a view.
+fn list_of(parts: impl Iterator<Item = String>) -> String {
+    format!("[{}]", parts.collect::<Vec<_>>().join(" "))
+}
+
+/// The lines of a payload of port 138: its packet, and what stands at its front.
+fn datagram_lines(payload: &[u8]) -> String {
+    let front = datagram::read_front(payload);
+    assert_eq!(front.fault, datagram::read(payload).err());
+    let line = datagram_line(payload).unwrap_or_else(|error| refused(&error));
+    line + &front.header.map_or(String::new(), front_line)
+}
+
 /// The line of a header of port 138.
-fn datagram_front(it: Header<'_>) -> String {
+fn front_line(it: Header<'_>) -> String {
     let name = |name: Option<Spelling<'_>>| name.map_or("-".into(), |it| it.to_string());
-    let (kind, flags, source, destination) = (it.message_type, it.flags, name(it.source), name(it.destination));
-    format!("front {kind:02x} {flags:02x} {}/{:04x} {} {source} {destination}", it.sender, it.identifier, it.offset)
+    let (kind, flags, offset) = (it.message_type, it.flags, it.offset);
+    let (source, destination) = (name(it.source), name(it.destination));
+    let key = format!("{}/{:04x}", it.sender, it.identifier);
+    format!(", front {kind:02x} {flags:02x} {key} {offset} {source} {destination}")
 }
 
 /// The line of a packet of port 138.
-fn datagram_line(packet: datagram::Packet<'_>) -> String {
+fn datagram_line(payload: &[u8]) -> Result<String> {
+    let packet = datagram::read(payload)?;
+    let (flags, sender, number) = (packet.flags, packet.sender, packet.identifier);
     let (kind, said) = match packet.body {
         Body::Fragment(it) => {
-            let said = format!("{} {} {} {}", it.offset, it.source, it.destination, digits_of(it.data));
+            let (source, destination, data) = (it.source, it.destination, digits_of(it.data));
+            let said = format!("{} {source} {destination} {data}", it.offset);
             (it.kind as u8, said)
         }
         Body::Error(code) => (0x13, format!("0 - - {code:02x}")),
         Body::Query(query, name) => (query as u8, format!("0 - {name} empty")),
     };
-    let datagram::Packet { flags, sender, identifier, used, .. } = packet;
-    format!("{kind:02x} {flags:02x} {sender}/{identifier:04x} {said} used {used}")
+    let used = packet.used;
+    Ok(format!("{kind:02x} {flags:02x} {sender}/{number:04x} {said} used {used}"))
 }
 
-/// The line of a header of port 139.
-fn session_front(it: session::Header) -> String {
-    format!("front {:02x} {:02x} {}", it.packet_type, it.flags, it.body_length)
+/// The lines of a payload of port 139: its packet, and the header at its front.
+fn session_lines(payload: &[u8]) -> String {
+    let front = session::read_front(payload);
+    assert_eq!(front.fault, session::Packet::try_from(payload).err());
+    let line = session_line(payload).unwrap_or_else(|error| refused(&error));
+    match front.header {
+        Some(it) => {
+            let (kind, flags, length) = (it.packet_type, it.flags, it.body_length);
+            format!("{line}, front {kind:02x} {flags:02x} {length}")
+        }
+        None => line,
+    }
 }
 
 /// The line of a packet of port 139.
-fn session_line(packet: session::Packet<'_>) -> String {
-    let names = packet.names().map_or(String::new(), |(called, calling)| format!(" called {called} calling {calling}"));
-    let other = packet.retarget().map_or(String::new(), |it| format!(" retarget {it}"));
-    format!("{:02x} {}{names}{other} used {}", packet.kind() as u8, digits_of(packet.body()), packet.used())
+fn session_line(payload: &[u8]) -> Result<String> {
+    let packet = match session::read(payload)? {
+        Next::More(missing) => return Ok(format!("more {missing}")),
+        Next::Packet(packet) => packet,
+    };
+    let mut said = format!("{:02x} {}", packet.kind() as u8, digits_of(packet.body()));
+    if let Some((called, calling)) = packet.names() {
+        said += &format!(" called {called} calling {calling}");
+    }
+    if let Some(other) = packet.retarget() {
+        said += &format!(" retarget {other}");
+    }
+    Ok(format!("{said} used {}", packet.used()))
 }

@@ -13,7 +13,7 @@ enum { PAINT = 0x5a, STACK = 1 << 20, PAGE = 4096 };
 
 static uint8_t *stack;
 static ucontext_t caller;
-static const struct sample *row;
+static struct sample row;
 static size_t used;
 static uint32_t status;
 
@@ -21,7 +21,7 @@ static void start(void) {
     static uint8_t text[1 << 24], filled[MOST_FILLED];
     size_t at;
     used = 0;
-    status = rows[row->of].call(&row->asked, filled, text, sizeof text, &used, &at);
+    status = rows[row.of].call(&row.asked, filled, text, sizeof text, &used, &at);
 }
 
 static uint8_t *new_stack(void) {
@@ -58,24 +58,22 @@ static const struct {
 
 static size_t greater(size_t first, size_t second) { return first > second ? first : second; }
 
-static size_t stacks[CALLS], lengths[CALLS];
-
-void measure_row(struct sample *measured) {
-    enum call of = measured->of;
-    row = measured;
-    if (stack == NULL)
-        stack = new_stack();
-    stacks[of] = greater(stacks[of], depth());
-    expect(stacks[of] <= NBT_STACK, "a call wants no more of the stack");
-    if (status != NBT_DONE || texts[of].least + texts[of].each == 0)
-        return;
-    lengths[of] = greater(lengths[of], used);
-    expect(used <= texts[of].least + texts[of].each * row->asked.in[0].length, "a text is no longer");
-}
-
-void print_measured(void) {
-    size_t of;
+int measure_rows(const char *text) {
+    static size_t stacks[CALLS], lengths[CALLS];
+    size_t mark = kept_mark(), of;
+    stack = new_stack();
+    for (; next_row(&text, &row); release(mark)) {
+        of = row.of;
+        stacks[of] = greater(stacks[of], depth());
+        expect(stacks[of] <= NBT_STACK, "a call wants no more of the stack");
+        if (status != NBT_DONE || texts[of].least + texts[of].each == 0)
+            continue;
+        lengths[of] = greater(lengths[of], used);
+        expect(used <= texts[of].least + texts[of].each * row.asked.in[0].length, "a text is no longer");
+    }
+    free_stations();
     for (of = 0; of < CALLS; of++)
         if (stacks[of] > 0)
             printf("%s: %zu of the stack, %zu of text\n", rows[of].name, stacks[of], lengths[of]);
+    return 0;
 }

@@ -29,7 +29,7 @@ static uint32_t sum_of(struct bytes it) {
 static void print_number(size_t number) { printf(number == UNSAID ? " -" : " %zu", number); }
 
 /* A call without room, with a byte less than it wants, and with three more. */
-static void answer(struct sample *row) {
+static void answer(const struct sample *row) {
     struct answer it = attempt(row->of, &row->asked, 0, 0, SIZE_MAX);
     if (it.status == NBT_NO_ROOM) {
         size_t wanted = it.used;
@@ -41,6 +41,16 @@ static void answer(struct sample *row) {
     print_number(it.used);
     print_number(it.at);
     printf(" %08x %08x\n", (unsigned)sum_of(it.bytes), (unsigned)sum_of(fields_of(row->of, &it)));
+}
+
+int answer_rows(const char *text) {
+    struct sample row;
+    size_t mark;
+    for (mark = kept_mark(); next_row(&text, &row); release(mark))
+        answer(&row);
+    free_stations();
+    fprintf(stderr, "%lu calls\n", call_count);
+    return 0;
 }
 
 /* ---- what rows say */
@@ -86,28 +96,31 @@ static void wide(void) {
            "a port with more bits");
 }
 
+/* Judges rows; each is tried with few requests granted, or with ever more of them until it is done. */
+static int judge_all(const char *text, size_t rooms, int is_each_refused) {
+    struct sample row;
+    size_t mark, count = 0;
+    wide();
+    for (mark = kept_mark(); next_row(&text, &row); release(mark)) {
+        trials = (struct trials){.rooms = rooms, .least = count % 7, .most = count % 7 + 2};
+        if (is_each_refused)
+            trials = (struct trials){.rooms = rooms, .most = SIZE_MAX};
+        count++;
+        judge_answer(&row, answered(row.of, &row.asked));
+    }
+    free_stations();
+    expect(memory.blocks == 0, "what is kept is given back");
+    fprintf(stderr, "%zu rows, %lu calls, %lu refusals\n", count, call_count, refusal_count);
+    return 0;
+}
+
+int judge_rows(const char *text, size_t rooms) { return judge_all(text, rooms, 0); }
+
+int refuse_rows(const char *text) { return judge_all(text, 0, 1); }
+
 /* ---- the ways */
 
 #ifndef FUZZER
-static size_t row_count;
-
-/* A row, tried with few requests granted, or with ever more of them until it is done. */
-static void judge(struct sample *row) {
-    trials.least = row_count % 7;
-    trials.most = row_count % 7 + 2;
-    judge_answer(row, answered(row->of, &row->asked));
-}
-
-static void refuse(struct sample *row) {
-    trials.most = SIZE_MAX;
-    judge_answer(row, answered(row->of, &row->asked));
-}
-
-static const struct {
-    const char *name;
-    void (*row)(struct sample *), (*end)(void);
-} ways[] = {{"answers", answer, NULL}, {"judged", judge, NULL}, {"refused", refuse, NULL}, {"varied", vary_row, vary_all}, {"measured", measure_row, print_measured}};
-
 /* All bytes of standard input, and a zero byte, in memory that isn't counted. */
 static char *whole(void) {
     size_t space = 1 << 20, count = 0, more, blocks = memory.blocks;
@@ -125,25 +138,20 @@ static char *whole(void) {
 }
 
 int main(int words, char **word) {
-    const char *text = whole();
-    struct sample row;
-    size_t way = 0, mark = kept_mark();
-    program = words > 1 ? word[1] : "";
-    trials.rooms = words > 2 ? strtoul(word[2], NULL, 10) : 0;
-    if (strcmp(program, "inputs") == 0)
-        return run_inputs(text);
-    while (way < COUNT(ways) && strcmp(ways[way].name, program) != 0)
-        way++;
-    if (way == COUNT(ways))
-        return 2;
-    wide();
-    for (; next_row(&text, &row); release(mark), row_count++)
-        ways[way].row(&row);
-    if (ways[way].end != NULL)
-        ways[way].end();
-    free_stations();
-    expect(memory.blocks == 0, "what is kept is given back");
-    fprintf(stderr, "%zu rows, %lu calls, %lu refusals\n", row_count, call_count, refusal_count);
-    return 0;
+    static const char *text;
+    const char *way = words > 1 ? word[1] : "";
+    text = whole();
+    program = way;
+    if (strcmp(way, "answers") == 0)
+        return answer_rows(text);
+    if (strcmp(way, "judged") == 0)
+        return judge_rows(text, words > 2 ? strtoul(word[2], NULL, 10) : 0);
+    if (strcmp(way, "refused") == 0)
+        return refuse_rows(text);
+    if (strcmp(way, "varied") == 0)
+        return vary_rows(text);
+    if (strcmp(way, "measured") == 0)
+        return measure_rows(text);
+    return strcmp(way, "inputs") == 0 ? run_inputs(text) : 2;
 }
 #endif

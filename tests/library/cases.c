@@ -13,6 +13,9 @@ static struct named {
 } names[MOST_NAMES], stations[MOST_STATIONS];
 static size_t name_count, station_count;
 
+/* The names, and what is kept, that stand before the first `line`. */
+static size_t first_names, first_kept;
+
 /* The length of a name, or of a number, at the front of a text. */
 static size_t word_length(const char *text) { return strcspn(text, " \n"); }
 
@@ -42,6 +45,8 @@ static void name_bytes(const char *text) {
     made->bytes = bytes_at(&text);
     hold(kept_mark());
 }
+
+struct bytes bytes_named(const char *name) { return bytes_at(&name); }
 
 /* The station of a name. One that is made stands in the place of one that was. */
 static struct nbt_station *station_at(const char **text, int is_made) {
@@ -111,9 +116,12 @@ int next_row(const char **text, struct sample *made) {
         if (strncmp(at, "let ", 4) == 0) {
             name_bytes(at + 4);
         } else if (strncmp(at, "line\n", 5) == 0) {
-            line_number++;
-            name_count = 0;
-            hold(0);
+            if (line_number++ == 0) {
+                first_names = name_count;
+                first_kept = kept_mark();
+            }
+            name_count = first_names;
+            hold(first_kept);
             release(0);
         } else if (*at != '#' && *at != '\n') {
             doing = at;

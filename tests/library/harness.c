@@ -147,8 +147,10 @@ static struct asked placed(enum call of, const struct asked *asked, int side) {
         const struct bytes *it = &asked->in[i];
         if (i > 0 && it->at == asked->in[i - 1].at && it->length == asked->in[i - 1].length)
             made.in[i] = made.in[i - 1];
+        else if (it->length > 0 || side == 1)
+            made.in[i].at = has_input(of, i) ? area_at(i, it->length, side, 0) : NULL;
         else
-            made.in[i].at = has_input(of, i) && (it->length > 0 || side == 1) ? area_at(i, it->length, side, 0) : NULL;
+            made.in[i].at = NULL;
         if (it->length > 0)
             memcpy((uint8_t *)made.in[i].at, it->at, it->length);
     }

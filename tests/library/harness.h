@@ -2,19 +2,9 @@
 #ifndef HARNESS_H
 #define HARNESS_H
 
+#include "memory.h"
 #include <nbt.h>
-#include <stddef.h>
-#include <stdint.h>
 #include <string.h>
-
-/* The requests for memory of a program that is linked with memory.c, --wrap=malloc, --wrap=realloc and --wrap=free. */
-extern struct memory {
-    size_t denied; /* how many were refused since the last grant */
-    size_t blocks; /* how many blocks there are */
-} memory;
-
-/* How many requests are granted from now on, SIZE_MAX for all; then one is refused, and where `for_ever` says so all after it. */
-void grant(size_t requests, int for_ever);
 
 /* ENTRIES is how many structures a call may fill in that fills in several. */
 enum { INPUTS = 3, NUMBERS = 6, ENTRIES = 3, MOST_FILLED = ENTRIES * 600 };
@@ -78,9 +68,10 @@ struct sample {
     struct bytes answer;
 };
 
-/* Passes over lines up to a row, which is read, and answers whether there is one. Names hold until the next `line`. What is kept
- * for a row may be released once it is done. */
+/* Passes over lines up to a row, which is read, and answers whether there is one. Names hold until the next `line`, those before the
+ * first one for ever. What is kept for a row may be released once it is done. */
 int next_row(const char **text, struct sample *made);
+struct bytes bytes_named(const char *name);
 void free_stations(void);
 
 /* Whether a call answered what its row says; ends the program where it didn't. */
@@ -128,9 +119,12 @@ uint8_t *area_at(int area, size_t length, int side, int fill);
 /* The statuses that calls answered, a line each. */
 void print_statuses(void);
 
-/* What ways of calls.c do with a row, and once all are done; and with lines that are no rows. */
-void vary_row(struct sample *row), measure_row(struct sample *row);
-void vary_all(void), print_measured(void);
+/* What each way of calls.c does with rows; its status. */
+int answer_rows(const char *text);
+int judge_rows(const char *text, size_t rooms);
+int refuse_rows(const char *text);
+int vary_rows(const char *text);
+int measure_rows(const char *text);
 int run_inputs(const char *text);
 
 #endif

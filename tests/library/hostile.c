@@ -102,10 +102,8 @@ static void changed(const struct sample *it, int input) {
 /* A station that is moved, and one that is given back: none stands where it was, until another one does. */
 static void moved(void) {
     struct nbt_station station, other;
-    struct bytes piece = CALL(datagram_write, .in = {BYTES("JOE<00>"), BYTES("FRED<20>"), BYTES("hello")}, .n = {0x11, 10, 1, 138, 512}).bytes;
     CALL(station_create, .station = &station, .in = {BYTES("FRED<20>")}, .n = {0, 0, 1, 1});
-    piece = (struct bytes){piece.at + 2, piece.length - 2};
-    expect(CALL(station_take, .station = &station, .in = {piece}).bytes.length > 0, "a datagram that is handed over");
+    expect(CALL(station_take, .station = &station, .in = {bytes_named("HELLO")}).status == NBT_DONE, "a datagram that is handed over");
     other = station;
     station.at = NULL;
     expect(CALL(station_save, .station = &station).status == NBT_NO_STATION, "no station where one was");
@@ -116,7 +114,7 @@ static void moved(void) {
 
 /* Room for no question and no record is enough, if nothing is to be filled in. */
 static void no_entries(void) {
-    const struct bytes it = BYTES("\0\1\0\0\0\1\0\0\0\0\0\0" "\0" "\0\x20\0\1");
+    struct bytes it = bytes_named("REGISTRATION");
     size_t count = UNSAID, at = UNSAID;
     expect(nbt_service_items(it.at, it.length, 0, 12, NULL, 0, &count, &at) == NBT_DONE && count == 0 && at == UNSAID, "room for no entry");
 }
@@ -130,27 +128,25 @@ static void varied(const struct sample *it) {
             changed(it, input);
 }
 
-static struct sample samples[MOST_SAMPLES];
-static int is_varied[MOST_SAMPLES];
-static size_t sample_count;
-
-/* What its row says. Few rows of a call with one status are varied, which would take long of all. */
-void vary_row(struct sample *row) {
+int vary_rows(const char *text) {
+    static struct sample samples[MOST_SAMPLES];
     static size_t alike[CALLS][256];
-    expect(sample_count < MOST_SAMPLES, "room for rows");
-    trials.most = 3;
-    samples[sample_count] = *row;
-    is_varied[sample_count] = alike[row->of][sampled(&samples[sample_count])]++ < MOST_ALIKE;
-    sample_count++;
-    hold(kept_mark());
-}
-
-void vary_all(void) {
-    size_t i;
+    static int is_varied[MOST_SAMPLES];
+    size_t sample_count = 0, i;
+    while (next_row(&text, &samples[sample_count]))
+        expect(++sample_count < MOST_SAMPLES, "room for rows");
+    trials = (struct trials){.most = 3};
+    /* Few rows of a call with one status are varied, which would take long of all. */
+    for (i = 0; i < sample_count; i++)
+        is_varied[i] = alike[samples[i].of][sampled(&samples[i])]++ < MOST_ALIKE;
     for (i = 0; i < sample_count; i++)
         if (is_varied[i])
             varied(&samples[i]);
+    free_stations();
     moved();
     no_entries();
+    expect(memory.blocks == 0, "all stations give back what they took");
     print_statuses();
+    fprintf(stderr, "%lu calls\n", call_count);
+    return 0;
 }

@@ -4,28 +4,33 @@ dist=$room/dist
 fresh=$room/fresh
 
 # packed FOLDER: make dist, into this folder.
-packed() { does "tools/dist $1" "$top/tools/dist" "$out" "$out/lib" "$program" "$1" "$here/counts.txt"; }
+packed() { "$top/tools/dist" "$out" "$out/lib" "$program" "$1" "$here/counts.txt" >"$room/log" 2>&1; }
 
 # The same bytes twice, the second time over those of an older version; PROOF has each source, and no other file.
 made() {
     local each
     packed "$dist"
+    count $? "tools/dist: $(tail -n 1 "$room/log")"
     mkdir "$room/dist2" && touch "$room/dist2/nbt_0.0.9_amd64.deb"
-    packed "$room/dist2"
-    does 'the same bytes once more' diff -r "$dist" "$room/dist2"
-    does SHA256SUMS env -C "$dist" sha256sum --quiet -c SHA256SUMS
-    cut -c 67- "$dist/SHA256SUMS" | sort | same "$(cd "$dist" && find . -type f ! -name SHA256SUMS -printf '%P\n' | sort)" 'SHA256SUMS has each file'
-    grep -E '^[0-9a-f]{64}  crates/' "$dist/PROOF" | does 'the sources of PROOF' env -C "$top" sha256sum --quiet -c
+    packed "$room/dist2" && diff -r "$dist" "$room/dist2" >"$room/log"
+    count $? "the same bytes once more: $(head -c 300 "$room/log")"
+    (cd "$dist" && sha256sum --quiet -c SHA256SUMS && [ "$(wc -l <SHA256SUMS)" -eq $(($(ls | wc -l) - 1)) ]) >"$room/log" 2>&1
+    count $? "SHA256SUMS: $(head -n 1 "$room/log")"
+    (cd "$top" && grep -E '^[0-9a-f]{64}  crates/' "$dist/PROOF" | sha256sum --quiet -c) >"$room/log" 2>&1
+    count $? "the sources of PROOF: $(head -n 1 "$room/log")"
     sed -nE 's/^[0-9a-f]{64}  (crates\/.*\.(rt|antt))$/\1/p' "$dist/PROOF" | sort \
         | same "$(git -C "$top" ls-files 'crates/*.rt' 'crates/*.antt' | sort)" 'PROOF has each source'
     grep -q '^The kit: rattle-kit' "$dist/PROOF" && grep -q '^The library: logic=proved ' "$dist/PROOF" \
         && grep -qxF "$(tail -n 1 "$here/counts.txt")" "$dist/PROOF"
     count $? "PROOF has the kit's line, that of the library, and the gate's last ones: $(head -n 4 "$dist/PROOF")"
-    grep -E '  nbt.bc$' "$dist/PROOF" | does 'the module of PROOF' env -C "$out" sha256sum --quiet -c
+    (cd "$out" && grep -E '  nbt.bc$' "$dist/PROOF" | sha256sum --quiet -c) >"$room/log" 2>&1
+    count $? "the module of PROOF: $(head -n 1 "$room/log")"
     {
         for each in "$dist"/*.deb; do dpkg-deb --ctrl-tarfile "$each" | tar -t; done | grep -E '(pre|post)(inst|rm)'
         grep scripts "$top/bindings/javascript/package.json"
-    } | wc -l | same 0 'no package runs anything when it is installed'
+    } >"$room/log"
+    [ ! -s "$room/log" ]
+    count $? "no package runs anything when it is installed: $(head -n 1 "$room/log")"
     says 'make dist, to a file' "can't be written to" "$top/tools/dist" "$out" "$out/lib" "$program" "$here/counts.txt/dist"
     says 'make dist of nothing' 'run make build targets first' "$top/tools/dist" "$room/nowhere" "$out/lib" "$program" "$room/dist3"
     says "make dist, where the gate's lines aren't" 'run make test >' "$top/tools/dist" "$out" "$out/lib" "$program" "$room/dist3" "$room/gate.log"
@@ -58,21 +63,25 @@ fresh_root() {
 # The packages, in the fresh root.
 installed() {
     mkdir "$fresh/packages" && cp "$dist"/*.deb "$fresh/packages" && cp /etc/resolv.conf "$fresh/etc"
-    apt_get 'apt-get install ./nbt_..deb' './nbt_*_amd64.deb'
-    apt_get 'apt-get install of the library for amd64' './libnbt0_*_amd64.deb ./libnbt-dev_*_amd64.deb ./python3-nbt_*_all.deb'
-    apt_get 'apt-get install of the library for arm64, beside it' './libnbt0_*_arm64.deb ./libnbt-dev_*_arm64.deb'
+    in_root apt-get install -qq -y --no-install-recommends ./nbt_*_amd64.deb
+    count $? "apt-get install ./nbt_..deb: $(tail -n 1 "$room/log")"
+    in_root apt-get install -qq -y --no-install-recommends ./libnbt0_*_amd64.deb ./libnbt-dev_*_amd64.deb ./python3-nbt_*_all.deb
+    count $? "apt-get install of the library for amd64: $(tail -n 1 "$room/log")"
+    in_root apt-get install -qq -y --no-install-recommends ./libnbt0_*_arm64.deb ./libnbt-dev_*_arm64.deb
+    count $? "apt-get install of the library for arm64, beside it: $(tail -n 1 "$room/log")"
 }
 
-# apt_get NAME PACKAGES: these packages are installed in the fresh root, from its folder packages.
-apt_get() {
-    does "$1" "$timeout" -k 5 300 env DEBIAN_FRONTEND=noninteractive LC_ALL=C PATH=/usr/sbin:/usr/bin:/sbin:/bin \
-        chroot "$fresh" sh -c "cd /packages && apt-get install -qq -y --no-install-recommends $2"
+# in_root COMMAND..: a command in the fresh root, in its folder packages.
+in_root() {
+    "$timeout" -k 5 300 env DEBIAN_FRONTEND=noninteractive LC_ALL=C PATH=/usr/sbin:/usr/bin:/sbin:/bin \
+        chroot "$fresh" sh -c "cd /packages && $*" >"$room/log" 2>&1
 }
 
 # in_c COMPILER PROGRAM OPTION..: the first program of docs/CALLING.md, compiled so. c_says COMMAND..: what it prints, by this command.
 in_c() {
     block c "$top/docs/CALLING.md" >"$room/first.c"
-    does "the program of docs/CALLING.md by $1" "$1" -std=c11 -Wall -Wextra -Werror -o "$2" "$room/first.c" "${@:3}"
+    "$1" -std=c11 -Wall -Wextra -Werror -o "$2" "$room/first.c" "${@:3}" >"$room/log" 2>&1
+    count $? "the program of docs/CALLING.md by $1: $(head -n 1 "$room/log")"
 }
 c_says() { ended "${@:2}" 2>&1 | same "$(block text "$top/docs/CALLING.md")" "$1"; }
 
@@ -109,16 +118,17 @@ debian() {
 # A wheel in an environment of its own, and the other machine's by pip's word for that machine.
 wheels() {
     local page each glibc alone=(env -u PYTHONPATH -u NBT_LIBRARY -u LD_LIBRARY_PATH)
-    ended python3 -m venv "$room/venv"
-    does 'pip install of the wheel' ended "$room/venv/bin/pip" install -q --no-index "$dist"/*x86_64.whl
+    ended python3 -m venv "$room/venv" >"$room/log" 2>&1 \
+        && ended "$room/venv/bin/pip" install -q --no-index "$dist"/*x86_64.whl >"$room/log" 2>&1
+    count $? "pip install of the wheel: $(tail -n 1 "$room/log")"
     page=$(echo "$room"/venv/lib/python3*/site-packages/nbt-*.dist-info/METADATA)
     block python "$page" >"$room/first.py"
     (cd "$room" && ended "${alone[@]}" "$room/venv/bin/python" first.py) 2>&1 | same "$(block text "$page")" 'the wheel'
-    does 'pip uninstall' ended "$room/venv/bin/pip" uninstall -q -y nbt
-    [ ! -e "${page%/*}" ] && [ ! -e "${page%/*/*}/nbt" ]
-    count $? 'pip uninstall leaves nothing'
-    does 'pip install of the wheel for aarch64' ended "$room/venv/bin/pip" install -q --no-index --only-binary :all: \
-        --platform manylinux_2_17_aarch64 --target "$room/wheel" "$dist"/*aarch64.whl
+    ended "$room/venv/bin/pip" uninstall -q -y nbt >"$room/log" 2>&1 && [ ! -e "${page%/*}" ] && [ ! -e "${page%/*/*}/nbt" ]
+    count $? "pip uninstall: $(tail -n 1 "$room/log")"
+    ended "$room/venv/bin/pip" install -q --no-index --only-binary :all: --platform manylinux_2_17_aarch64 --target "$room/wheel" \
+        "$dist"/*aarch64.whl >"$room/log" 2>&1
+    count $? "pip install of the wheel for aarch64: $(tail -n 1 "$room/log")"
     in_c aarch64-linux-gnu-gcc "$room/first.arm" "-I$top/include" "$room/wheel/nbt/libnbt.so.0"
     c_says 'the library in it' "${qemu[@]}" -E LD_LIBRARY_PATH="$room/wheel/nbt" "$room/first.arm"
     for each in x86_64 aarch64; do
@@ -133,10 +143,11 @@ wheels() {
 node_package() {
     mkdir -p "$room/packed/node_modules"
     if command -v npm >/dev/null; then
-        does 'npm install' env -C "$room/packed" "$timeout" 120 npm install --offline --no-audit --no-fund --silent "$dist"/nbt-*.tgz
+        (cd "$room/packed" && ended npm install --offline --no-audit --no-fund --silent "$dist"/nbt-*.tgz)
     else
-        does 'the package for JavaScript, as npm puts it' tar -xzf "$dist"/nbt-*.tgz -C "$room/packed/node_modules" --transform 's,^package,nbt,'
-    fi
+        tar -xzf "$dist"/nbt-*.tgz -C "$room/packed/node_modules" && mv "$room/packed/node_modules/package" "$room/packed/node_modules/nbt"
+    fi >"$room/log" 2>&1
+    count $? "npm install: $(tail -n 1 "$room/log")"
     block js "$room/packed/node_modules/nbt/README.md" >"$room/packed/first.mjs"
     ended "${node[@]}" "$room/packed/first.mjs" 2>&1 | same "$(block text "$room/packed/node_modules/nbt/README.md")" 'the package for JavaScript'
 }

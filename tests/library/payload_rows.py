@@ -2,9 +2,9 @@
 """What the calls of the library should answer, by tests/model: rows in the form of rows.py, for calls.c and calls.mjs.
 
 Usage: payload_rows.py [cases] [limits] <LINES, each a port and the digits of a payload, or `empty`; `table` stands for the port of a saved
-table. With `cases` the rows of cases.txt come first, those of its payloads too, with `limits` stations at the limits of their names and keys.
-A payload has a `line`, and then rows of what it says, and a row for each call that needs no station with the payload for an input, beside
-what some row of cases.txt gives it; every 48 have the rows of stations that took them.
+table. The names of cases.txt come first. With `cases` its rows follow, those of its payloads too, with `limits` stations at the limits of
+their names and keys. A payload has a `line`, and then rows of what it says, and a row for each call that needs no station with the payload
+for an input, beside what some row of cases.txt gives it; every 48 have the rows of stations that took them.
 """
 import json
 import sys
@@ -251,6 +251,8 @@ def payload_rows(lines, given):
 def main():
     names, cases, payloads = read_cases()
     given = given_of(cases)
+    for name, data in names.items():
+        print('let', name, '=', digits(data))
     for rows in ([case_rows(cases, payloads, given)] * ('cases' in sys.argv) + [limit_rows(names)] * ('limits' in sys.argv)
                  + [payload_rows(sys.stdin, given)]):
         print(*rows, sep='\n')

@@ -14,19 +14,6 @@ same() {
     count $? "$2: $(head -c 300 "$room/difference")"
 }
 
-# does NAME COMMAND..: a command that ends well; what it says is in $room/log.
-does() {
-    "${@:2}" >"$room/log" 2>&1
-    count $? "$1: $(sed -n '1p; 2,$ { $p }' "$room/log" | head -c 500)"
-}
-
-# alike NAME WANTED COMMAND..: what a command prints is what a file has, and it ends well.
-alike() {
-    ended "${@:3}" >"$room/output" 2>"$room/errors"
-    count $? "$1: $(tail -n 1 "$room/errors")"
-    does "$1 answers the same" diff "$2" "$room/output"
-}
-
 calls() { grep -oE '\bnbt_[a-z_]+\(' "$top/include/nbt.h" | tr -d '(' | sort -u; }
 
 # wanted FILE: what an example prints, which its last comment says.
@@ -53,7 +40,8 @@ well_made() {
 example() {
     local name
     name="$(basename "$1"), $2"
-    does "$name" "$3" "${strict[@]}" -o "$room/example" "${@:4}"
+    "$3" "${strict[@]}" -o "$room/example" "${@:4}" >"$room/log" 2>&1
+    count $? "$name: $(head -n 1 "$room/log")"
     ended "${run[@]}" "$room/example" 2>"$room/errors" | sed 's/ *$//' | same "$(wanted "$1")" "$name"
     [ ! -s "$room/errors" ]
     count $? "$name: $(head -n 1 "$room/errors")"
@@ -62,7 +50,8 @@ example() {
 # compiled NAME COMPILER ARCHIVE OPTION..: tests/library/calls.c, compiled so, as $room/NAME.
 compiled() {
     "$here/library/payload_rows.py" cases </dev/null >"$room/cases"
-    does "tests/library/calls.c, $1" "$2" "${strict[@]}" -o "$room/$1" "${rows[@]}" "${@:4}" "$3"
+    "$2" "${strict[@]}" -o "$room/$1" "${rows[@]}" "${@:4}" "$3" >"$room/log" 2>&1
+    count $? "tests/library/calls.c, $1: $(head -n 1 "$room/log")"
 }
 
 # rows_of SEED COUNT: the rows of what the calls should answer of payloads, those of cases.txt and of limits before, and what of them the
@@ -113,7 +102,9 @@ said() {
 
 # answers NAME FILE COMMAND..: a caller of the library answers what stands behind the tabs of a file, each line of which is a case.
 answers() {
-    cut -f 2 "$2" >"$room/answers"
-    cut -f 1 "$2" | alike "$1" "$room/answers" "${@:3}"
-    [ -s "$room/log" ] || passed=$((passed + $(wc -l <"$2")))
+    cut -f 1 "$2" | "${@:3}" >"$room/output" 2>"$room/errors"
+    count $? "$1: $(tail -n 1 "$room/errors")"
+    cut -f 2 "$2" | diff - "$room/output" >"$room/difference"
+    count $? "$1 answers what rows say: $(head -c 300 "$room/difference")"
+    [ -s "$room/difference" ] || passed=$((passed + $(wc -l <"$2")))
 }

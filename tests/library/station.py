@@ -1,5 +1,5 @@
 #!/usr/bin/env python3
-"""tools/nbt-station on sockets of the loopback interface, beside the model.  Usage: tests/library/station.py TOOL [CASE]..
+"""tools/nbt-station on sockets of the loopback interface, beside the program.  Usage: tests/library/station.py TOOL PROGRAM [CASE]..
 
 Runs each case, or each of these; the last line is 'N passed, M failed, K skipped'.
 """
@@ -19,8 +19,8 @@ import station_system
 from fuzz_inputs import Maker, capture_lines, example_bytes
 from limits import MOST_KEYS
 from parts import check, finish, leave_out
-from station_runs import (ANN, EMPTY, ENDING, GROUP, OWN, PATIENCE, UNIQUE, TooSlow, expect, listed, packet, refused, replayed, result_of,
-                          station, table_of, written)
+from station_runs import (ANN, EMPTY, ENDING, GROUP, OWN, PATIENCE, UNIQUE, TooSlow, expect, nbt, packet, refused, replayed, result_of,
+                          station, whole_tables)
 from wire import FRED, JOE, SERVER, pieces
 
 # How many payloads wait in the socket of a station that stands still.
@@ -35,51 +35,64 @@ def any_order_and_repeats():
     others = [*payloads, *rng.choices(payloads, k=40)]
     rng.shuffle(others)
     with station('--save', 'table') as one, station('--save', 'table') as other:
-        for each, sent in (one, payloads), (other, others):
-            each.reached(*sent)
-            each.signals()
-        expect(one.saved(13), other.saved(13))
+        one.send(*payloads)
+        other.send(*others)
+        for each in one, other:
+            each.reached()
+            each.process.send_signal(signal.SIGUSR1)
+        tables = [whole_tables(each.saved(), 13) for each in (one, other)]
+        expect('equal\n', nbt('agree', text=''.join(tables)))
         expect(sorted(replayed(payloads, 'FRED<20>')), sorted(one.lines(11)))
         expect(sorted(one.lines(11)), sorted(other.lines(11)))
         expect(11, len(one.lines(11)))
 
 
-def read_at_its_end():
-    """What waits in the socket when a signal ends the station is taken, its senders are answered, and its table is saved."""
+def saved_at_its_end():
     for number in ENDING:
         with station('--save', 'table', '--pid', 'pid') as each:
-            each.signals(signal.SIGSTOP)
+            each.send(*pieces(1, b'hello')[:1])
+            each.reached()
+            expect((0, ''), each.ended(number))
+            lines = nbt('list', text=whole_tables(each.saved(), 2)).splitlines()
+            expect('10.0.0.5:138/0001 whole group JOE<00> FRED<20> 68656c6c6f', lines[0])
+            expect(['out', 'table'], sorted(os.listdir(each.folder)))
+
+
+def read_at_its_end():
+    """What waits in the socket when a signal ends the station is taken, and its senders are answered."""
+    for number in ENDING:
+        with station('--save', 'table') as each:
+            each.process.send_signal(signal.SIGSTOP)
             each.send(*(packet(GROUP, identifier, FRED, b'hi') for identifier in range(WAITING)), packet(UNIQUE, WAITING, ANN, b''))
-            each.signals(number)
-            each.signals(signal.SIGCONT)
+            each.process.send_signal(number)
+            each.process.send_signal(signal.SIGCONT)
             expect((0, ''), (each.process.wait(PATIENCE), each.process.stderr.read().decode()))
             expect(WAITING, len(each.lines(WAITING)))
             expect(WAITING, int.from_bytes(each.answer()[2:4], 'big'))
-            lines = listed(each.saved())
-            expect((WAITING + 1, '10.0.0.5:138/0000 whole group JOE<00> FRED<20> 6869'), (len(lines), lines[0]))
-            expect(['out', 'table'], each.files())
+            expect(WAITING + 1, len(nbt('list', text=each.saved()).splitlines()))
 
 
 def saved_again():
     """What was saved before is replaced, and the station goes on."""
     with station('--save', 'table') as each:
-        each.signals()
+        each.process.send_signal(signal.SIGUSR1)
         expect(EMPTY, each.saved())
         os.unlink(os.path.join(each.folder, 'table'))
-        each.reached(*pieces(1, b'hello'))
-        each.signals()
-        each.saved(2)
+        each.send(*pieces(1, b'hello'))
+        each.reached()
+        each.process.send_signal(signal.SIGUSR1)
+        whole_tables(each.saved(), 2)
         expect(1, len(each.lines(1)))
 
 
-def ignored_signals():
-    """A station that nohup starts goes on at SIGHUP; without --save nothing is saved, and SIGUSR1 does nothing."""
-    with station(preexec_fn=lambda: signal.signal(signal.SIGHUP, signal.SIG_IGN)) as each:
-        each.signals(signal.SIGHUP)
-        each.signals()
-        each.reached(*pieces(1, b'hello'))
+def no_file():
+    """Without --save nothing is saved, and SIGUSR1 does nothing."""
+    with station() as each:
+        each.process.send_signal(signal.SIGUSR1)
+        each.send(*pieces(1, b'hello'))
+        each.reached()
         expect((0, ''), each.ended())
-        expect(['out'], each.files())
+        expect(['out'], os.listdir(each.folder))
         expect(['delivered 10.0.0.5:138/0001 group JOE<00> FRED<20> 68656c6c6f'], each.lines(1))
 
 
@@ -87,7 +100,7 @@ def dropped_by_the_clock():
     with station('--save', 'table') as each:
         each.send(*pieces(1, b'hello, FRED')[:1])
         time.sleep(3.3)
-        each.signals()
+        each.process.send_signal(signal.SIGUSR1)
         expect(EMPTY, each.saved())
 
 
@@ -108,17 +121,18 @@ def error_packets():
 
 
 def json_lines():
-    payloads, names = [packet(UNIQUE, 1, ANN, b''), packet(GROUP, 0xabcd, FRED, b'hi')], ('FRED<20>', 'ANN<20>')
-    with station('--json', names=names) as each:
-        each.reached(*payloads)
+    with station('--json', names=('FRED<20>', 'ANN<20>')) as each:
+        each.send(packet(UNIQUE, 1, ANN, b''), packet(GROUP, 0xabcd, FRED, b'hi'))
+        each.reached()
         lines = [json.loads(it) for it in each.lines(2)]
-        expect(replayed(payloads, *names), [' '.join(it or 'empty' for it in list(line.values())[2:]) for line in lines])
+        expect(replayed([packet(UNIQUE, 1, ANN, b''), packet(GROUP, 0xabcd, FRED, b'hi')], 'FRED<20>', 'ANN<20>'),
+               [' '.join(it or 'empty' for it in list(line.values())[2:]) for line in lines])
         expect(['time', 'sender', 'outcome', 'key', 'kind', 'source', 'destination', 'data'], list(lines[0]))
         expect(['%s:%d' % each.socket.getsockname()] * 2, [it['sender'] for it in lines])
 
 
 def any_payloads():
-    """Payloads of all kinds, of which the station delivers what the model does."""
+    """Payloads of all kinds, of which the station delivers what `nbt replay` does."""
     rng = random.Random(39)
     maker = Maker(rng, list(example_bytes()), list(capture_lines()))
     payloads = [maker.payload()[:60_000] for _ in range(300)]
@@ -126,7 +140,8 @@ def any_payloads():
     with station(names=names) as each:
         began = time.monotonic()
         for payload in payloads:
-            each.reached(payload)
+            each.send(payload)
+            each.reached()
         if time.monotonic() - began > 1.9:
             raise TooSlow('2 s passed')
         wanted = replayed(payloads, *names)
@@ -139,23 +154,29 @@ def limits():
         each.send(packet(UNIQUE, 3, ANN, b'hi', sender=SERVER))
         expect(b'\0\x03', each.answer()[2:4])
         expect(0, each.ended()[0])
-        expect(['10.0.0.5:138/0001', '10.0.0.6:138/0003'], [it.split()[0] for it in listed(each.saved(2))])
+        expect(['10.0.0.5:138/0001', '10.0.0.6:138/0003'],
+               [it.split()[0] for it in nbt('list', text=whole_tables(each.saved(), 2)).splitlines()])
 
 
 def joined_tables():
     """The tables of files are taken in first: what is whole by them is printed, and what is missing of the rest may come."""
-    sent, line = pieces(1, b'hello, FRED'), 'delivered 10.0.0.5:138/%04x group JOE<00> FRED<20> %s'
+    sent = pieces(1, b'hello, FRED')
+    table = lambda *payloads: nbt('save', text=''.join(f'138 0 {it.hex()}\n' for it in payloads))
     with tempfile.TemporaryDirectory() as folder:
-        one, other, bad = (written(folder, *it) for it in (
-            ('one', table_of(sent[0], *pieces(2, b'whole'))), ('other', table_of(*pieces(3, b'hi'), packet(UNIQUE, 4, ANN, b'no')) * 2),
-            ('bad', table_of(sent[1]) + 'x\n')))
-        with station('--join', one, '--join', other, '--save', 'table') as each:
+        paths = [os.path.join(folder, name) for name in ('one', 'other', 'bad')]
+        for path, text in zip(paths, (table(sent[0], *pieces(2, b'whole')), table(*pieces(3, b'hi'), packet(UNIQUE, 4, ANN, b'no')) * 2,
+                                      table(sent[1]) + 'x\n')):
+            with open(path, 'w', encoding='ascii') as file:
+                file.write(text)
+        line = 'delivered 10.0.0.5:138/%04x group JOE<00> FRED<20> %s'
+        with station('--join', paths[0], '--join', paths[1], '--save', 'table') as each:
             expect([line % (2, b'whole'.hex()), line % (3, b'hi'.hex())], each.lines(2))
-            each.reached(*sent[1:])
+            each.send(*sent[1:])
+            each.reached()
             expect([line % (1, b'hello, FRED'.hex())], each.lines(3)[2:])
             expect(0, each.ended()[0])
-            each.saved(5)
-        for status, why, *words in ((1, f'{bad}: line 2: bad hex', bad), (1, f'{one}: line 1: table: full', one, '--keys', '1'),
+            whole_tables(each.saved(), 5)
+        for status, why, *words in ((1, f'{paths[2]}: line 2: bad hex', paths[2]), (1, f'{paths[0]}: line 1: table: full', paths[0], '--keys', '1'),
                                     (3, 'none: No such file or directory', 'none')):
             refused(folder, status, why, *OWN, '--save', os.path.join(folder, 'table'), 'FRED<20>', '--join', *words)
         expect(['bad', 'one', 'other'], sorted(os.listdir(folder)))
@@ -181,15 +202,15 @@ def failing_devices():
         each.process.wait(PATIENCE)
         expect((3, 'nbt-station: standard output: deliveries that were left out: 1\n'
                    'nbt-station: standard output: No space left on device\n'), (each.process.returncode, each.process.stderr.read().decode()))
-        each.saved(1)
+        whole_tables(each.saved(), 1)
 
 
-CASES = (any_order_and_repeats, read_at_its_end, saved_again, ignored_signals, dropped_by_the_clock, error_packets, json_lines, any_payloads,
-         limits, joined_tables, refused_beginnings, failing_devices, *station_system.CASES)
+CASES = (any_order_and_repeats, saved_at_its_end, read_at_its_end, saved_again, no_file, dropped_by_the_clock, error_packets, json_lines,
+         any_payloads, limits, joined_tables, refused_beginnings, failing_devices, *station_system.CASES)
 
 
-for each in CASES if not sys.argv[2:] else (*CASES, *station_system.WITHIN):
-    if each.__name__ in (sys.argv[2:] or [each.__name__]):
+for each in CASES if not sys.argv[3:] else (*CASES, *station_system.WITHIN):
+    if each.__name__ in (sys.argv[3:] or [each.__name__]):
         try:
             why = result_of(each)
             check(not why, f'{each.__name__}: {why}')

@@ -1,5 +1,4 @@
-"""A tool that runs, for the cases of station.py and station_system.py: what is sent to it, and what it prints, saves and says; and what of
-that tests/model says."""
+"""A tool that runs, for the cases of station.py and station_system.py: what is sent to it, and what it prints, saves and says."""
 import contextlib
 import os
 import re
@@ -11,14 +10,10 @@ import tempfile
 import time
 
 sys.dont_write_bytecode = True
-from model.captures import Line
-from model.names import name_of_text
-from model.packets import read_fragment
-from model.reports import listing, report_text, reported
-from model.tables import Table, load
+from limits import MANY
 from wire import CLIENT, JOE, datagram, first_level
 
-TOOL = os.path.abspath(sys.argv[1])
+TOOL, PROGRAM = map(os.path.abspath, sys.argv[1:3])
 PATIENCE = 20
 OWN = ('--bind', '127.0.0.1:0')
 ENDING = signal.SIGTERM, signal.SIGINT, signal.SIGHUP
@@ -58,19 +53,24 @@ def result_of(case):
 class Station:
     """A tool that runs, and a socket that sends to it."""
 
-    def __init__(self, folder, process, out):
-        self.folder, self.process, self.out, self.last = folder, process, out, 0x10000
-        first = self.heard()
-        expect(True, first.startswith('nbt-station: listens at '))
-        host, port = first.split()[-1].split(':')
-        self.port, self.broadcasts = int(port), '' if host == '0.0.0.0' else self.heard()
+    def __init__(self, folder, *words, names=('FRED<20>',), bind='127.0.0.1:0', out='out', **system):
+        self.folder, self.out = folder, out
+        with contextlib.ExitStack() as opened:
+            if isinstance(out, str):
+                self.out = os.path.join(folder, out)
+                out = opened.enter_context(open(self.out, 'wb'))
+            self.process = subprocess.Popen([TOOL, '--bind', bind, *words, *names], cwd=folder, stdin=subprocess.DEVNULL,
+                                            stdout=out, stderr=subprocess.PIPE, bufsize=0, **system)
+        first = self.process.stderr.readline().decode()
+        if 'listens at' not in first:
+            self.process.kill()
+            raise AssertionError(f'it said {first!r}')
+        self.broadcasts = '' if bind.startswith('0.0.0.0') else self.process.stderr.readline().decode()
+        self.last = 0x10000
+        host, self.port = first.split()[-1].split(':')[0], int(first.split(':')[-1])
         self.socket = socket.socket(socket.AF_INET, socket.SOCK_DGRAM)
         self.socket.settimeout(PATIENCE)
         self.socket.connect((host, self.port))
-
-    def heard(self):
-        """The next line that it says."""
-        return self.process.stderr.readline().decode()
 
     def send(self, *payloads):
         for payload in payloads:
@@ -79,80 +79,65 @@ class Station:
     def answer(self):
         return self.socket.recv(100)
 
-    def reached(self, *payloads):
-        """Sends payloads, and waits until all that was sent is taken: a datagram for nobody, each time another, is answered after it."""
+    def reached(self):
+        """Waits until all that was sent before was taken: a datagram for nobody, each time another, is answered after it."""
         self.last -= 1
-        self.send(*payloads, packet(UNIQUE, self.last, NOBODY, b''))
+        self.send(packet(UNIQUE, self.last, NOBODY, b''))
         while self.answer()[2:4] != self.last.to_bytes(2, 'big'):
             pass
 
     def lines(self, count):
         """What it printed, once it is so many lines, each without its time and its sender, which is of this machine or none."""
+        return [it if it.startswith('{') else without_sender(it) for it in self.printed(count)]
+
+    def printed(self, count):
+        """The lines themselves."""
         lines = lambda: read(self.folder, self.out).splitlines()
         until(lambda: len(lines()) >= count, f'it printed less than {count} lines')
-        return [it if it.startswith('{') else without_sender(it) for it in lines()]
+        return lines()
 
-    def signals(self, number=signal.SIGUSR1):
-        self.process.send_signal(number)
-
-    def saved(self, count=0):
-        """What stands in the file of its table, once it is there, if no key of so many was dropped yet."""
-        until(lambda: os.path.exists(os.path.join(self.folder, 'table')), 'no table was saved')
-        table = read(self.folder, 'table')
-        if count and len(listed(table)) < count:
-            raise TooSlow(f'less than {count} keys')
-        return table
-
-    def files(self):
-        return sorted(os.listdir(self.folder))
+    def saved(self, name='table'):
+        """What stands in the file of a saved table, once it is there."""
+        until(lambda: os.path.exists(os.path.join(self.folder, name)), 'no table was saved')
+        return read(self.folder, name)
 
     def ended(self, number=signal.SIGTERM):
         """The status with which it ends at a signal, and what it says then."""
-        self.signals(number)
+        self.process.send_signal(number)
         said = self.process.communicate(timeout=PATIENCE)[1]
         return self.process.returncode, said.decode()
 
 
 @contextlib.contextmanager
-def station(*words, names=('FRED<20>',), bind='127.0.0.1:0', out='out', files=(), **system):
-    """A station in a folder of its own, where these files stood before it; it ends with the case."""
-    with tempfile.TemporaryDirectory() as folder, contextlib.ExitStack() as left:
-        for each in files:
-            written(folder, *each)
-        stream = left.enter_context(open(os.path.join(folder, out), 'wb')) if isinstance(out, str) else out
-        process = left.enter_context(subprocess.Popen([TOOL, '--bind', bind, *words, *names], cwd=folder, stdin=subprocess.DEVNULL,
-                                                      stdout=stream, stderr=subprocess.PIPE, bufsize=0, **system))
-        left.callback(process.kill)
-        each = Station(folder, process, out)
-        left.callback(each.socket.close)
-        yield each
+def station(*words, **named):
+    """A station in a folder of its own, which ends with the case."""
+    with tempfile.TemporaryDirectory() as folder:
+        each = Station(folder, *words, **named)
+        try:
+            yield each
+        finally:
+            each.process.kill()
+            each.process.communicate()
+            each.socket.close()
 
 
 def without_sender(line):
     """What a line says of a datagram."""
     match = FRONT.match(line)
-    expect(True, match is not None)
+    if not match:
+        raise AssertionError(f'no time, or no sender: {line[:100]}')
     return line[match.end():]
 
 
+def nbt(*words, text=''):
+    return subprocess.run([PROGRAM, *words], input=text, capture_output=True, text=True, timeout=PATIENCE).stdout
+
+
 def replayed(payloads, *names):
-    """The datagrams that a station with these names delivers of payloads."""
-    table, named = Table(), [name_of_text(it.encode()) for it in names]
-    said = (report_text(reported(table, named, Line(0, 138, 0, it))) for it in payloads)
-    return [it for it in said if it.startswith('delivered ')]
-
-
-def table_of(*payloads):
-    """The saved table of what payloads say."""
-    table = Table()
-    for each in payloads:
-        table.insert(read_fragment(each))
-    return f'{table.saved().hex()}\n'
-
-
-def listed(table):
-    """The lines of what a saved table says."""
-    return listing(load(bytes.fromhex(table))).splitlines()
+    """The deliveries of `nbt replay` of these payloads."""
+    capture = ''.join(f'138 0 {it.hex() or "empty"}\n' for it in payloads)
+    lines = nbt('replay', *MANY, *names, text=capture).splitlines()
+    return [line.split(' ', 1)[1] for line in lines if ' delivered ' in line]
 
 
 def refused(folder, status, why, *words):
@@ -167,18 +152,19 @@ def read(folder, name):
         return file.read()
 
 
-def written(folder, name, text, mode=0o644):
-    path = os.path.join(folder, name)
-    with open(path, 'w', encoding='ascii') as file:
-        file.write(text)
-    os.chmod(path, mode)
-    return path
-
-
 def until(held, what):
     """Waits until something holds, and answers it."""
     last = time.monotonic() + PATIENCE
     while not (found := held()):
-        expect((what, False), (what, time.monotonic() > last))
+        if time.monotonic() > last:
+            raise AssertionError(what)
         time.sleep(0.01)
     return found
+
+
+def whole_tables(table, count):
+    """The table, if no key of it was dropped yet."""
+    found = len(nbt('list', text=table).splitlines())
+    if found < count:
+        raise TooSlow(f'{found} keys of {count}')
+    return table

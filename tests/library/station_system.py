@@ -1,7 +1,5 @@
 """What a system does to tools/nbt-station: the files that it is given, signals, standard streams, and networks."""
-import contextlib
 import os
-import re
 import signal
 import socket
 import stat
@@ -11,7 +9,8 @@ import tempfile
 import time
 import unittest
 
-from station_runs import (EMPTY, ENDING, GROUP, NOBODY, OWN, PATIENCE, TOOL, UNIQUE, expect, packet, read, refused, station, until, written)
+from station_runs import (EMPTY, ENDING, GROUP, NOBODY, OWN, PATIENCE, PROGRAM, TOOL, UNIQUE, Station, expect, packet, read, refused, station,
+                          until)
 from wire import FRED, pieces
 
 # More lines than a pipe and the station's own room take: each has some 120,000 bytes.
@@ -22,35 +21,52 @@ LONG_PATH = './' * 1_500 + 'table'
 NETWORK = 'ip link set lo up && ip address add 10.9.0.1/24 dev lo && ip address add 10.8.0.1/32 dev lo'
 
 
-@contextlib.contextmanager
-def at_once(seconds=1):
-    """What is done within a second, however the station stands."""
+def written(folder, name, text, mode=0o644):
+    path = os.path.join(folder, name)
+    with open(path, 'w', encoding='ascii') as file:
+        file.write(text)
+    os.chmod(path, mode)
+    return path
+
+
+def mode_of(path):
+    return stat.S_IMODE(os.stat(path).st_mode)
+
+
+def within_a_second(each, number):
+    """The status with which a station ends at a signal, and what it said by then; it takes no longer than a second."""
     began = time.monotonic()
-    yield
-    expect(True, time.monotonic() - began < seconds)
+    ended = each.ended(number)
+    if time.monotonic() - began > 1:
+        raise AssertionError('it took more than a second')
+    return ended
 
 
 # ---- files
 
 def others_stay(option, kind, *texts):
     """The station begins with none of these as its file, nor with one that has one of these texts, and changes nothing."""
-    stays = lambda what: f'it is {what}, and stays as it is'
     with tempfile.TemporaryDirectory() as folder:
-        other = written(folder, 'other', 'text\n')
-        os.mkdir(os.path.join(folder, 'folder'))
-        os.symlink(other, os.path.join(folder, 'link'))
-        os.symlink('nowhere', os.path.join(folder, 'loose'))
-        os.mkfifo(os.path.join(folder, 'pipe'))
-        for name, why in (('other', stays(f'no {kind}')), ('folder', stays('a folder')), ('link', stays('a link')), ('loose', stays('a link')),
-                          ('pipe', stays('no regular file')), ('/dev/null', stays('no regular file')),
-                          ('none/file', 'No such file or directory'), ('other/file', 'Not a directory')):
-            refused(folder, 3, f'{name}: {why}', *OWN, option, name, 'FRED<20>')
+        other_kinds_stay(folder, option, kind)
         for text in texts:
             written(folder, 'almost', text)
-            refused(folder, 3, f'almost: {stays(f"no {kind}")}', *OWN, option, 'almost', 'FRED<20>')
+            refused(folder, 3, f'almost: it is no {kind}, and stays as it is', *OWN, option, 'almost', 'FRED<20>')
             expect(text, read(folder, 'almost'))
-        expect(['almost', 'folder', 'link', 'loose', 'other', 'pipe'], sorted(os.listdir(folder)))
-        expect('text\n', read(folder, 'other'))
+
+
+def other_kinds_stay(folder, option, kind):
+    other = written(folder, 'other', 'text\n')
+    os.mkdir(os.path.join(folder, 'folder'))
+    os.symlink(other, os.path.join(folder, 'link'))
+    os.symlink('nowhere', os.path.join(folder, 'loose'))
+    os.mkfifo(os.path.join(folder, 'pipe'))
+    stays = lambda what: f'it is {what}, and stays as it is'
+    for name, why in (('other', stays(f'no {kind}')), ('folder', stays('a folder')), ('link', stays('a link')), ('loose', stays('a link')),
+                      ('pipe', stays('no regular file')), ('/dev/null', stays('no regular file')),
+                      ('none/file', 'No such file or directory'), ('other/file', 'Not a directory')):
+        refused(folder, 3, f'{name}: {why}', *OWN, option, name, 'FRED<20>')
+    expect(['folder', 'link', 'loose', 'other', 'pipe'], sorted(os.listdir(folder)))
+    expect('text\n', read(folder, 'other'))
     expect(True, stat.S_ISCHR(os.stat('/dev/null').st_mode))
 
 
@@ -61,22 +77,26 @@ def other_files_at_save():
 
 def modes_of_saved_tables():
     """A saved table keeps its mode, and a new one has that of the umask."""
-    for text, mode in (EMPTY, 0o600), ('4e425431' + EMPTY[8:], 0o664), ('', 0o604), (None, 0o640):
-        with station('--save', 'table', files=[('table', text, mode)] * (text is not None), umask=0o027) as each:
+    for text, before, after in (EMPTY, 0o600, 0o600), ('4e425431' + EMPTY[8:], 0o664, 0o664), ('', 0o604, 0o604), (None, None, 0o640):
+        with tempfile.TemporaryDirectory() as folder:
+            path = os.path.join(folder, 'table')
+            if text is not None:
+                written(folder, 'table', text, before)
+            each = Station(folder, '--save', 'table', umask=0o027)
             expect((0, ''), each.ended())
-            expect((mode, EMPTY), (stat.S_IMODE(os.stat(os.path.join(each.folder, 'table')).st_mode), each.saved()))
-            expect(['out', 'table'], each.files())
+            each.socket.close()
+            expect((after, EMPTY), (mode_of(path), each.saved()))
+            expect(['out', 'table'], sorted(os.listdir(folder)))
 
 
 def file_put_there_meanwhile():
     """What comes to stand where the table is to be saved stays, and the station goes on, and says so."""
-    said = 'nbt-station: table: it is no saved table, and stays as it is\n'
     with station('--save', 'table') as each:
         written(each.folder, 'table', 'text\n')
-        each.signals()
-        expect(said, each.heard())
+        each.process.send_signal(signal.SIGUSR1)
+        expect(b'nbt-station: table: it is no saved table, and stays as it is\n', each.process.stderr.readline())
         each.reached()
-        expect((3, said), each.ended())
+        expect((3, 'nbt-station: table: it is no saved table, and stays as it is\n'), each.ended())
         expect('text\n', read(each.folder, 'table'))
 
 
@@ -88,15 +108,18 @@ def pid_files():
         expect(EMPTY, each.saved())
         refused(each.folder, 3, f'pid: the process {each.process.pid} is running', *OWN, '--pid', 'pid', 'FRED<20>')
         expect((0, ''), each.ended())
-        expect(['out', 'table'], each.files())
+        expect(['out', 'table'], sorted(os.listdir(each.folder)))
     done = subprocess.Popen(['true'])
     done.wait()
     for text in f'{done.pid}\n', str(done.pid), '':
-        with station('--pid', 'pid', files=[('pid', text)]) as each:
-            expect(f'{each.process.pid}\n', read(each.folder, 'pid'))
-            written(each.folder, 'pid', f'{os.getpid()}\n')
+        with tempfile.TemporaryDirectory() as folder:
+            written(folder, 'pid', text)
+            each = Station(folder, '--pid', 'pid')
+            expect(f'{each.process.pid}\n', read(folder, 'pid'))
+            written(folder, 'pid', f'{os.getpid()}\n')
             expect((0, ''), each.ended())
-            expect(['out', 'pid'], each.files())
+            each.socket.close()
+            expect(['out', 'pid'], sorted(os.listdir(folder)))
 
 
 def other_files_at_pid():
@@ -107,45 +130,46 @@ def other_files_at_pid():
 
 # ---- standard streams and signals
 
-@contextlib.contextmanager
-def unread(*words):
-    """A station whose output nobody reads, and the end of it that may be read."""
-    reader, writer = os.pipe()
-    with open(reader, encoding='ascii') as lines, open(writer, 'wb') as out, station(*words, out=out) as each:
-        out.close()
-        yield each, lines
-
-
 def unread_output():
     """While nobody reads its lines, a station takes payloads, saves its table and ends."""
     for number in ENDING:
-        with unread('--save', 'table') as (each, _):
-            for identifier in range(MANY):
-                each.reached(packet(GROUP, identifier, FRED, LONG))
-            expect('nbt-station: standard output: its reader stands still, and deliveries are left out\n', each.heard())
-            with at_once():
-                each.signals()
+        reader, writer = os.pipe()
+        try:
+            with station('--save', 'table', out=writer) as each:
+                for identifier in range(MANY):
+                    each.send(packet(GROUP, identifier, FRED, LONG))
+                    each.reached()
+                expect(b'nbt-station: standard output: its reader stands still, and deliveries are left out\n', each.process.stderr.readline())
+                began = time.monotonic()
+                each.process.send_signal(signal.SIGUSR1)
                 each.saved()
-            os.unlink(os.path.join(each.folder, 'table'))
-            with at_once():
-                status, said = each.ended(number)
-            left_out = re.fullmatch(r'nbt-station: standard output: deliveries that were left out: (\d+)\n', said)
-            expect((3, True), (status, MANY - 2 <= int(left_out[1]) <= MANY))
-            each.saved()
+                expect(True, time.monotonic() - began < 1)
+                os.unlink(os.path.join(each.folder, 'table'))
+                status, said = within_a_second(each, number)
+                expect((3, ['nbt-station:', 'standard', 'output:', 'deliveries', 'that', 'were', 'left', 'out:']), (status, said.split()[:-1]))
+                expect(True, MANY - 2 <= int(said.split()[-1]) <= MANY)
+                each.saved()
+        finally:
+            os.close(reader)
+            os.close(writer)
 
 
 def output_read_late():
     """What was left out while nobody read is counted; the rest is printed in order once somebody reads."""
-    with unread() as (each, lines):
-        numbers = lambda count: [int(lines.readline().split('/')[1][:4], 16) for _ in range(count)]
+    reader, writer = os.pipe()
+    with station(out=writer) as each, open(reader, encoding='ascii') as lines:
+        os.close(writer)
         for identifier in range(MANY):
-            each.reached(packet(GROUP, identifier, FRED, LONG))
-        expect(list(range(60)), numbers(60))
-        expect(True, 'stands still' in each.heard())
-        goes_on = each.heard().split()
+            each.send(packet(GROUP, identifier, FRED, LONG))
+            each.reached()
+        found = [int(lines.readline().split('/')[1][:4], 16) for _ in range(60)]
+        expect(list(range(60)), found)
+        expect(True, b'stands still' in each.process.stderr.readline())
+        goes_on = each.process.stderr.readline().decode().split()
         expect(['its', 'reader', 'goes', 'on;'], goes_on[3:7])
         rest = MANY - 60 - int(goes_on[-1])
-        expect(list(range(60, 60 + rest)), numbers(rest))
+        found = [int(lines.readline().split('/')[1][:4], 16) for _ in range(rest)]
+        expect(list(range(60, 60 + rest)), found)
         each.send(packet(GROUP, MANY, FRED, b'hi'))
         expect('6869', lines.readline().split()[-1])
         expect((3, f'nbt-station: standard output: deliveries that were left out: {goes_on[-1]}\n'), each.ended())
@@ -153,15 +177,22 @@ def output_read_late():
 
 def unread_errors():
     """Nobody reads its words either: it ends all the same."""
-    with unread('--save', LONG_PATH) as (each, _):
-        written(each.folder, 'table', 'text\n')
-        for _ in range(30):
-            each.signals()
-            each.reached()
-        with at_once():
-            each.signals(signal.SIGTERM)
+    reader, writer = os.pipe()
+    try:
+        with station('--save', LONG_PATH, out=writer) as each:
+            said = each.process.stderr.fileno()
+            written(each.folder, 'table', 'text\n')
+            for _ in range(30):
+                each.process.send_signal(signal.SIGUSR1)
+                each.reached()
+            began = time.monotonic()
+            each.process.send_signal(signal.SIGTERM)
             expect(3, each.process.wait(PATIENCE))
-        expect(True, len(os.read(each.process.stderr.fileno(), 1 << 20)) > 40_000)
+            expect(True, time.monotonic() - began < 1)
+            expect(True, len(os.read(said, 1 << 20)) > 40_000)
+    finally:
+        os.close(reader)
+        os.close(writer)
 
 
 def closed_streams():
@@ -201,6 +232,16 @@ def interrupted_before_it_listens():
                 if moment == 1:
                     expect(128 + number, each.returncode)
                 expect(['pipe'], os.listdir(folder))
+
+
+def hangup_that_is_ignored():
+    """A station that nohup starts goes on at SIGHUP."""
+    with station('--save', 'table', preexec_fn=lambda: signal.signal(signal.SIGHUP, signal.SIG_IGN)) as each:
+        each.process.send_signal(signal.SIGHUP)
+        each.send(*pieces(1, b'hello'))
+        each.reached()
+        expect((0, ''), each.ended())
+        expect(1, len(each.lines(1)))
 
 
 # ---- networks
@@ -246,7 +287,7 @@ def broadcasts_of_a_network():
         raise unittest.SkipTest(error) from error
     if allowed.returncode:
         raise unittest.SkipTest(allowed.stderr.strip())
-    done = subprocess.run([*unshare, 'sh', '-c', NETWORK + ' && exec "$@"', '-', sys.argv[0], TOOL, 'within_a_network'],
+    done = subprocess.run([*unshare, 'sh', '-c', NETWORK + ' && exec "$@"', '-', sys.argv[0], TOOL, PROGRAM, 'within_a_network'],
                           capture_output=True, text=True, timeout=PATIENCE, check=False)
     expect(('1 passed, 0 failed, 0 skipped\n', ''), (done.stdout, done.stderr))
 
@@ -261,6 +302,6 @@ def within_a_network():
 
 
 CASES = (other_files_at_save, modes_of_saved_tables, file_put_there_meanwhile, pid_files, other_files_at_pid, unread_output, output_read_late,
-         unread_errors, closed_streams, interrupted_before_it_listens, broadcasts_heard, broadcasts_of_a_network)
+         unread_errors, closed_streams, interrupted_before_it_listens, hangup_that_is_ignored, broadcasts_heard, broadcasts_of_a_network)
 # Run by broadcasts_of_a_network, elsewhere.
 WITHIN = (within_a_network,)

@@ -18,40 +18,39 @@ from model.names import LONGEST_SCOPE, Name, Refused, name_of, name_of_text, rea
 SMALL = b'\x00\x00\x00\x01\x01\x01\x02\x02\xc0\xc0\x3f\x40\x80\xc1\xffa'
 
 
-def text_answer(text):
-    """The sixteen bytes and the scope of a text's name, or what is wrong with the text."""
+# What calls answer of the labels that they read.
+READERS = {'read_domain': lambda labels: word(spelled(labels)), 'read_name': lambda labels: text_of(name_of(labels))}
+
+
+def answer(read, *words):
+    """What is read, or what is wrong."""
     try:
-        name = name_of_text(text)
+        return read(*words)
     except Refused as refused:
         return str(refused)
+
+
+def text_answer(text):
+    """The sixteen bytes and the scope of a text's name."""
+    name = name_of_text(text)
     return f'{word(name.bytes)} {word(spelled(name.scope))}'
 
 
 def text_example(text):
     """A text as it is, where that can stand in an example, and else its bytes."""
-    if re.fullmatch(rb'[!-z|~]+', text):
-        return f'names.from_text {text.decode()} = {text_answer(text)}'
-    return f'names.from_bytes {word(text)} = {text_answer(text)}'
+    call, given = ('from_text', text.decode()) if re.fullmatch(rb'[!-z|~]+', text) else ('from_bytes', word(text))
+    return f'names.{call} {given} = {answer(text_answer, text)}'
 
 
-def packet_answers(packet, at, followed):
-    """The domain name at an offset of a packet, the NetBIOS name there, or what is wrong."""
-    try:
-        labels, after = read_labels(packet, at, pointers=followed)
-    except Refused as refused:
-        return str(refused), str(refused)
-    try:
-        name = f'{text_of(name_of(labels))}, next {after}'
-    except Refused as refused:
-        name = str(refused)
-    return f'{word(spelled(labels))}, next {after}', name
+def packet_answer(call, packet, at, followed):
+    """What is read at an offset of a packet, and the offset after it."""
+    labels, after = read_labels(packet, at, pointers=followed)
+    return f'{READERS[call](labels)}, next {after}'
 
 
-def packet_examples(packet, at, followed):
-    """Both names, read at an offset of a packet."""
-    words = f'{"followed" if followed else "refused"} {at} {word(packet)}'
-    domain, name = packet_answers(packet, at, followed)
-    return [f'names.read_domain {words} = {domain}', f'names.read_name {words} = {name}']
+def packet_example(call, packet, at, followed=True):
+    """The same as an example."""
+    return f'names.{call} {"followed" if followed else "refused"} {at} {word(packet)} = {answer(packet_answer, call, packet, at, followed)}'
 
 
 def short_texts():
@@ -93,7 +92,7 @@ def small_packets(chance, count):
     for number in range(count):
         packet = bytes(chance.choices(SMALL, k=number % 20))
         for at, followed in itertools.product(range(22), (True, False)):
-            yield packet_examples(packet, at, followed)[0]
+            yield packet_example('read_domain', packet, at, followed)
 
 
 def made_packet(chance):
@@ -114,22 +113,21 @@ def made_packets(chance, count):
     for _ in range(count):
         packet, places = made_packet(chance)
         for at in sorted({places[0], places[-1], chance.choice(places)}):
-            yield from packet_examples(packet, at, chance.random() < 0.8)
+            followed = chance.random() < 0.8
+            yield from (packet_example(call, packet, at, followed) for call in READERS)
 
 
 def longest_way():
     """As many pointers as there can be, each to the one before, and the first to a name or to itself."""
     pointers = b''.join((0xC000 + max(0, 2 * k - 1)).to_bytes(2, 'big') for k in range(8193))
-    yield from packet_examples(b'\0' + pointers, 16385, True) + packet_examples(b'\xc0' + pointers, 16385, True)
+    yield from (packet_example(call, front + pointers, 16385) for front in (b'\0', b'\xc0') for call in READERS)
 
 
 def main():
     """Prints all of them."""
     chance = random.Random(1002)
-    texts = itertools.chain(short_texts(), longest_scopes(), made_texts(chance, 2000))
-    packets = itertools.chain(small_packets(chance, 400), made_packets(chance, 1500), longest_way())
-    for example in itertools.chain(texts, packets):
-        print(example)
+    print(*short_texts(), *longest_scopes(), *made_texts(chance, 2000), sep='\n')
+    print(*small_packets(chance, 400), *made_packets(chance, 1500), *longest_way(), sep='\n')
 
 
 main()

@@ -13,19 +13,15 @@ sys.path[1:1] = [f'{sys.path[0]}/../{it}' for it in ('.', 'lib')]
 from example_lines import example, word
 from model.names import name_of_text, text_of
 from model.objects import key_text
-from model.packets import FIRST, KINDS, MORE, Fragment
-from model.tables import Entry, Table
+from model.packets import FIRST, KINDS, MORE, Fragment, read_fragment
+from model.reports import addressed, known
+from model.tables import Table
+from wire import CLIENT, pieces
 
 LONGEST = 10
-ADDRESS = bytes([10, 0, 0, 5])
-KEYS = ((ADDRESS, 138, 1), (ADDRESS, 139, 1))
-NAMES = {text: name_of_text(text.encode()) for text in ('JOE<00>', 'FRED<20>', 'ANN<00>', 'FRED<20>.A')}
-NUMBERS = {kind: number for number, kind in KINDS.items()}
-
-
-def fragment(flags, offset, data, key=KEYS[0], kind='group', source='JOE<00>', target='FRED<20>'):
-    """A fragment of one of the keys."""
-    return Fragment(NUMBERS[kind], flags, key, offset, NAMES[source], NAMES[target], data)
+KEYS = (CLIENT, 138, 1), (CLIENT, 139, 1)
+UNIQUE, GROUP = 0x10, 0x11
+JOE, FRED, ANN, IN_SCOPE = map(name_of_text, (b'JOE<00>', b'FRED<20>', b'ANN<00>', b'FRED<20>.A'))
 
 
 def worded(it):
@@ -34,45 +30,32 @@ def worded(it):
     return f'1:{it.flags:02x}:{it.offset}:{word(it.data)}:{parts}'
 
 
-def entry(fragments, key):
-    """What a list says of a key."""
-    return Entry(it for it in fragments if it.key == key)
-
-
-def datagram(entry, key):
+def datagram(key, entry):
     """The datagram of an entry that is whole, as an example says it."""
-    kind, *names = entry.parts()
-    return ' '.join([KINDS[kind], key_text(key), *map(text_of, names), word(entry.data())])
-
-
-def state(entry):
-    """What the definitions call an entry."""
-    if entry.is_spoilt():
-        return 'Spoilt'
-    return 'Whole' if entry.is_whole() else 'Partial' if entry.is_held() else 'Absent'
-
-
-def change(before, after, key):
-    """What a table answers to a fragment that makes this of its key."""
-    if before.is_spoilt() or before.is_held() and before.saved() == after.saved():
-        return 'same'
-    if after.is_spoilt():
-        return 'spoilt'
-    return f'whole {datagram(after, key)}' if after.is_whole() and not before.is_whole() else 'grown'
+    kind, *names = addressed(entry).values()
+    return ' '.join([kind, key_text(key), *names, word(entry.data())])
 
 
 def changes(fragments):
     """What a table answers to each fragment of a list."""
-    held = dict.fromkeys(KEYS, Entry())
-    for count, it in enumerate(fragments, 1):
-        before, held[it.key] = held[it.key], entry(fragments[:count], it.key)
-        yield change(before, held[it.key], it.key)
+    table = Table()
+    for it in fragments:
+        before, said = table.saved(), table.insert(it)
+        if said == 'whole':
+            said += f' {datagram(it.key, table.entries[it.key])}'
+        elif said == 'kept':
+            said = 'same' if table.saved() == before else 'grown'
+        yield said
+
+
+def whole(fragments):
+    """The datagrams that are whole in a list, by their keys."""
+    return {key: datagram(key, it) for key, it in sorted(table_of(fragments).entries.items()) if it.is_whole()}
 
 
 def handed(before, after):
     """What a table hands over that held the one list and then holds the other."""
-    new = [key for key in KEYS if entry(after, key).is_whole() and not entry(before, key).is_whole()]
-    return ' and '.join(datagram(entry(after, key), key) for key in new) or 'nothing'
+    return ' and '.join(said for key, said in whole(after).items() if key not in whole(before)) or 'nothing'
 
 
 def table_of(fragments):
@@ -102,10 +85,9 @@ def examples_of(fragments, chance):
     steps = ' '.join(map(worded, fragments))
     yield f'table.insert 2 {LONGEST} | {steps} = {", ".join(changes(fragments))}'
     key, place = chance.choice(KEYS), chance.randrange(LONGEST)
-    held = entry(fragments, key)
-    whole = datagram(held, key) if held.is_whole() else 'none'
-    facts = first_said([it for it in fragments if it.key == key], place)
-    yield f'table.plain {key_text(key)} {place} {steps} = {state(held)}, {facts}, {whole}'
+    held = table_of(fragments).entries.get(key)
+    state, facts = known(held)['state'].title() if held else 'Absent', first_said([it for it in fragments if it.key == key], place)
+    yield f'table.plain {key_text(key)} {place} {steps} = {state}, {facts}, {whole(fragments).get(key, "none")}'
     turned = [it for it in reversed(fragments) for _ in range(2)]
     yield f'table.fits {table(fragments)} | {table(turned)} = (true, Ok(()))'
     fewer, saved = fragments[:-1], word(table_of(fragments).saved())
@@ -127,16 +109,14 @@ def drawn(chance, size):
     flags = FIRST * (offset == 0) | MORE * ((reach < size) != (lot == 0))
     start = 0 if lot == 1 else offset
     data = b'abcdefghij'[start : start + reach - offset]
-    other = {2: {'kind': 'unique'}, 3: {'source': 'ANN<00>'}, 4: {'target': 'FRED<20>.A'}}.get(lot, {})
-    return fragment(flags, offset, data, KEYS[chance.randrange(4) == 0], **other)
+    other = {2: {'kind': UNIQUE}, 3: {'source': ANN}, 4: {'destination': IN_SCOPE}}.get(lot, {})
+    return Fragment(GROUP, flags, KEYS[chance.randrange(4) == 0], offset, JOE, FRED, data)._replace(**other)
 
 
 def byte_by_byte(data):
     """Each byte of a datagram in a fragment of its own, the last one first, and then all of them once more."""
-    flags = [FIRST * (place == 0) | MORE * (place + 1 < len(data)) for place in range(len(data))]
-    once = [fragment(flags[place], place, data[place:place + 1]) for place in reversed(range(len(data)))]
-    said = ', '.join(changes(once + once))
-    return f'table.insert 1 65535 | {" ".join(map(worded, once + once))} = {said}'
+    fragments = [read_fragment(it) for it in reversed(pieces(1, data, 1))] * 2
+    return f'table.insert 1 65535 | {" ".join(map(worded, fragments))} = {", ".join(changes(fragments))}'
 
 
 def main():

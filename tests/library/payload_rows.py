@@ -2,9 +2,9 @@
 """What the calls of the library should answer, by tests/model: rows in the form of rows.py, for calls.c and calls.mjs.
 
 Usage: payload_rows.py [cases] [limits] <LINES, each a port and the digits of a payload, or `empty`; `table` stands for the port of a saved
-table. The rows begin with the names of cases.txt; with `cases` its rows follow, those of its payloads too, with `limits` stations at the limits
-of their names and keys. A payload has a `line`, and then rows of what it says, and a row for each call that needs no station with the
-payload for an input, beside what some row of cases.txt gives it; every 48 have the rows of stations that took them.
+table. The names of cases.txt come first. With `cases` its rows follow, those of its payloads too, with `limits` stations at the limits of
+their names and keys. A payload has a `line`, and then rows of what it says, and a row for each call that needs no station with the payload
+for an input, beside what some row of cases.txt gives it; every 48 have the rows of stations that took them.
 """
 import json
 import sys
@@ -12,11 +12,13 @@ from itertools import product
 from struct import pack
 
 sys.dont_write_bytecode = True
-sys.path.insert(1, f'{sys.path[0]}/..')
+sys.path[1:1] = [f'{sys.path[0]}/../{it}' for it in ('.', 'lib')]
+import wire
 from model import objects, phrases, text
+from model.building import fragments
 from model.captures import digits
 from model.names import Refused, name_of, read_labels, spelled, spelling_of, text_of
-from model.packets import ERROR, FIRST, KINDS, MORE, REQUEST, RETARGET, Reader, domain, question, read, record
+from model.packets import ERROR, FIRST, KINDS, REQUEST, RETARGET, Reader, domain, question, read, record
 from rows import WORDS, read_cases
 from station_rows import Station, table_rows, told_rows
 
@@ -129,21 +131,12 @@ def written_rows(packet, whole):
         yield f'datagram_{call} = {whole[:1].hex()}02{whole[2:].hex()}'
     elif packet.flags == FIRST and packet.offset == 0 and packet.used <= 65535:
         most = max(1, len(packet.data) // MOST_PIECES, identifier % 60)
-        station, pieces = Station('CUT', text_of(packet.destination), 1, 1), cut(packet, whole, most)
+        spellings = map(spelling_of, (packet.source, packet.destination))
+        station, pieces = Station('CUT', text_of(packet.destination), 1, 1), [*fragments(packet.kind, packet.key, *spellings, packet.data, most)]
         for size, written in (65535, [whole]), (most, pieces):
             yield (f'datagram_write {packet.kind} {numbers} {" ".join(names)} {digits(packet.data)} {size} = '
                    + ''.join(f'{len(it):04x}{it.hex()}' for it in written))
         yield from (station.row, *(station.take(0, it) for it in reversed(pieces)))
-
-
-def cut(packet, whole, most):
-    """A datagram in pieces of at most so many bytes."""
-    size, pieces = len(packet.data), []
-    for start in range(0, size, most) or [0]:
-        data, flags = packet.data[start:start + most], FIRST * (start == 0) | MORE * (start + most < size)
-        names = whole[14:len(whole) - size]
-        pieces.append(bytes([packet.kind, flags]) + whole[2:10] + pack('>HH', len(names) + len(data), start) + names + data)
-    return pieces
 
 
 def session_rows(payload):
@@ -164,15 +157,14 @@ def session_rows(payload):
 
 def rdata_rows(payload):
     """Bytes as RDATA: of type NS where they are one name, of another type where they aren't too many."""
-    name, front = b'FRED<20>'.hex(), '000785000000000100000000' + spelled([b'EGFCEFEECACACACACACACACACACACACA']).hex()
-    written = lambda kind: f'= {front}{kind:04x}00010000004d{len(payload):04x}{payload.hex()}'
-    yield f'service_response 7 0x8500 {name} 1 77 P {written(1) if len(payload) < 65536 else "! data too long"}'
+    written = lambda kind: f'= {wire.service(7, 0x8500, wire.FRED, told=wire.record(kind, payload, 77)).hex()}'
     try:
         _, after = read_labels(payload, 0)
-        said = written(2) if after == len(payload) else f'! name: trailing bytes {after}'
+        named = written(2) if after == len(payload) else f'! name: trailing bytes {after}'
     except Refused as fault:
-        said = f'! name: {fault}'
-    yield f'service_response 7 0x8500 {name} 2 77 P {said}'
+        named = f'! name: {fault}'
+    for kind, said in (1, written(1) if len(payload) < 65536 else '! data too long'), (2, named):
+        yield f'service_response 7 0x8500 {b"FRED<20>".hex()} {kind} 77 P {said}'
 
 
 # ---- calls, whatever they are given

@@ -23,6 +23,14 @@ WORDS = {call: re.findall(r'\b(IN|[NLB])\(|\b(?:STATION|MADE)\b', words) for cal
 READS = {'service_read': 137, 'datagram_read': 138, 'session_read': 139}
 # What packages have within other calls, and what they have no word for.
 WITHIN = re.compile(r'version|service_(header|item|items|address|node|unit|domain)|datagram_front|session_(front|names|retarget)')
+# What statuses say that are no fault of a name, a text, a packet or a table.
+STATUSES = {0: 'done', 1: 'no room', 2: 'memory', 25: 'name: trailing bytes', 52: 'more bytes needed', 57: 'no item', 58: 'other rdata',
+            59: 'no part', 60: 'unknown request', 61: 'zero piece', 62: 'data too long', 90: 'misplaced first', 91: 'too long',
+            92: 'full source', 93: 'full', 100: 'name: present', 101: 'too many names', 102: 'no station', 110: 'other type',
+            120: 'bad line', 255: 'unknown status'}
+TEXT_ROLES, TEXT_FAULTS = {'': 0, 'source': 2, 'destination': 4}, {'bad text': 10, 'text too long': 11}
+TABLE_ROLES = {'table': 0, 'second table': 10}
+TABLE_FAULTS = {'bad magic': 70, 'truncated': 71, 'not canonical': 72, 'too long': 73, 'full source': 74, 'full': 75}
 UNASKED = re.compile(r'status_text ([0-9]|254) |.*! (no station|unknown request)$')
 
 
@@ -47,9 +55,11 @@ def answer_of(mark, words, names):
 
 
 def status_rows():
-    """What statuses of names and packets say."""
-    of_names = {f'{role}: {fault}': plus + number for role, plus in ROLES.items() for fault, number in NAME_FAULTS.items()}
-    return [('status_text', [str(number)], ['=', text.encode().hex()]) for text, number in (of_names | FAULTS).items()]
+    """What statuses say, each fault with the roles of what may have it."""
+    found = [*STATUSES.items(), *((number, text) for text, number in FAULTS.items())]
+    for roles, faults in ((ROLES, NAME_FAULTS), (TEXT_ROLES, TEXT_FAULTS), (TABLE_ROLES, TABLE_FAULTS)):
+        found += [(plus + number, f'{role}: {fault}'.removeprefix(': ')) for role, plus in roles.items() for fault, number in faults.items()]
+    return [('status_text', [str(number)], ['=', text.encode().hex()]) for number, text in found]
 
 
 def read_cases():

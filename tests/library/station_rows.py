@@ -6,6 +6,7 @@ from struct import pack
 from model.captures import Line, digits
 from model.names import Refused, name_of_text, spelling_of
 from model.objects import key_text
+from model.packets import read_fragment
 from model.reports import addressed, hears, listed, listing, report_text, reported
 from model.tables import PER_SOURCE, Table, load
 
@@ -28,34 +29,27 @@ class Station:
         self.names = [name_of_text(it.encode()) for it in names.split(' ') if it]
         self.row = f'station_create {digits(names.encode())} 0 138 {keys} {per_source} {label} :'
 
-    def whole(self):
-        """The keys of datagrams that are whole."""
-        return {key for key, entry in self.table.entries.items() if entry.is_whole()}
-
     def take(self, moment, payload):
         """A payload comes; what is written is the datagram that is handed over, or the error packet. The packages answer words."""
-        before = self.whole()
         said = reported(self.table, self.names, Line(0, 138, moment, payload))
         row = f'station_take {self.label} {moment} {digits(payload)}'
         if said.get('refused') in UNTAKEN:
             return f'{row} ! {said["refused"]}'
         written = bytes.fromhex(said.get('error', ''))
         if said.get('outcome') == 'delivered':
-            key, = self.whole() - before
-            written = handed_over(self.table.entries[key])
+            written = handed_over(self.table.entries[read_fragment(payload).key])
         return f'{row} = {digits(written)} : {report_text(said)}'
 
     def absorb(self, moment, data):
         """A table is taken in; what is written are the datagrams that are whole by it, and heard."""
-        row, before, held = f'station_absorb {self.label} {moment} {digits(data)}', self.whole(), set(self.table.entries)
+        row, held = f'station_absorb {self.label} {moment} {digits(data)}', {key: it.is_whole() for key, it in self.table.entries.items()}
         try:
             self.table.merge(loaded(data, 'table', self.table.keys, self.table.per_source))
         except Refused as fault:
             return f'{row} ! {fault}'
-        for key in self.table.entries.keys() - held:
+        for key in self.table.entries.keys() - held.keys():
             self.table.entries[key].start = moment
-        new = ((key, self.table.entries[key]) for key in sorted(self.whole() - before))
-        heard = [it for it in new if hears(self.names, it[1])]
+        heard = [(key, it) for key, it in sorted(self.table.entries.items()) if it.is_whole() and not held.get(key) and hears(self.names, it)]
         return f'{row} = {digits(b"".join(with_key(*it) for it in heard))} : {" and ".join(told(*it) for it in heard) or "none"}'
 
     def tick(self, moment):

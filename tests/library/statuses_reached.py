@@ -8,21 +8,20 @@ anything does.
 """
 import re
 import sys
+from pathlib import Path
 
 ENUM = re.compile(r'^    (NBT_[A-Z_0-9]+) = (\d+),?(.*)$', re.MULTILINE)
 CALL = re.compile(r'/\*(?P<comment>(?:(?!\*/).)*)\*/\s*(?:uint32_t|void) (?P<name>nbt_[a-z_]+)\(', re.DOTALL)
 RANGE = re.compile(r'\b([1-9]\d) to ([1-9]\d)\b')
-LIST = re.compile(r'\b((?:[1-9]\d, )+)([1-9]\d) or ([1-9]\d)\b')
+LIST = re.compile(r'\b(?:[1-9]\d, )+[1-9]\d or [1-9]\d\b')
 ALL_OF = re.compile(r'(?:Those|fault, as) of (nbt_[a-z_]+)')
 NEVER = 'no call of this version answers it'
 
 
 def statuses(header):
     """The numbers of enum nbt_status by name, and those that no call answers."""
-    text = header[header.index('enum nbt_status {'):header.index('NBT_UNKNOWN_STATUS = 255')] + 'NBT_UNKNOWN_STATUS = 255\n'
-    found = {name: (int(number), rest) for name, number, rest in ENUM.findall('    ' + text)}
-    found['NBT_UNKNOWN_STATUS'] = (255, '')
-    return {name: number for name, (number, _) in found.items()}, {number for number, rest in found.values() if NEVER in rest}
+    found = ENUM.findall(header.partition('enum nbt_status {')[2].partition('\n};')[0])
+    return {name: int(number) for name, number, _ in found}, {int(number) for _, number, rest in found if NEVER in rest}
 
 
 def listed(header):
@@ -34,8 +33,8 @@ def listed(header):
         found = {numbers[name] for name in re.findall(r'NBT_[A-Z_0-9]+', comment) if name in numbers}
         for low, high in RANGE.findall(comment):
             found |= set(range(int(low), int(high) + 1)) & set(numbers.values())
-        for front, last_but_one, last in LIST.findall(comment):
-            found |= {int(each) for each in front.replace(' ', '').split(',') if each} | {int(last_but_one), int(last)}
+        for alike in LIST.findall(comment):
+            found |= set(map(int, re.findall('[0-9]+', alike)))
         for other in ALL_OF.findall(comment):
             found |= calls[other]
         calls[match['name']] = found - never | {numbers['NBT_DONE']}
@@ -43,8 +42,7 @@ def listed(header):
 
 
 def main():
-    with open(sys.argv[1], encoding='utf-8') as file:
-        header = file.read()
+    header = Path(sys.argv[1]).read_text('utf-8')
     calls = listed(header)
     numbers, never = statuses(header)
     answered = {}

@@ -50,10 +50,8 @@ impl<'a> Rest<'a> {
     }
 
     fn kind_and_names(&mut self) -> Option<&'a [u8]> {
-        (0x10..=0x12).contains(self.0.first()?).then_some(())?;
-        let middle = read_name(self.0, 1)?;
-        let end = read_name(self.0, middle)?;
-        self.take(end)
+        let end = read_name(self.0, read_name(self.0, 1)?)?;
+        self.take(end).filter(|it| (0x10..=0x12).contains(&it[0]))
     }
 
     fn run(&mut self) -> Option<(u32, &'a [u8])> {
@@ -77,12 +75,9 @@ impl<'a> Rest<'a> {
     }
 
     fn held(&mut self) -> Option<Held<'a>> {
-        let kind_and_names = self.kind_and_names()?;
-        let (end, promise) = (self.place()?, self.place()?);
-        if end.is_some_and(|end| promise.is_some_and(|promise| promise >= end)) {
-            return None;
-        }
-        let runs = self.runs(end)?;
+        let (kind_and_names, end, promise) = (self.kind_and_names()?, self.place()?, self.place()?);
+        let fits = end.is_none() || promise < end;
+        let runs = self.runs(end).filter(|_| fits)?;
         Some(Held { kind_and_names, end, promise, runs })
     }
 
@@ -94,8 +89,7 @@ impl<'a> Rest<'a> {
             HELD => Some(self.held()?),
             _ => return None,
         };
-        let saved = &all[..all.len() - self.0.len()];
-        Some(Entry { key, saved, held })
+        Some(Entry { key, saved: &all[..all.len() - self.0.len()], held })
     }
 }
 
@@ -133,32 +127,26 @@ struct Joined {
 impl Joined {
     /// Adds a run that starts nowhere before the last one, if it agrees.
     fn add(&mut self, start: u32, run: &[u8]) -> Option<()> {
-        if let Some((last, at)) = self.runs.last() {
-            let held = &self.bytes[*at..];
-            if start as usize <= *last as usize + held.len() {
-                let held = &held[(start - last) as usize..];
-                let known = held.len().min(run.len());
-                if held[..known] != run[..known] {
-                    return None;
-                }
-                self.bytes.extend_from_slice(&run[known..]);
-                return Some(());
+        let mut known = 0;
+        match self.runs.last() {
+            Some((last, at)) if start <= self.reach() => {
+                let held = &self.bytes[at + (start - last) as usize..];
+                known = held.len().min(run.len());
+                (held[..known] == run[..known]).then_some(())?;
             }
+            _ => self.runs.push((start, self.bytes.len())),
         }
-        self.runs.push((start, self.bytes.len()));
-        self.bytes.extend_from_slice(run);
+        self.bytes.extend_from_slice(&run[known..]);
         Some(())
     }
 
     fn reach(&self) -> u32 {
-        let last = self.runs.last();
-        last.map_or(0, |(start, at)| start + (self.bytes.len() - at) as u32)
+        self.runs.last().map_or(0, |(start, at)| start + (self.bytes.len() - at) as u32)
     }
 
     fn save(&self, report: &mut Report) {
         for (index, (start, at)) in self.runs.iter().enumerate() {
-            let next = self.runs.get(index + 1);
-            let end = next.map_or(self.bytes.len(), |(_, next)| *next);
+            let end = self.runs.get(index + 1).map_or(self.bytes.len(), |(_, next)| *next);
             save_run(*start, &self.bytes[*at..end], report);
         }
     }
@@ -166,8 +154,7 @@ impl Joined {
 
 /// Prints what entries of one key say together. Says nothing where they disagree.
 fn join(entries: &[Entry], joined: &mut Joined, report: &mut Report) -> Option<()> {
-    let held: Option<Vec<&Held>> = entries.iter().map(|entry| entry.held.as_ref()).collect();
-    let held = held?;
+    let held = entries.iter().map(|entry| entry.held.as_ref()).collect::<Option<Vec<_>>>()?;
     let end = held.iter().find_map(|held| held.end);
     let promise = held.iter().filter_map(|held| held.promise).max();
     let same =

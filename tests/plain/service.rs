@@ -5,6 +5,8 @@ use crate::packets::{four_bytes, two_bytes};
 use crate::report::Report;
 
 const HEADER: usize = 12;
+/// The section whose items are no records.
+pub const QUESTIONS: usize = 0;
 const NAME_SERVER: u16 = 0x0002;
 pub const ADDRESSES: u16 = 0x0020;
 pub const STATUS: u16 = 0x0021;
@@ -23,12 +25,6 @@ pub struct Entry {
     pub fields: usize,
 }
 
-impl Entry {
-    pub fn is_record(&self) -> bool {
-        self.section > 0
-    }
-}
-
 /// The RDATA of the record with these fields.
 pub fn rdata(packet: &[u8], fields: usize) -> &[u8] {
     &packet[fields + 10..][..two_bytes(packet, fields + 8) as usize]
@@ -40,7 +36,7 @@ fn need(packet: &[u8], end: usize) -> Option<usize> {
 
 /// The offset after a question or a record that is a good one.
 fn after(packet: &[u8], entry: &Entry) -> Option<usize> {
-    if !entry.is_record() {
+    if entry.section == QUESTIONS {
         return need(packet, entry.fields + 4);
     }
     let data = need(packet, entry.fields + 10)?;
@@ -89,7 +85,7 @@ fn show_entry(packet: &[u8], entry: &Entry, report: &mut Report) {
     let fields = &packet[entry.fields..];
     report.words("\n  ").words(SECTIONS[entry.section].0).words(" ").domain(packet, entry.name);
     report.words(" type=").digits(&fields[..2]).words(" class=").digits(&fields[2..4]);
-    if !entry.is_record() {
+    if entry.section == QUESTIONS {
         return;
     }
     report.words(" ttl=").number(four_bytes(fields, 4));

@@ -26,19 +26,15 @@ fn whole(bytes: &[u8]) -> Option<&[u8]> {
     bytes.get(..4 + length).filter(|_| flags <= 1 && fits)
 }
 
-/// Where the names of a request part.
-fn middle(whole: &[u8]) -> Option<usize> {
-    let middle = read_name(whole, 4)?;
-    (read_name(whole, middle)? == whole.len()).then_some(middle)
-}
-
 pub fn show_session(bytes: &[u8], report: &mut Report) -> Option<()> {
     let whole = whole(bytes)?;
     let body = &whole[4..];
     match whole[0] {
         MESSAGE => report.words("message length=").size(body.len()).words(" data=").data(body),
         REQUEST => {
-            let (called, calling) = whole.split_at(middle(whole)?);
+            let middle = read_name(whole, 4)?;
+            let (called, calling) = whole.split_at(middle);
+            (read_name(whole, middle)? == whole.len()).then_some(())?;
             report.words("request called=").name(&called[4..]).words(" calling=").name(calling)
         }
         POSITIVE => report.words("positive"),

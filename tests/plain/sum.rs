@@ -6,22 +6,14 @@ use crate::bad;
 use crate::capture::{each_line, Line};
 use crate::names::{is_netbios, labels};
 use crate::packets::{four_bytes, two_bytes};
-use crate::service::{nodes, rdata, read, Entry, ADDRESSES, STATUS};
+use crate::service::{nodes, rdata, read, Entry, ADDRESSES, QUESTIONS, STATUS};
 use std::io;
-
-fn number16(bytes: &[u8], at: usize) -> u64 {
-    two_bytes(bytes, at).into()
-}
-
-fn number32(bytes: &[u8], at: usize) -> u64 {
-    four_bytes(bytes, at).into()
-}
 
 /// The sum of a packet's values, or 0 where there is none.
 fn sum_of_packet(packet: &[u8], entries: &mut Vec<Entry>) -> u64 {
     let Some(used) = read(packet, entries) else { return 0 };
     let items = entries.iter().map(|entry| sum_of_name(packet, entry) + sum_of_fields(packet, entry));
-    number16(packet, 0) + number16(packet, 2) + used as u64 + items.sum::<u64>()
+    two_bytes(packet, 0) as u64 + two_bytes(packet, 2) as u64 + used as u64 + items.sum::<u64>()
 }
 
 /// The sum of what a question and a record have alike.
@@ -33,43 +25,35 @@ fn sum_of_name(packet: &[u8], entry: &Entry) -> u64 {
         }
         spelled += 1 + label.len();
     }
-    let kind_and_class = number16(packet, entry.fields) + number16(packet, entry.fields + 2);
+    let kind_and_class = two_bytes(packet, entry.fields) as u64 + two_bytes(packet, entry.fields + 2) as u64;
     spelled as u64 + netbios as u64 + first as u64 + kind_and_class
 }
 
 fn sum_of_fields(packet: &[u8], entry: &Entry) -> u64 {
-    if !entry.is_record() {
+    if entry.section == QUESTIONS {
         return (entry.fields + 4) as u64;
     }
     let rdata = rdata(packet, entry.fields);
     let parts = match two_bytes(packet, entry.fields) {
         ADDRESSES if rdata.len() % 6 == 0 => {
-            rdata.chunks_exact(6).map(|entry| number16(entry, 0) + number32(entry, 2)).sum()
+            rdata.chunks_exact(6).map(|entry| two_bytes(entry, 0) as u64 + four_bytes(entry, 2) as u64).sum()
         }
         STATUS => sum_of_nodes(rdata).unwrap_or(0),
         _ => 0,
     };
     let place_and_end = entry.section + entry.fields + 10 + rdata.len();
-    number32(packet, entry.fields + 4) + place_and_end as u64 + parts
+    four_bytes(packet, entry.fields + 4) as u64 + place_and_end as u64 + parts
 }
 
 fn sum_of_nodes(rdata: &[u8]) -> Option<u64> {
     let (names, behind) = nodes(rdata)?;
-    let names = names.map(|node| number16(node, 16) + node[0] as u64 + node[15] as u64);
+    let names = names.map(|node| two_bytes(node, 16) as u64 + node[0] as u64 + node[15] as u64);
     Some(names.sum::<u64>() + behind.get(5).map_or(0, |last| *last as u64))
 }
 
 extern "C" {
-    fn clock_gettime(clock: i32, seconds_and_nanoseconds: &mut [i64; 2]) -> i32;
-}
-
-const PROCESSOR_TIME_OF_PROCESS: i32 = 2;
-
-/// The processor time of this process. The clock fills in a structure of C, of two numbers.
-fn processor_time() -> i64 {
-    let mut time = [0; 2];
-    unsafe { clock_gettime(PROCESSOR_TIME_OF_PROCESS, &mut time) };
-    time[0] * 1_000_000_000 + time[1]
+    /// The microseconds of processor time of this process.
+    fn clock() -> i64;
 }
 
 pub fn sum(rounds: &str) -> io::Result<()> {
@@ -80,10 +64,10 @@ pub fn sum(rounds: &str) -> io::Result<()> {
         Some(())
     })?;
     let (mut entries, mut sum) = (Vec::new(), 0);
-    let began = processor_time();
+    let began = unsafe { clock() };
     for payload in (0..rounds).flat_map(|_| &payloads) {
         sum += sum_of_packet(payload, &mut entries);
     }
-    println!("{sum} {}", processor_time() - began);
+    println!("{sum} {}", (unsafe { clock() } - began) * 1_000);
     Ok(())
 }

@@ -11,6 +11,7 @@ const LONGEST_DATAGRAM: u32 = 65_535;
 const HELD_FOR: u64 = 2_000;
 
 /// What is known of a datagram.
+#[derive(Default)]
 pub struct Datagram {
     pub kind: u8,
     /// Two spellings of names, in place.
@@ -25,14 +26,8 @@ pub struct Datagram {
 
 impl Datagram {
     fn new(fragment: &Fragment) -> Datagram {
-        Datagram {
-            kind: fragment.kind,
-            names: ArrayVec::try_from(fragment.names).expect("at most two names"),
-            runs: BTreeMap::new(),
-            end: None,
-            promise: None,
-            handed_over: false,
-        }
+        let names = ArrayVec::try_from(fragment.names).expect("at most two names");
+        Datagram { kind: fragment.kind, names, ..Datagram::default() }
     }
 
     fn agrees(&self, fragment: &Fragment) -> bool {
@@ -95,13 +90,19 @@ impl Datagram {
         }
     }
 
-    /// Adds bytes in which a run starts after the first one, or at whose end one starts.
+    /// Adds bytes in which a run starts after the first one, or at whose end one starts. Where none holds the first byte, or ends
+    /// at it, those before the run that starts next are put in front of it.
     fn join(&mut self, offset: u32, data: &[u8]) {
         let reach = offset + data.len() as u32;
         let before = self.runs.range_mut(..=offset).next_back();
         let (start, mut run) = match before.filter(|(start, run)| *start + run.len() as u32 >= offset) {
             Some((&start, run)) => (start, std::mem::take(run)),
-            None => (offset, self.next_run(offset, data)),
+            None => {
+                let next = self.runs.range(offset..).next().map_or(offset, |(next, _)| *next);
+                let mut run = self.runs.remove(&next).unwrap_or_default();
+                run.splice(..0, data[..(next - offset) as usize].iter().copied());
+                (offset, run)
+            }
         };
         append(&mut run, start, offset, data);
         while let Some((&next, _)) = self.runs.range(start + 1..=reach).next() {
@@ -110,16 +111,6 @@ impl Datagram {
             }
         }
         self.runs.insert(start, run);
-    }
-
-    /// Takes out the run that starts next after an offset, and puts the bytes before it in front.
-    fn next_run(&mut self, offset: u32, data: &[u8]) -> Vec<u8> {
-        let next = self.runs.range(offset..).next().map(|(start, _)| *start);
-        let Some((next, mut run)) = next.and_then(|next| self.runs.remove_entry(&next)) else {
-            return Vec::new();
-        };
-        run.splice(..0, data[..(next - offset) as usize].iter().copied());
-        run
     }
 
     fn is_whole(&self) -> bool {
@@ -181,9 +172,7 @@ impl Table {
             *state = None;
             return Some(Change::Spoilt);
         }
-        let Some(datagram) = state else {
-            return Some(Change::Kept);
-        };
+        let Some(datagram) = state else { return Some(Change::Kept) };
         Some(if datagram.add(fragment) { Change::Whole(datagram) } else { Change::Kept })
     }
 

@@ -22,7 +22,7 @@ CALL = re.compile(r'^ROW\((\w+), \w+, \d+, \w+, \((.*)\)\)$', re.MULTILINE)
 WORDS = {call: re.findall(r'\b(IN|[NLB])\(|\b(?:STATION|MADE)\b', words) for call, words in CALL.findall((FOLDER / 'calls.def').read_text('ascii'))}
 READS = {'service_read': 137, 'datagram_read': 138, 'session_read': 139}
 # What packages have within other calls, and what they have no word for.
-WITHIN = re.compile(r'version|service_(header|item|items|address|node|unit|domain)|datagram_front|session_(front|names|retarget)')
+WITHIN = re.compile(r'version|service_(?!read|request|response)\w+|datagram_front|session_(front|names|retarget)')
 # What statuses say that are no fault of a name, a text, a packet or a table.
 STATUSES = {0: 'done', 1: 'no room', 2: 'memory', 25: 'name: trailing bytes', 52: 'more bytes needed', 57: 'no item', 58: 'other rdata',
             59: 'no part', 60: 'unknown request', 61: 'zero piece', 62: 'data too long', 90: 'misplaced first', 91: 'too long',

@@ -100,7 +100,7 @@ def words_of(fields):
     of_records = lambda key: [record[key] for record in records if key in record]
     nodes = [it['name'] for it in sum(of_records('names'), [])]
     listed = nodes if first['type'] == NBSTAT else sum(map(addresses_of, records), [])
-    flags = [it['flags'] for record in records for it in record.get('entries', []) + record.get('names', [])]
+    flags = parts_of(records, 'flags')
     is_group = bool(flags) and int(flags[0], 16) & G
     more = len(listed) - FIRST_ONES
     addresses = (', '.join(listed[:FIRST_ONES]) or 'no address') + (f' and {more} more' if more > 0 else '')
@@ -120,7 +120,12 @@ def addresses_of(record):
     """The addresses that a record has."""
     if record['type'] == A and len(record.get('data', '')) == 8:
         return ['.'.join(str(byte) for byte in bytes.fromhex(record['data']))]
-    return [entry['address'] for entry in record.get('entries', [])]
+    return parts_of([record], 'address')
+
+
+def parts_of(records, key):
+    """What the parts of records have by this key."""
+    return [it[key] for record in records for parts in record.values() if isinstance(parts, list) for it in parts if key in it]
 
 
 def datagram(fields):

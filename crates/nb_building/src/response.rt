@@ -1,7 +1,6 @@
 //! A response of the name service from arguments.
-ghost use Rattle.std.specs.Prelude.{◌≡◌, ◌≢◌, ◌<◌, ℕ, List, [], ◌∷◌, map, codes, Err, IfErr, IfOk, MatchResult, Ok, length};
+ghost use Rattle.std.specs.Prelude.{◌≡◌, ◌≢◌, ◌<◌, ℕ, [], ◌∷◌, map, codes, Err, IfErr, IfOk, MatchResult, Ok, length};
 ghost use Rattle.nb_names.specs.declared.reading.Pointers.TheVariants.{Refused};
-ghost use Rattle.nb_names.specs.Hexadecimal.{DataText};
 ghost use Rattle.nb_names.specs.Labels.{NameAt};
 ghost use Rattle.nb_names.specs.Name.{labels_of_name};
 ghost use Rattle.nb_service.specs.declared.classes.TheConstants.{IN};
@@ -9,7 +8,7 @@ ghost use Rattle.nb_service.specs.declared.kinds.TheConstants.{NS};
 ghost use Rattle.nb_service.specs.Requests.{packet_of};
 ghost use Rattle.nb_service.specs.Encoding.{packet_bytes};
 ghost use Rattle.nb_service.specs.Record.{ResourceData, ResourceRecord, record_of};
-ghost use Rattle.nb_building.specs.Built.{IsServiceBuilt, NumberText, WordText, HasRdata, response_packet, with_flag};
+ghost use Rattle.nb_building.specs.Built.{IsServiceBuilt, NumberText, WordText, HasRdata, with_flag};
 ghost use Rattle.nb_building.specs.Refusals.{IsRefused, NamesNone, Unnamed, GiveTooMuch};
 
 use crate::arguments::{data, long_number, word};

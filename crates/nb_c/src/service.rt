@@ -1,5 +1,5 @@
 //! Requests and responses of the name service, written.
-ghost use Rattle.std.specs.Prelude.{◌≡◌, IfOk, MatchResult, List, ℕ, Result, Ok, Err};
+ghost use Rattle.std.specs.Prelude.{◌≡◌, IfOk, MatchResult, ℕ, Result, Ok, Err};
 ghost use Rattle.nb_service.specs.Encoding.{packet_bytes};
 ghost use Rattle.nb_service.specs.Packet.{ServicePacket};
 ghost use Rattle.nb_service.specs.Views.{entry_bytes};

@@ -4,7 +4,7 @@ ghost use Rattle.nb_text.specs.SaysPacket.{IsSaid};
 ghost use Rattle.nb_text.specs.Shown.{Shown};
 ghost use Rattle.nb_c.specs.Outputs.{Answers, Does, none_late, of_memory, lent};
 ghost use Rattle.nb_c.specs.Showing.{Objects, Phrases, Shows};
-ghost use Rattle.nb_c.specs.Captures.{TellsLine, WritesLine, line_answer, line_told, line_lent};
+ghost use Rattle.nb_c.specs.Captures.{TellsLine, WritesLine, line_answer, line_lent};
 
 use crate::output::{line_refusal, put, status_of, write_bytes};
 use crate::statuses::NO_MEMORY;

@@ -4,10 +4,8 @@ ghost use Rattle.nb_c.specs.Stations.{OnStation, Took, Tells, answer_told, lent_
 ghost use Rattle.nb_c.specs.declared.output.Refusal.TheVariants.{Fault};
 ghost use Rattle.nb_c.specs.declared.statuses.TheConstants.{NO_STATION};
 ghost use Rattle.nb_c.specs.declared.taken.TheConstants.{TAKE_ROOM};
-ghost use Rattle.nb_datagram.specs.Packet.{packet_bytes, name_bytes};
+ghost use Rattle.nb_datagram.specs.Packet.{packet_bytes};
 ghost use Rattle.nb_datagram.specs.declared.packet.Packet.TheVariants.{Error};
-ghost use Rattle.nb_names.specs.declared.limits.TheConstants.{MAX_SPELLING};
-ghost use Rattle.nb_datagram.specs.declared.limits.TheConstants.{MAX_LENGTH};
 
 use crate::handle::{self, NbtStation, put_back};
 use crate::output::{datagram_refusal, status_of, table_refusal};

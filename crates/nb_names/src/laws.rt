@@ -13,7 +13,7 @@ ghost use Rattle.nb_names.specs.Name.{NetbiosName, IsName, IsNoName, labels_of_n
 ghost use Rattle.nb_names.specs.NameFaults.{FaultAt, NetbiosFaultAt};
 ghost use Rattle.nb_names.specs.Skipped.{IsSkipped};
 ghost use Rattle.nb_names.specs.declared.reading.Skipped.{Skipped};
-ghost use Rattle.nb_names.specs.Lines.{CutInto, HasLines};
+ghost use Rattle.nb_names.specs.Lines.{HasLines};
 ghost use Rattle.nb_names.specs.Growth.{IsFrontOf, OnlyAdds};
 ghost use Rattle.nb_names.specs.NameText.{IsText, IsFaultOf, is_plain};
 ghost use Rattle.nb_names.specs.declared.fault.TextFault.{TextFault};

@@ -11,7 +11,7 @@ ghost use Rattle.nb_telling.specs.Telling.{Field, Grows, Digits, Text, key_of};
 ghost use Rattle.nb_text.specs.TellsFront.{FrontOf, IsFrontTold, ShowsFront};
 ghost use Rattle.nb_text.specs.FrontFields.{datagram_front_fields, fragment_front_fields, session_front_fields, standing_name, type_field};
 ghost use Rattle.nb_text.specs.Keys.{key_named};
-ghost use Rattle.nb_text.specs.Words.{datagram_word, session_word};
+ghost use Rattle.nb_text.specs.Words.{datagram_word};
 
 use crate::fields::{tell_byte, tell_kind, tell_number};
 use crate::keys::field_key;

@@ -2,7 +2,7 @@
 //! stands of those that are refused.
 ghost use Rattle.std.specs.Prelude.{◌≡◌, ◌++◌, ℕ, List, codes, OnOk, string_bytes};
 ghost use Rattle.std.specs.Fmt.{decimal};
-ghost use Rattle.nbt.specs.Showing.{ShowsSaid, ShowsValue, Shows};
+ghost use Rattle.nbt.specs.Showing.{ShowsSaid, ShowsValue};
 
 use crate::objects::bare;
 use crate::printing_lines::{LineFields, LineText};

@@ -1,6 +1,6 @@
 //! Whether a key is whole, and its datagram.
 ghost use Rattle.std.specs.Prelude.{◌≡◌, ◌↔◌, ◌<◌, ◌≤◌, IsTrue, IfOk, IsErrOf, Ok, Err, Some, None, slice_get, option_map, is_some, length, MatchResult};
-ghost use Rattle.nb_datagram.specs.Fragment.{core_of, cores_of, DatagramParts};
+ghost use Rattle.nb_datagram.specs.Fragment.{core_of, cores_of};
 ghost use Rattle.nb_datagram.specs.declared.limits.TheConstants.{MAX_LENGTH};
 ghost use Rattle.nb_table.specs.Conflict.{with_key};
 ghost use Rattle.nb_table.specs.Contents.{cover_in, table_of, byte_at as list_byte, datagram_at, IsWholeAt};

@@ -6,7 +6,6 @@ ghost use Rattle.nbt.specs.Commands.{ReplayCommand, streams};
 ghost use Rattle.nbt.specs.Replaying.{AddsEach, AddsName, AreTexts, Begins, EndsWith, IsNamesFault, IsRefusedName, IsUnbegun, ReplaysIn};
 ghost use Rattle.nbt.specs.Settings.{IsCapacity};
 ghost use Rattle.nbt.specs.Printing.{ExplainsWrite};
-ghost use Rattle.nbt.specs.Showing.{Shows};
 
 use crate::fault::Fault;
 use crate::objects::Objects;

@@ -3,7 +3,7 @@
 
 ghost use Rattle.std.specs.Prelude.{◌≡◌, ◌≤◌, ◌<◌, ◌+◌, ◌++◌, ◌∷◌, [], length, take, drop, slice_index_or, OnOk, OnErr, IfOk, ltb, IsTrue};
 ghost use Rattle.nb_entries.specs.Runs.{AreApart, StartsPast};
-ghost use Rattle.nb_entries.specs.Code.Rows.{value_of, run_at, EndBefore, Meet, Agree, IsPut, runs_in, values_in, NoneEmpty, kept_runs, kept_values, AreFilled, values_of, EndFrom, StartTo, StartAfter, last_end, LastsTo};
+ghost use Rattle.nb_entries.specs.Code.Rows.{run_at, EndBefore, Agree, IsPut, runs_in, values_in, NoneEmpty, kept_runs, kept_values, AreFilled, values_of, EndFrom, StartTo, StartAfter, last_end, LastsTo};
 
 use super::{Kept, Run, growing};
 use nb_names::NoMemory;

@@ -1,40 +1,36 @@
 //! Commands of `nbt` in plain Rust without proofs, on the crates that `nbt` stands on: what
-//! tests/bench.py compares with. It prints what `nbt` does of captures and tables that are good;
-//! others end it.
+//! tests/bench.py compares with. It judges all that stands in the captures and tables that are
+//! measured there, and prints what `nbt` does. What none of them has ends it, as fragments that
+//! overlap or disagree do.
 //!
 //! usage: plain replay NAME | plain show | plain save | plain merge | plain ROUNDS
 
 mod capture;
+mod datagrams;
 mod merge;
 mod names;
-mod packets;
 mod replay;
 mod report;
-mod save;
 mod service;
-mod session;
 mod show;
 mod sum;
 mod tables;
 
-use crate::report::Report;
-use std::{env, io};
-
-/// What ends the program where its input isn't good.
-pub fn bad() -> io::Error {
-    io::ErrorKind::InvalidData.into()
-}
+use report::Report;
+use std::io::{self, Read};
 
 fn main() -> io::Result<()> {
-    let words: Vec<String> = env::args().skip(1).collect();
-    let last = words.last().map_or("", String::as_str);
-    let mut report = Report::default();
-    match words.first().map(String::as_str) {
-        Some("replay") => replay::replay(last, &mut report)?,
-        Some("show") => show::show(&mut report)?,
-        Some("save") => save::save(&mut report)?,
-        Some("merge") => merge::merge(&mut report)?,
-        _ => sum::sum(last)?,
-    }
+    let words: Vec<String> = std::env::args().skip(1).collect();
+    let (mut input, mut report) = (Vec::new(), Report::default());
+    io::stdin().lock().take(capture::MOST_INPUT).read_to_end(&mut input)?;
+    let done = match words.iter().map(String::as_str).collect::<Vec<_>>()[..] {
+        ["replay", name] => replay::replay(&input, name, &mut report),
+        ["show"] => show::show(&input, &mut report),
+        ["save", ..] => replay::save(&input, &mut report),
+        ["merge", ..] => merge::merge(&input, &mut report),
+        [rounds] => sum::sum(&input, rounds, &mut report),
+        _ => None,
+    };
+    done.ok_or(io::ErrorKind::InvalidData)?;
     report.print()
 }

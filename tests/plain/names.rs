@@ -1,44 +1,39 @@
 //! Names as packets spell them.
 
-pub const FRONT: usize = 15;
-/// The length byte of a name's first label, and its letters.
-pub const FIRST_LABEL: usize = 33;
+use std::array;
+
 const LONGEST_SPELLING: usize = 255;
+
+/// The sixteen bytes that a label stands for, if it is the first one of a NetBIOS name: each letter
+/// is a half of one.
+pub fn sixteen(label: &[u8]) -> Option<[u8; 16]> {
+    let letters: &[u8; 32] = label.try_into().ok()?;
+    let halves = letters.map(|letter| letter.wrapping_sub(b'A'));
+    let all = halves.iter().fold(0, |seen, half| seen | half);
+    (all < 16).then(|| array::from_fn(|at| halves[2 * at] << 4 | halves[2 * at + 1]))
+}
 
 /// The offset after the NetBIOS name that stands at an offset of the packet, if one does.
 pub fn read_name(packet: &[u8], start: usize) -> Option<usize> {
-    let end = read_labels::<false>(packet, start)?;
-    let spelling = &packet[start..end];
-    (spelling[0] == 32 && are_letters(&spelling[1..FIRST_LABEL])).then_some(end)
+    let end = read_domain(packet, start)?;
+    sixteen(labels(packet, start).next()?).map(|_| end)
 }
 
-/// The offset after the domain name that stands at an offset of the packet, if one does.
+/// The offset after the domain name that stands at an offset of the packet, if one does: after a
+/// zero, or the first pointer, each of which leads to labels before those in front of it.
 pub fn read_domain(packet: &[u8], start: usize) -> Option<usize> {
-    read_labels::<true>(packet, start)
-}
-
-/// Whether each letter stands for a half of a byte.
-fn are_letters(letters: &[u8]) -> bool {
-    let letters = letters.iter();
-    letters.fold(0, |seen, letter| seen | letter.wrapping_sub(b'A')) < 16
-}
-
-/// The offset after the labels that stand at an offset of the packet, and what ends them: a zero,
-/// or, if they may, a pointer that leads to more of them, before the labels in front of it.
-fn read_labels<const POINTERS: bool>(packet: &[u8], start: usize) -> Option<usize> {
     let (mut row, mut at, mut spelled, mut after) = (start, start, 1, None);
     loop {
-        let first = *packet.get(at)?;
-        match first {
+        match *packet.get(at)? {
             0 => return Some(after.unwrap_or(at + 1)),
-            1..=63 => {
-                spelled += 1 + first as usize;
-                at += 1 + first as usize;
-                if at > packet.len() || spelled > LONGEST_SPELLING {
+            length @ 1..=63 => {
+                at += 1 + length as usize;
+                spelled += 1 + length as usize;
+                if spelled > LONGEST_SPELLING {
                     return None;
                 }
             }
-            192.. if POINTERS && at + 1 < packet.len() && target(packet, at) < row => {
+            192.. if at + 1 < packet.len() && target(packet, at) < row => {
                 after = after.or(Some(at + 2));
                 row = target(packet, at);
                 at = row;
@@ -65,30 +60,11 @@ pub fn labels(packet: &[u8], mut at: usize) -> impl Iterator<Item = &[u8]> {
     })
 }
 
-/// Whether a label is the first one of a NetBIOS name.
-pub fn is_netbios(label: &[u8]) -> bool {
-    label.len() == 32 && are_letters(label)
-}
-
-/// The sixteen bytes that a name's letters stand for.
-pub fn letter_bytes(letters: &[u8]) -> [u8; 16] {
-    let mut bytes = [0; 16];
-    for (byte, pair) in bytes.iter_mut().zip(letters.chunks_exact(2)) {
-        *byte = ((pair[0] - b'A') << 4) | (pair[1] - b'A');
-    }
-    bytes
-}
-
-pub fn is_plain(character: u8) -> bool {
-    matches!(character, 0x21..=0x7e) && !matches!(character, b'\\' | b'<' | b'>' | b'.')
-}
-
 /// The spelling of a name of plain letters without a scope, as of FRED<20>.
 pub fn spelling_of(text: &str) -> Option<Vec<u8>> {
     let (front, last) = text.strip_suffix('>')?.split_once('<')?;
     let last = u8::from_str_radix(last, 16).ok()?;
-    let bytes = format!("{front:FRONT$}").into_bytes();
-    let halves = bytes.iter().chain([&last]);
-    let letters = halves.flat_map(|byte| [b'A' + (byte >> 4), b'A' + (byte & 15)]);
+    let bytes = format!("{front:15}").into_bytes();
+    let letters = bytes.iter().chain([&last]).flat_map(|byte| [b'A' + (byte >> 4), b'A' + (byte & 15)]);
     Some([32].into_iter().chain(letters).chain([0]).collect())
 }

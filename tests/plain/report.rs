@@ -1,7 +1,7 @@
 //! What is printed: what all commands write, in one buffer.
 
-use crate::names::{is_netbios, is_plain, labels, letter_bytes, FIRST_LABEL, FRONT};
-use crate::packets::Key;
+use crate::datagrams::Key;
+use crate::names::{labels, sixteen};
 use std::fs::File;
 use std::io::{self, Write};
 use std::os::fd::AsFd;
@@ -22,20 +22,12 @@ impl Report {
     }
 
     pub fn number(&mut self, number: impl Into<u64>) -> &mut Report {
-        let (mut digits, mut first, mut number) = ([0; 20], 20, number.into());
-        loop {
-            first -= 1;
-            digits[first] = b'0' + (number % 10) as u8;
-            number /= 10;
-            if number == 0 {
-                self.0.extend_from_slice(&digits[first..]);
-                return self;
-            }
+        let number = number.into();
+        if number >= 10 {
+            self.number(number / 10);
         }
-    }
-
-    pub fn size(&mut self, size: usize) -> &mut Report {
-        self.number(size as u64)
+        self.0.push(b'0' + (number % 10) as u8);
+        self
     }
 
     /// The two digits of each byte.
@@ -43,6 +35,22 @@ impl Report {
         let length = self.0.len();
         self.0.resize(length + 2 * bytes.len(), 0);
         hex::encode_to_slice(bytes, &mut self.0[length..]).expect("room for two digits a byte");
+        self
+    }
+
+    /// The four digits of a number of at most 65,535.
+    pub fn four_digits(&mut self, number: u32) -> &mut Report {
+        self.digits(&(number as u16).to_be_bytes())
+    }
+
+    /// Where a datagram ends, and the promise that there is more, as a saved table has them.
+    pub fn places(&mut self, places: [Option<u32>; 2]) -> &mut Report {
+        for place in places {
+            match place {
+                None => self.digits(&[0]),
+                Some(place) => self.digits(&[1]).four_digits(place),
+            };
+        }
         self
     }
 
@@ -76,15 +84,10 @@ impl Report {
     }
 
     fn items(&mut self, bytes: &[u8]) -> &mut Report {
-        if bytes.iter().all(|byte| is_plain(*byte)) {
-            self.0.extend_from_slice(bytes);
-            return self;
-        }
         for byte in bytes {
-            if is_plain(*byte) {
-                self.0.push(*byte);
-            } else {
-                self.words("\\").digits(&[*byte]);
+            match byte {
+                b'\\' | b'<' | b'>' | b'.' | ..0x21 | 0x7f.. => drop(self.words("\\").digits(&[*byte])),
+                _ => self.0.push(*byte),
             }
         }
         self
@@ -92,29 +95,17 @@ impl Report {
 
     /// The sixteen bytes of a name, without its scope.
     pub fn sixteen(&mut self, bytes: &[u8]) -> &mut Report {
-        let length = bytes[..FRONT].iter().rposition(|byte| *byte != b' ').map_or(0, |last| last + 1);
-        self.items(&bytes[..length]).words("<").digits(&bytes[FRONT..]).words(">")
-    }
-
-    /// The name of this spelling.
-    pub fn name(&mut self, spelling: &[u8]) -> &mut Report {
-        self.sixteen(&letter_bytes(&spelling[1..FIRST_LABEL]));
-        let mut scope = &spelling[FIRST_LABEL..];
-        while let [length @ 1..=63, rest @ ..] = scope {
-            let (label, after) = rest.split_at(*length as usize);
-            self.words(".").items(label);
-            scope = after;
-        }
-        self
+        let length = bytes[..15].iter().rposition(|byte| *byte != b' ').map_or(0, |last| last + 1);
+        self.items(&bytes[..length]).words("<").digits(&bytes[15..]).words(">")
     }
 
     /// The domain name that was read at an offset of the packet.
     pub fn domain(&mut self, packet: &[u8], at: usize) -> &mut Report {
         let mut labels = labels(packet, at);
-        match labels.next() {
-            None => self.words("."),
-            Some(first) if is_netbios(first) => self.sixteen(&letter_bytes(first)),
-            Some(first) => self.items(first),
+        let Some(first) = labels.next() else { return self.words(".") };
+        match sixteen(first) {
+            Some(bytes) => self.sixteen(&bytes),
+            None => self.items(first),
         };
         for label in labels {
             self.words(".").items(label);

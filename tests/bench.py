@@ -5,7 +5,8 @@ Prints the lines of the first two tables of docs/PERFORMANCE.md. A row is a comm
 valgrind's cachegrind, where it is installed; they are the same from run to run), the peak of resident memory, how many times the instructions
 are those of the plain program of tests/plain/ on the same crates, or of the same packets as text, beside the most that they may be
 (tests/bench/bench_bars.py), and packets a second (the best of three runs). Then come rows on growth. A number that is more than 5 % past its
-bar, or past what it is known to be, is a failure, and the last line counts them. With --small captures are a tenth as long.
+bar, or past what it is known to be, is a failure, and the last line counts them. With --small captures are a tenth as long, and rows on
+growth have two sizes of three.
 """
 import os
 import random
@@ -18,8 +19,8 @@ sys.dont_write_bytecode = True
 sys.path[1:1] = [f'{sys.path[0]}/{it}' for it in ('bench', 'lib')]
 import plain_program
 from bench_bars import GROWN, GROWTH, KNOWN, PER_SOURCE, PIECES, PLAIN, TEXT, WITHOUT, WORST
-from bench_captures import (FRED, MOST_IN_A_CAPTURE, descending, labels, office, one_address, pointed, refused,
-                            saved_after, shuffled, unfragmented, written)
+from bench_captures import (MOST_IN_A_CAPTURE, descending, labels, office, one_address, pointed, refused, saved_after, shuffled,
+                            unfragmented, written)
 from bench_rows import Row, heading, instructions, peak, printed, show, shown, wall_seconds
 from limits import MANY, MOST_KEYS
 from parts import check, counts, finish
@@ -27,12 +28,12 @@ from parts import check, counts, finish
 HERE = os.path.dirname(os.path.abspath(__file__))
 PROGRAM = os.path.join(HERE, '..', 'crates', 'nbt', 'out', 'nbt')
 REPLAY, SHOW, SAVE, MERGE = ['replay', 'FRED<20>'], ['show'], ['save', *MANY], ['merge', *MANY]
-# How many keys one address may have in a table of as many as may be, in the last rows of one address.
-LIMITS = (64, 1_000, 30_000)
+# The order of lines is nothing to `show`, which has the same pieces shuffled.
+LAST_FIRST = 'pieces of a byte, descending'
 # How many tables of a byte each are merged into one entry.
 TABLES = 1_000
 GROWING = (('pieces of a byte, shuffled', REPLAY, lambda size: shuffled(random.Random(size), 1, size, 1), PIECES),
-           ('pieces of a byte, descending', REPLAY, lambda size: descending(random.Random(size), size), GROWTH),
+           (LAST_FIRST, REPLAY, lambda size: descending(random.Random(size), size), GROWTH),
            ('keys', ['replay', *MANY, 'FRED<20>'], one_address, GROWTH),
            ('keys of an address, counted', ['replay', *MANY, '--per-source', str(MOST_KEYS - 1), 'FRED<20>'], one_address, GROWTH),
            ('lines', SHOW, lambda size: office(138, size), GROWTH),
@@ -54,7 +55,7 @@ def workloads(folder, part=1):
     made = (('unfragmented', unfragmented(rng, 25_000 // part)),
             ('pieces of 32 bytes, shuffled', shuffled(rng, 1_000 // part, 2_048, 32)),
             ('pieces of a byte, shuffled', shuffled(rng, 1, 65_467 // part, 1)),
-            ('pieces of a byte, descending', descending(rng, 65_467 // part)),
+            (LAST_FIRST, descending(rng, 65_467 // part)),
             ('pieces of 400 bytes, shuffled', shuffled(rng, 100 // part, 65_000, 400)))
     for title, lines in made:
         yield title, *captured(folder, title, lines)
@@ -78,7 +79,7 @@ class Bench:
     def __init__(self, program, small, folder):
         self.program, self.folder, self.small = program, folder, small
         self.part, self.times, least = (10, 1, 100) if small else (1, 4, 250)
-        self.sizes = [least, least * 10, least * 100]
+        self.sizes = [least, least * 100] if small else [least, least * 10, least * 100]
         self.plain = plain_program.compiled(folder)
 
     def row(self, words, title, path, packets, beside=None, bar=None):
@@ -108,7 +109,7 @@ class Bench:
     def fragments(self):
         """The rows of captures of fragments, for each command."""
         for title, path, packets in workloads(self.folder, self.part):
-            for words in (REPLAY, SHOW):
+            for words in (REPLAY, SHOW) if title != LAST_FIRST else (REPLAY,):
                 text = self.beside_plain(words, title, path, packets)
                 self.row(words + ['--json'], title, path, packets, text, TEXT['--json'])
             self.beside_plain(SAVE, title, path, packets)
@@ -126,27 +127,24 @@ class Bench:
                 self.row(SHOW + [form], title, *capture, text, bar)
 
     def longest(self):
-        """The rows of packets of 64,800 bytes: one that is refused, an ordinary name, and the one of which most labels are read,
-        which is judged beside the first."""
+        """The rows of packets of 64,800 bytes: one that is refused, and beside it the one of which most labels are read."""
         least = self.row(SHOW, '64,800 bytes, refused', *captured(self.folder, 'refused', refused(64_800, self.times)))
-        self.row(SHOW, '10,800 pointers to a name', *captured(self.folder, 'pointed', pointed(FRED, 10_800, self.times)))
         self.row(SHOW, '10,800 to 111 labels', *captured(self.folder, 'pointed', pointed(labels(111), 10_800, self.times)), least, WORST)
 
     def flood(self):
         """The rows of one address's keys: not counted, all of them counted, and limited to fewer."""
         path, packets = captured(self.folder, 'one address', one_address(60_000 // self.part))
         free = self.row(['replay', *MANY, 'FRED<20>'], 'one address', path, packets)
-        for most in (60_000, *LIMITS):
+        for most in (60_000, 1_000, 64):
             words = ['replay', *MANY, '--per-source', str(most), 'FRED<20>']
             self.row(words, f'one address, {most:,} keys of it', path, packets, free, PER_SOURCE)
 
     def growth(self):
-        """A line for each way to grow: the instructions of one among so many, and among ten times and a hundred times as many."""
+        """A line for each way to grow: the instructions of one among so many, and among up to a hundred times as many."""
         if not shutil.which('valgrind'):
             counts['skipped'] += len(GROWING) + 1
             return
-        costs = [(words, title, [self.cost_of_one(words, lines, size) for size in self.sizes], bar)
-                 for title, words, lines, bar in GROWING]
+        costs = [(words, title, list(self.costs_of_one(words, lines)), bar) for title, words, lines, bar in GROWING]
         costs.append((MERGE, 'bytes of an entry that grows', [self.cost_of_a_byte(size) for size in self.sizes], GROWN))
         for words, title, of_sizes, bar in costs:
             self.judged(words[0], title, of_sizes[-1] / of_sizes[0], bar, tuple(f'{each:,.0f}' for each in of_sizes))
@@ -156,14 +154,13 @@ class Bench:
         alone, grown = (written(self.folder, f'{count} tables', saved_after(held, count)) for count in (0, TABLES))
         return (instructions([self.program, *MERGE], grown) - instructions([self.program, *MERGE], alone)) / TABLES
 
-    def cost_of_one(self, words, lines, size):
-        """The instructions for each packet, without those for none."""
-        path, packets = captured(self.folder, 'growing', lines(size))
-        none = written(self.folder, 'none', [b'4e42543200000000\n' * 8] if words == MERGE else [])
-        if words == MERGE:
-            path = saved_parts(self.program, self.folder, path)
-        command = [self.program, *words]
-        return (instructions(command, path) - instructions(command, none)) / packets
+    def costs_of_one(self, words, lines):
+        """The instructions for each packet of each size, without those for none."""
+        command, is_merge = [self.program, *words], words == MERGE
+        none = instructions(command, written(self.folder, 'none', [b'4e42543200000000\n' * 8] if is_merge else []))
+        for size in self.sizes:
+            path, packets = captured(self.folder, 'growing', lines(size))
+            yield (instructions(command, saved_parts(self.program, self.folder, path) if is_merge else path) - none) / packets
 
 
 def main():

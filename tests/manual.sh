@@ -170,16 +170,12 @@ completion() {
     done
 }
 
-# packaged FOLDER: a Debian package of the program, in this folder.
-packaged() {
-    DEBFULLNAME='A tester' DEBEMAIL=tester@example.org \
-        make -s -C "$here/.." deb PROGRAM="$(realpath "$program")" DEB="$1" >"$room/output" 2>&1
-}
-
-# The package has what is installed, its program and tools run, and its version is the program's and CHANGELOG.md's.
+# The package has what is installed, its program and tools run, and its version is the program's and CHANGELOG.md's. That it is made
+# of the same bytes once more, and what lintian says of it, tests/targets.sh shows of all packages.
 package() {
     local tool version package
-    packaged "$room/deb"
+    DEBFULLNAME='A tester' DEBEMAIL=tester@example.org \
+        make -s -C "$here/.." deb PROGRAM="$(realpath "$program")" DEB="$room/deb" >"$room/output" 2>&1
     count $? "make deb: $(cat "$room/output")"
     package=$(echo "$room"/deb/nbt_*_amd64.deb)
     version=$(sed -nE '/^## /{ s/^## ([0-9.]+), [0-9-]{10}$/\1/p; q; }' "$here/../CHANGELOG.md")
@@ -190,16 +186,6 @@ package() {
         (cd "$room" && ended "$room/unpacked/usr/bin/$tool" --help) >"$room/output" 2>&1 && [ -f "$room/unpacked/usr/share/man/man1/$tool.1.gz" ]
         count $? "$tool, unpacked: $(head -n 1 "$room/output")"
     done
-    packaged "$room/again" && cmp -s "$package" "$room/again/${package##*/}"
-    count $? 'make deb, once more: the same bytes'
-}
-
-# A file with the licence is for the owner to add.
-package_lint() {
-    packaged "$room/deb"
-    ended lintian --tag-display-limit 0 --fail-on none "$room"/deb/nbt_*_amd64.deb >"$room/lint" 2>/dev/null
-    [ $? -lt 2 ] && ! grep '^E: ' "$room/lint" | grep -v 'no-copyright-file'
-    count $? 'lintian finds no error'
 }
 
 if command -v mandoc >/dev/null; then part mandoc lint; else lacks mandoc mandoc; fi
@@ -210,5 +196,4 @@ part bash completion bash nbt.bash
 if command -v zsh >/dev/null; then part zsh completion zsh _nbt; else lacks zsh zsh; fi
 parts prefixes
 if command -v dpkg-deb >/dev/null; then part deb package; else lacks deb dpkg-deb; fi
-if command -v lintian >/dev/null; then part lintian package_lint; else lacks lintian lintian; fi
 finish

@@ -29,17 +29,17 @@ STATIONS = b'\x05\x06\x07\x08\x09'
 STATION = re.compile(rb'(\x02\0\0\0\0|\x0a[\0\1]\0)([%s])' % STATIONS)
 NAME = re.compile(rb'\x20[A-P]{32}\0')
 # In a frame its protocol, its payload with UDP, and the last byte of an identifier, which flags follow.
-PROTOCOL, PAYLOAD, HEADER = 23, 42, (43, 44, 44, 45)
+PROTOCOL, PAYLOAD, HEADER = 23, 42, (43, 44, 44, 45, 45)
 
 
 def network(seed, captures):
     """The frames of a network, by the chances of a seed."""
     rng, frames, start = random.Random(f'network {seed}'), [], 0
     least, names = rng.choice(SNAPS), rng.sample(sorted({name for each in captures for _, data, _ in each for name in NAME.findall(data)}), 3)
-    for _ in range(rng.randint(2, 20)):
+    for _ in range(rng.randint(4, 40)):
         capture = rng.choice(captures)
-        first = rng.choice((0, 0, rng.randrange(len(capture))))
-        part = capture[first:rng.choice((None, None, first + rng.randint(1, 3)))]
+        first = rng.choice((0, rng.randrange(len(capture))))
+        part = capture[first:first + rng.randint(1, 8)]
         start += rng.choice((0, 3, 245, 400, 3_000, 12_000, 400_000)) * 1_000 + rng.randint(0, 999)
         frames += [(start + at - part[0][0], data, snap or (least and min(least, len(data)))) for at, data, snap in moved(part, names, rng)]
         start += rng.choice((0, max(part[-1][0] - part[0][0], 0)))
@@ -54,7 +54,7 @@ def moved(part, names, rng):
     for at, data, snap in part:
         data = STATION.sub(lambda it: it[1] + bytes([others[it[2][0]]]), data)
         data = bytearray(NAME.sub(lambda it: named.setdefault(it[0], rng.choice(names)), data))
-        if data[PROTOCOL] == UDP and rng.random() < 0.2:
+        if data[PROTOCOL] == UDP and rng.random() < 0.08:
             data[rng.choice(HEADER)] ^= 1 << rng.randrange(8)
         yield at, bytes(data), snap
 
@@ -87,8 +87,7 @@ def main():
 
 def difference(path, page, tool):
     """The tables that the page and the tool don't show alike; a capture of which they do so is kept."""
-    page, tool = ({title: table.rows for title, table in each.items() if title != UNREAD and table.rows} for each in (page, tool))
-    titles = [each for each in sorted(page.keys() | tool.keys()) if page.get(each) != tool.get(each)]
+    titles = [each for each in sorted((page.keys() | tool.keys()) - {UNREAD}) if page.get(each) != tool.get(each)]
     kept = titles and shutil.copy(path, os.path.join(tempfile.gettempdir(), f'network-{os.path.basename(path)}'))
     return titles and f'{kept}: ' + '; '.join(f'{each}: the page {page.get(each)}, nbt-look {tool.get(each)}' for each in titles)
 

@@ -97,12 +97,8 @@ def found_by_tshark(path):
         parted = ((137, 'nbns' in protocols, values[:2]), (138, 'nbdgm' in protocols, values[2:4]), (139, values[4], values[4:]))
         for service, is_there, pair in parted:
             if is_there:
-                found[int(number), service] = list(zip(*(map(whole, each.split(',')) for each in pair)))
+                found[int(number), service] = list(zip(*([int(it, 0) if it else None for it in each.split(',')] for each in pair)))
     return found
-
-
-def whole(text):
-    return int(text, 0) if text else None
 
 
 def miscounted(summary, objects, packets, other):

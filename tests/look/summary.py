@@ -116,8 +116,13 @@ class Network(Frames):
             return []
         lines = built(self.program, *words)
         lines = lines[int(options['pick'].split(',')[number]) - 1:][:1] if 'pick' in options else lines
-        parted = [line.split() for line in lines]
-        return [(int(port), changed(b'' if digits == 'empty' else bytes.fromhex(digits), options), ACK) for port, _, digits in parted]
+        place, _, other = options.get('patch', '0:').partition(':')
+        found, at = [], 2 * int(place)
+        for port, _, digits in map(str.split, lines):
+            digits = digits.replace('empty', '')
+            payload = bytes.fromhex(digits[:at] + other + digits[at + len(other):])
+            found.append((int(port), payload[:int(options.get('front', len(payload)))], ACK))
+        return found
 
 
 @functools.cache
@@ -138,15 +143,6 @@ def options_of(text):
 def ends_of(text, port):
     address, _, given = text.partition(':')
     return bytes(map(int, address.split('.'))), int(given or port)
-
-
-def changed(payload, options):
-    """A payload after patch= and front=."""
-    if 'patch' in options:
-        place, _, digits = options['patch'].partition(':')
-        data = bytes.fromhex(digits)
-        payload = payload[:int(place)] + data + payload[int(place) + len(data):]
-    return payload[:int(options['front'])] if 'front' in options else payload
 
 
 def frames_of(case, program):

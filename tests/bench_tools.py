@@ -1,8 +1,8 @@
 #!/usr/bin/env python3
 """What tools/nbt-look and the plugin for Wireshark cost beside tshark.  Usage: tests/bench_tools.py [PLUGIN [PACKETS [PAIRS]]]
 
-Of so many packets (100,000) of tests/captures/big_pcap.py. First the processor seconds of nbt-look, with those of tshark and nbt, beside those of
-tshark alone with the fields that nbt-look asks it for.
+Of so many packets (100,000) of tests/captures/big_pcap.py. First the processor seconds of nbt-look, with those of tshark and nbt,
+beside those of tshark alone with the fields that nbt-look asks it for.
 
 Then, where PLUGIN is there, out/nbt.so without it, the list that tshark prints with it and without, in one pass and in two, its frame
 numbers and its trees; and of as many packets at other ports. A run with the plugin and one without it go on at the same time, so that

@@ -1,10 +1,10 @@
 #!/usr/bin/env python3
 """Random networks through tools/nbt-look --summary and through the modules of the page, in node: both say the same of them, row for row.
 
-Usage: tests/look/random_networks.py COUNT [SEED [PROGRAM]]: networks of the seeds SEED and on (1), with nbt on PATH for nbt-look, and PROGRAM for the
-page. A network has parts of the captures of tests/summary/, whose cases say what is true of their packets: some beside each other, others later, with
-their stations exchanged, few names and other bits of headers, so that those that have one name meet. Of every other one bytes are changed, and frames
-cut, left out, doubled and moved. The last line is 'N passed, M failed'; a capture that fails is kept in the folder of temporary files, and named.
+Usage: tests/look/random_networks.py COUNT [SEED [PROGRAM]]: networks of the seeds SEED and on (1), with nbt on PATH for nbt-look, and
+PROGRAM for the page. A network has parts of the captures of tests/summary/, whose cases say what is true: some beside each other, others
+later, with stations exchanged, few names, and other bits of headers. Of every other one bytes are changed, and frames cut, left out,
+doubled and moved. The last line is 'N passed, M failed'; a capture that fails is kept in the folder of temporary files, and named.
 """
 import concurrent.futures
 import os
@@ -35,7 +35,7 @@ PROTOCOL, PAYLOAD, HEADER = 23, 42, (43, 44, 44, 45, 45)
 def network(seed, captures):
     """The frames of a network, by the chances of a seed."""
     rng, frames, start = random.Random(f'network {seed}'), [], 0
-    least, names = rng.choice(SNAPS), rng.sample(sorted({name for each in captures for _, data, _ in each for name in NAME.findall(data)}), 3)
+    least, names = rng.choice(SNAPS), rng.sample(sorted({name for it in captures for _, data, _ in it for name in NAME.findall(data)}), 3)
     for _ in range(rng.randint(4, 40)):
         capture = rng.choice(captures)
         first = rng.choice((0, rng.randrange(len(capture))))

@@ -1,12 +1,11 @@
 #!/usr/bin/env python3
 """What tools/nbt-look and the plugin for Wireshark cost beside tshark.  Usage: tests/bench_tools.py [PLUGIN [PACKETS [PAIRS]]]
 
-Of so many packets (100,000) of tests/captures/big_pcap.py. First what nbt-look takes beside tshark alone, with the fields that nbt-look
-asks it for: the least seconds of three runs, how many times as long that is, and the peak of its own resident memory, without tshark and
-nbt.
+Of so many packets (100,000) of tests/captures/big_pcap.py. First the processor seconds of nbt-look, with those of tshark and nbt,
+beside those of tshark alone with the fields that nbt-look asks it for.
 
 Then, where PLUGIN is there, out/nbt.so without it, the list that tshark prints with it and without, in one pass and in two, its frame
-numbers and its trees; and of the same packets at other ports. A run with the plugin and one without it go on at the same time, so that
+numbers and its trees; and of as many packets at other ports. A run with the plugin and one without it go on at the same time, so that
 what else the machine does meets both: the ratio is the median of so many pairs' (7), of processor seconds, and the least and the largest
 stand beside it. How many bytes a packet tshark has more in memory is a median too. As root nobody runs it. Status 1 where a bar is passed
 by more than a twentieth.
@@ -17,53 +16,32 @@ import statistics
 import subprocess
 import sys
 import tempfile
-import time
 import types
 
 sys.dont_write_bytecode = True
 HERE = os.path.dirname(os.path.abspath(__file__))
 TOOLS = os.path.join(HERE, '..', 'tools')
 sys.path[1:1] = [f'{HERE}/bench', f'{HERE}/lib', TOOLS]
-from bench_rows import HEADING, Row, heading, show
+from bench_rows import HEADING, Row, heading, least, processor_seconds, show
 from nbt_look.frames import FIELDS, STATISTICS
 from nbt_pcap.arguments import SERVICES
 from nbt_pcap.tshark import command_of
 from parts import finish
+from wire import QUERY, SHORT, TCP, ethernet, ip, pcap, sent, spaced, tcp, written
 
-RUNS = 3
 # How many times tshark's own cost, and how many bytes a packet.
 LIST, OTHER_PORTS, BYTES = 1.2, 1.05, 200
 NOBODY = 65_534
-PORTS = {137: 53, 138: 53, 139: 80}
-# Runs a tool in a process of its own, whose peak of memory is the last line of standard error.
-MEASURED = '''import resource, runpy, sys
-sys.argv = sys.argv[1:]
-sys.path.insert(0, sys.argv[0].rpartition("/")[0])
-try:
-    runpy.run_path(sys.argv[0], run_name="__main__")
-finally:
-    print(resource.getrusage(resource.RUSAGE_SELF).ru_maxrss, file=sys.stderr)
-'''
-
-
-def best(command):
-    """The least seconds of some runs, and the last word of standard error."""
-    found = []
-    for _ in range(RUNS):
-        start = time.perf_counter()
-        done = subprocess.run(command, stdin=subprocess.DEVNULL, stdout=subprocess.DEVNULL, stderr=subprocess.PIPE, check=True)
-        found.append((time.perf_counter() - start, (done.stderr.split() or [b'-'])[-1].decode()))
-    return min(found)
 
 
 def of_look(path):
     """The rows of nbt-look."""
     options = types.SimpleNamespace(ports=[(each, each) for each in SERVICES], file=path, live=False, interface=None)
-    alone, _ = best(command_of(options, FIELDS, STATISTICS))
+    alone = least(processor_seconds, command_of(options, FIELDS, STATISTICS), path)
     yield Row('tshark alone', seconds=alone)
     for words in ([], ['--json', '--quiet'], ['--summary']):
-        taken, peak = best([sys.executable, '-c', MEASURED, f'{TOOLS}/nbt-look', *words, path])
-        yield Row(' '.join(['nbt-look', *words]), seconds=taken, of=taken / alone, said=f'{peak} kB')
+        taken = least(processor_seconds, [f'{TOOLS}/nbt-look', *words, path], path)
+        yield Row(' '.join(['nbt-look', *words]), seconds=taken, of=taken / alone)
 
 
 def home_with(folder, plugin):
@@ -91,22 +69,6 @@ def pair(homes, words):
             raise SystemExit(f'{" ".join(child.args)}: status {child.returncode}')
         found.append((usage.ru_utime + usage.ru_stime, usage.ru_maxrss * 1024))
     return found
-
-
-def at_other_ports(source, target):
-    """The same file, with each packet at a port of another service."""
-    with open(source, 'rb') as file:
-        data = bytearray(file.read())
-    at = 24
-    while at < len(data):
-        size = int.from_bytes(data[at + 8:at + 12], 'little')
-        ports = at + 16 + 14 + 20
-        for place in (ports, ports + 2):
-            port = int.from_bytes(data[place:place + 2], 'big')
-            data[place:place + 2] = PORTS.get(port, port).to_bytes(2, 'big')
-        at += 16 + size
-    with open(target, 'wb') as file:
-        file.write(data)
 
 
 def of_plugin(homes, path, other, packets, pairs):
@@ -137,7 +99,8 @@ def main():
         show(of_look(path))
         if os.path.exists(plugin):
             homes = [home_with(folder, os.path.realpath(plugin)), home_with(folder, None)]
-            at_other_ports(path, other)
+            frames = [ethernet(sent(53, QUERY)), ethernet(ip(TCP, tcp(50_000, 80, 1, SHORT)))]
+            written(other, pcap(spaced(frames * (packets // 2))))
             show(of_plugin(homes, path, other, packets, pairs))
     return finish()
 

@@ -28,27 +28,10 @@ cases() { counted_by lib/samples.py "$files" "$here/look/cases.txt" "$1" VERSION
 # Stations that Samba makes: the whole of a capture, what snap lengths leave of it, and what is left where frames are missing.
 samba() {
     local length
-    for length in 54 96 200 400; do editcap -s $length "$here/../examples/samba.pcap" "$room/samba-$length.pcap"; done
+    for length in 54 96 200; do editcap -s $length "$here/../examples/samba.pcap" "$room/samba-$length.pcap"; done
     editcap "$here/../examples/samba.pcap" "$room/samba-gaps.pcap" 30-40 113 137
     counted_by look/beside_tshark.py "$here"/../examples/{office,samba}.pcap "$room"/samba*.pcap
     cases samba
-}
-
-# Ctrl-C while a tool begins: no traceback, and at most one line. Those that read and write pcaps tests/wireshark/cases.txt has.
-early() {
-    local seconds
-    while IFS=' ' read -r -a words; do
-        for seconds in 0 0.02 0.05 0.1 0.2; do
-            (cd "$files" && "$here/lib/interrupted.py" $seconds /dev/null "$room/output" "$here/../tools/${words[0]}" "${words[@]:1}" 2>"$room/errors")
-            [ $? -ne 124 ] && [ "$(wc -l <"$room/errors")" -le 1 ] && ! grep -q Traceback "$room/errors"
-            count $? "${words[*]}, Ctrl-C after $seconds s: $(tail -n 3 "$room/errors")"
-        done
-    done <<'END'
-nbt-look -
-nbt-station --port 20139 FRED<20>
-nbt-parallel --quiet capture early.table
-nbt-dask --quiet --workers 1 capture early.table
-END
 }
 
 # What makes a row of each table, by docs/SUMMARY.md.
@@ -91,7 +74,7 @@ live() {
 }
 
 prepared
-for each in list filters objects summary tables words programs guesses frames cut pages bad terminals; do part $each cases $each; done
-parts samba summaries early random growing live
+for each in list filters objects summary tables words programs early guesses frames cut pages bad terminals; do part $each cases $each; done
+parts samba summaries random growing live
 if /usr/bin/python3 -c 'import rich' 2>/dev/null; then part colours colours; else lacks colours python3-rich; fi
 finish

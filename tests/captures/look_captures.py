@@ -27,29 +27,21 @@ def query(name, number=3):
     return ethernet(sent(137, service(number, 0x0110, name, NB)))
 
 
-def tagged(tags):
-    return query(FRED)[:12] + tags + query(FRED)[12:]
-
-
 def fragment(packet, start, end, number):
     """A fragment of IP, which more follow where it has an end."""
     return ethernet(ip(UDP, packet[start:end], fragment=(0x2000 if end else 0) | start // 8, identifier=number))
-
-
-def address(last):
-    return bytes([10, 0, 0, last])
 
 
 class Lan(Frames):
     """The frames of a network 10.0.0.0, whose stations have the last numbers of their addresses."""
 
     def says(self, at, source, target, port, payload, snap=None):
-        self.add(at, *((address(each), port) for each in (source, target)), port, payload, snap=snap)
+        self.add(at, *((bytes([10, 0, 0, each]), port) for each in (source, target)), port, payload, snap=snap)
 
 
 def entry(last, flags=0):
     """A record with an address."""
-    return record(NB, struct.pack('>H', flags) + address(last), 300_000)
+    return record(NB, struct.pack('>H', flags) + bytes([10, 0, 0, last]), 300_000)
 
 
 def life():
@@ -125,7 +117,8 @@ CAPTURES = {
     # Three interfaces, of which the second one has a name.
     'nameless': pcapng([b'', b'eth0', b''], *(query(FRED, each) for each in range(3))),
     # A query below a service tag and a customer tag, below two of the first kind, and below one of them.
-    'qinq': pcap(spaced(map(tagged, (b'\x88\xa8\0\x64\x81\0\0\xc8', b'\x88\xa8\0\x64\x88\xa8\0\xc8', b'\x88\xa8\0\x64')), 1)),
+    'qinq': pcap(spaced([query(FRED)[:12] + tags + query(FRED)[12:] for tags in (
+        b'\x88\xa8\0\x64\x81\0\0\xc8', b'\x88\xa8\0\x64\x88\xa8\0\xc8', b'\x88\xa8\0\x64')], 1)),
     # Nothing of these ports.
     'others': pcap(spaced((SMB, NETBEUI, NETBEUI), 1)),
     'usb': pcap(spaced([bytes(64)] * 3, 1), USB),

@@ -1,18 +1,19 @@
 #!/usr/bin/env python3
-"""Captures through tools/nbt-look, beside tools/pcap2cap and the fields of tshark.  Usage: tests/look/beside_tshark.py COUNT [SEED], or ..
-FILE..
+"""Captures through tools/nbt-look, beside tools/pcap2cap, and files beside the fields of tshark too.
 
-Random captures are those of tests/captures/random_pcap.py. Of each capture the packets are those that pcap2cap has, each with its frame,
-time, addresses, ports and service; as much is left out for each reason, but for fragments of IP; and what the last lines count adds up.
-Of each frame the packets are those that tshark dissects: nbns by the number and the word of its header, nbdgm by its kind and number,
-nbss by its type and length. Of a packet that is refused their count alone is compared; a frame of which something is left out, with a
-reason, may differ; of a packet that is cut the header is the same, where it stands. What ICMP quotes is no packet, and for tshark neither
-is a payload of no bytes. Of random captures, whose bytes are seldom what those ports have, tshark's frames of the name and datagram
-services have to be there alone. The last line is 'N passed, M failed'; a random capture that fails is kept in the folder of temporary
+Usage: tests/look/beside_tshark.py COUNT [SEED], or .. FILE..
+
+Random captures are those of tests/captures/random_pcap.py; tests/wireshark/random_captures.py says which packets they have. Of each
+capture the packets are those that pcap2cap has, each with its frame, time, addresses, ports and service; as much is left out for each
+reason, but for fragments of IP; and what the last lines count adds up.
+
+Of each frame of a file the packets are those that tshark dissects: nbns by the number and the word of its header, nbdgm by its kind and
+number, nbss by its type and length. Of a packet that is refused their count alone is compared; a frame of which something is left out,
+with a reason, may differ; of a packet that is cut the header is the same, where it stands. What ICMP quotes is no packet, and for tshark
+neither is a payload of no bytes. The last line is 'N passed, M failed'; a random capture that fails is kept in the folder of temporary
 files, and named.
 """
 import collections
-import functools
 import json
 import re
 import subprocess
@@ -36,10 +37,10 @@ REFUSED, EMPTY = None, 'truncated 0'
 def main():
     if sys.argv[1].endswith('.pcap'):
         return tally((path, first_difference(path, unlike_tshark)) for path in sys.argv[1:])
-    return compared('looks', pcap_of, functools.partial(first_difference, beside=unseen))
+    return compared('looks', pcap_of, first_difference)
 
 
-def first_difference(path, beside):
+def first_difference(path, beside=lambda path, objects: ''):
     """What the tool shows of a capture that the others don't find, or the other way round."""
     done, other = (run(f'{TOOLS}/{tool}', *words, path) for tool, words in (('nbt-look', ['--json']), ('pcap2cap', [])))
     objects = [json.loads(line, object_pairs_hook=members) for line in done.stdout.splitlines()]
@@ -47,7 +48,7 @@ def first_difference(path, beside):
     given, wanted = collections.Counter(map(head_of, packets)), collections.Counter(PAYLOAD.findall(other.stdout))
     if given != wanted:
         return f'{list((given - wanted).items())[:3]} in place of {list((wanted - given).items())[:3]}'
-    return beside(objects, found_by_tshark(path)) or miscounted(done.stderr, objects, packets, other.stderr)
+    return beside(path, objects) or miscounted(done.stderr, objects, packets, other.stderr)
 
 
 def members(pairs):
@@ -57,15 +58,10 @@ def members(pairs):
     return found
 
 
-def unseen(objects, theirs):
-    """The frames of the name and datagram services that are nowhere."""
-    missing = {frame for frame, service in theirs if service != 139} - frames_of(objects)
-    return missing and f'frames of these services are nowhere: {sorted(missing)}'
-
-
-def unlike_tshark(objects, theirs):
+def unlike_tshark(path, objects):
     """The first frame of which tshark has other packets."""
-    ours, left_out = collections.defaultdict(list), {each['frame'] for each in objects if 'left_out' in each or 'cut' in each}
+    theirs, ours = found_by_tshark(path), collections.defaultdict(list)
+    left_out = {each['frame'] for each in objects if 'left_out' in each or 'cut' in each}
     for each in objects:
         found = theirs.get((each['frame'], each.get('port')), [])
         if 'cut' in each:
@@ -101,12 +97,8 @@ def found_by_tshark(path):
         parted = ((137, 'nbns' in protocols, values[:2]), (138, 'nbdgm' in protocols, values[2:4]), (139, values[4], values[4:]))
         for service, is_there, pair in parted:
             if is_there:
-                found[int(number), service] = list(zip(*(map(whole, each.split(',')) for each in pair)))
+                found[int(number), service] = list(zip(*([int(it, 0) if it else None for it in each.split(',')] for each in pair)))
     return found
-
-
-def whole(text):
-    return int(text, 0) if text else None
 
 
 def miscounted(summary, objects, packets, other):
@@ -117,17 +109,13 @@ def miscounted(summary, objects, packets, other):
     if counts != wanted or counted(found[5]) != counted(other.strip().partition(': ')[2]):
         return f'{summary.strip()}, not {wanted}, {other.strip()}'
     without = re.search(r'^(\d+) frames? without a packet: (.*)$', summary, re.MULTILINE)
-    missing = [frames - len(frames_of(objects))] * 2 if packets else []
+    missing = [frames - len({each['frame'] for each in objects})] * 2 if packets else []
     sums = [int(without[1]), sum(int(each.split()[0]) for each in without[2].split(', '))] if without else missing and [0, 0]
     return '' if not packets or sums == missing else f'{summary.strip()}, not {missing[0]} frames without a packet'
 
 
 def run(*words):
     return subprocess.run(words, capture_output=True, text=True, timeout=120, check=False)
-
-
-def frames_of(objects):
-    return {each['frame'] for each in objects}
 
 
 def counted(reasons):

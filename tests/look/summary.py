@@ -2,14 +2,13 @@
 """The cases of tests/summary/, captures as text, and the tables that they have (docs/SUMMARY.md has the rules), through tools/nbt-look --summary,
 or with --page through the modules of the page, in node: each has the tables that stand there, and no others.
 
-Usage: tests/look/summary.py [--page] [--only=WORD] [PROGRAM], with nbt on PATH for nbt-look, or PROGRAM in its place where packets are
-made, and where the page asks the library. The last line is 'N passed, M failed'.
+Usage: tests/look/summary.py [--page] [PROGRAM], with nbt on PATH for nbt-look, or PROGRAM in its place where packets are made, and where
+the page asks the library. The last line is 'N passed, M failed'.
 
 A file has cases, each after a line `== WHAT`. A line of packets is `MOMENTS FROM > TO WORDS`, with ` < WORDS` behind it for each packet
 that comes back, and ` > WORDS` for further ones. MOMENTS are milliseconds with commas between: one for each of them, or those at which a
 single one is sent again. FROM and TO are addresses, with a port where it isn't the service's own. WORDS are
 
-  bytes PORT HEX  a payload
   syn, ack        a SYN, or a SYN with ACK, of the session service
   skip N          N bytes of a stream that aren't in the capture; below 0 it goes back, by 100,000 more before a SYN that comes again
   ad86 ..         a response with this flag word to the line's first packet: the kind of its record where it isn't 0020, its TTL and its RDATA
@@ -50,15 +49,7 @@ FLAG_WORD = re.compile('[0-9a-f]{4}')
 BETWEEN = ' | '
 TITLES = {'queries': 'queries without an answer', 'failed': 'failed datagrams', 'left-out': 'left out'}
 # What is shown of nearly each capture, or counted elsewhere.
-BESIDES = ('stations', 'left out')
-
-
-@dataclass
-class Table:
-    """The rows of a table, as texts, by its columns."""
-
-    columns: list
-    rows: list = field(default_factory=list)
+BESIDES = {'stations', 'left out'}
 
 
 @dataclass
@@ -73,23 +64,19 @@ class Case:
 
 def cases():
     """All cases."""
-    for path in sorted(glob.glob(f'{HERE}/../summary/*.txt')):
-        yield from cases_in(path)
-
-
-def cases_in(path):
     found = []
-    with open(path, encoding='utf-8') as file:
-        lines = file.read().replace(' |\n', BETWEEN).splitlines()
-    for line in lines:
-        if line.startswith('== '):
-            found.append(Case(os.path.basename(path), line[3:]))
-        elif line[:1].isdigit():
-            found[-1].packets.append(line)
-        elif line and not line.startswith('#'):
-            name, _, cells = line.partition(': ')
-            parted = (each.rpartition('=') for each in cells.split(BETWEEN))
-            found[-1].tables.setdefault(TITLES.get(name, name), []).append({column: text for column, _, text in parted})
+    for path in sorted(glob.glob(f'{HERE}/../summary/*.txt')):
+        with open(path, encoding='utf-8') as file:
+            lines = file.read().replace(' |\n', BETWEEN).splitlines()
+        for line in lines:
+            if line.startswith('== '):
+                found.append(Case(os.path.basename(path), line[3:]))
+            elif line[:1].isdigit():
+                found[-1].packets.append(line)
+            elif line and not line.startswith('#'):
+                name, _, cells = line.partition(': ')
+                parted = (each.rpartition('=') for each in cells.split(BETWEEN))
+                found[-1].tables.setdefault(TITLES.get(name, name), []).append({column: text for column, _, text in parted})
     return found
 
 
@@ -110,7 +97,9 @@ class Network(Frames):
         for number, moment in enumerate(moments):
             options, words = said[number % len(said)]
             ends = (source, target[2:]) if ways[number % len(said)] == '>' else (options.get('by', target[2:]), source)
-            words = answer(words, asked) if FLAG_WORD.fullmatch(words[0]) else words
+            if FLAG_WORD.fullmatch(words[0]):
+                word, *kind, lifetime, data = words
+                words = ['response', asked[0], word, asked[1], *(kind or ['0020']), lifetime, data]
             for port, payload, flags in self.payloads(words, options, ends, number):
                 snap = int(options['cut']) if 'cut' in options else None
                 mac = bytes.fromhex(options.get('mac', ''))
@@ -125,12 +114,15 @@ class Network(Frames):
             key = tuple(ends_of(each, 139) for each in ends)
             self.due[key] = self.due.get(key, 1_000) + int(words[1])
             return []
-        if verb == 'bytes':
-            return [(int(words[1]), changed(bytes.fromhex(words[2]), options), ACK)]
         lines = built(self.program, *words)
         lines = lines[int(options['pick'].split(',')[number]) - 1:][:1] if 'pick' in options else lines
-        parted = [line.split() for line in lines]
-        return [(int(port), changed(b'' if digits == 'empty' else bytes.fromhex(digits), options), ACK) for port, _, digits in parted]
+        place, _, other = options.get('patch', '0:').partition(':')
+        found, at = [], 2 * int(place)
+        for port, _, digits in map(str.split, lines):
+            digits = digits.replace('empty', '')
+            payload = bytes.fromhex(digits[:at] + other + digits[at + len(other):])
+            found.append((int(port), payload[:int(options.get('front', len(payload)))], ACK))
+        return found
 
 
 @functools.cache
@@ -148,25 +140,9 @@ def options_of(text):
     return options, text.split()
 
 
-def answer(words, asked):
-    """The words of `nbt build` for a response with a flag word, about the identifier and the name of what was asked."""
-    word, *kind, lifetime, data = words
-    identifier, name = asked
-    return ['response', identifier, word, name, *(kind or ['0020']), lifetime, data]
-
-
 def ends_of(text, port):
     address, _, given = text.partition(':')
     return bytes(map(int, address.split('.'))), int(given or port)
-
-
-def changed(payload, options):
-    """A payload after patch= and front=."""
-    if 'patch' in options:
-        place, _, digits = options['patch'].partition(':')
-        data = bytes.fromhex(digits)
-        payload = payload[:int(place)] + data + payload[int(place) + len(data):]
-    return payload[:int(options['front'])] if 'front' in options else payload
 
 
 def frames_of(case, program):
@@ -178,39 +154,34 @@ def frames_of(case, program):
 
 
 def tables_in(text):
-    """The tables of a summary: of each title the columns, and rows of cells."""
+    """The tables of a summary: of each title the rows."""
     found = {}
     for block in text.split('\n\n'):
         title, *lines = block.splitlines()
-        if not lines or not lines[0].startswith('  '):
-            continue
-        starts = [match.start() for match in re.finditer(r'(?<=  )\S', lines[0])]
-        parted = [[line[start:end].strip() for start, end in zip(starts, [*starts[1:], None])] for line in lines]
-        found[title] = Table(parted[0], parted[1:])
+        if lines and lines[0].startswith('  '):
+            starts = [match.start() for match in re.finditer(r'(?<=  )\S', lines[0])]
+            columns, *rows = ([line[start:end].strip() for start, end in zip(starts, [*starts[1:], None])] for line in lines)
+            found[title] = rows_of(columns, rows)
     return found
 
 
+def rows_of(columns, rows):
+    """Rows of texts by their columns."""
+    return [{'': row[0], **dict(zip(columns, row))} for row in rows]
+
+
 def difference(case, shown):
-    """What is shown that isn't there, and the other way round; nothing where all is well."""
-    for title in shown.keys() | case.tables.keys():
-        wanted, given = case.tables.get(title), shown.get(title)
-        if wanted is None:
-            if title not in BESIDES:
-                return f'{title} are shown: {given.rows}'
-        elif given is None:
-            return f'{title} are not shown'
-        else:
-            rows = [dict(zip(given.columns, row)) | {'': row[0]} for row in given.rows]
-            if len(rows) != len(wanted) or not all(one.items() <= other.items() for one, other in zip(wanted, rows)):
-                return f'{title}: {given.rows}, not {wanted}'
+    """What is shown that isn't there, or the other way round; nothing where all is well."""
+    for title in [*case.tables, *sorted(shown.keys() - case.tables.keys() - BESIDES)]:
+        wanted, given = case.tables.get(title, []), shown.get(title, [])
+        if len(given) != len(wanted) or not all(one.items() <= other.items() for one, other in zip(wanted, given)):
+            return f'{title}: {given}, not {wanted}'
     return ''
 
 
 def main():
-    words = [each for each in sys.argv[1:] if not each.startswith('--')]
-    only = next((each.removeprefix('--only=') for each in sys.argv[1:] if each.startswith('--only=')), '')
-    program = program_of(words)
-    chosen = [each for each in cases() if only in f'{each.file}: {each.what}']
+    program = program_of([each for each in sys.argv[1:] if each != '--page'])
+    chosen = cases()
     with tempfile.TemporaryDirectory() as folder:
         paths = [written(f'{folder}/{number}', pcap(frames_of(each, program))) for number, each in enumerate(chosen)]
         shown = shown_by_page(program, paths) if '--page' in sys.argv else list(map(shown_by_tool, paths))
@@ -240,14 +211,14 @@ def shown_by_tool(path):
             os._exit(70)
         status = os.waitpid(child, 0)[1]
         shown.seek(0)
-        return tables_in(shown.read().decode()) if not status else {f'status {status}': Table([])}
+        return tables_in(shown.read().decode()) if not status else {f'status {status}': [{}]}
 
 
 def shown_by_page(program, paths):
     with tempfile.TemporaryDirectory() as folder:
         script, = bundled(folder, 'summary.mjs')
         done = subprocess.run(['node', script, program, *paths], stdout=subprocess.PIPE, text=True, timeout=300, check=True)
-    return [{title: Table(**each) for title, each in json.loads(line).items()} for line in done.stdout.splitlines()]
+    return [{title: rows_of(**each) for title, each in json.loads(line).items()} for line in done.stdout.splitlines()]
 
 
 if __name__ == '__main__':

@@ -4,7 +4,7 @@
 Usage: tests/look/summary_pictures.py [--check]    with python3-rich, and nbt on PATH; --check answers 1 where their words would differ
 """
 import io
-import os
+import pathlib
 import re
 import subprocess
 import sys
@@ -18,8 +18,9 @@ from rich import _export_format
 
 sys.path[1:1] = [f'{sys.path[0]}/../{it}' for it in ('captures', 'lib')]
 import look_captures
+from wire import written
 
-HERE = os.path.dirname(os.path.abspath(__file__))
+TOP = pathlib.Path(__file__).resolve().parents[2]
 WIDTH = 116
 THEMES = {'light': DEFAULT_TERMINAL_THEME, 'dark': DIMMED_MONOKAI}
 # A picture asks no other machine for its letters.
@@ -27,15 +28,14 @@ FORMAT = re.sub(r'@font-face \{\{.*?\}\}\s*', '', _export_format.CONSOLE_SVG_FOR
 
 
 def main():
-    differing = 0
+    console, differing = recorded(), 0
     for name, theme in THEMES.items():
-        path, drawn = f'{HERE}/../../docs/summary-{name}.svg', picture(theme)
-        if sys.argv[1:] != ['--check']:
-            with open(path, 'w', encoding='utf-8') as file:
-                file.write(drawn)
+        path = TOP / f'docs/summary-{name}.svg'
+        drawn = console.export_svg(title='nbt-look --summary', theme=theme, clear=False, code_format=FORMAT, unique_id='summary')
+        if sys.argv[1:] == ['--check']:
+            differing += words_of(path.read_text(encoding='utf-8')) != words_of(drawn)
         else:
-            with open(path, encoding='utf-8') as file:
-                differing += words_of(file.read()) != words_of(drawn)
+            path.write_text(drawn, encoding='utf-8')
     return differing > 0
 
 
@@ -43,15 +43,14 @@ def words_of(drawn):
     return re.findall('>([^<]*)</text>', drawn)
 
 
-def picture(theme):
+def recorded():
+    """A console that has the summary."""
     with tempfile.NamedTemporaryFile(suffix='.pcap') as capture:
-        capture.write(look_captures.life())
-        capture.flush()
-        shown = subprocess.run([f'{HERE}/../../tools/nbt-look', '--summary', '--color', 'always', capture.name], stdout=subprocess.PIPE,
-                               check=True).stdout.decode()
+        written(capture.name, look_captures.life())
+        shown = subprocess.check_output([TOP / 'tools/nbt-look', '--summary', '--color', 'always', capture.name], text=True)
     console = Console(record=True, width=WIDTH, file=io.StringIO(), force_terminal=True)
     console.print(Text.from_ansi(shown), soft_wrap=True)
-    return console.export_svg(title='nbt-look --summary', theme=theme, code_format=FORMAT, unique_id='summary')
+    return console
 
 
 if __name__ == '__main__':

@@ -75,8 +75,6 @@ def counted(words):
 class Cases(PacketCases, ViewCases, OpeningCases, PlacingCases, LookCases):
     """The parts, over one window, and the folder of their files."""
 
-    tests = TESTS
-
     def __init__(self, browser, folder):
         self.browser, self.folder = browser, folder
         self.page, self.program = f'{folder}/nbt.html', Program(PROGRAM, TOP, folder)
@@ -138,7 +136,7 @@ def run(folder):
         if '--pictures' in sys.argv:
             cases.pictures()
     finally:
-        browser.close()
+        browser.driver.quit()
 
 
 def tried(cases, name):

@@ -163,6 +163,3 @@ class Browser:
         size = {'width': wide, 'height': 740, 'deviceScaleFactor': 1, 'mobile': False} if wide else {}
         self.driver.execute_cdp_cmd(f"Emulation.{'set' if wide else 'clear'}DeviceMetricsOverride", size)
         self.run('document.documentElement.style.fontSize = arguments[0]', f'{letters}%' if letters != 100 else '')
-
-    def close(self):
-        self.driver.quit()

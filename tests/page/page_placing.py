@@ -1,6 +1,5 @@
 """The parts of tests/page.py on where files go that are opened while others are open, on closing them, and on stopping what is read."""
 import re
-import subprocess
 
 from page_files import KEEP
 from page_opening import PUT
@@ -85,7 +84,7 @@ class PlacingCases:
 
     def stop(self):
         """A long file is stopped: what was read stays, and can be looked at."""
-        subprocess.run([f'{self.tests}/captures/big_pcap.py', '60000', f'{self.folder}/long.pcap'], check=True)
+        self.program.bytes(f'{self.program.top}/tests/captures/big_pcap.py 60000 long.pcap')
         self.begin_long()
         self.browser.choose(self.browser.rows()[3][0])
         self.browser.id('stop').click()

@@ -13,6 +13,8 @@ import time
 sys.dont_write_bytecode = True
 TESTS = os.path.dirname(os.path.abspath(__file__))
 sys.path.insert(1, f'{TESTS}/page')
+import psutil
+
 from browser import Browser
 
 PAGE = os.path.realpath(sys.argv[1] if sys.argv[1:] else f'{TESTS}/../out/nbt.html')
@@ -68,25 +70,21 @@ def capture(folder, packets):
 
 def memory(browser):
     """The memory of the largest process that draws a page, in MB: the page, its worker and the module are in it."""
-    lines = subprocess.run(['ps', '-eo', 'pid,ppid,rss,args'], capture_output=True, text=True, check=True).stdout.splitlines()[1:]
-    processes = [(int(pid), int(parent), int(size), words) for pid, parent, size, words in (line.split(None, 3) for line in lines)]
-    ours = {browser.driver.service.process.pid}
-    for _ in range(5):
-        ours |= {pid for pid, parent, *_ in processes if parent in ours}
-    return max(size for pid, _, size, words in processes if pid in ours and '--type=renderer' in words) / 1000
+    processes = psutil.Process(browser.driver.service.process.pid).children(recursive=True)
+    return max(each.memory_info().rss for each in processes if '--type=renderer' in each.cmdline()) / 10**6
 
 
 def decoding(browser, path):
     """Seconds until all rows and the first are there, and the milliseconds of the slowest click meanwhile."""
     browser.open(PAGE)
-    browser.driver.execute_script(WATCH)
-    browser.id('file').send_keys(path)
+    browser.run(WATCH)
+    browser.offer(path)
     clicks = []
-    while browser.driver.execute_script('return found.decoded') is None:
+    while browser.run('return found.decoded') is None:
         took = browser.driver.execute_async_script(CLICK)
         clicks += [took] if took is not None else []
         time.sleep(0.02)
-    found = browser.driver.execute_script('return found')
+    found = browser.run('return found')
     return {'decoded': found['decoded'], 'first': found['first'], 'click': max(clicks, default=0)}, len(clicks)
 
 
@@ -105,7 +103,7 @@ def main():
             found['script'] = browser.driver.execute_async_script(SCROLL)
             rows = browser.text('shown')
         finally:
-            browser.close()
+            browser.driver.quit()
     print(f'the page, a capture of {PACKETS} packets; {clicks} clicks; tshark -V takes {tshark:.1f} s; scrolling through {rows}')
     for name, (words, unit, most) in BARS.items():
         print(f'{words:45} {found[name]:8.2f} {unit}, of {most} at most{"" if found[name] <= most else ": MISSED"}')

@@ -1,30 +1,32 @@
 #!/usr/bin/python3
 """The page in a browser, opened from the disk: what it shows and gives out is what the program says; bad files; keys; names of controls.
 
-Usage: tests/page.py [--pictures] [--part=NAME].. [FOLDER [PROGRAM]]; its last line is 'N passed, M failed, K skipped'. FOLDER has nbt.wasm, of `make targets`;
-without it out is meant. --pictures writes the pictures of README.md too. --part runs this part alone, and others so named. What can't run is a failure where CI is true.
+Usage: tests/page.py [--pictures] [--part=NAME].. [FOLDER [PROGRAM]]; its last line is 'N passed, M failed, K skipped'. FOLDER has
+nbt.wasm, of `make targets`; without it out is meant. --pictures writes the pictures of README.md too. --part runs this part alone, and
+others so named. What can't run is a failure where CI is true.
 """
 import glob
+import importlib.util
 import os
 import re
 import shutil
 import subprocess
 import sys
 import tempfile
+import time
 
 sys.dont_write_bytecode = True
 TESTS = os.path.dirname(os.path.abspath(__file__))
 TOP = os.path.realpath(f'{TESTS}/..')
 sys.path[1:1] = [f'{TESTS}/{it}' for it in ('captures', 'lib', 'look', 'page')]
+import look_captures
 import page_files
-import page_program
 from bundled import bundled
-from page_access import AccessCases
 from page_looks import LookCases
 from page_opening import OpeningCases
 from page_packets import PacketCases
 from page_placing import PlacingCases
-from page_sources import SourceCases
+from page_program import Program
 from page_views import ViewCases
 from parts import check, counts, finish, part, skip
 
@@ -35,15 +37,8 @@ PROGRAM = os.path.realpath(WORDS[1]) if WORDS[1:] else f'{TOP}/crates/nbt/out/nb
 LACKS = 'chromium, chromium-driver, python3-selenium, esbuild, nodejs, node-typescript and tshark'
 NETWORKS = 100
 EMPTY_CATCH = re.compile(r'catch\s*(?:\(\w*\))?\s*\{\s*\}|catch\(\(\w*\) => \{\s*\}\)')
-
-
-def is_lacking():
-    tools = all(map(shutil.which, ('chromium', 'chromedriver', 'esbuild', 'node', 'tsc', 'tshark')))
-    try:
-        import selenium  # noqa: F401
-    except ImportError:
-        return True
-    return not tools
+PARTS = ('modules', 'rows', 'names', 'faults', 'filters', 'deliveries', 'taps', 'exports', 'bad', 'hostile', 'keys', 'given', 'placing', 'stop',
+         'unread', 'changed', 'addressed', 'packed', 'singles', 'looks', 'quiet')
 
 
 def modules():
@@ -77,44 +72,55 @@ def counted(words):
     counts['failed'] += int(failed)
 
 
-class Cases(PacketCases, ViewCases, OpeningCases, PlacingCases, SourceCases, AccessCases, LookCases):
-    """The parts, over one window."""
+class Cases(PacketCases, ViewCases, OpeningCases, PlacingCases, LookCases):
+    """The parts, over one window, and the folder of their files."""
 
-    top, tests = TOP, TESTS
+    def __init__(self, browser, folder):
+        self.browser, self.folder = browser, folder
+        self.page, self.program = f'{folder}/nbt.html', Program(PROGRAM, TOP, folder)
+        with open(f'{TOP}/examples/office.pcap', 'rb') as file:
+            self.path("it's $HOME.pcap", file.read())
+        for name in ('office.pcap', 'samba.pcap', 'capture.txt'):
+            shutil.copy(f'{TOP}/examples/{name}', folder)
+        for name, data in zip(('left.txt', 'right.txt'), page_files.taps(self.program)):
+            self.path(name, data)
+        self.path('life.pcap', look_captures.life())
+        self.path('odd.pcap', page_files.odd())
 
-    def __init__(self, browser, folder, program):
-        self.browser, self.folder, self.program = browser, folder, program
-        self.page = f'{folder}/nbt.html'
-
-    def opened(self, *paths, place=''):
+    def opened(self, *names, place=''):
         """Opens the page anew, and gives it files; without any its own sample."""
         self.browser.open(self.page, place)
-        if paths:
-            self.browser.give(*paths)
+        if names:
+            self.browser.give(*names)
         else:
             self.browser.sample()
 
     def path(self, name, data=page_files.KEEP):
-        """Writes a file, and answers its path."""
-        path = f'{self.folder}/{name}'
-        with open(path, 'wb') as file:
+        """Writes a file, and answers its name."""
+        with open(f'{self.folder}/{name}', 'wb') as file:
             file.write(data)
-        return path
+        return name
 
-
-PARTS = ('modules', 'rows', 'names', 'faults', 'filters', 'deliveries', 'taps', 'exports', 'bad', 'hostile', 'keys', 'given', 'placing', 'stop',
-         'unread', 'changed', 'addressed', 'packed', 'access', 'singles', 'controls', 'looks', 'quiet')
+    def pictures(self):
+        """The page with a capture in it, light and dark, for README.md."""
+        for scheme in ('light', 'dark'):
+            self.opened()
+            self.browser.choose(5)
+            self.browser.screen(prefers_color_scheme=scheme)
+            time.sleep(0.3)
+            self.browser.driver.save_screenshot(f'{TOP}/docs/page-{scheme}.png')
 
 
 def main():
-    if is_lacking():
+    tools = ('chromium', 'chromedriver', 'esbuild', 'node', 'tsc', 'tshark')
+    if importlib.util.find_spec('selenium') and all(map(shutil.which, tools)):
+        with tempfile.TemporaryDirectory() as folder:
+            run(folder)
+    else:
         for name in PARTS:
             skip(name, f'{LACKS} are wanted')
         if os.environ.get('CI') == 'true':
             check(False, f'CI has to install {LACKS}')
-    else:
-        with tempfile.TemporaryDirectory() as folder:
-            run(folder)
     return finish()
 
 
@@ -123,14 +129,14 @@ def run(folder):
     made = subprocess.run([f'{TOP}/tools/page', f'{FOLDER}/nbt.wasm', PROGRAM, f'{folder}/nbt.html'], capture_output=True, text=True)
     check(made.returncode == 0, f'tools/page: {made.stderr.strip()}')
     browser = Browser(folder)
-    cases = Cases(browser, folder, page_program.Program(PROGRAM, TOP))
+    cases = Cases(browser, folder)
     try:
         for name in ONLY or PARTS:
             part(name, lambda: tried(cases, name))
         if '--pictures' in sys.argv:
-            page_files.pictures(browser, cases.page, f'{TOP}/docs')
+            cases.pictures()
     finally:
-        browser.close()
+        browser.driver.quit()
 
 
 def tried(cases, name):

@@ -50,7 +50,7 @@ cp "$top"/examples/*.pcap "$room/states"
 "$here/plugin/plugin_files.py" "$room/states"
 chmod 644 "$room/states"/*.pcap
 
-for each in built payloads states streams tools shown bad again valgrind page; do
+for each in built phrases states tools shown bad valgrind page; do
     [ $# -lt 3 ] || [[ " ${*:3} " == *" $each "* ]] || continue
     part $each part_$each
 done

@@ -6,14 +6,11 @@ import time
 from selenium import webdriver
 from selenium.webdriver.chrome.options import Options
 from selenium.webdriver.chrome.service import Service
-from selenium.webdriver.common.by import By
 from selenium.webdriver.common.keys import Keys
-
-from page_seen import Seen
 
 CHROMIUM, DRIVER = '/usr/bin/chromium', '/usr/bin/chromedriver'
 WORDS = ('--headless=new', '--no-sandbox', '--disable-dev-shm-usage', '--disable-background-networking', '--disable-component-update',
-         '--no-first-run', '--enable-precise-memory-info')
+         '--no-first-run', '--window-size=1400,800')
 # How many seconds a file may take to be read, on a machine that is busy.
 LONG = 300
 # What may come after the page itself: what it makes of its own blocks.
@@ -23,19 +20,20 @@ NAMED = {'button', 'link', 'textbox', 'searchbox', 'combobox', 'grid', 'columnhe
          'table', 'main', 'complementary'}
 
 
-class Browser(Seen):
-    """One window, with the page in it."""
+class Browser:
+    """One window, with the page in it, and the folder of the files that are given to it and saved by it."""
 
-    def __init__(self, folder, width=1400, height=800):
+    def __init__(self, folder):
         self.folder = folder
         options = Options()
         options.binary_location = CHROMIUM
-        for word in (*WORDS, f'--window-size={width},{height}', f'--user-data-dir={folder}/profile'):
+        for word in (*WORDS, f'--user-data-dir={folder}/profile'):
             options.add_argument(word)
         options.set_capability('goog:loggingPrefs', {'browser': 'ALL', 'performance': 'ALL'})
         options.add_experimental_option('prefs', {'download.default_directory': folder, 'download.prompt_for_download': False})
         self.driver = webdriver.Chrome(service=Service(DRIVER), options=options)
         self.driver.set_script_timeout(120)
+        self.run = self.driver.execute_script
         self.faults, self.requests, self.pages = [], [], set()
 
     def open(self, page, place=''):
@@ -45,19 +43,22 @@ class Browser(Seen):
         self.driver.get(f'file://{page}{place}')
 
     def id(self, name):
-        return self.driver.find_element(By.ID, name)
+        return self.driver.find_element('id', name)
 
     def all(self, selector):
-        return self.driver.find_elements(By.CSS_SELECTOR, selector)
+        return self.driver.find_elements('css selector', selector)
 
     def text(self, name):
-        return self.driver.execute_script('return document.getElementById(arguments[0]).textContent', name)
+        return self.run('return document.getElementById(arguments[0]).textContent', name)
 
     def texts(self, selector):
         """The texts of elements; of what is hidden none."""
-        return self.driver.execute_script(
-            'return Array.from(document.querySelectorAll(arguments[0])).filter((each) => each.offsetParent !== null)'
-            '.map((each) => each.textContent)', selector)
+        return self.run('return Array.from(document.querySelectorAll(arguments[0])).filter((each) => each.offsetParent !== null)'
+                        '.map((each) => each.textContent)', selector)
+
+    def focus(self):
+        """The name of what has the keys."""
+        return self.driver.switch_to.active_element.get_attribute('id')
 
     def wait(self, what, seconds=60):
         """Waits until a function has an answer that counts as true, and answers that."""
@@ -68,13 +69,17 @@ class Browser(Seen):
             time.sleep(0.01)
         return found
 
-    def give(self, *paths, answer=''):
+    def give(self, *names, answer=''):
         """Chooses files, answers where they go if others are open, and waits until they are read or refused."""
-        self.driver.execute_script('document.getElementById("live").textContent = ""; document.getElementById("dismiss").click()')
-        self.id('file').send_keys('\n'.join(paths))
+        self.run('document.getElementById("live").textContent = ""; document.getElementById("dismiss").click()')
+        self.offer(*names)
         if answer:
             self.answer(answer)
         self.wait(lambda: self.is_read() and (self.text('live') or self.message()), LONG)
+
+    def offer(self, *names):
+        """Chooses files."""
+        self.id('file').send_keys('\n'.join(os.path.join(self.folder, each) for each in names))
 
     def answer(self, words):
         """Answers where a file goes, by the button that begins so."""
@@ -82,7 +87,7 @@ class Browser(Seen):
         next(each for each in self.all('#placing-answers button') if each.text.startswith(words)).click()
 
     def sample(self):
-        self.driver.execute_script('document.getElementById("live").textContent = ""')
+        self.run('document.getElementById("live").textContent = ""')
         self.id('try').click()
         self.wait(lambda: self.text('live'))
 
@@ -95,15 +100,13 @@ class Browser(Seen):
 
     def rows(self):
         """The cells of the rows that are in sight."""
-        return self.driver.execute_script(
-            'return Array.from(document.querySelectorAll(".sight .row")).filter((row) => !row.hidden)'
-            '.map((row) => Array.from(row.children, (cell) => cell.textContent))')
+        return self.run('return Array.from(document.querySelectorAll(".sight .row")).filter((row) => !row.hidden)'
+                        '.map((row) => Array.from(row.children, (cell) => cell.textContent))')
 
     def tables(self):
         """The tables of the view that is shown: titles, and rows of cells, the head first."""
-        return dict(self.driver.execute_script(
-            'return Array.from(document.querySelectorAll(".view:not([hidden]) table")).map((table) => [table.caption?.textContent ?? "",'
-            'Array.from(table.rows, (row) => Array.from(row.cells, (cell) => cell.textContent))])'))
+        return dict(self.run('return Array.from(document.querySelectorAll(".view:not([hidden]) table"), ({ caption, rows }) =>'
+                             '[caption.textContent, Array.from(rows, ({ cells }) => Array.from(cells, (cell) => cell.textContent))])'))
 
     def view(self, name, until=None):
         """Shows a view, and waits until it has what is asked for."""
@@ -113,12 +116,19 @@ class Browser(Seen):
 
     def choose(self, frame):
         """Chooses the row of a frame, or of a line, that is in sight, and waits for its packet."""
-        row = next(each for each in self.all('.sight .row:not([hidden])') if each.text.split('\n')[0] == str(frame))
-        row.click()
+        next(each for each in self.all('.sight .row:not([hidden])') if each.text.split('\n')[0] == str(frame)).click()
         self.wait(lambda: self.texts('#packet h2') in ([f'Frame {frame}'], [f'Line {frame}']))
 
-    def key(self, *keys):
-        self.driver.switch_to.active_element.send_keys(*keys)
+    def shows(self, packet):
+        """Waits until all of this packet is shown."""
+        self.wait(lambda: self.texts('#packet h2') == [packet])
+
+    def filter(self, words):
+        self.run('const box = document.getElementById("words"); box.value = arguments[0]; box.dispatchEvent(new Event("input"))', words)
+
+    def key(self, *keys, at=''):
+        """Presses keys, by their names, or types texts: where the keys are, or at the first element of a selector."""
+        (self.all(at)[0] if at else self.driver.switch_to.active_element).send_keys(*(getattr(Keys, each, each) for each in keys))
 
     def saved(self, button, name):
         """What a button saves: the bytes of the file with this name."""
@@ -146,13 +156,10 @@ class Browser(Seen):
                 if not url.startswith(OWN) and url.split('#')[0] not in self.pages:
                     self.requests.append(url)
 
-    def picture(self, path, dark=False):
-        self.media(dark=dark)
-        time.sleep(0.3)
-        self.driver.save_screenshot(path)
-
-    def close(self):
-        self.driver.quit()
-
-
-__all__ = ['Browser', 'Keys', 'By']
+    def screen(self, wide=0, letters=100, media='', **features):
+        """In a window of so many pixels, with letters of so many hundredths of their size, on paper or as media features say."""
+        named = [{'name': name.replace('_', '-'), 'value': value} for name, value in features.items()]
+        self.driver.execute_cdp_cmd('Emulation.setEmulatedMedia', {'media': media, 'features': named})
+        size = {'width': wide, 'height': 740, 'deviceScaleFactor': 1, 'mobile': False} if wide else {}
+        self.driver.execute_cdp_cmd(f"Emulation.{'set' if wide else 'clear'}DeviceMetricsOverride", size)
+        self.run('document.documentElement.style.fontSize = arguments[0]', f'{letters}%' if letters != 100 else '')

@@ -3,9 +3,9 @@ import random
 import struct
 
 import random_pcap
-from wire import block, pcap_header, pcap_record, section
+from wire import block, interface, pcap_header, pcap_record, section
 
-PCAP, SECTION, INTERFACE = pcap_header(), section(), block(1, struct.pack('<HHL', 1, 0, 0))
+PCAP, SECTION, INTERFACE = pcap_header(), section(), interface()
 
 KEEP = b'139 0 85000000\n'
 
@@ -21,17 +21,14 @@ def refused(program):
 
 
 def taps(program):
-    """Two captures, each of which lacks a piece of one datagram; another one is whole in the second alone."""
+    """Two captures, each of which lacks a piece of one datagram. Another one is whole in the second alone, and there is one at the first
+    alone, one at the second alone, one of which they contradict each other, and one at both."""
     sent = program.build('group', '10.0.0.5:138/0001', 'JOE<00>', 'FRED<20>', '68656c6c6f2c2046524544', '4')
     other = program.build('unique', '10.0.0.6:138/0002', 'ANN<00>', 'FRED<20>', '6f6e6574776f', '3')
-    return ''.join([*sent[:2], other[0]]), ''.join([*sent[1:], *other])
-
-
-def sides(program):
-    """Two captures: a datagram at the first alone, one at the second alone, one of which they contradict each other, and one at both."""
-    one, other, both = (program.build('unique', f'10.0.0.5:138/{number}', 'ANN<00>', 'FRED<20>', '6f6e65', '3')[0] for number in ('0001', '0002', '0004'))
-    said, denied = (program.build('unique', '10.0.0.5:138/0003', 'ANN<00>', 'FRED<20>', data, '3')[0] for data in ('796573', '6e6f6e'))
-    return ''.join([one, said, both]), ''.join([other, denied, both])
+    first, second, said, denied, both = (
+        program.build('unique', f'10.0.0.7:138/{number}', 'ANN<00>', 'FRED<20>', data, '3')[0] for number, data in (
+            ('0003', '6f6e65'), ('0004', '6f6e65'), ('0005', '796573'), ('0005', '6e6f6e'), ('0006', '6f6e65')))
+    return ''.join([*sent[:2], other[0], first, said, both]).encode(), ''.join([*sent[1:], *other, second, denied, both]).encode()
 
 
 def odd():
@@ -42,16 +39,15 @@ def odd():
 def markup(program):
     """Packets whose names and comments would be elements, if they were read as HTML."""
     sent = program.build('group', '10.0.0.5:138/0001', r'\3cimg\20src=x\3e<00>', 'FRED<20>', '3c696d67207372633d783e', '20')
-    return sent[0] + '# <img src=x onerror=alert(1)>\n'
+    return f'{sent[0]}# <img src=x onerror=alert(1)>\n'.encode()
 
 
 def bad(program):
     """Files that can't be read, or not to their end: names, bytes, and what is said of each."""
-    table = program.run(['nbt', 'save'], ''.join(program.build('group', '10.0.0.5:138/0001', 'JOE<00>', 'FRED<20>', '6162', '1')[:1]).encode()).strip()
+    table = program.bytes('nbt save', program.build('group', '10.0.0.5:138/0001', 'JOE<00>', 'FRED<20>', '6162', '1')[0]).strip()
     good = pcap_record(0, bytes(60))
     rng = random.Random('bad')
     frames = b''.join(pcap_record(0, rng.randbytes(rng.randrange(120))) for _ in range(500))
-    faces = SECTION + INTERFACE * 300_000
     return [
         ('empty.pcap', b'', 'empty.pcap: the file is empty, at byte 0'),
         ('letter.txt', b'Dear all,\nhow are you?\n', 'letter.txt: line 1 is none of a capture'),
@@ -63,19 +59,10 @@ def bad(program):
         ('long.pcap', PCAP + struct.pack('<LLLL', 0, 0, 2**32 - 1, 0), 'long.pcap: a frame of 4294967295 bytes, at byte 24'),
         ('block.pcapng', SECTION + INTERFACE + block(0x0bad, bytes(8)) + struct.pack('<LLL', 6, 2**32 - 4, 0),
          'block.pcapng: a block of 4294967292 bytes, at byte 72'),
-        ('faces.pcapng', faces, 'faces.pcapng: more than 65536 interfaces, at byte'),
+        ('faces.pcapng', SECTION + INTERFACE * 300_000, 'faces.pcapng: more than 65536 interfaces, at byte'),
         ('random.pcap', PCAP + frames + b'x', 'random.pcap: the header of a frame is cut, at byte'),
         ('table.txt', table[:-2], f'table.txt: table: truncated, at byte {len(table) // 2 - 1}'),
         ('changed.txt', table[:8] + b'ffffffff' + table[16:], 'changed.txt: table: '),
         ('version.txt', b'4e425433' + table[8:], 'version.txt: table: bad magic, at byte 0'),
         ('two', [('one.pcap', PCAP + good[:8]), ('two.png', b'\x89PNG')], 'two.png: no pcap, no pcapng'),
     ]
-
-
-def pictures(browser, page, folder):
-    """The page with a capture in it, light and dark, for README.md."""
-    for dark in (False, True):
-        browser.open(page)
-        browser.sample()
-        browser.choose(5)
-        browser.picture(f"{folder}/page-{'dark' if dark else 'light'}.png", dark)

@@ -1,75 +1,85 @@
-"""The parts of tests/page.py on what all views have: names of controls, widths, colors, paper, and silence."""
-import look_captures
-import page_files
+"""The parts of tests/page.py on how the page looks, by tests/page/looks.js: texts and fields on screens of all kinds and on paper, large
+letters, forced colours, names of controls, and silence."""
+import os
+
 from parts import check, equal
+
+with open(f'{os.path.dirname(os.path.abspath(__file__))}/looks.js', encoding='utf-8') as file:
+    LOOKS = file.read() + 'return arguments[0].flatMap((name) => checks[name]().map((each) => `${name}: ${each}`));'
+
+VIEWS = ('packets', 'names', 'reassembly', 'taps', 'export')
+DARK = {'prefers_color_scheme': 'dark'}
+# What isn't to be found on each screen, and on paper: also in a window of 360 pixels, and at twice the size by the letters and by the window.
+SCREENS = (({}, 'broken faint pale'), (DARK, 'faint pale'), ({'wide': 600}, 'broken wide'), ({'wide': 360}, 'clipped covered wide'),
+           ({'wide': 360, 'letters': 200}, 'clipped covered wide'), ({'wide': 180}, 'clipped covered wide'))
+PAPERS = (({'media': 'print'}, 'faint clicked'), ({'media': 'print', **DARK}, 'faint clicked'))
+SIZES = ('return [getComputedStyle(document.body).fontSize, getComputedStyle(document.querySelector(".says b")).fontSize,'
+         'document.querySelector(".sight .row").offsetHeight]')
+REACH = ('return document.querySelector(".row.selected").getBoundingClientRect().bottom'
+         '- document.querySelector(".scroller").getBoundingClientRect().bottom')
+BACKGROUNDS = 'return arguments[0].map((each) => getComputedStyle(document.querySelector(each)).backgroundColor)'
 
 
 class LookCases:
     """A part of Cases."""
 
-    def controls(self):
-        """Each control has a name, in each view; narrow windows too."""
-        self.browser.open(self.page)
-        equal(self.browser.unnamed(), [], 'controls without a name at first')
-        self.browser.sample()
-        self.browser.choose(5)
-        for view in ('packets', 'names', 'reassembly', 'taps', 'export'):
-            self.browser.view(view)
-            equal(self.browser.unnamed(), [], f'controls without a name, {view}')
-        self.browser.driver.set_window_size(500, 700)
-        for view in ('packets', 'names', 'reassembly', 'taps', 'export'):
-            self.browser.view(view)
-            wide = self.browser.driver.execute_script('return document.documentElement.scrollWidth - innerWidth')
-            check(wide <= 0, f'{view} is {wide} pixels wider than a narrow window')
-        self.browser.driver.set_window_size(1400, 800)
-
     def looks(self):
-        """In wide windows and narrow ones no word breaks; light, dark and on paper all texts can be read."""
-        one, two = page_files.taps(self.program)
-        life = self.path('life.pcap', look_captures.life())
-        for paths in ([life, self.path('two.txt', two.encode())], [f'{self.top}/examples/samba.pcap', self.path('one.txt', one.encode())]):
-            self.opened(*paths)
-            self.browser.driver.execute_script('location.hash = "#packets"')
+        """No word breaks, and all texts can be read; each field is in its window and can be seen; each control has a name."""
+        self.browser.open(self.page)
+        self.seen('at first')
+        for names in (('life.pcap', 'right.txt'), ('samba.pcap', 'left.txt')):
+            self.opened(*names)
+            self.browser.run('location.hash = "#packets"')
             self.browser.wait(lambda: self.browser.id('tap').get_attribute('value') == '0')
             self.browser.choose(3)
-            for view in ('packets', 'names', 'reassembly', 'taps', 'export'):
+            for view in VIEWS:
                 self.browser.view(view)
-                for wide in (1400, 600):
-                    self.browser.driver.set_window_size(wide, 800)
-                    equal(self.browser.broken(), [], f'words that break in {view}, {wide} wide')
-            self.browser.driver.set_window_size(1400, 800)
-            self.shades(paths[1])
-        self.paper()
-
-    def shades(self, path):
-        for dark in (False, True):
-            self.browser.media(dark=dark)
-            for view in ('packets', 'names', 'reassembly', 'taps', 'export'):
-                self.browser.view(view)
-                equal(self.browser.faint(), [], f'faint texts in {view}, {"dark" if dark else "light"}')
+                self.seen(f'{view} of {names[0]}', SCREENS + (PAPERS if view in ('names', 'reassembly', 'taps') else ()))
             self.browser.view('packets')
-            self.filter('ip.addr==10.0.0.77')
-            self.browser.wait(lambda: self.browser.id('hint').is_displayed())
-            self.browser.id('file').send_keys(path)
-            self.browser.wait(lambda: self.browser.id('placing').is_displayed())
-            equal(self.browser.faint(), [], f'faint texts of a hint and a question, {"dark" if dark else "light"}')
+            self.browser.filter('ip.addr==10.0.0.77')
+            self.browser.offer(names[1])
+            self.browser.wait(lambda: self.browser.id('hint').is_displayed() and self.browser.id('placing').is_displayed())
+            self.seen('a hint and a question')
             self.browser.id('placing-cancel').click()
-            self.filter('')
-        self.browser.media()
+        self.paper()
+        self.letters()
+        self.forced()
+
+    def seen(self, where, screens=SCREENS):
+        """Looks at what is shown on each of these screens."""
+        equal(self.browser.unnamed(), [], f'controls without a name, {where}')
+        for screen, checks in screens:
+            self.browser.screen(**screen)
+            equal(self.browser.run(LOOKS, checks.split()), [], f'{where}, {screen}')
+        self.browser.screen()
 
     def paper(self):
-        """On paper a view has what it says, and nothing to be clicked; its colors are those of light paper, in a dark window too."""
-        for dark in (False, True):
-            self.browser.media('print', dark)
-            for view in ('names', 'reassembly', 'taps'):
-                self.browser.driver.execute_script('location.hash = arguments[0]', f'#{view}')
-                self.browser.wait(lambda: self.browser.texts(f'#view-{view} .lead'))
-                equal(self.browser.faint(), [], f'faint texts of {view} on paper')
-                equal(self.browser.texts('button, nav a, select, input, #hint'), [], f'what is to be clicked in {view} on paper')
-            bar = self.browser.all('#view-taps .bar')[0]
-            equal(bar.value_of_css_property('print-color-adjust'), 'exact', 'bars are printed')
-            equal(self.browser.driver.execute_script('return getComputedStyle(document.body).backgroundColor'), 'rgb(255, 255, 255)', 'the paper')
-        self.browser.media()
+        """On paper the colors of bars stay, and all else is light, in a dark window too."""
+        self.browser.view('taps', lambda: self.browser.texts('#view-taps .lead'))
+        self.browser.screen(media='print', **DARK)
+        equal(self.browser.all('#view-taps .bar')[0].value_of_css_property('print-color-adjust'), 'exact', 'bars are printed')
+        equal(self.browser.run(BACKGROUNDS, ['body']), ['rgb(255, 255, 255)'], 'the paper')
+        self.browser.screen()
+
+    def letters(self):
+        """Letters of twice the size make all texts and rows twice as large, and the last row is still come to."""
+        self.opened()
+        self.browser.choose(5)
+        for letters, sizes in ((100, ['14px', '12.5px', 24]), (200, ['28px', '25px', 48])):
+            self.browser.screen(letters=letters)
+            equal(self.browser.run(SIZES), sizes, f'the sizes with letters of {letters} %')
+        self.browser.key('END', at='#grid')
+        self.browser.shows('Frame 16')
+        self.browser.wait(lambda: self.browser.all('.row.selected'))
+        check(self.browser.run(REACH) <= 1, f'the last row is in sight: {self.browser.run(REACH)}')
+
+    def forced(self):
+        """In forced colours the selected row, and the view that is shown, can be told from others."""
+        self.browser.screen(forced_colors='active')
+        for one, other in (('.sight .row.selected', '.sight .row:not(.selected):not([hidden])'), ('#to-packets', '#to-names')):
+            colors = self.browser.run(BACKGROUNDS, [one, other])
+            check(colors[0] != colors[1], f'{one} in forced colours: {colors}')
+        self.browser.screen()
 
     def quiet(self):
         """Nothing was said in the console in all of that, and no request went out."""

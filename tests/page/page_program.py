@@ -3,93 +3,72 @@ import itertools
 import json
 import os
 import re
+import shlex
 import shutil
 import subprocess
-import tempfile
 
 from limits import MANY
 from summary import tables_in
 
 COUNTS = re.compile(r'(\d+ frames?, )?\d+ packets?, \d+ malformed, ')
 ROW = re.compile(r' *(\d+) +(\S+) +(\S+) +(\S+) +(.*)')
+MOST = ' '.join(MANY)
 
 
 class Program:
-    """The program and its tools, by the names that they have once installed."""
+    """The program and its tools, by the names that they have once installed, in the folder of the files."""
 
-    def __init__(self, program, top):
-        self.path, self.top = program, top
-        self.folder = tempfile.TemporaryDirectory()
+    def __init__(self, program, top, folder):
+        self.top, self.folder = top, folder
+        os.mkdir(f'{folder}/bin')
         for name, path in (('nbt', program), ('nbt-look', f'{top}/tools/nbt-look'), ('nbt-pcap2cap', f'{top}/tools/pcap2cap')):
-            os.symlink(path, f'{self.folder.name}/{name}')
-        self.env = {**os.environ, 'PATH': f"{self.folder.name}:{os.environ['PATH']}", 'WIRESHARK_CONFIG_DIR': f'{self.folder.name}/settings'}
+            os.symlink(path, f'{folder}/bin/{name}')
+        self.env = {**os.environ, 'PATH': f"{folder}/bin:{os.environ['PATH']}", 'WIRESHARK_CONFIG_DIR': f'{folder}/settings'}
 
-    def run(self, words, given=b''):
-        return subprocess.run(words, input=given, capture_output=True, env=self.env, timeout=120, check=False).stdout
+    def bytes(self, command, given=''):
+        """What a command of a shell prints."""
+        words = ['sh', '-c', command]
+        return subprocess.run(words, input=given.encode(), capture_output=True, env=self.env, cwd=self.folder, timeout=120).stdout
 
-    def text(self, words, given=''):
-        return self.run(words, given.encode()).decode()
+    def lines(self, command, given=''):
+        return self.bytes(command, given).decode().splitlines()
 
     def build(self, *words):
         """The lines of a capture that `nbt build` prints."""
-        return self.text(['nbt', 'build', *words]).splitlines(keepends=True)
+        return [f'{line}\n' for line in self.lines(f'nbt build {shlex.join(words)}')]
 
-    def listed(self, path, *options):
+    def listed(self, name, options=''):
         """The rows of nbt-look: frame, time, from, to, and what is said."""
-        lines = self.text(['nbt-look', *options, path]).splitlines()
-        return [list(ROW.fullmatch(line).groups()) for line in itertools.takewhile(lambda line: not COUNTS.match(line), lines)]
+        lines = itertools.takewhile(lambda line: not COUNTS.match(line), self.lines(f'nbt-look {options} {name}'))
+        return [list(ROW.fullmatch(line).groups()) for line in lines]
 
-    def summary(self, path):
+    def summary(self, name):
         """The tables of nbt-look: by title rows of cells, the head first."""
-        return {title: [table.columns, *table.rows] for title, table in tables_in(self.text(['nbt-look', '--summary', path])).items()}
+        tables = tables_in(self.bytes(f'nbt-look --summary {name}').decode())
+        return {title: [table.columns, *table.rows] for title, table in tables.items()}
 
     def told(self, line):
         """What a packet of a capture says, as an object."""
-        return json.loads(self.text(['nbt', 'show', '--json', '--brief'], line))
+        return json.loads(self.bytes('nbt show --json --brief', line))
 
-    def help(self, refused):
-        return self.text(['nbt', 'help', refused]).strip()
-
-    def capture(self, path, *options):
-        """The capture of a file, or the file that is one."""
-        if path.endswith('.pcap'):
-            return self.run(['nbt-pcap2cap', '--quiet', *options, path])
-        with open(path, 'rb') as file:
-            lines = file.readlines()
-        return b''.join(line for line in lines if '--no-ticks' not in options or not line.startswith(b'tick'))
-
-    def delivered(self, path, station):
+    def delivered(self, name, station):
         """Key, source and destination of each datagram that is delivered."""
-        lines = self.run(['nbt', 'replay', *MANY, station], self.capture(path)).decode().splitlines()
-        return [[words[2], words[4], words[5]] for words in map(str.split, lines) if words[1] == 'delivered']
+        capture = f'nbt-pcap2cap {name}' if name.endswith('.pcap') else f'cat {name}'
+        rows = map(str.split, self.lines(f"{capture} | nbt replay {MOST} '{station}'"))
+        return [[row[2], row[4], row[5]] for row in rows if row[1] == 'delivered']
 
-    def table(self, path):
-        return self.run(['nbt', 'save', *MANY], self.capture(path, '--no-ticks'))
+    def table(self, name):
+        """The saved table of a file, whose ticks say nothing there."""
+        capture = f'nbt-pcap2cap --no-ticks {name}' if name.endswith('.pcap') else f'grep -v ^tick {name}'
+        return self.bytes(f'{capture} | nbt save {MOST}')
 
-    def keys(self, path):
+    def keys(self, name):
         """Key and state of each key of a table."""
-        return [line.split()[:2] for line in self.run(['nbt', 'list', *MANY], self.table(path)).decode().splitlines()]
+        return [line.split()[:2] for line in self.lines(f'nbt list {MOST}', self.table(name).decode())]
 
-    def differing(self, one, two):
-        """Of each key that differs what the first and the second capture say of it."""
-        tables = b''.join(self.run(['nbt', 'save'], each.encode()) for each in (one, two))
-        lines = self.run(['nbt', 'agree', '--list'], tables).decode().splitlines()[1:]
-        parted = [line.split(' ', 2) for line in lines]
-        return [[first[1], first[2], second[2]] for first, second in zip(parted[::2], parted[1::2])]
-
-    def out(self, path, form):
-        """What the page gives out of a file in this form."""
-        if form == 'table':
-            return self.table(path)
-        capture = self.capture(path)
-        return self.run(['nbt', 'show', '--json'], capture) if form == 'json' else capture
-
-    def page(self, page, capture):
+    def page(self, page, name):
         """The page with a capture in it, by nbt-look, beside which the page lies."""
-        folder = f'{self.folder.name}/share'
-        for module in ('nbt_look', 'nbt_pcap', 'nbt_shards'):
-            shutil.copytree(f'{self.top}/tools/{module}', f'{folder}/{module}')
-        shutil.copy(f'{self.top}/tools/nbt-look', folder)
-        shutil.copy(page, f'{folder}/nbt.html')
-        self.run([f'{folder}/nbt-look', '--html', f'{folder}/given.html', capture])
-        return f'{folder}/given.html'
+        shutil.copytree(f'{self.top}/tools', f'{self.folder}/share')
+        shutil.copy(page, f'{self.folder}/share/nbt.html')
+        self.bytes(f'share/nbt-look --html given.html {name}')
+        return f'{self.folder}/given.html'

@@ -1,8 +1,4 @@
-"""The parts of tests/page.py on the other views: names, reassembly, two taps, and what is exported."""
-import os
-
-import look_captures
-import page_files
+"""The parts of tests/page.py on the other views: names, reassembly, two taps, what is exported, and the view that the address has."""
 from parts import check, equal
 
 # What is known of a datagram whose first bytes came alone.
@@ -14,18 +10,14 @@ class ViewCases:
 
     def names(self):
         """The tables are those of nbt-look --summary."""
-        for path in (f'{self.top}/examples/office.pcap', self.path('life.pcap', look_captures.life()), f'{self.top}/examples/samba.pcap'):
-            self.opened(path)
-            self.browser.view('names', self.names_are_drawn)
-            shown, wanted = self.browser.tables(), self.program.summary(path)
-            equal(sorted(shown), sorted(wanted), f'the tables of {os.path.basename(path)}')
-            for title, rows in wanted.items():
-                equal(shown.get(title), rows, f'{os.path.basename(path)}, {title}')
+        for name in ('office.pcap', 'life.pcap', 'samba.pcap'):
+            self.opened(name)
+            # Those of datagrams come later.
+            self.browser.view('names', lambda: self.browser.tables() and self.browser.id('view-names').get_attribute('aria-busy') is None)
+            shown, wanted = self.browser.tables(), self.program.summary(name)
+            for title in shown | wanted:
+                equal(shown.get(title), wanted.get(title), f'{name}, {title}')
         self.losers()
-
-    def names_are_drawn(self):
-        """Whether all tables of names are there, those of datagrams too, which come later."""
-        return self.browser.tables() and self.browser.id('view-names').get_attribute('aria-busy') is None
 
     def losers(self):
         """Who holds a name and who was refused it is said, and has another color."""
@@ -34,24 +26,25 @@ class ViewCases:
         frames = {'FRED<20>': 150, 'FRED<03>': 153, 'FRED<00>': 156}
         equal(self.browser.texts('.outcomes li'), [f'{name}: 10.0.0.6 holds it; 10.0.0.5 was refused it. frame {frame}' for name, frame in frames.items()],
               'how the conflicts ended')
-        plain = self.browser.color(self.browser.id('view-names'))
-        colors = [self.browser.color(each) == plain for each in self.browser.all('#view-names td[data-column=address]')[:7]]
-        equal(colors, [False, True, False, True, False, True, True], 'the colors of losers, of holders, and of a name that is in no conflict')
+        colors = self.browser.run('return Array.from(document.querySelectorAll("#view-names, #view-names td[data-column=address]"),'
+                                  '(each) => getComputedStyle(each).color)')
+        equal([each == colors[0] for each in colors[1:8]], [False, True, False, True, False, True, True],
+              'the colors of losers, of holders, and of a name that is in no conflict')
         self.browser.all('.outcomes a')[1].click()
-        self.browser.wait(lambda: self.browser.texts('#packet h2') == ['Frame 153'])
+        self.browser.shows('Frame 153')
 
     def deliveries(self):
         """What a station is handed is what `nbt replay` delivers."""
         for name, station in (('office.pcap', 'FRED<20>'), ('capture.txt', 'FRED<20>')):
-            self.opened(f'{self.top}/examples/{name}')
+            self.opened(name)
             self.browser.view('reassembly', lambda: self.browser.texts('#handed p'))
-            self.browser.driver.execute_script('document.getElementById("station").value = arguments[0]; document.getElementById("handed").textContent = ""', station)
-            self.browser.driver.find_element('css selector', '#station-form button').click()
+            self.browser.run('document.getElementById("station").value = arguments[0];'
+                             'document.getElementById("handed").textContent = ""', station)
+            self.browser.all('#station-form button')[0].click()
             self.browser.wait(lambda: self.browser.texts('#handed p'))
-            wanted = self.program.delivered(f'{self.top}/examples/{name}', station)
             given = [[row[2], row[3], row[4]] for row in self.browser.tables().get('handed over', [[]])[1:]]
-            equal(given, wanted, f'{name}, what {station} is handed')
-            keys = self.program.keys(f'{self.top}/examples/{name}')
+            equal(given, self.program.delivered(name, station), f'{name}, what {station} is handed')
+            keys = self.program.keys(name)
             equal([row[:2] for row in self.browser.tables()['keys'][1:]], keys, f'{name}, the keys')
             count = sum(state == 'partial' for _, state in keys)
             equal(self.browser.text('to-reassembly'), f'Reassembly {count}' if count else 'Reassembly', f'{name}, how many keys are incomplete')
@@ -59,75 +52,82 @@ class ViewCases:
 
     def first_frames(self):
         """A key leads to the first frame of its datagram."""
-        self.opened(self.path('pieces.txt', page_files.taps(self.program)[1].encode()))
+        self.opened('right.txt')
         self.browser.view('reassembly', lambda: self.browser.texts('#keys a'))
-        equal([each.get_attribute('href').split('#')[1] for each in self.browser.all('#keys a')], ['packets?frame=1', 'packets?frame=3'], 'the first frames')
+        hrefs = [each.get_attribute('href').split('#')[1] for each in self.browser.all('#keys a')]
+        equal(hrefs, [f'packets?frame={each}' for each in (1, 3, 5, 6, 7)], 'the first frames')
         self.browser.wait(lambda: self.browser.text('to-reassembly') == 'Reassembly 1')
         self.browser.all('#keys a')[1].click()
-        self.browser.wait(lambda: self.browser.texts('#packet h2') == ['Line 3'])
+        self.browser.shows('Line 3')
         check('10.0.0.6:138/0002' in self.browser.texts('#packet dd'), f"the packet of the key: {self.browser.texts('#packet dd')}")
 
     def taps(self):
         """Two taps: what comes of them, by side, what only the join makes whole, and where they differ."""
-        one, two = page_files.taps(self.program)
-        paths = [self.path('one.txt', one.encode()), self.path('two.txt', two.encode())]
-        self.opened(*paths)
+        self.opened('left.txt', 'right.txt')
         self.browser.wait(lambda: 'and' in self.browser.text('title') and self.browser.is_read())
         tables = self.browser.view('taps', lambda: 'tables' in self.browser.tables() and self.browser.tables())
-        equal(self.browser.text('view-taps').split('tables')[0],
-              'Joined, 2 of 2 datagrams are whole, 1 of them at neither tap alone. Of 2 the taps know different things.', 'it begins with what comes of them')
-        equal([row[1:3] for row in tables['tables'][1:]], [['2', '0'], ['2', '1'], ['2', '2']], 'how many keys, and how many are whole')
+        equal(self.browser.texts('#view-taps .lead'), ['Joined, 5 of 6 datagrams are whole, 1 of them at neither tap alone. '
+              'Of 1 the fragments contradict each other. Of 5 the taps know different things.'], 'it begins with what comes of them')
+        equal([row[1:] for row in tables['tables'][1:]], [['5', '3', '2', '0'], ['5', '4', '1', '0'], ['6', '5', '0', '1']],
+              'how many keys, and how many are whole, partial and spoilt')
+        check('1 key is the same at both taps.' in self.browser.texts('#view-taps .quiet'), 'the key that is the same')
         sides = {title: [row[:1] + row[3:6] for row in rows[1:]] for title, rows in tables.items() if title != 'tables'}
+        whole, none = 'all of its 3 bytes', 'nothing of it'
         equal(sides, {'whole only when joined': [['10.0.0.5:138/0001', LESS.format(8, 7), '7 of 11 bytes; missing bytes 0 to 3', 'all of its 11 bytes']],
-                      'both have it, and not the same': [['10.0.0.6:138/0002', LESS.format(3, 2), 'all of its 6 bytes', 'all of its 6 bytes']]}, 'the sides')
-        differing = [row[0] for row in self.program.differing(one, two)]
-        equal(sorted(row[0] for rows in sides.values() for row in rows), differing, 'where they differ')
+                      'only tap 1 has anything of it': [['10.0.0.7:138/0003', whole, none, whole]],
+                      'only tap 2 has anything of it': [['10.0.0.7:138/0004', none, whole, whole]],
+                      'both have it, and not the same': [
+                          ['10.0.0.6:138/0002', LESS.format(3, 2), 'all of its 6 bytes', 'all of its 6 bytes'],
+                          ['10.0.0.7:138/0005', whole, whole, 'its fragments contradict each other']]}, 'the sides')
+        differing = self.program.lines('for each in left right; do nbt save <$each.txt; done | nbt agree --list')[1:]
+        equal({row[0] for rows in sides.values() for row in rows}, {line.split()[1] for line in differing} - {'absent'}, 'all that differ')
         self.folded()
         self.browser.give(self.path('third.png', b'\x89PNG'), answer='Instead of tap 1')
         check('third.png: no pcap' in self.browser.message(), f'a bad third file: {self.browser.message()}')
-        equal(self.browser.text('title'), 'one.txt and two.txt', 'both taps stay')
+        equal(self.browser.text('title'), 'left.txt and right.txt', 'both taps stay')
         equal(self.browser.wait(self.browser.tables), tables, 'what the taps have stays')
-        check(self.browser.text('live').startswith('two.txt: 4 packets'), f"the footer: {self.browser.text('live')}")
-        self.sides()
+        check(self.browser.text('live').startswith('right.txt: 7 packets'), f"the footer: {self.browser.text('live')}")
+        next(each for each in self.browser.all('#view-taps a') if each.text == '10.0.0.7:138/0004').click()
+        self.browser.shows('Line 5')
+        equal(self.browser.id('tap').get_attribute('value'), '1', 'the tap of a key')
+        check('10.0.0.7:138/0004' in self.browser.texts('#packet dd'), f"the packet of the key: {self.browser.texts('#packet dd')}")
 
     def folded(self):
         """Each side has a bar, and data are text until their bytes are unfolded, by a key too."""
-        from browser import Keys
         equal([each.get_attribute('title') for each in self.browser.all('#view-taps .bar')][:2],
               [LESS.format(8, 7), '7 of 11 bytes; missing bytes 0 to 3'], 'the bars')
-        equal(self.browser.texts('#view-taps summary'), ['hello, FRED', 'onetwo'], 'data as text')
-        equal(self.browser.texts('#view-taps details code'), ['', ''], 'no bytes in hexadecimal')
-        self.browser.all('#view-taps summary')[0].send_keys(Keys.ENTER)
-        self.browser.wait(lambda: self.browser.texts('#view-taps details code') == ['68656c6c6f2c2046524544', ''])
-        self.browser.all('#view-taps summary')[0].send_keys(Keys.ENTER)
-        self.browser.driver.execute_script('document.querySelector("#view-taps details code").textContent = ""')
-
-    def sides(self):
-        """Keys of which one tap alone has anything, equal ones, and ones that contradict each other; a key leads to its tap."""
-        self.opened(*[self.path(f'{name}.txt', text.encode()) for name, text in zip(('left', 'right'), page_files.sides(self.program))])
-        tables = self.browser.view('taps', lambda: 'tables' in self.browser.tables() and self.browser.tables())
-        sides = {title: [row[0].split('/')[1] for row in rows[1:]] for title, rows in tables.items() if title != 'tables'}
-        equal(sides, {'only tap 1 has anything of it': ['0001'], 'only tap 2 has anything of it': ['0002'], 'both have it, and not the same': ['0003']}, 'the keys of each side')
-        lead = ('Joined, 3 of 4 datagrams are whole. Of 1 the fragments contradict each other. Of 3 the taps know different things.')
-        equal(self.browser.texts('#view-taps .lead'), [lead], 'what comes of them')
-        check('1 key is the same at both taps.' in self.browser.texts('#view-taps .quiet'), 'the key that is the same')
-        self.browser.all('#view-taps a')[1].click()
-        self.browser.wait(lambda: self.browser.texts('#packet h2') == ['Line 1'])
-        equal([self.browser.id('tap').get_attribute('value'), '10.0.0.5:138/0002' in self.browser.texts('#packet dd')], ['1', True], 'the tap of a key')
+        equal(self.browser.texts('#view-taps summary')[0], 'hello, FRED', 'data as text')
+        equal(set(self.browser.texts('#view-taps details code')), {''}, 'no bytes in hexadecimal')
+        self.browser.key('ENTER', at='#view-taps summary')
+        self.browser.wait(lambda: self.browser.texts('#view-taps details code')[0] == '68656c6c6f2c2046524544')
+        self.browser.key('ENTER', at='#view-taps summary')
+        self.browser.run('document.querySelector("#view-taps details code").textContent = ""')
 
     def exports(self):
-        """What is given out is byte for byte what the program prints."""
-        for path in (f'{self.top}/examples/office.pcap', f'{self.top}/examples/samba.pcap', f'{self.top}/examples/capture.txt',
-                     self.path('odd.pcap', page_files.odd())):
-            name = os.path.basename(path).rsplit('.', 1)[0]
-            self.opened(path)
-            self.browser.view('export')
-            for form, end in (('json', 'jsonl'), ('capture', 'capture.txt'), ('table', 'table.txt')):
-                given = self.browser.saved(f'save-{form}', f'{name}.{end}')
-                wanted = self.program.out(path, form)
-                check(given == wanted, f'{os.path.basename(path)}, {form}: {first_difference(given, wanted)}')
+        """What is given out is byte for byte what the program prints, by the command that is shown with it, whatever the file's name is."""
+        for name in ('office.pcap', 'samba.pcap', 'odd.pcap', 'capture.txt', "it's $HOME.pcap"):
+            self.opened(name)
+            self.exported(name, name)
 
+    def exported(self, name, plain):
+        """Saves each form of what is open.
+        plain: the same file, as nothing packed it"""
+        self.browser.view('export')
+        commands = self.browser.texts('#view-export code')
+        equal(len(commands), 3, f'{name}, the commands')
+        for form, end, command in zip(('json', 'capture', 'table'), ('jsonl', 'capture.txt', 'table.txt'), commands):
+            given = self.browser.saved(f'save-{form}', f"{plain.rpartition('.')[0]}.{end}")
+            # A command for the table of a capture of lines takes its ticks.
+            wanted = self.program.table(plain) if form == 'table' and plain.endswith('.txt') else self.program.bytes(command)
+            check(given == wanted and given, f'{name}, {form}: {given[:150]}, not {wanted[:150]} of {command}')
 
-def first_difference(given, wanted):
-    at = next((at for at, (one, other) in enumerate(zip(given, wanted)) if one != other), min(len(given), len(wanted)))
-    return f'at byte {at}: {given[at - 20:at + 60]!r}, not {wanted[at - 20:at + 60]!r}'
+    def addressed(self):
+        """A view that the address has before a file is open is shown once one is, first or second, without a complaint."""
+        for view, shown in (('names', '#view-names .lead'), ('reassembly', '#keys .lead'), ('export', '#view-export .lead'), ('taps', '#view-taps p')):
+            self.opened('office.pcap', place=f'#{view}')
+            self.browser.wait(lambda: self.browser.texts(shown))
+            self.browser.wait(lambda: self.browser.text('live').startswith('office.pcap: 15 packets'))
+            equal(self.browser.message(), '', f'a file at #{view}')
+            self.browser.give('capture.txt', answer='As a second tap')
+            self.browser.wait(lambda: self.browser.text('live').startswith('capture.txt: '))
+            equal([self.browser.message(), self.browser.id(f'view-{view}').is_displayed()], ['', True], f'a second file at #{view}')

@@ -8,6 +8,8 @@ sys.path[1:1] = [TESTS, os.path.join(TESTS, 'captures'), os.path.join(TESTS, '..
 from fuzz_traffic import Traffic
 from model.names import Refused, text_of
 from model.packets import MORE, read_fragment
+from nbt_look.counts import run_text
+from nbt_look.datagrams import runs_missing
 from nbt_pcap.capture import Capture, Output
 from plugin_pcap import datagram_frame, segment_frame
 from wire import FRED, KEEPALIVE, QUERY
@@ -36,10 +38,6 @@ class Made:
         for each in self.payloads():
             self.add(*each)
 
-    @property
-    def count(self):
-        return len(self.frames)
-
     def payloads(self):
         """Ports and payloads, in the order of their frames: what is left of some datagrams, and packets of other kinds and ports."""
         rng = self.rng
@@ -53,7 +51,7 @@ class Made:
         """A frame of this payload, and its line."""
         rng = self.rng
         self.now = max(0, self.now + rng.choice((0, 1, 50, 300, 300, 700, 700, 2_600, -800)) * rng.randrange(1_000))
-        number = self.count + 1
+        number = len(self.frames) + 1
         source = bytes([10, 0, 0, rng.randrange(5, 9)])
         frame = segment_frame(1_024 + number, 1, payload, source=source) if port == 139 else datagram_frame(port, payload, source)
         cut = rng.random() < 0.04 and number > 1 and port != 139 and len(payload) > 2
@@ -84,20 +82,16 @@ class Made:
         """Of each fragment the frame that completes, the one that spoils, what is missing and, where it was decided, the fragments."""
         held, groups = {}, []
         drops = dict(self.drops)
-        for frame in range(1, self.count + 1):
+        for frame in range(1, len(self.frames) + 1):
             if frame in drops:
                 held = {key: group for key, group in held.items() if self.moment(group[0]) + KEPT_MILLISECONDS > drops[frame]}
             if states.get(frame) in ('kept', 'spoilt', 'delivered', 'unheard'):
-                key = self.key(frame)
+                key = self.frames[frame - 1][1][44:52]
                 if key not in held:
                     held[key] = []
                     groups.append(held[key])
                 held[key].append(frame)
         return {frame: self.linked(frame, group, states) for group in groups for frame in group}
-
-    def key(self, frame):
-        payload = self.frames[frame - 1][1][42:]
-        return payload[2:10]
 
     def linked(self, frame, group, states):
         whole = [each for each in group if states[each] in ('delivered', 'unheard')][-1:]
@@ -109,19 +103,7 @@ class Made:
                 ','.join(map(str, fragments))]
 
     def missing(self, group):
-        """The words for the bytes that no fragment has."""
-        covered, ends = set(), []
-        for start, end, more in (self.pieces[each] for each in group):
-            covered.update(range(start, end))
-            ends += [] if more else [end]
-        size = max(ends) if ends else max(covered, default=-1) + 1
-        runs = []
-        for at in range(size):
-            if at in covered:
-                continue
-            if at and at - 1 not in covered and runs:
-                runs[-1][1] += 1
-            else:
-                runs.append([at, 1])
-        words = ['%d byte%s from byte %d on' % (bytes_, '' if bytes_ == 1 else 's', at) for at, bytes_ in runs]
-        return ', '.join(words + ([] if ends else ['all from byte %d on' % size]))
+        """The words of nbt-look for the bytes that no fragment has: one of no bytes splits no gap, but as the end."""
+        pieces = [self.pieces[each] for each in group]
+        places = sorted((start, end) for start, end, more in pieces if start < end or not more)
+        return ', '.join(map(run_text, runs_missing(places, max((end for _, end, more in pieces if not more), default=None))))

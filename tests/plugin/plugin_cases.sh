@@ -49,19 +49,17 @@ refused_by_others() {
     count $? "another version of Wireshark doesn't load it: $(head -n 1 "$room/errors")"
 }
 
-# What is said of payloads is what nbt_brief says of them.
-part_payloads() {
-    NBT_LIBRARY=$library/libnbt.so.0 counted_by plugin/plugin_payloads.py "$room/with/tshark" "$room" 5000
+# What is said of payloads, and of connections to port 139, is what nbt_brief says of their packets.
+part_phrases() {
+    NBT_LIBRARY=$library/libnbt.so.0 counted_by plugin/plugin_phrases.py "$room/with/tshark" "$room/states" 1500 40
     grep -v -e '^failed: ' -e ' passed, ' "$room/counted"
 }
 
-# What becomes of datagrams is what nbt replay reports, in captures that one process reads one after the other.
+# What becomes of datagrams is what nbt replay reports, in captures that one process reads one after the other, and files after these.
 part_states() {
-    counted_by plugin/plugin_states.py "$room/with/sharkd" "$room/with/tshark" "$program" "$room/states" 200
+    counted_by plugin/plugin_states.py "$room/with/sharkd" "$room/with/tshark" "$program" "$room/states" 120 \
+        "$room"/states/{pieces,sessions,office,samba}.pcap
 }
-
-# What is said of connections to port 139 is what a model says that has each stream whole.
-part_streams() { NBT_LIBRARY=$library/libnbt.so.0 counted_by plugin/plugin_streams.py "$room/with/tshark" "$room/states" 40; }
 
 # The tools print the same beside the plugin: they ask tshark for the bytes of these ports.
 part_tools() {
@@ -113,12 +111,9 @@ ROWS
     count $? 'tshark -z nbt,tree'
 }
 
-# Changed captures, snap lengths and files that were joined, in one pass and in two: no crash, no link to a frame that isn't there, and the same
-# phrases, faults and states.
-part_bad() { counted_by plugin/plugin_changed.py "$room/with/tshark" "$room/states" 50 "$room"/states/{office,samba,pieces,sessions}.pcap; }
-
-# Files one after the other in one process, and the same one again; frames that are left out while a file is read.
-part_again() { counted_by plugin/plugin_reloads.py "$room/with/sharkd" "$room/with/tshark" "$room"/states/{office,samba,pieces,sessions}.pcap; }
+# Changed captures, snap lengths, files that were joined, and filters, in one pass and in two: no crash, no link to a frame that isn't
+# there or is of another key, and the same phrases, faults and states.
+part_bad() { counted_by plugin/plugin_changed.py "$room/with/tshark" "$room/states" 20 "$room"/states/{office,samba,pieces,sessions}.pcap; }
 
 # Errors of memory: none; and nothing is lost that the plugin asked for, by names that are kept after Wireshark let it go.
 part_valgrind() {

@@ -1,12 +1,13 @@
 #!/usr/bin/env python3
-"""Changed captures through tshark with the plugin.
+"""Changed captures, and frames that are left out while a file is read, through tshark with the plugin.
 
 Usage: tests/plugin/plugin_changed.py TSHARK FOLDER COUNT FILE..
 
 The files one behind the other: as they are, in two interfaces, with snap lengths, and so many times changed by editcap. Each such capture
 is read in two passes, with all of its tree, phrases in the Info column, what is told to experts and the statistics; one in four once more
 in one pass and in two for the fields. tshark may not crash nor name a fault of a dissector, no link leads to a frame that isn't there,
-and what both passes say is the same. A case is a capture; the last line is 'N passed, M failed'.
+and what both passes say is the same. tshark -2 with a read filter leaves frames out and numbers the others anew: links then lead to
+frames of the same key. A case is a capture, or a filter; the last line is 'N passed, M failed'.
 """
 import concurrent.futures
 import os
@@ -21,6 +22,7 @@ from plugin_pcap import fields_of
 
 CHANCES = ('0.002', '0.01', '0.05')
 SNAPS = (20, 43, 50, 60, 90, 150)
+FILTERS = ('nbt.state', 'nbt.state != "kept"', 'nbt.state == "kept"', 'nbt.datagram', 'nbt.says', 'frame.number > 20')
 SAME = ['nbt.says', 'nbt.refused', 'nbt.place', 'nbt.follow', 'nbt.key', 'nbt.state', 'nbt.datagram', 'nbt.fragment']
 LINKS = re.compile(r'\[(?:Fragment|Whole in|Spoilt in): (\d+)\]')
 BUG = re.compile(r'dissector bug|GLib\S*-(?:CRITICAL|WARNING)|Sanitizer', re.IGNORECASE)
@@ -47,34 +49,34 @@ def fault_of(tshark, path, twice):
 def difference(tshark, path):
     """The first frame of which two passes say something else than one: one links no fragments of what stays incomplete."""
     one, two = fields_of(tshark, path, SAME), fields_of(tshark, path, SAME, '-2')
-    if len(one) != len(two):
-        return f'{len(one)} rows in one pass, {len(two)} in two'
-    for number, (first, second) in enumerate(zip(one, two), 1):
+    for number, (first, second) in enumerate(zip(one, two, strict=True), 1):
         if first[:-1] != second[:-1] or (first[-1] and first[-1] != second[-1]):
             return f'frame {number}: {first}, and in two passes {second}'
     return ''
 
 
-def joined(folder, name, files, *words):
-    """A file that mergecap makes of several."""
-    path = os.path.join(folder, f'changed-{name}')
-    subprocess.run(['mergecap', *(words or ['-a']), '-w', path, *files], check=True, capture_output=True)
+def astray(tshark, path, chosen):
+    """The first frame whose links lead to frames of another key, where this filter leaves frames out."""
+    rows = fields_of(tshark, path, ['frame.number', 'nbt.key', 'nbt.fragment', 'nbt.whole_in', 'nbt.spoilt_in'], '-2', '-R', chosen)
+    keys = {int(row[0][0]): row[1] for row in rows}
+    linked = ((row, int(link)) for row in rows for field in row[2:] for values in field for link in values.split(','))
+    return next((row for row, link in linked if keys.get(link) != row[1]), '')
+
+
+def changed(folder, name, files, *words):
+    """A file of what editcap makes of each file, one behind the other."""
+    path, parts = f'{folder}/changed-{name}', [f'{folder}/part-{name}-{number}' for number in range(len(files))]
+    for source, part in zip(files, parts):
+        subprocess.run(['editcap', *words, source, part], check=True, capture_output=True)
+    subprocess.run(['mergecap', *(['-I', 'none'] if name == 'twice' else ['-a']), '-w', path, *parts], check=True, capture_output=True)
     os.chmod(path, 0o644)
     return path
 
 
-def changed(folder, name, files, *words):
-    """What editcap makes of each file, one behind the other."""
-    parts = [os.path.join(folder, f'part-{name}-{number}') for number in range(len(files))]
-    for source, part in zip(files, parts):
-        subprocess.run(['editcap', *words, source, part], check=True, capture_output=True)
-    return joined(folder, name, parts)
-
-
 def captures(folder, count, files):
     """A name and a file for each capture."""
-    yield 'as they are', joined(folder, 'same', files)
-    yield 'twice', joined(folder, 'both', [*files, *files], '-I', 'none')
+    yield 'as they are', changed(folder, 'same', files)
+    yield 'twice', changed(folder, 'twice', [*files, *files])
     for snap in SNAPS:
         yield f'{snap} bytes', changed(folder, snap, files, '-s', str(snap))
     for seed in range(1, count + 1):
@@ -87,6 +89,7 @@ def main():
     with concurrent.futures.ThreadPoolExecutor(os.cpu_count()) as pool:
         cases = [(name, pool.submit(fault_of, tshark, path, number % 4 == 0))
                  for number, (name, path) in enumerate(captures(folder, count, sys.argv[4:]))]
+        cases += [(f'tshark -2 -R {each!r}', pool.submit(astray, tshark, f'{folder}/changed-same', each)) for each in FILTERS]
         return tally((name, case.result()) for name, case in cases)
 
 

@@ -6,7 +6,6 @@ in order and not, with bytes of no packet, headers that ask for more than a pack
 packets, one of which comes in two segments, and an SMB echo in a datagram of two fragments; overlaps.pcap segments that come again with
 other bytes; gaps.pcap pieces of no bytes; untimed.pcap frames without a time.
 """
-import os
 import random
 import struct
 import sys
@@ -14,9 +13,10 @@ import sys
 sys.dont_write_bytecode = True
 sys.path[1:1] = [f'{sys.path[0]}/../{it}' for it in ('captures', 'lib')]
 from plugin_captures import Made
-from plugin_pcap import datagram_frame, framed, segment_frame, spaced, write_pcap
+from plugin_pcap import datagram_frame, framed, segment_frame
 from random_pcap import Ends, mixed, stream
-from wire import KEEPALIVE, QUERY, REQUEST, block, datagram, section, session
+from wire import KEEPALIVE, QUERY, REQUEST, START, block, datagram, interface, pcap, section, session, spaced, timed, written
+from wire import pieces as parts
 
 NO_PACKETS = (b'\x81\x01\xff\xff' + bytes(30), b'\x00\xfe\xff\xff' + bytes(50), b'GET / HTTP/1.0\r\n\r\n', b'\x85\0\0\1x',
               b'\x81\0\0\x44' + b'\x20' + b'Z' * 67)
@@ -44,19 +44,12 @@ def sessions():
     return spaced(framed(packet) for _, packet in mixed(rng, [stream(rng, Ends(rng, number), data_of) for number in range(16)]))
 
 
-def parts(data, *cuts):
-    """The fragments of a datagram that is cut at these places."""
-    ends = [*cuts, len(data)]
-    return [datagram_frame(138, datagram(3, data[start:end], flags=(0 if start else 2) | (end < len(data)), offset=start))
-            for start, end in zip([0, *cuts], ends)]
-
-
 def marked():
     """A query whose name is a pointer to itself, a call whose second name has too long a label, and the echo."""
     call = REQUEST[:38] + b'\x40' + REQUEST[39:]
     echo = b'\xffSMB\x2b' + bytes(27) + b'\x01\x01\0\x02\0hi'
     return spaced((datagram_frame(137, QUERY[:12] + b'\xc0\x0c' + QUERY[46:]), segment_frame(1_024, 1, call[:20]), segment_frame(1_024, 21, call[20:]),
-                   *parts(echo, 20)))
+                   *(datagram_frame(138, each) for each in parts(3, echo, 20))))
 
 
 def overlaps():
@@ -74,18 +67,15 @@ def gaps():
 
 def untimed():
     """A pcapng file of a datagram in three fragments, of which the first and the last have no time."""
-    first, second, third = parts(bytes(60), 20, 40)
-    moment = 1_700_000_000_000_000
-    return b''.join((section(), block(1, struct.pack('<HHL', 1, 0, 0)), block(3, struct.pack('<L', len(first)) + first),
-                     block(6, struct.pack('<LLLLL', 0, moment >> 32, moment % 2**32, len(second), len(second)) + second),
-                     block(3, struct.pack('<L', len(third)) + third)))
+    first, second, third = (datagram_frame(138, each) for each in parts(3, bytes(60), 20))
+    without = lambda frame: block(3, struct.pack('<L', len(frame)) + frame)
+    return section() + interface() + without(first) + timed(0, START, second, len(second)) + without(third)
 
 
 def main():
-    for each in (pieces, sessions, marked, overlaps, gaps):
-        write_pcap(os.path.join(sys.argv[1], f'{each.__name__}.pcap'), each())
-    with open(os.path.join(sys.argv[1], 'untimed.pcap'), 'wb') as file:
-        file.write(untimed())
+    for each in (pieces, sessions, marked, overlaps, gaps, untimed):
+        made = each()
+        written(f'{sys.argv[1]}/{each.__name__}.pcap', made if isinstance(made, bytes) else pcap(made))
 
 
 if __name__ == '__main__':

@@ -1,8 +1,7 @@
-"""Files of frames for the tests of the plugin for Wireshark, and what tshark prints of them."""
-import os
+"""Frames for the captures that the plugin for Wireshark is tried with, and what tshark prints of them."""
 import subprocess
 
-from wire import ACK, CLIENT, SERVER, TCP, UDP, ethernet, ip, pcap, tcp, udp
+from wire import ACK, CLIENT, SERVER, TCP, ethernet, ip, sent, tcp
 
 # Between fields, and between the values of one.
 FIELDS, VALUES = '\x1f', '\x1e'
@@ -13,8 +12,8 @@ def framed(packet):
     return ethernet(packet).ljust(60, b'\0')
 
 
-def datagram_frame(port, payload, source=CLIENT):
-    return framed(ip(UDP, udp(port, port, payload), source))
+def datagram_frame(port, payload, *source):
+    return framed(sent(port, payload, *source))
 
 
 def segment_frame(port, sequence, payload, flags=ACK, source=CLIENT, target=SERVER):
@@ -23,21 +22,9 @@ def segment_frame(port, sequence, payload, flags=ACK, source=CLIENT, target=SERV
     return framed(ip(TCP, tcp(*ports, sequence, payload, flags), source, target))
 
 
-def spaced(frames, between=1_000):
-    """Whole frames with their times, so many microseconds apart."""
-    return [(number * between, frame, None) for number, frame in enumerate(frames)]
-
-
-def write_pcap(path, frames):
-    with open(path, 'wb') as file:
-        file.write(pcap(frames))
-    os.chmod(path, 0o644)
-
-
 def fields_of(tshark, path, fields, *words):
     """Of each frame the values of these fields, a list for each. tshark writes a backslash as two."""
     command = [tshark, '-n', '-r', path, *words, '-T', 'fields', '-E', 'separator=' + FIELDS, '-E', 'aggregator=' + VALUES]
-    command += [f'-e{each}' for each in fields]
-    done = subprocess.run(command, capture_output=True, text=True, check=True, timeout=300)
+    done = subprocess.run([*command, *(f'-e{each}' for each in fields)], capture_output=True, text=True, check=True, timeout=300)
     rows = done.stdout.replace('\\\\', '\\').split('\n')[:-1]
     return [[value.split(VALUES) if value else [] for value in row.split(FIELDS)] for row in rows]

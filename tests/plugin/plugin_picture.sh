@@ -16,14 +16,14 @@ mkdir -p "$HOME/.config/wireshark"
 # The capture: a session that is opened and a name that is claimed, asked for, and asked for by a pointer that leads nowhere.
 PYTHONPATH=$here:$here/../lib python3 - "$room/refused.pcap" <<'FRAMES'
 import sys
-from plugin_pcap import datagram_frame, segment_frame, spaced, write_pcap
-from wire import CLIENT, DATAGRAM, POSITIVE, QUERY, REQUEST, RESPONSE, SERVER
+from plugin_pcap import datagram_frame, segment_frame
+from wire import CLIENT, DATAGRAM, POSITIVE, QUERY, REQUEST, RESPONSE, SERVER, pcap, spaced, written
 
 # A query whose name begins with a pointer to itself.
 REFUSED = QUERY[:12] + b'\xc0\x0c' + QUERY[46:]
-write_pcap(sys.argv[1], spaced((datagram_frame(137, QUERY), datagram_frame(137, RESPONSE, SERVER), segment_frame(1_024, 1, REQUEST),
-                                segment_frame(1_024, 1, POSITIVE, source=SERVER, target=CLIENT), datagram_frame(138, DATAGRAM),
-                                datagram_frame(137, REFUSED)), 100_000))
+written(sys.argv[1], pcap(spaced((datagram_frame(137, QUERY), datagram_frame(137, RESPONSE, SERVER), segment_frame(1_024, 1, REQUEST),
+                                  segment_frame(1_024, 1, POSITIVE, source=SERVER, target=CLIENT), datagram_frame(138, DATAGRAM),
+                                  datagram_frame(137, REFUSED)), 100_000)))
 FRAMES
 place=$(tshark -G folders 2>/dev/null | sed -n 's/^Personal Plugins:[[:space:]]*//p')/epan
 install -D -m 644 "$plugin" "$place/nbt.so"

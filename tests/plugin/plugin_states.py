@@ -1,17 +1,17 @@
 #!/usr/bin/env python3
 """What the plugin for Wireshark says of datagrams, beside the report of `nbt replay`.
 
-Usage: tests/plugin/plugin_states.py SHARKD TSHARK PROGRAM FOLDER COUNT [SEED]
+Usage: tests/plugin/plugin_states.py SHARKD TSHARK PROGRAM FOLDER COUNT FILE..
 
 So many captures of fragments that are shuffled, lost, repeated and changed, with pauses, times that go back, packets of other kinds and
 ports and frames that are cut. All are read by one sharkd, which has the plugin, one after the other, for a station with names or for all,
 with the timer or without it; the program replays the same with the ticks of nbt-pcap2cap or without. Of each payload of port 138 the
 state, the key and the data have to be those of the report, and the links and what is missing those of a plain model. sharkd shows the
-front of long data: of one capture in ten tshark prints all of it. A case is a capture; the last line is 'N passed, M failed'.
+front of long data: of one capture in ten tshark prints all of it. Then it opens the files, in turn and back: it says the same of each as
+another one that opens it alone, also where names are none. A case is a capture or a file; the last line is 'N passed, M failed'.
 """
 import collections
 import json
-import os
 import random
 import subprocess
 import sys
@@ -21,7 +21,8 @@ sys.path.insert(1, f'{sys.path[0]}/../lib')
 from limits import MANY
 from parts import tally
 from plugin_captures import Made
-from plugin_pcap import fields_of, write_pcap
+from plugin_pcap import fields_of
+from wire import pcap, written
 
 COLUMNS = ('nbt.state', 'nbt.key', 'nbt.datagram', 'nbt.whole_in', 'nbt.spoilt_in', 'nbt.missing', 'nbt.fragment')
 # How sharkd shows no bytes, and of how many digits it shows the front.
@@ -39,9 +40,7 @@ class Sharkd:
 
     def ask(self, method, **words):
         self.count += 1
-        request = {'jsonrpc': '2.0', 'id': self.count, 'method': method}
-        if words:
-            request['params'] = words
+        request = {'jsonrpc': '2.0', 'id': self.count, 'method': method, **({'params': words} if words else {})}
         self.process.stdin.write(json.dumps(request) + '\n')
         self.process.stdin.flush()
         while line := self.process.stdout.readline():
@@ -52,10 +51,14 @@ class Sharkd:
                 return answer['result']
         raise ValueError(f'{method}: sharkd ended with status {self.process.wait()}')
 
-    def rows(self, path):
+    def prefer(self, names, timer):
+        for name, value in (('nbt.names', ' '.join(names)), ('nbt.timer', BOOLEANS[timer])):
+            self.ask('setconf', name=name, value=value)
+
+    def rows(self, path, *others):
         """Of each frame the columns."""
         self.ask('load', file=path)
-        columns = {f'column{number}': each + ':0' for number, each in enumerate(COLUMNS)}
+        columns = {f'column{number}': each + ':0' for number, each in enumerate(COLUMNS + others)}
         return {frame['num']: frame['c'] for frame in self.ask('frames', **columns)}
 
     def end(self):
@@ -87,7 +90,7 @@ def shown(data):
 def first_difference(made, rows, states):
     """The first frame that isn't as wanted, in words; '' where there is none."""
     links = made.links({frame: state[0] for frame, state in states.items()})
-    for frame in range(1, made.count + 1):
+    for frame in range(1, len(made.frames) + 1):
         state, key, data = states.get(frame, ['', '', None])
         wanted = [[state, key, text, *links.get(frame, ['', '', '', ''])] for text in shown(data)]
         if rows[frame] not in wanted:
@@ -104,27 +107,34 @@ def data_differ(tshark, path, asked, timer, states):
     return ''
 
 
-def cases(command, tshark, program, folder, count, seed='states'):
+def opened(command, sharkd, files):
+    """Each file, and whether other things are said of it after others."""
+    sharkd.prefer([], True)
+    alone = {path: Sharkd(command).rows(path, 'nbt.says') for path in files}
+    for path in [*files, *reversed(files)]:
+        yield path, sharkd.rows(path, 'nbt.says') != alone[path] or not any(map(any, alone[path].values()))
+    sharkd.prefer(['NO<2'], True)
+    yield 'names that are none: all are heard', sharkd.rows(files[0], 'nbt.says') != alone[files[0]]
+
+
+def cases(command, tshark, program, folder, count, *files):
     """Each capture, and what is wrong with what is said of it; what is reported is counted."""
     sharkd, seen = Sharkd(command), collections.Counter()
     for number in range(int(count)):
-        timer, path = number % TIMER_OF != TIMER_OF - 1, os.path.join(folder, 'states.pcap')
-        made = Made(random.Random(f'{seed}-{number}'), timer)
+        timer = number % TIMER_OF != TIMER_OF - 1
+        made = Made(random.Random(f'states-{number}'), timer)
         names = sorted(made.names) or ['FRED<20>']
         asked = names[::2] if number % 2 else []
-        write_pcap(path, made.frames)
-        sharkd.ask('setconf', name='nbt.names', value=' '.join(asked))
-        sharkd.ask('setconf', name='nbt.timer', value=BOOLEANS[timer])
+        path = written(f'{folder}/states-{number}.pcap', pcap(made.frames))
+        sharkd.prefer(asked, timer)
         report = report_of(program, made.lines, asked or names)
         seen.update(words.split(' ')[0] for words in report.values())
         states = {frame: wanted_of(report[line]) for frame, line in made.datagrams.items()}
         difference = first_difference(made, sharkd.rows(path), states)
         if number % WHOLE_OF == number // WHOLE_OF % 2:
             difference = difference or data_differ(tshark, path, asked, timer, states)
-        if difference:
-            os.rename(path, kept := os.path.join(folder, f'states-{seed}-{number}.pcap'))
-            difference += f' ({kept})'
-        yield f'{seed}-{number}', difference
+        yield path, difference
+    yield from opened(command, sharkd, files)
     yield 'the end of sharkd', sharkd.end()
     print(', '.join(f'{number} {each}' for each, number in sorted(seen.items())))
 

@@ -121,8 +121,10 @@ static size_t table_length;
 static void give(struct nbt_station *station, const struct payload *all, size_t count) {
     struct nbt_taken taken;
     size_t used;
-    for (; count > 0; count--, all++)
-        must(nbt_station_take(station, 0, all->bytes, all->length, &taken, room, sizeof room, &used) == NBT_DONE && taken.outcome == NBT_KEPT);
+    for (; count > 0; count--, all++) {
+        must(nbt_station_take(station, 0, all->bytes, all->length, &taken, room, sizeof room, &used) == NBT_DONE);
+        must(taken.outcome == NBT_KEPT);
+    }
 }
 
 static struct nbt_station station_of(const struct payload *all, size_t count) {

@@ -37,7 +37,9 @@ function plain(_, value) {
 function domainText(spelling) {
     const { read } = tried(() => nbt.text(spelling)), labels = [];
     const character = (byte) => (/[^!-~]|[.<>\\]/.test(String.fromCharCode(byte)) ? `\\${hex([byte])}` : String.fromCharCode(byte));
-    for (let at = 0; spelling[at] > 0; at += 1 + spelling[at]) labels.push(Array.from(spelling.subarray(at + 1, at + 1 + spelling[at]), character).join(''));
+    for (let at = 0; spelling[at] > 0; at += 1 + spelling[at]) {
+        labels.push(Array.from(spelling.subarray(at + 1, at + 1 + spelling[at]), character).join(''));
+    }
     return read ?? (labels.join('.') || '.');
 }
 

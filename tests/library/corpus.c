@@ -1,6 +1,6 @@
-/* A fuzzer's inputs, which tests/fuzz_coverage.py finds: whatever they are, harness.c's eyes are on each call. What the calls should answer is
- * said by tests/library/payload_rows.py of the same records. An input is records, each of a kind (a byte: 0 to 2 are ports 137 to 139, 3 is a
- * saved table), a length (two bytes), and bytes; a length past the end is cut. */
+/* A fuzzer's inputs, which tests/fuzz_coverage.py finds: whatever they are, harness.c's eyes are on each call. What the calls should answer
+ * is said by tests/library/payload_rows.py of the same records. An input is records, each of a kind (a byte: 0 to 2 are ports 137 to 139, 3
+ * is a saved table), a length (two bytes), and bytes; a length past the end is cut. */
 #include "harness.h"
 
 enum { PORT_138 = 1, TABLE = 3, SOME = 4 };

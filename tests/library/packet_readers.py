@@ -24,8 +24,8 @@ READS = re.compile(r'''0x(?:c0|3f)(?:00|ff)?\b | \b192\b                    # th
 READERS = ("type, flags, low = HEADER.unpack(ctypes.string_at(front, 4))", 'int.from_bytes(data[2:4], "big")', 'if length & 0xc0 == 0xc0:',
            'usize::from(flags & 1) << 16 | usize::from(low)', 'u16::from_be_bytes([high, low])', 'bytes[2] * 256 + bytes[3]',
            'view.getUint16(2)')
-# How many lines read a structure that a call filled in, or what a call wrote, whose form nbt.h has; in javascript/nbt.mjs one an address that
-# is a text, and in wireshark/ a header of UDP and a key, of numbers.
+# How many lines read a structure that a call filled in, or what a call wrote, whose form nbt.h has; in javascript/nbt.mjs one an address
+# that is a text, and in wireshark/ a header of UDP and a key, of numbers.
 MAY = {
     'python/nbt/service_packets.py': 2, 'python/nbt/rdata.py': 1, 'python/nbt/datagrams.py': 1, 'python/nbt/stations.py': 2,
     'rust/src/datagram.rs': 1, 'rust/src/station.rs': 3, 'javascript/nbt.mjs': 10, 'wireshark/collect.c': 2, 'wireshark/station.c': 1,

@@ -43,9 +43,9 @@ def main():
     for line in sys.stdin:
         name, number = line.split()
         answered[name].add(int(number))
-    wrong = [f'{name}: {what}: {sorted(found)}' for name in calls
-             for what, found in (('answered and not listed', answered[name] - calls[name]), ('listed and not answered', calls[name] - answered[name]))
-             if found]
+    odd = [(f'{name}: {what}', found) for name in calls for what, found in (
+        ('answered and not listed', answered[name] - calls[name]), ('listed and not answered', calls[name] - answered[name]))]
+    wrong = [f'{what}: {sorted(found)}' for what, found in odd if found]
     lost = numbers - set().union(*calls.values())
     wrong += [f'in no list: {sorted(lost)}'] * bool(lost)
     print(*wrong, f'{len(calls)} calls, {sum(map(len, answered.values()))} statuses', sep='\n')

@@ -1,8 +1,8 @@
 """What a caller of the library should read out of payloads, which come as lines of a port and digits. Usage: python3 -m model.values,
 in tests/, prints each line before a tab and what it says. The drivers tests/library/answers.* print the same by the packages.
 
-That is an object: what stands at the front of the payload, the fault for which it is no packet, and the packet. Of port 137 members have the
-names of the crate for Rust, of others those of the package for Python."""
+That is an object: what stands at the front of the payload, the fault for which it is no packet, and the packet. Of port 137 members have
+the names of the crate for Rust, of others those of the package for Python."""
 import json
 import sys
 from pathlib import Path
@@ -17,8 +17,8 @@ NAME_FAULTS = {'truncated': 20, 'reserved label': 21, 'pointer not allowed': 22,
 ROLES = {'name': 0, 'source name': 10, 'destination name': 20}
 FAULTS = {'truncated': 50, 'unknown type': 51, 'more bytes needed': 52, 'reserved flags': 53, 'bad length': 54, 'trailing bytes': 55,
           'name rdata': 56}
-HEADER = Path(__file__).resolve().parents[2] / 'include/nbt.h'
-STATUSES = {int(number): name for name, number in findall(r'\n    NBT_([A-Z_]+) = (\d+)', HEADER.read_text('utf-8').partition('nbt_status {')[2])}
+HEADER = (Path(__file__).resolve().parents[2] / 'include/nbt.h').read_text('utf-8')
+STATUSES = {int(number): name for name, number in findall(r'\n    NBT_([A-Z_]+) = (\d+)', HEADER.partition('enum nbt_status {')[2])}
 SECTIONS = 'question', 'answer', 'authority', 'additional'
 
 
@@ -62,7 +62,8 @@ def rdata(record):
 def datagram_front(packet):
     """The header at the front of a payload of port 138, with the names of a fragment as far as they stand."""
     (address, port, identifier), is_part = packet.key, packet.kind in KINDS
-    names = {role: text_of(name) if is_part and name else None for role, name in (('source', packet.source), ('destination', packet.destination))}
+    found = {'source': packet.source, 'destination': packet.destination}
+    names = {role: text_of(name) if is_part and name else None for role, name in found.items()}
     return {'type': packet.kind, 'flags': packet.flags, 'identifier': identifier, 'address': address_text(address), 'port': port,
             'offset': packet.offset or 0, **names}
 

@@ -19,7 +19,7 @@ import tempfile
 sys.dont_write_bytecode = True
 sys.path[1:1] = [f'{sys.path[0]}/{it}' for it in ('bench', 'lib')]
 import plain_program
-from bench_captures import Office, line, office, written
+from bench_captures import Office, line, office, one_address, written
 from bench_rows import HEADING, Row, call_seconds, heading, instructions, least, printed, processor_seconds, ratio, show
 from parts import finish
 from served import requests
@@ -43,19 +43,15 @@ class Calls:
 
     def __init__(self, library, folder):
         self.library, self.folder = library, folder
-        self.loop, self.absorb = (self.compiled(it) for it in ('service_loop', 'absorb_loop'))
+        self.loop = os.path.join(folder, 'service_loop')
+        compiler = [os.environ.get('CC', 'cc'), '-O2', f'-I{TOP}/include']
+        subprocess.run([*compiler, '-o', self.loop, f'{LOOPS}/service_loop.c', f'{library}/libnbt.a'], check=True)
         lines = [each for port, count in COUNTS.items() for each in office(port, count)]
         assert len(lines) == ALL
         stations = Office(random.Random(137))
         self.payloads = written(folder, 'payloads', lines)
         self.comments = written(folder, 'comments', (b'#' + each for each in lines))
         self.service = written(folder, 'service', (line(moment, stations.service(), 137) for moment in range(ALL)))
-
-    def compiled(self, name):
-        """A program in C over the library."""
-        made, compiler = os.path.join(self.folder, name), [os.environ.get('CC', 'cc'), '-O2', f'-I{TOP}/include']
-        subprocess.run([*compiler, '-o', made, f'{LOOPS}/{name}.c', f'{self.library}/libnbt.a'], check=True)
-        return made
 
     def row(self, title, command, path, beside=None, most=None, rounds='21'):
         """The row of a program that calls as often as its first word says: a run of none may end in another way than others."""
@@ -113,15 +109,13 @@ class Calls:
 
     def absorbing(self):
         """A table of one key, taken in by a station of many: beside the key saved, loaded, and a look at each key that is held."""
-        path = written(self.folder, 'nothing', [])
-        without = instructions([self.absorb, str(KEYS), 'nothing'], path)
-        rows = []
+        path, rows = written(self.folder, 'keys', one_address(KEYS + 1)), []
         for what, title in (('save', 'that key saved'), ('load', 'that key taken in where none is'),
                             ('look', f'a look at each of {KEYS:,} keys'), ('absorb', f'nbt_station_absorb of a key, {KEYS:,} held')):
-            command = [self.absorb, str(KEYS), what]
-            rows.append(Row(title, without and instructions(command, path) - without, least(call_seconds, command, path)))
+            counted, without = (instructions([self.loop, rounds, what], path) for rounds in '10')
+            rows.append(Row(title, counted and counted - without, least(call_seconds, [self.loop, '1', what], path)))
         *parts, absorb = rows
-        bar = Row('', without and sum(row.counted for row in parts), sum(row.seconds for row in parts))
+        bar = Row('', rows[0].counted and sum(row.counted for row in parts), sum(row.seconds for row in parts))
         return [*parts, beside_row(absorb, bar, MOST_OF_ABSORB)]
 
 

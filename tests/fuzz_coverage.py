@@ -24,8 +24,7 @@ CORPUS = TOP / 'tests/library/corpus.txt'
 MOST_BYTES, LINE = 2_000_000, 8_000
 CLANGS = [os.environ.get('FUZZ_CLANG'), 'clang-22', 'clang-19', 'clang-16', 'clang']
 WRAPPED = '-Wl,--wrap=malloc,--wrap=realloc,--wrap=free'
-SOURCES = ('calls', 'harness', 'cases', 'hostile', 'bounds', 'corpus', 'memory')
-PROGRAM = [f'{TOP}/tests/library/{name}.c' for name in SOURCES]
+PROGRAM = [f'{TOP}/tests/library/{name}.c' for name in ('calls', 'harness', 'cases', 'hostile', 'bounds', 'corpus', 'memory')]
 LIMITS = ['-max_len=4000', '-timeout=20', '-rss_limit_mb=1500']
 REACHED = re.compile(r'^(?:UN)?COVERED_FUNC: hits: \d+ edges: (\d+)/(\d+) (\S+)', re.M)
 
@@ -69,8 +68,7 @@ def built(room, module):
     # The functions of the module don't ask for AddressSanitizer, so they are made to.
     run([*words, '-O2', '-fsanitize=address,fuzzer-no-link', '-mllvm', '-force-attribute=sanitize_address', '-o', room / 'library.o'])
     run([*words, '-O0', '-fsanitize=fuzzer-no-link', '-o', room / 'blocks.o'])
-    (room / 'cases').write_text(run([f'{TOP}/tests/library/payload_rows.py', 'cases'], input=''), encoding='ascii')
-    words = [clang, '-std=c11', '-g', '-O1', '-fsanitize=address', f'-I{TOP}/include', f'-DCASES="{room}/cases"', *PROGRAM]
+    words = [clang, '-std=c11', '-g', '-O1', '-fsanitize=address', f'-I{TOP}/include', *PROGRAM]
     heap = f'{TOP}/bindings/heaps/malloc.c'
     for library, program in (('library.o', 'fuzz'), ('blocks.o', 'blocks')):
         run([*words, '-DFUZZER', '-fsanitize=fuzzer', WRAPPED, heap, room / library, '-o', room / program])
@@ -78,28 +76,17 @@ def built(room, module):
     return room / 'fuzz', room / 'alone', room / 'blocks'
 
 
-def read_corpus(folder):
-    folder.mkdir()
-    for number, digits in enumerate(CORPUS.read_text(encoding='ascii').split()):
-        (folder / f'{number:05}').write_bytes(bytes.fromhex(digits))
-
-
-def inputs_in(folder):
-    return [it.read_bytes() for it in folder.iterdir()]
-
-
-def write_corpus(folder):
+def write_corpus(inputs):
     """Short inputs first, as many as the limit has room for."""
-    short_first = sorted({it.hex() for it in inputs_in(folder) if it}, key=lambda it: (len(it), it))
+    short_first = sorted(filter(None, set(inputs)), key=lambda it: (len(it), it))
     sizes = itertools.accumulate(len(it) + 1 for it in short_first)
     kept = [digits for digits, size in zip(short_first, sizes) if size <= MOST_BYTES]
     CORPUS.write_text(textwrap.fill(' '.join(kept), LINE) + '\n', encoding='ascii')
 
 
 def lines_of(inputs):
-    """The payloads of some inputs, as lines of a port and digits."""
-    words = [sys.executable, f'{TOP}/tests/captures/payloads.py', 'inputs', '1000000000']
-    return run(words, input='\n'.join(it.hex() for it in inputs))
+    """The payloads of some inputs, digits, as lines of a port and digits."""
+    return run([sys.executable, f'{TOP}/tests/captures/payloads.py', 'inputs', '1000000000'], input='\n'.join(inputs))
 
 
 def show_failures(room, said):
@@ -107,17 +94,16 @@ def show_failures(room, said):
     print(*dict.fromkeys(re.findall(r'.*not so: .*|SUMMARY: .*', said)), sep='\n')
     for path in sorted(room.iterdir()):
         if re.match('(crash|leak|timeout|oom)-', path.name):
-            data = path.read_bytes()
-            lines = lines_of([data]).replace('table ', '# a saved table: ')
-            print(re.sub(r'^(\d+) ', r'\1 0 ', lines, flags=re.M), f'input: {data.hex()}', sep='')
+            digits = path.read_bytes().hex()
+            lines = lines_of([digits]).replace('table ', '# a saved table: ')
+            print(re.sub(r'^(\d+) ', r'\1 0 ', lines, flags=re.M), f'input: {digits}', sep='')
 
 
-def is_judged(folder, alone):
+def is_judged(inputs, alone):
     """Whether the calls answer of these inputs what tests/model does."""
-    rows = run([f'{TOP}/tests/library/payload_rows.py'], input=lines_of(inputs_in(folder)))
-    done = ended([alone, 'judged'], input=rows)
-    print(f'beside the model: {done.stdout}', end='')
-    return done.returncode == 0
+    rows = run([f'{TOP}/tests/library/payload_rows.py'], input=lines_of(inputs))
+    print('beside the model:', flush=True)
+    return subprocess.run([alone, 'judged'], input=rows, text=True, stdout=subprocess.DEVNULL, check=False).returncode == 0
 
 
 def show_reached(said):
@@ -148,8 +134,10 @@ def main():
         room = pathlib.Path(folder)
         fuzz, alone, blocks = built(room, words.module)
         corpus, least = room / 'corpus', room / 'least'
-        read_corpus(corpus)
+        corpus.mkdir()
         least.mkdir()
+        for number, digits in enumerate(CORPUS.read_text(encoding='ascii').split()):
+            (corpus / f'{number:05}').write_bytes(bytes.fromhex(digits))
         limits = [*LIMITS, f'-artifact_prefix={room}/']
         done = ended([fuzz, *limits, f'-max_total_time={words.seconds}', corpus])
         print(*[line for line in done.stdout.splitlines() if re.search('INITED|DONE', line)], sep='\n')
@@ -158,9 +146,10 @@ def main():
             return 1
         run([fuzz, *limits, '-merge=1', least, corpus])
         show_reached(run([blocks, *limits, '-runs=0', '-print_coverage=1', least]))
+        inputs = [it.read_bytes().hex() for it in least.iterdir()]
         if words.keep:
-            write_corpus(least)
-        return not is_judged(least, alone)
+            write_corpus(inputs)
+        return not is_judged(inputs, alone)
 
 
 if __name__ == '__main__':

@@ -4,9 +4,8 @@ import { readFileSync, writeFileSync } from 'node:fs';
 import { pathToFileURL } from 'node:url';
 
 const nbt = await (await import(pathToFileURL(`${process.argv[2]}/nbt.mjs`))).load();
-const SECTIONS = ['question', 'answer', 'authority', 'additional'], TYPES = { 0x10: 'unique', 0x11: 'group', 0x12: 'broadcast' };
+const TYPES = { 0x10: 'unique', 0x11: 'group', 0x12: 'broadcast' };
 const hex = (bytes) => Buffer.from(bytes).toString('hex'), digits = (bytes) => hex(bytes) || 'empty';
-const two = (number) => number.toString(16).padStart(2, '0'), four = (number) => number.toString(16).padStart(4, '0');
 
 // ---- payloads, in the words of tests/model/values.py
 
@@ -20,14 +19,26 @@ function tried(call) {
     }
 }
 
-const refused = ({ number, at }) => `refused ${number} ${at ?? '-'}`;
+/** What a payload says by two readers, which have to agree on its fault. */
+const said = (readFront, readWhole, front = (it) => it, whole = front) => (payload) => {
+    const { read } = tried(() => readFront(payload)), { read: packet, fault } = tried(() => readWhole(payload));
+    if (read?.fault !== undefined && read.fault?.message !== fault?.message) throw new Error('the fault of a front is another');
+    const told = fault && { status: fault.status, number: fault.number, at: fault.at };
+    return [JSON.stringify({ fault: told, front: read && front(read), packet: packet && whole(packet) }, plain)];
+};
+
+/** Bytes as digits, and the members of an object in the order of their names. */
+function plain(_, value) {
+    if (value instanceof Uint8Array) return hex(value);
+    return value === null || typeof value !== 'object' || Array.isArray(value) ? value : Object.fromEntries(Object.entries(value).sort());
+}
 
 /** The text of a domain name: that of a NetBIOS name, or its labels. */
 function domainText(spelling) {
     const { read } = tried(() => nbt.text(spelling)), labels = [];
+    const character = (byte) => (/[^!-~]|[.<>\\]/.test(String.fromCharCode(byte)) ? `\\${hex([byte])}` : String.fromCharCode(byte));
     for (let at = 0; spelling[at] > 0; at += 1 + spelling[at]) {
-        const label = Array.from(spelling.subarray(at + 1, at + 1 + spelling[at]));
-        labels.push(label.map((byte) => (byte > 0x20 && byte < 0x7f && !'.<>\\'.includes(String.fromCharCode(byte)) ? String.fromCharCode(byte) : `\\${two(byte)}`)).join(''));
+        labels.push(Array.from(spelling.subarray(at + 1, at + 1 + spelling[at]), character).join(''));
     }
     return read ?? (labels.join('.') || '.');
 }
@@ -35,42 +46,22 @@ function domainText(spelling) {
 /** The text of a name of sixteen bytes, by its spelling. */
 const nodeName = (name) => nbt.text(Uint8Array.of(32, ...Array.from(name).flatMap((byte) => [65 + (byte >> 4), 65 + (byte & 15)]), 0));
 
-function rdata({ spelling, isNetbios, type, classNumber, section, timeToLive, data, server, ...views }) {
-    return server ? domainText(server) : parts(views) || digits(data);
+/** What a question and a record have alike. The text of a NetBIOS name alone has an angle bracket. */
+function item({ spelling, isNetbios, type, classNumber }) {
+    const name = domainText(spelling);
+    if (isNetbios !== name.includes('<')) throw new Error(`isNetbios is ${isNetbios} of ${name}`);
+    return { name, kind: type, class: classNumber };
 }
 
-/** A view: the values that are there, in the order of their names, a list of such, or a value. */
-function parts(value) {
-    if (Array.isArray(value)) return `[${value.map(parts).join(' ')}]`;
-    if (value instanceof Uint8Array) return value.length === 16 ? nodeName(value) : hex(value);
-    if (typeof value !== 'object') return typeof value === 'number' ? four(value) : value;
-    return Object.keys(value).sort().filter((name) => value[name] !== null).map((name) => parts(value[name])).join('/');
+function rdata({ addresses, node, server, data }) {
+    if (addresses) return { addresses: addresses.map(({ address, flags }) => ({ address, nb_flags: flags })) };
+    if (node) return { node_status: { names: node.names.map(({ name, flags }) => ({ name: nodeName(name), flags })), unit: node.unit } };
+    return server ? { name_server: domainText(server) } : { other: data };
 }
 
-function service(payload) {
-    const { read, fault } = tried(() => nbt.readServiceFront(payload)), whole = tried(() => nbt.readService(payload));
-    const first = whole.fault ? refused(whole.fault) : 'whole';
-    if (!read || read.fault?.message !== whole.fault?.message) return [read ? 'the fault of readServiceFront is another' : refused(fault)];
-    const { identifier, word, counts, used, questions, records } = read, name = (it) => `${it.isNetbios ? '' : 'labels:'}${domainText(it.spelling)}`;
-    const front = (section, it) => `${section} ${name(it)} ${four(it.type)} ${four(it.classNumber)}`;
-    return [first, `header ${four(identifier)} ${four(word)} ${counts.join(' ')} used ${used}`, ...questions.map((it) => front(0, it)),
-        ...records.map((it) => `${front(SECTIONS.indexOf(it.section), it)} ${it.timeToLive} ${rdata(it)}`)];
-}
-
-function datagram(payload) {
-    const whole = tried(() => nbt.readDatagram(payload)), front = tried(() => nbt.readDatagramFront(payload));
-    const header = (it) => `${two(it.type)} ${two(it.flags)} ${keyOf(it)} ${it.offset} ${it.source ?? '-'} ${it.destination ?? '-'}`;
-    const first = whole.read ? `${header(whole.read)} ${digits(whole.read.data)} used ${whole.read.used}` : refused(whole.fault);
-    return front.read ? [first, `front ${header(front.read)}`] : [first];
-}
-
-function session(payload) {
-    const whole = tried(() => nbt.readSession(payload)), front = tried(() => nbt.readSessionFront(payload));
-    const names = ({ called, calling, retarget }) => (called === null ? '' : ` called ${called} calling ${calling}`) + (retarget ? ` retarget ${retarget.address}:${retarget.port}` : '');
-    const read = (it) => `${two(it.type)} ${digits(it.body)}${names(it)} used ${it.used}`;
-    const first = whole.read ? read(whole.read) : whole.fault.missing === null ? refused(whole.fault) : `more ${whole.fault.missing}`;
-    return front.read ? [first, `front ${two(front.read.type)} ${two(front.read.flags)} ${front.read.bodyLength}`] : [first];
-}
+const record = (it) => ({ ...item(it), section: it.section, time_to_live: it.timeToLive, rdata: rdata(it) });
+const service = ({ identifier, word, counts, questions, records, used }) =>
+    ({ header: { identifier, word, counts }, questions: questions.map(item), records: records.map(record), used });
 
 // ---- other calls
 
@@ -93,7 +84,7 @@ function create(texts, address, port, keys, perSource, name) {
     return [];
 }
 
-const keyOf = ({ address, port, identifier }) => `${address}:${port}/${four(identifier)}`;
+const keyOf = ({ address, port, identifier }) => `${address}:${port}/${identifier.toString(16).padStart(4, '0')}`;
 
 /** A datagram that is handed over, in the words of `nbt replay`. */
 const handed = (it) => `${keyOf(it)} ${TYPES[it.type]} ${it.source} ${it.destination} ${digits(it.data)}`;
@@ -115,9 +106,10 @@ const KINDS = {
     s: (word) => stations.get(word), w: String,
 };
 const CALLS = {
-    137: ['b', (payload) => [service(payload).join(', ')]],
-    138: ['b', (payload) => [datagram(payload).join(', ')]],
-    139: ['b', (payload) => [session(payload).join(', ')]],
+    137: ['b', said(nbt.readServiceFront, nbt.readService, service)],
+    138: ['b', said(nbt.readDatagramFront, nbt.readDatagram)],
+    139: ['b', said(nbt.readSessionFront, nbt.readSession, ({ bodyLength, ...it }) => ({ ...it, length: bodyLength }),
+        ({ retarget, ...it }) => ({ ...it, retarget: retarget && Object.values(retarget) }))],
     status_text: ['n', nbt.words],
     name_spell: ['t', nbt.spell],
     name_text: ['b', nbt.text],

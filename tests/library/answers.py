@@ -1,10 +1,10 @@
 #!/usr/bin/env python3
 """What the package for Python answers to rows on standard input, a line each: rows.py says how both are written."""
+import json
 import sys
-from dataclasses import is_dataclass, replace
 
 import nbt
-from nbt import LineKind, ServicePacket, SessionType
+from nbt import LineKind, ServicePacket
 from nbt.library import STATUS_TEXT
 
 
@@ -15,91 +15,52 @@ def digits(data):
 
 # ---- payloads, in the words of tests/model/values.py
 
-def first_line(kind, payload, told):
-    """What stands at the front of a payload, and the line of the packet, or of its fault, by which both readers have to agree."""
-    front, refused = kind.read_front(payload)
-    try:
-        line = told(kind.read(payload), front)
-        assert refused is None
-    except nbt.NbtError as error:
-        assert error == refused
-        place = '-' if error.at is None else error.at
-        line = f'more {error.missing}' if isinstance(error, nbt.MoreNeeded) else f'refused {error.number} {place}'
-    return front, line
+def said(kind, front=vars, whole=vars):
+    """What a payload says by the readers of a kind, which have to agree on its fault."""
+    def answer(payload):
+        (found, fault), packet = kind.read_front(payload), None
+        try:
+            packet = kind.read(payload)
+            assert fault is None
+        except nbt.NbtError as error:
+            assert error == fault
+        fault = fault and {'status': fault.status.name, 'number': fault.number, 'at': fault.at}
+        told = {'front': found and front(found), 'fault': fault, 'packet': packet and whole(packet)}
+        return (json.dumps(told, sort_keys=True, separators=(',', ':'), default=plain),)
+    return answer
 
 
-def service(payload):
-    """The lines of a payload of port 137: its packet, and what stands of it."""
-    front, line = first_line(ServicePacket, payload, whole)
-    return [line, *(standing(front) if front else [])]
+def plain(value):
+    """Bytes as digits, and addresses as texts."""
+    return value.hex() if isinstance(value, bytes) else str(value)
 
 
-def whole(packet, front):
-    assert packet == front
-    assert list(map(len, (packet.questions, packet.answers, packet.authorities, packet.additional))) == list(packet.counts)
-    return 'whole'
-
-
-def standing(packet):
-    """The lines of a packet, or of what stands of one."""
+def service(packet):
     word = packet.response << 15 | packet.op << 11 | packet.flags | packet.rcode
-    yield f'header {packet.identifier:04x} {word:04x} {" ".join(map(str, packet.counts))} used {packet.used}'
     assert packet.records == packet.answers + packet.authorities + packet.additional
-    for it in packet.questions:
-        yield f'0 {marked(it.name)} {it.type:04x} {it.class_number:04x}'
-    for section, records in enumerate((packet.answers, packet.authorities, packet.additional), 1):
-        for it in records:
-            yield f'{section} {marked(it.name)} {it.type:04x} {it.class_number:04x} {it.time_to_live} {rdata(it.rdata)}'
-            if isinstance(it.name, str):
-                written_again(packet, it)
+    sections = {'answer': packet.answers, 'authority': packet.authorities, 'additional': packet.additional}
+    records = [item(it) | {'section': section, 'time_to_live': it.time_to_live, 'rdata': rdata(it.rdata)}
+               for section, records in sections.items() for it in records]
+    return {'header': {'identifier': packet.identifier, 'word': word, 'counts': packet.counts},
+            'questions': list(map(item, packet.questions)), 'records': records, 'used': packet.used}
 
 
-def written_again(packet, record):
-    """A response that is written of the values of a record is read as these."""
-    payload = nbt.response(packet.identifier, record.name, record.rdata, record.time_to_live, op=packet.op, flags=packet.flags,
-                           rcode=packet.rcode, type=record.type)
-    found, numbers = ServicePacket.read(payload), (packet.identifier, packet.op, packet.flags, packet.rcode)
-    assert (found.identifier, found.op, found.flags, found.rcode, found.used) == (*numbers, len(payload))
-    assert found.answers == (replace(record, class_number=1),)
-
-
-def marked(name):
-    """A name, with what it is before one that is no NetBIOS name."""
-    return name if isinstance(name, str) else f'labels:{name}'
+def item(it):
+    """What a question and a record have alike. The text of a NetBIOS name alone has an angle bracket."""
+    assert isinstance(it.name, str) == ('<' in str(it.name))
+    return {'name': str(it.name), 'kind': it.type, 'class': it.class_number}
 
 
 def rdata(value):
-    """What RDATA says: the values that are there, in the order of their names, a list of such, or a value."""
     if isinstance(value, tuple):
-        return f'[{" ".join(map(rdata, value))}]'
-    if is_dataclass(value) and not isinstance(value, nbt.DomainName):
-        return '/'.join(rdata(it) for _, it in sorted(vars(value).items()) if it is not None)
-    return f'{value:04x}' if isinstance(value, int) else digits(value) if isinstance(value, bytes) else str(value)
+        return {'addresses': [{'nb_flags': it.flags, 'address': it.address} for it in value]}
+    if isinstance(value, nbt.NodeStatus):
+        return {'node_status': {'names': list(map(vars, value.names)), 'unit': value.unit}}
+    return {'other' if isinstance(value, bytes) else 'name_server': value}
 
 
-def datagram(payload):
-    """The lines of a payload of port 138: its packet, and what stands at its front."""
-    front, line = first_line(nbt.Datagram, payload, lambda it, _: f'{header(it)} {digits(it.data)} used {it.used}')
-    return [line, *([f'front {header(front)}'] if front else [])]
-
-
-def header(it):
-    """The numbers and the names of a packet of port 138, or of its front."""
-    source, destination = ('-' if name is None else name for name in (it.source, it.destination))
-    return f'{it.type:02x} {it.flags:02x} {key(it)} {it.offset} {source} {destination}'
-
-
-def session(payload):
-    """The lines of a payload of port 139: its packet, and the header at its front."""
-    front, line = first_line(nbt.SessionPacket, payload, session_line)
-    return [line, *([f'front {front.type:02x} {front.flags:02x} {front.length}'] if front else [])]
-
-
-def session_line(it, _):
-    said = f' called {it.called} calling {it.calling}' if it.type == SessionType.REQUEST else ''
-    if it.retarget:
-        said = ' retarget {}:{}'.format(*it.retarget)
-    return f'{it.type:02x} {digits(it.body)}{said} used {it.used}'
+def session(packet):
+    return vars(packet) | {name: getattr(packet, name) for name in ('called', 'calling', 'retarget')}
 
 
 # ---- other calls
@@ -163,7 +124,9 @@ def take(station, moment, payload):
 KINDS = {'n': int, 'b': lambda word: bytes.fromhex(word.replace('empty', '')), 't': lambda word: KINDS['b'](word).decode(),
          's': stations.__getitem__, 'w': str}
 CALLS = {
-    **{port: ('b', lambda payload, lines=lines: (', '.join(lines(payload)),)) for port, lines in (('137', service), ('138', datagram), ('139', session))},
+    '137': ('b', said(ServicePacket, service, service)),
+    '138': ('b', said(nbt.Datagram)),
+    '139': ('b', said(nbt.SessionPacket, whole=session)),
     'status_text': ('n', STATUS_TEXT),
     'name_spell': ('t', nbt.spell),
     'name_text': ('b', nbt.text),

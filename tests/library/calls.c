@@ -1,14 +1,12 @@
 /* The calls of rows on standard input, in the form of cases.txt, each with harness.c's eyes on it. Usage: calls WAY <ROWS:
  *
- * answers         prints what each call answers: the number of its `line`, the call, its status, *used, *at, and sums of the bytes and of
- *                 the fields that it wrote. calls.mjs prints the same in WebAssembly
  * judged [ROOMS]  each call answers what its row says, also in so many rooms that are too small, and with requests for memory refused
  * refused         so it does, and with each of its requests refused in turn
  * varied          so it does, and with its inputs and numbers changed: hostile.c
  * measured        the stack that each call wants, and how long texts are: bounds.c
- * inputs          no rows, but a fuzzer's inputs, lines of digits: corpus.c
  *
- * The last line of standard error counts what was done. */
+ * The first two print what each call answers: the number of its `line`, the call, its status, *used, *at, and sums of the bytes and of the
+ * fields that it wrote. calls.mjs prints the same in WebAssembly. The last line of standard error counts what was done. */
 #define _GNU_SOURCE
 #include "harness.h"
 #include <stdio.h>
@@ -28,29 +26,11 @@ static uint32_t sum_of(struct bytes it) {
 
 static void print_number(size_t number) { printf(number == UNSAID ? " -" : " %zu", number); }
 
-/* A call without room, with a byte less than it wants, and with three more. */
-static void answer(const struct sample *row) {
-    struct answer it = attempt(row->of, &row->asked, 0, 0, SIZE_MAX);
-    if (it.status == NBT_NO_ROOM) {
-        size_t wanted = it.used;
-        it = attempt(row->of, &row->asked, wanted - 1, 1, SIZE_MAX);
-        expect(it.status == NBT_NO_ROOM && it.used == wanted, "a byte too few");
-        it = attempt(row->of, &row->asked, wanted + 3, 0, SIZE_MAX);
-    }
-    printf("%lu %s %u", line_number, rows[row->of].name, (unsigned)it.status);
+static void print_answer(const struct row *row, struct bytes fields, struct answer it) {
+    printf("%lu %s %u", line_number, row->name, (unsigned)it.status);
     print_number(it.used);
     print_number(it.at);
-    printf(" %08x %08x\n", (unsigned)sum_of(it.bytes), (unsigned)sum_of(fields_of(row->of, &it)));
-}
-
-int answer_rows(const char *text) {
-    struct sample row;
-    size_t mark;
-    for (mark = kept_mark(); next_row(&text, &row); release(mark))
-        answer(&row);
-    free_stations();
-    fprintf(stderr, "%lu calls\n", call_count);
-    return 0;
+    printf(" %08x %08x\n", (unsigned)sum_of(it.bytes), (unsigned)sum_of(fields));
 }
 
 /* ---- what rows say */
@@ -96,17 +76,19 @@ static void wide(void) {
            "a port with more bits");
 }
 
-/* Judges rows; each is tried with few requests granted, or with ever more of them until it is done. */
-static int judge_all(const char *text, size_t rooms, int is_each_refused) {
+/* Each is tried with few requests granted, or with ever more of them until it is done. */
+static int judge_rows(const char *text, size_t rooms, int is_each_refused) {
     struct sample row;
     size_t mark, count = 0;
     wide();
-    for (mark = kept_mark(); next_row(&text, &row); release(mark)) {
+    for (mark = kept_mark(); next_row(&text, &row); release(mark), count++) {
+        struct answer it;
         trials = (struct trials){.rooms = rooms, .least = count % 7, .most = count % 7 + 2};
         if (is_each_refused)
             trials = (struct trials){.rooms = rooms, .most = SIZE_MAX};
-        count++;
-        judge_answer(&row, answered(row.of, &row.asked));
+        it = answered(row.of, &row.asked);
+        judge_answer(&row, it);
+        print_answer(&rows[row.of], fields_of(row.of, &it), it);
     }
     free_stations();
     expect(memory.blocks == 0, "what is kept is given back");
@@ -114,44 +96,18 @@ static int judge_all(const char *text, size_t rooms, int is_each_refused) {
     return 0;
 }
 
-int judge_rows(const char *text, size_t rooms) { return judge_all(text, rooms, 0); }
-
-int refuse_rows(const char *text) { return judge_all(text, 0, 1); }
-
 /* ---- the ways */
 
 #ifndef FUZZER
-/* All bytes of standard input, and a zero byte, in memory that isn't counted. */
-static char *whole(void) {
-    size_t space = 1 << 20, count = 0, more, blocks = memory.blocks;
-    char *text = malloc(space);
-    expect(text != NULL, "memory");
-    while ((more = fread(text + count, 1, space - count - 1, stdin)) > 0) {
-        count += more;
-        if (count + 1 == space)
-            text = realloc(text, space *= 2);
-        expect(text != NULL, "memory");
-    }
-    text[count] = '\0';
-    memory.blocks = blocks;
-    return text;
-}
-
 int main(int words, char **word) {
-    static const char *text;
+    static char text[1 << 29];
     const char *way = words > 1 ? word[1] : "";
-    text = whole();
+    expect(fread(text, 1, sizeof text, stdin) < sizeof text, "room for rows");
     program = way;
-    if (strcmp(way, "answers") == 0)
-        return answer_rows(text);
-    if (strcmp(way, "judged") == 0)
-        return judge_rows(text, words > 2 ? strtoul(word[2], NULL, 10) : 0);
-    if (strcmp(way, "refused") == 0)
-        return refuse_rows(text);
     if (strcmp(way, "varied") == 0)
         return vary_rows(text);
     if (strcmp(way, "measured") == 0)
         return measure_rows(text);
-    return strcmp(way, "inputs") == 0 ? run_inputs(text) : 2;
+    return judge_rows(text, words > 2 ? strtoul(word[2], NULL, 10) : 0, strcmp(way, "refused") == 0);
 }
 #endif

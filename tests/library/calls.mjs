@@ -1,5 +1,5 @@
 // The calls of rows in WebAssembly, as tests/library/calls.c makes them: it reads the same rows of calls.def and of standard input, and prints
-// the same. Usage: node calls.mjs MODULE answers|refused <ROWS. With `refused` they are made once more, each request for memory refused in
+// the same. Usage: node calls.mjs MODULE judged|refused <ROWS. With `refused` they are made once more, each request for memory refused in
 // turn: they answer the same, and memory stays as large.
 import { readFileSync, writeFileSync } from 'node:fs';
 
@@ -50,26 +50,21 @@ function sumOf(bytes) {
 }
 
 // What is asked, by the words of a row of calls.def, as each of them stands there.
-const isGiven = (word) => /^(IN|N|L|B|STATION|MADE)\b/.test(word);
+const GIVEN = {
+    IN(it, asked) {
+        const given = bytesOf(it), place = inputs[asked.inputs.push(given) - 1];
+        return [big(place), big(given.length)];
+    },
+    N: (it) => [Number(BigInt.asIntN(32, big(it)))],
+    L: (it) => [big(it)],
+    B: (it) => [it === '0' ? 0 : 1],
+    STATION: (it) => [big(stations.get(it) ?? stations.set(it, stationAt(stations.size)).get(it))],
+};
+GIVEN.MADE = GIVEN.STATION;
 
 function askedOf(row, given) {
-    const asked = { inputs: [], values: new Map() };
-    row.words.filter(isGiven).forEach((word, index) => {
-        const place = Number(/\d/.exec(word)?.[0]);
-        if (word.startsWith('IN')) {
-            asked.inputs[place] = bytesOf(given[index]);
-            asked.values.set(word, [big(inputs[place]), big(asked.inputs[place].length)]);
-        } else if (word.startsWith('N')) {
-            asked.values.set(word, [Number(BigInt.asIntN(32, big(given[index])))]);
-        } else if (word.startsWith('L')) {
-            asked.values.set(word, [big(given[index])]);
-        } else if (word.startsWith('B')) {
-            asked.values.set(word, [given[index] === '0' ? 0 : 1]);
-        } else {
-            if (!stations.has(given[index])) stations.set(given[index], stationAt(stations.size));
-            asked.values.set(word, [big(stations.get(given[index]))]);
-        }
-    });
+    const asked = { inputs: [], values: new Map() }, kindOf = (word) => GIVEN[/^[A-Z]+/.exec(word)[0]];
+    row.words.filter(kindOf).forEach((word, index) => asked.values.set(word, kindOf(word)(given[index], asked)));
     return asked;
 }
 

@@ -46,8 +46,6 @@ static void name_bytes(const char *text) {
     hold(kept_mark());
 }
 
-struct bytes bytes_named(const char *name) { return bytes_at(&name); }
-
 /* The station of a name. One that is made stands in the place of one that was. */
 static struct nbt_station *station_at(const char **text, int is_made) {
     struct named *found = find(stations, station_count, *text);

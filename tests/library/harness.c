@@ -230,12 +230,6 @@ struct answer attempt(enum call of, const struct asked *asked, size_t room, int 
     return it;
 }
 
-static struct answer kept_answer(struct answer it) {
-    it.bytes = keep(it.bytes.at, it.bytes.length);
-    it.filled = keep(it.filled.at, it.filled.length);
-    return it;
-}
-
 /* Two answers are one: their numbers, their bytes, and each field. */
 static void expect_same(enum call of, struct answer first, struct answer second) {
     expect(first.status == second.status && first.used == second.used && first.at == second.at, "the same numbers again");
@@ -247,24 +241,18 @@ static void expect_no_room(struct answer it, size_t wanted) {
     expect(it.status == NBT_NO_ROOM && it.used == wanted, "NBT_NO_ROOM, and the same room wanted");
 }
 
-static struct answer read(enum call of, const struct asked *asked, struct answer none) {
-    size_t wanted = none.used, requests = trials.least, room = 0;
-    int side = none.status == NBT_NO_ROOM;
-    struct answer it = kept_answer(none), poor = {.status = NBT_NO_MEMORY};
-    if (side == 1) {
-        for (room = 1; trials.rooms > 0 && room < wanted; room += wanted / (trials.rooms + 1) + 1)
-            expect_no_room(attempt(of, asked, room, 0, SIZE_MAX), wanted);
-        expect_no_room(attempt(of, asked, wanted - 1, (int)(call_count % 2), SIZE_MAX), wanted);
-        room = wanted;
-        it = kept_answer(attempt(of, asked, room, side, SIZE_MAX));
-        expect(it.status == NBT_DONE && it.used == wanted, "the room that is wanted");
-    }
-    expect_same(of, it, attempt(of, asked, room + (size_t)side * MORE, 1 - side, SIZE_MAX));
-    for (; requests < trials.most && poor.status == NBT_NO_MEMORY; requests++) {
-        poor = attempt(of, asked, room, 1 - side, requests);
-        if (poor.status != NBT_NO_MEMORY)
-            expect_same(of, it, poor);
-    }
+/* A call in a room, with few requests granted, and with all of them where that isn't enough. */
+static struct answer tried(enum call of, const struct asked *asked, size_t room) {
+    struct answer it = {.status = NBT_NO_MEMORY};
+    uint32_t poor;
+    size_t requests;
+    for (requests = trials.least; it.status == NBT_NO_MEMORY && requests < trials.most; requests++)
+        it = attempt(of, asked, room, room > 0, requests);
+    if (it.status == NBT_DONE)
+        return it;
+    poor = it.status;
+    it = attempt(of, asked, room, room > 0, SIZE_MAX);
+    expect(poor == NBT_NO_MEMORY || poor == it.status, "the same fault, or NBT_NO_MEMORY, where a request is refused");
     return it;
 }
 
@@ -278,32 +266,24 @@ static struct bytes table_of(struct nbt_station *station) {
     return keep(it.bytes.at, it.bytes.length);
 }
 
-/* One that changes a station, which is as it was until it does. */
-static struct answer change(enum call of, const struct asked *asked) {
-    struct bytes before = has(of, "MADE") ? (struct bytes){NULL, 0} : table_of(asked->station);
-    struct answer it = {.status = NBT_NO_ROOM};
-    size_t room = 0, requests;
-    for (;;) {
-        it.status = NBT_NO_MEMORY;
-        for (requests = trials.least; it.status == NBT_NO_MEMORY && requests < trials.most; requests++)
-            it = attempt(of, asked, room, 1, requests);
-        if (it.status != NBT_DONE) {
-            uint32_t poor = it.status;
-            it = attempt(of, asked, room, 0, SIZE_MAX);
-            expect(poor == NBT_NO_MEMORY || poor == it.status, "the same fault, or NBT_NO_MEMORY, where a request is refused");
-        }
-        if (it.status != NBT_NO_ROOM)
-            break;
-        expect(room == 0, "the room that is wanted");
-        expect_no_room(attempt(of, asked, it.used - 1, 1, SIZE_MAX), it.used);
-        room = it.used + call_count % 2 * MORE;
-    }
-    it = kept_answer(it);
-    if (it.status != NBT_DONE)
-        expect(has(of, "MADE") || is_same(before, table_of(asked->station)), "a station is as it was where nothing is done");
-    return it;
-}
-
 struct answer answered(enum call of, const struct asked *asked) {
-    return rows[of].changes ? change(of, asked) : read(of, asked, attempt(of, asked, 0, 0, SIZE_MAX));
+    const int is_taking = rows[of].changes && !has(of, "MADE");
+    struct bytes before = is_taking ? table_of(asked->station) : (struct bytes){NULL, 0};
+    struct answer it = tried(of, asked, 0);
+    size_t room = 0, wanted = it.used;
+    if (it.status == NBT_NO_ROOM) {
+        for (room = 1; trials.rooms > 0 && room < wanted; room += wanted / (trials.rooms + 1) + 1)
+            expect_no_room(attempt(of, asked, room, 0, SIZE_MAX), wanted);
+        expect_no_room(attempt(of, asked, wanted - 1, (int)(call_count % 2), SIZE_MAX), wanted);
+        room = wanted + call_count % 2 * MORE;
+        it = tried(of, asked, room);
+        expect(is_taking ? it.status != NBT_NO_ROOM : it.status == NBT_DONE && it.used == wanted, "the room that is wanted");
+    }
+    it.bytes = keep(it.bytes.at, it.bytes.length);
+    it.filled = keep(it.filled.at, it.filled.length);
+    if (!rows[of].changes)
+        expect_same(of, it, attempt(of, asked, wanted == UNSAID ? 0 : wanted, room == 0, SIZE_MAX));
+    if (is_taking && it.status != NBT_DONE)
+        expect(is_same(before, table_of(asked->station)), "a station is as it was where nothing is done");
+    return it;
 }

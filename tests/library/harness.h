@@ -2,9 +2,17 @@
 #ifndef HARNESS_H
 #define HARNESS_H
 
-#include "memory.h"
 #include <nbt.h>
 #include <string.h>
+
+/* The requests for memory of a program that is linked with memory.c, --wrap=malloc, --wrap=realloc and --wrap=free. */
+extern struct memory {
+    size_t denied; /* how many were refused since the last grant */
+    size_t blocks; /* how many blocks there are */
+} memory;
+
+/* How many requests are granted from now on, SIZE_MAX for all; then one is refused, and where `for_ever` says so all after it. */
+void grant(size_t requests, int for_ever);
 
 /* ENTRIES is how many structures a call may fill in that fills in several. */
 enum { INPUTS = 3, NUMBERS = 6, ENTRIES = 3, MOST_FILLED = ENTRIES * 600 };
@@ -71,11 +79,14 @@ struct sample {
 /* Passes over lines up to a row, which is read, and answers whether there is one. Names hold until the next `line`, those before the
  * first one for ever. What is kept for a row may be released once it is done. */
 int next_row(const char **text, struct sample *made);
-struct bytes bytes_named(const char *name);
 void free_stations(void);
 
 /* Whether a call answered what its row says; ends the program where it didn't. */
 void judge_answer(const struct sample *it, struct answer answer);
+
+/* Numbers that are odd for some call: those of types, and the least and the greatest. */
+enum { ODD_NUMBERS = 25 };
+extern const uint64_t odd_numbers[ODD_NUMBERS];
 
 /* Ends the program where something doesn't hold, with what was done last. */
 void expect(int holds, const char *what);
@@ -95,8 +106,8 @@ extern unsigned long call_count, refusal_count;
  * requests granted. What has to hold of every call is judged here. What it wrote stays until the next call. */
 struct answer attempt(enum call of, const struct asked *asked, size_t room, int side, size_t requests);
 
-/* A call in no room, in a byte too little, in as much as it wants and in more, on both sides, and with few requests granted: it
- * answers the same. One that changes a station is done once, and leaves it as it was before that. */
+/* A call in no room, in a byte too little, in as much as it wants or more, and with few requests granted: it answers the same, on the
+ * other side too. One that changes a station is done once, and leaves it as it was before that. */
 struct answer answered(enum call of, const struct asked *asked);
 #define CALL(name, ...) answered(OF_##name, &(struct asked){__VA_ARGS__})
 
@@ -119,12 +130,8 @@ uint8_t *area_at(int area, size_t length, int side, int fill);
 /* The statuses that calls answered, a line each. */
 void print_statuses(void);
 
-/* What each way of calls.c does with rows; its status. */
-int answer_rows(const char *text);
-int judge_rows(const char *text, size_t rooms);
-int refuse_rows(const char *text);
+/* What ways of calls.c do with rows; its status. */
 int vary_rows(const char *text);
 int measure_rows(const char *text);
-int run_inputs(const char *text);
 
 #endif

@@ -1,6 +1,6 @@
-/* The requests for memory of a program: see memory.h. As many as NBT_GRANTED says are granted, and none after them; all where it isn't
+/* The requests for memory of a program: see harness.h. As many as NBT_GRANTED says are granted, and none after them; all where it isn't
  * there. */
-#include "memory.h"
+#include "harness.h"
 #include <stdlib.h>
 
 void *__real_malloc(size_t);

@@ -24,7 +24,7 @@ READS = {'service_read': 137, 'datagram_read': 138, 'session_read': 139}
 # What packages have within other calls, and what they have no word for.
 WITHIN = re.compile(r'version|service_(?!read|request|response)\w+|datagram_front|session_(front|names|retarget)')
 # What statuses say that are no fault of a name, a text, a packet or a table.
-STATUSES = {0: 'done', 1: 'no room', 2: 'memory', 25: 'name: trailing bytes', 52: 'more bytes needed', 57: 'no item', 58: 'other rdata',
+STATUSES = {0: 'done', 1: 'no room', 2: 'memory', 25: 'name: trailing bytes', 57: 'no item', 58: 'other rdata',
             59: 'no part', 60: 'unknown request', 61: 'zero piece', 62: 'data too long', 90: 'misplaced first', 91: 'too long',
             92: 'full source', 93: 'full', 100: 'name: present', 101: 'too many names', 102: 'no station', 110: 'other type',
             120: 'bad line', 255: 'unknown status'}

@@ -6,7 +6,7 @@ strict=(-std=c11 -O1 -g -Wall -Wextra -Wpedantic -Werror "-I$top/include")
 sanitized=(-fsanitize=address,undefined -fno-sanitize-recover=all)
 # tests/library/calls.c, over the rows of calls.def.
 wrapped=(-Wl,--wrap=malloc,--wrap=realloc,--wrap=free)
-rows=("$here"/library/{calls,harness,cases,hostile,bounds,corpus,memory}.c "-DCASES=\"$room/cases\"" "${wrapped[@]}")
+rows=("$here"/library/{calls,harness,cases,hostile,bounds,corpus,memory}.c "${wrapped[@]}")
 
 # same WANTED NAME: whether standard input is what is wanted.
 same() {
@@ -49,7 +49,6 @@ example() {
 
 # compiled NAME COMPILER ARCHIVE OPTION..: tests/library/calls.c, compiled so, as $room/NAME.
 compiled() {
-    "$here/library/payload_rows.py" cases </dev/null >"$room/cases"
     "$2" "${strict[@]}" -o "$room/$1" "${rows[@]}" "${@:4}" "$3" >"$room/log" 2>&1
     count $? "tests/library/calls.c, $1: $(head -n 1 "$room/log")"
 }
@@ -65,9 +64,9 @@ rows_of() {
     count $? "what packages are asked of them"
 }
 
-# judged NAME ROWS COMMAND..: each call answers what its row says.
+# judged NAME ROWS COMMAND..: each call answers what its row says. What they answer is in $room/output.
 judged() {
-    ended "${@:3}" <"$2" 2>"$room/errors" && tail -n 1 "$room/errors" | grep -qE '^[1-9][0-9]* rows, '
+    ended "${@:3}" <"$2" >"$room/output" 2>"$room/errors" && tail -n 1 "$room/errors" | grep -qE '^[1-9][0-9]* rows, '
     count $? "calls answer what rows say, $1: $(tail -n 3 "$room/errors" | head -c 500)"
 }
 

@@ -18,15 +18,10 @@ ALL_OF = re.compile(r'(?:Those|fault, as) of (nbt_[a-z_]+)')
 NEVER = 'no call of this version answers it'
 
 
-def statuses(header):
-    """The numbers of enum nbt_status by name, and those that no call answers."""
-    found = ENUM.findall(header.partition('enum nbt_status {')[2].partition('\n};')[0])
-    return {name: int(number) for name, number, _ in found}, {int(number) for _, number, rest in found if NEVER in rest}
-
-
 def listed(header):
-    """The statuses that the header lists for each call."""
-    numbers, never = statuses(header)
+    """The statuses that the header lists for each call, and all but those that no call answers."""
+    found = ENUM.findall(header.partition('enum nbt_status {')[2].partition('\n};')[0])
+    numbers, never = {name: int(number) for name, number, _ in found}, {int(number) for _, number, rest in found if NEVER in rest}
     calls = {}
     for match in CALL.finditer(header):
         comment = ' '.join(match['comment'].replace('\n *', ' ').split())
@@ -38,25 +33,23 @@ def listed(header):
         for other in ALL_OF.findall(comment):
             found |= calls[other]
         calls[match['name']] = found - never | {numbers['NBT_DONE']}
-    return calls
+    del calls['nbt_station_free']
+    return calls, set(numbers.values()) - never
 
 
 def main():
-    header = Path(sys.argv[1]).read_text('utf-8')
-    calls = listed(header)
-    numbers, never = statuses(header)
-    answered = {}
+    calls, numbers = listed(Path(sys.argv[1]).read_text('utf-8'))
+    answered = {name: set() for name in calls}
     for line in sys.stdin:
         name, number = line.split()
-        answered.setdefault(name, set()).add(int(number))
-    wrong = [f'{name}: {what}: {sorted(numbers)}'
-             for name in calls if name != 'nbt_station_free'
-             for what, numbers in (('answered and not listed', answered.get(name, set()) - calls[name]),
-                                   ('listed and not answered', calls[name] - answered.get(name, set()))) if numbers]
-    lost = set(numbers.values()) - never - set().union(*calls.values())
+        answered[name].add(int(number))
+    odd = [(f'{name}: {what}', found) for name in calls for what, found in (
+        ('answered and not listed', answered[name] - calls[name]), ('listed and not answered', calls[name] - answered[name]))]
+    wrong = [f'{what}: {sorted(found)}' for what, found in odd if found]
+    lost = numbers - set().union(*calls.values())
     wrong += [f'in no list: {sorted(lost)}'] * bool(lost)
     print(*wrong, f'{len(calls)} calls, {sum(map(len, answered.values()))} statuses', sep='\n')
-    return bool(wrong) or len(answered) != len(calls) - 1
+    return bool(wrong)
 
 
 if __name__ == '__main__':

@@ -80,17 +80,14 @@ def save(lines, table):
 
 def known(entry):
     """What is known of a key."""
-    if entry.is_spoilt():
-        return {'state': 'spoilt'}
+    found = {'state': entry.state()} | ({} if entry.is_spoilt else addressed(entry))
     if entry.is_whole():
-        return {'state': 'whole'} | addressed(entry) | {'data': entry.data().hex()}
-    runs = entry.runs()
-    promised = max(entry.promises, default=None)
-    awaited = promised is not None and all(place < promised for place in entry.bytes)
-    return {
-        'state': 'partial', **addressed(entry), 'held': len(entry.bytes), 'end': max(entry.ends, default=None), 'runs': len(runs),
-        'places': [[start, start + length] for start, length in runs], **({'more': promised} if awaited else {}),
-    }
+        found['data'] = entry.data().hex()
+    if found['state'] == 'partial':
+        runs = entry.runs()
+        found |= {'held': len(entry.bytes), 'end': entry.told.get('end'), 'runs': len(runs), 'places': runs}
+        found |= {'more': entry.promise} if entry.promise > max(entry.bytes, default=-1) else {}
+    return found
 
 
 def listed(table):

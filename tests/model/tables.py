@@ -1,8 +1,9 @@
 """What fragments say together, and its saved form (docs/REASSEMBLY.md; docs/FORMATS.md, "Saved tables").
 
-A key has all that its fragments say, in sets: the bytes at each place, the ends, the promises, the kinds, the names. It
-is spoilt where they contradict each other; sets only grow, so the order of fragments can't matter."""
+A key has all that its fragments say: the byte at each place, the end, the kind, the names, and how far promises reach. It is spoilt for
+good where they contradict each other, so the order of fragments can't matter."""
 import collections
+from struct import pack
 
 from .limits import KEPT_FOR as TIMER, KEYS, MOST_DATAGRAM as LONGEST
 from .names import Refused, read_name, spelling_of
@@ -13,112 +14,72 @@ MAGIC, FIRST_MAGIC = b'NBT2', b'NBT1'
 
 
 class Entry:
-    """What the fragments of a key say, the last place that they know or promise, and the moment of the first."""
+    """What the fragments of a key say, and the moment of the first; a promise or an end that isn't known is -1."""
 
-    def __init__(self, fragments=(), start=0, spoilt=False):
-        self.start = start
-        self.spoilt = spoilt
-        self.bytes = collections.defaultdict(set)
-        self.last = -1
-        self.ends = set()
-        self.promises = set()
-        self.kinds = set()
-        self.names = set()
-        for each in fragments:
-            self.add(each)
+    def __init__(self, start=0, is_spoilt=False):
+        self.start, self.is_spoilt = start, is_spoilt
+        self.bytes, self.told, self.promise = {}, {}, -1
 
     def add(self, fragment):
-        """Takes in what a fragment says."""
-        self.cover(fragment.offset, fragment.data)
-        reach = fragment.offset + len(fragment.data)
-        self.promise(reach) if fragment.flags & MORE else self.ends.add(reach)
-        self.kinds.add(fragment.kind)
-        self.names.add((fragment.source, fragment.destination))
+        """Takes in what a fragment says: with more to come a byte lies at its reach or after it, else it ends there."""
+        reach, told = fragment.offset + len(fragment.data), {'kind': fragment.kind, 'names': (fragment.source, fragment.destination)}
+        more = fragment.flags & MORE
+        self.learn(enumerate(fragment.data, fragment.offset), told if more else told | {'end': reach}, reach if more else -1)
 
-    def cover(self, start, data):
-        """Takes in a row of bytes."""
-        for place, byte in enumerate(data, start):
-            self.bytes[place].add(byte)
-            self.spoilt |= len(self.bytes[place]) > 1
-        self.last = max(self.last, start + len(data) - 1 if data else -1)
+    def learn(self, places, told, promise, is_spoilt=False):
+        """Takes in what is said of the key."""
+        for known, said in (self.bytes, places), (self.told, told.items()):
+            for what, value in said:
+                is_spoilt |= known.setdefault(what, value) != value
+        self.promise = max(self.promise, promise)
+        last = max(self.promise, max(self.bytes, default=-1))
+        self.is_spoilt |= is_spoilt or 'end' in self.told and self.end() <= last
 
-    def promise(self, place):
-        """Takes in that a byte lies there or after it."""
-        self.promises.add(place)
-        self.last = max(self.last, place)
+    def end(self):
+        return self.told.get('end', -1)
 
-    def add_all(self, other):
-        """Takes in what another entry of the key says."""
-        self.spoilt |= other.spoilt
-        for place, values in other.bytes.items():
-            self.bytes[place] |= values
-            self.spoilt |= len(self.bytes[place]) > 1
-        self.ends |= other.ends
-        self.promises |= other.promises
-        self.last = max(self.last, other.last)
-        self.kinds |= other.kinds
-        self.names |= other.names
-
-    def is_spoilt(self):
-        """Whether two fragments contradict each other, or did where the entry was saved."""
-        if self.spoilt or max(len(self.ends), len(self.kinds), len(self.names)) > 1:
-            return True
-        return any(end <= self.last for end in self.ends)
+    def state(self):
+        """Spoilt; whole, where the end and each byte before it is known; or neither."""
+        return 'spoilt' if self.is_spoilt else 'whole' if self.end() == len(self.bytes) else 'partial'
 
     def is_whole(self):
-        """Whether the end and each byte before it is known, and nothing is contradicted, so that no byte lies past it."""
-        return self.ends == {len(self.bytes)} and not self.is_spoilt()
-
-    def is_held(self):
-        """Whether anything was said."""
-        return bool(self.spoilt or self.kinds)
+        return self.state() == 'whole'
 
     def parts(self):
         """The kind and the two names of one that isn't spoilt."""
-        (kind,), ((source, destination),) = self.kinds, self.names
-        return kind, source, destination
+        return self.told['kind'], *self.told['names']
 
     def data(self):
         """The known bytes, by ascending places."""
-        return bytes(min(self.bytes[it]) for it in sorted(self.bytes))
+        return bytes(self.bytes[it] for it in sorted(self.bytes))
 
     def runs(self):
-        """The rows of known places that can't be made longer, as first places and lengths."""
+        """The rows of known places that can't be made longer, from a place to another."""
         rows = []
         for place in sorted(self.bytes):
-            if rows and sum(rows[-1]) == place:
+            if rows and rows[-1][1] == place:
                 rows[-1][1] += 1
             else:
-                rows.append([place, 1])
+                rows.append([place, place + 1])
         return rows
 
     def saved(self, has_promise=True):
         """The bytes of the entry in a saved table, after its key: they tell apart whatever a table keeps."""
-        if self.is_spoilt():
+        if self.is_spoilt:
             return b'\0'
         kind, *names = self.parts()
-        whole = bytes([1, kind]) + b''.join(map(spelling_of, names)) + optional(self.ends)
-        whole += optional(self.promises) if has_promise else b''
-        runs, data = self.runs(), self.data()
-        whole += len(runs).to_bytes(2, 'big')
-        for start, length in runs:
-            whole += start.to_bytes(2, 'big') + length.to_bytes(2, 'big') + data[:length]
-            data = data[length:]
-        return whole
-
-
-def optional(places):
-    """The greatest of some places in a saved table, or none."""
-    return b'\1' + max(places).to_bytes(2, 'big') if places else b'\0'
+        whole = bytes([1, kind]) + b''.join(map(spelling_of, names))
+        for place in (self.end(), self.promise) if has_promise else (self.end(),):
+            whole += b'\0' if place < 0 else pack('>BH', 1, place)
+        rows = [pack('>HH', start, end - start) + bytes(self.bytes[it] for it in range(start, end)) for start, end in self.runs()]
+        return whole + pack('>H', len(rows)) + b''.join(rows)
 
 
 class Table:
     """Keys with their entries, and how many there may be, in all and of an address."""
 
     def __init__(self, keys=KEYS, per_source=PER_SOURCE):
-        self.keys = keys
-        self.per_source = per_source
-        self.entries = {}
+        self.keys, self.per_source, self.entries = keys, per_source, {}
 
     def insert(self, fragment, moment=0):
         """Takes in a fragment, and says whether it spoilt its key or made it whole; else it is kept."""
@@ -126,31 +87,27 @@ class Table:
             raise Refused('misplaced first')
         if fragment.offset + len(fragment.data) > LONGEST:
             raise Refused('too long')
-        entry = self.entries.get(fragment.key) or self.new_entry(fragment.key, moment)
-        was_spoilt, was_whole = entry.is_spoilt(), entry.is_whole()
+        self.admit([fragment.key], moment)
+        entry = self.entries[fragment.key]
+        before = entry.state()
         entry.add(fragment)
-        if entry.is_spoilt() and not was_spoilt:
-            return 'spoilt'
-        return 'whole' if entry.is_whole() and not was_whole else 'kept'
+        return 'kept' if entry.state() in (before, 'partial') else entry.state()
 
-    def new_entry(self, key, moment):
-        """The entry of a key that isn't held, if there is room for it."""
-        if sum(address == key[0] for address, _, _ in self.entries) >= self.per_source:
-            raise Refused('full source')
-        if len(self.entries) >= self.keys:
-            raise Refused('full')
-        return self.entries.setdefault(key, Entry(start=moment))
-
-    def merge(self, other):
-        """Takes in another table, if there is room for its keys."""
-        new = [key for key in other.entries if key not in self.entries]
-        addresses = collections.Counter(address for address, _, _ in (*self.entries, *new))
-        if new and any(addresses[address] > self.per_source for address, _, _ in new):
+    def admit(self, keys, moment=0):
+        """Has entries for all of these keys, if there is room for those that aren't held."""
+        new = [it for it in keys if it not in self.entries]
+        held = collections.Counter(address for address, _, _ in (*self.entries, *new) if new)
+        if any(held[address] > self.per_source for address, _, _ in new):
             raise Refused('full source')
         if len(self.entries) + len(new) > self.keys:
             raise Refused('full')
-        for key, entry in other.entries.items():
-            self.entries.setdefault(key, Entry()).add_all(entry)
+        self.entries |= {it: Entry(moment) for it in new}
+
+    def merge(self, other):
+        """Takes in another table, if there is room for its keys."""
+        self.admit(other.entries)
+        for key, it in other.entries.items():
+            self.entries[key].learn(it.bytes.items(), it.told, it.promise, it.is_spoilt)
 
     def drop(self, moment):
         """Drops the keys whose timers have run out at a look at the clock, and counts them."""
@@ -161,10 +118,8 @@ class Table:
 
     def saved(self, has_promises=True):
         """The bytes of the table when it is saved; without promises in the first form."""
-        whole = (MAGIC if has_promises else FIRST_MAGIC) + len(self.entries).to_bytes(4, 'big')
-        for (address, port, identifier), entry in sorted(self.entries.items()):
-            whole += address + port.to_bytes(2, 'big') + identifier.to_bytes(2, 'big') + entry.saved(has_promises)
-        return whole
+        keys = [pack('>4sHH', *key) + entry.saved(has_promises) for key, entry in sorted(self.entries.items())]
+        return (MAGIC if has_promises else FIRST_MAGIC) + pack('>L', len(keys)) + b''.join(keys)
 
 
 class SavedReader(Reader):
@@ -194,35 +149,27 @@ class SavedReader(Reader):
         return name
 
     def optional(self):
-        """A place or none, as a set."""
-        return {self.number()} if self.one_of((0, 1)) else set()
+        """A place, or -1 for none."""
+        return self.number() if self.one_of((0, 1)) else -1
 
     def entry(self, has_promise):
-        """An entry."""
-        entry = Entry(spoilt=self.one_of((0, 1)) == 0)
-        if entry.spoilt:
-            return entry
-        entry.kinds = {self.one_of(KINDS)}
-        entry.names = {(self.name(), self.name())}
-        entry.ends = self.optional()
-        at = self.at
-        for promise in self.optional() if has_promise else ():
-            self.canonical(all(promise < end for end in entry.ends), at)
-            entry.promise(promise)
-        before = -1
+        """An entry: each run begins past the end of the one before, and no byte and no promise lies past the end."""
+        if self.one_of((0, 1)) == 0:
+            return Entry(is_spoilt=True)
+        told, places, before = {'kind': self.one_of(KINDS), 'names': (self.name(), self.name())}, {}, -1
+        end, at = self.optional(), self.at
+        promise = self.optional() if has_promise else -1
+        self.canonical(end < 0 or promise < end, at)
         for _ in range(self.number()):
-            before = self.run(entry, before)
+            at, start = self.at, self.number()
+            self.canonical(start > before, at)
+            at, length = self.at, self.number()
+            before = start + length
+            self.canonical(length > 0 and before <= (LONGEST if end < 0 else end), at)
+            places |= enumerate(self.bytes(length), start)
+        entry = Entry()
+        entry.learn(places.items(), told if end < 0 else told | {'end': end}, promise)
         return entry
-
-    def run(self, entry, before):
-        """A run that begins past the end of the one before, and its own end."""
-        at, start = self.at, self.number()
-        self.canonical(start > before, at)
-        at, length = self.at, self.number()
-        end = start + length
-        self.canonical(length > 0 and end <= min({LONGEST} | entry.ends), at)
-        entry.cover(start, self.bytes(length))
-        return end
 
     def table(self, keys, per_source):
         """The table that the whole input is, with room for so many keys."""

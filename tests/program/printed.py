@@ -19,6 +19,7 @@ from object_inputs import OPTIONS
 COMMANDS = tuple(it for it in OPTIONS if it != 'help')
 NAMING = ('--bytes',)
 MOST = {'--keys': MOST_KEYS, '--per-source': MOST_KEYS, '--input-limit': (1 << 64) - 1}
+# The numbers where no option says them.
 USUAL = {'--keys': KEYS, '--per-source': PER_SOURCE, '--input-limit': INPUT}
 
 
@@ -45,9 +46,10 @@ def wanted(words, given):
     if any('\udc80' <= it <= '\udcff' for it in ''.join(words)):
         return Wanted([], [], 3, b'nbt: read\n')
     command, (options, others) = words[0], parsed(words)
+    options = USUAL | options
     try:
         if command == 'name':
-            return Wanted([(text_in if options else spelling)(others[0])], [])
+            return Wanted([text_in(others[0]) if '--bytes' in options else spelling_of(name_in(others[0])).hex()], [])
         if command == 'build':
             return Wanted(built(others, '--broadcast' in options), [])
         if command in ('merge', 'list', 'agree'):
@@ -88,19 +90,9 @@ def is_limit(value, most):
     return re.fullmatch(r'\+?[0-9]+', value) is not None and 1 <= int(value) <= most
 
 
-def number_of(options, option):
-    """The number of an option, or that which stands for none."""
-    return options.get(option, USUAL[option])
-
-
 def name_in(text):
     """The name that a word says."""
     return name_of_text(text.encode('utf-8', 'surrogateescape'))
-
-
-def spelling(text):
-    """What `nbt name` prints."""
-    return spelling_of(name_in(text)).hex()
 
 
 def text_in(digits):
@@ -131,27 +123,23 @@ def of_tables(command, options, given):
     if command == 'agree':
         lines = agrees(given, '--list' in options).decode().splitlines()
         return Wanted(lines, [], int(lines != ['equal']))
-    table = joined(given, number_of(options, '--keys'), number_of(options, '--per-source'))
+    table = joined(given, options['--keys'], options['--per-source'])
     keys = listed(table)
     return Wanted([table.saved().hex()] if command == 'merge' else list(map(listed_text, keys)), keys)
 
 
-def table_of(options):
-    return Table(number_of(options, '--keys'), number_of(options, '--per-source'))
-
-
 def saved(options, given):
     """What `nbt save` prints."""
-    _, lines, *ending = read_within(given, number_of(options, '--input-limit'))
-    table = table_of(options)
+    _, lines, *ending = read_within(given, options['--input-limit'])
+    table = Table(options['--keys'], options['--per-source'])
     save(lines, table)
     return Wanted([] if ending[0] else [table.saved().hex()], [], *ending)
 
 
 def of_capture(command, options, names, given):
     """What `nbt show` and `nbt replay` print."""
-    finished, lines, *ending = read_within(given, number_of(options, '--input-limit'))
-    table = table_of(options)
+    finished, lines, *ending = read_within(given, options['--input-limit'])
+    table = Table(options['--keys'], options['--per-source'])
     answers = {it.number: told(command, table, names, it, options) for it in lines}
     comments = {number: comment_text(line) for number, line in finished if line.startswith(b'#')}
     texts, objects = [], []

@@ -1,8 +1,8 @@
-"""Packets, captures and commands for tests/process.py, and inputs that want a known room."""
-from limits import MANY, MOST_KEYS, NAMED
+"""Commands and captures for tests/process.py, and inputs that want a known room."""
+from limits import MANY, MOST_KEYS, MOST_NAMES, NAMED
 from wire import datagram
 
-FRED = NAMED['FRED']
+FRED, PAIR = NAMED['FRED'], ('10.0.0.5:138/0001', 'JOE<00>', 'FRED<20>')
 
 
 def packet(identifier, flags=2, offset=0, data=''):
@@ -10,50 +10,31 @@ def packet(identifier, flags=2, offset=0, data=''):
     return datagram(identifier, bytes.fromhex(data), flags=flags, offset=offset).hex()
 
 
-# Each command: its words, an input, its status, its output and its errors.
-FOUND = b'1 delivered 10.0.0.5:138/0001 group JOE<00> FRED<20> empty\n'
-CAPTURE = f'138 0 {packet(1)}\n138 1 {packet(1)}\ntick 2000\n138 2001 {packet(1)}\n137 2002 00\n138 2003 17\n'.encode()
-REPORT = [FOUND, b'2 kept 10.0.0.5:138/0001\n', b'3 dropped 1\n', b'4' + FOUND[1:], b'5 passed\n',
-          b'6 refused truncated 1\n']
-TABLES = b'4e42543200000000\n4e42543200000000\n'
-SPOILT = b'4e425432000000010a000005008a000100\n'
-COMMANDS = [
-    (['name', 'FRED<20>'], b'', 0, f'{FRED}\n'.encode(), b''),
-    (['name', '--bytes', FRED], b'', 0, b'FRED<20>\n', b''),
-    (['name', 'FRED'], b'', 1, b'', b'nbt: bad text 4\n'),
-    (['build', 'keepalive'], b'', 0, b'139 0 85000000\n', b''),
-    (['build', 'query', '0001', 'FRED'], b'', 1, b'', b'nbt: bad text 4\n'),
-    (['show'], b'tick 1\n139 2 85000000\n', 0, b'1 tick 1\n2 139 keepalive used=4\n', b''),
-    (['show'], b'tick 1\nx\n', 1, b'1 tick 1\n', b'nbt: line 2\n'),
-    (['replay', 'FRED<20>'], CAPTURE, 0, b''.join(REPORT), b''),
-    (['replay', 'FRED<20>'], b'tick 1\nx\n', 1, b'1 dropped 0\n', b'nbt: line 2\n'),
-    (['save'], b'tick 1\n138 0 17\n', 0, b'4e42543200000000\n', b''),
-    (['save'], b'x\n', 1, b'', b'nbt: line 1\n'),
-    (['merge'], TABLES, 0, b'4e42543200000000\n', b''),
-    (['merge'], b'', 1, b'', b'nbt: no tables\n'),
-    (['agree'], TABLES, 0, b'equal\n', b''),
-    (['list'], SPOILT, 0, b'10.0.0.5:138/0001 spoilt\n', b''),
-    (['list'], TABLES + b'\n', 1, b'', b'nbt: line 3\n'),
-    (['agree'], TABLES[:17] + SPOILT, 1, b'different\n', b''),
-    (['agree'], b'x\n', 1, b'', b'nbt: two tables wanted\n'),
-    (['save', '--per-source', '1'], f'138 0 {packet(1)}\n138 0 {packet(2)}\n'.encode(), 1, b'', b'nbt: full source\n'),
-    (['--version'], b'', 0, b'nbt 0.1.0\n', b''),
-]
-READING = [['show'], ['save'], ['replay', 'FRED<20>'], ['merge'], ['list'], ['agree']]
-
-
-def forms():
-    """Commands that print in each form, and their inputs."""
-    rows = ((1, 3, 0, '6162'), (1, 2, 2, '6364'), (2, 3, 0, '00ff'), (3, 1, 7, ''))
-    given = ''.join(f'# key {row[0]}\n138 {at} {packet(*row)}\n' for at, row in enumerate(rows)) + '137 4 0001\n# end\ntick 2003\n'
-    for words in (['show', '--brief'], ['show', '--comments', '--json'], ['replay', '--json', '--comments', 'FRED<20>']):
-        yield words, given.encode()
-    yield ['list', '--json'], SPOILT
-
-
 def captures(count, data=''):
     """A capture of first fragments, each of another key."""
     return b''.join(f'138 0 {packet(it, data=data)}\n'.encode() for it in range(count))
+
+
+CAPTURE = f'138 0 {packet(1)}\n138 1 {packet(1)}\ntick 2000\n138 2001 {packet(1)}\n137 2002 00\n138 2003 17\n'.encode()
+COMMENTED = f'# a key\n138 0 {packet(1, 3, 0, "6162")}\n138 3 {packet(3, 1, 7)}\n137 4 0001\n# end\ntick 2003\n'.encode()
+TABLES = b'4e42543200000000\n4e42543200000000\n'
+SPOILT = b'4e425432000000010a000005008a000100\n'
+# Each command and each form of what it prints, and what is refused: by the words, by the input, of any command, with a number and without.
+COMMANDS = [
+    *((words, b'') for words in ([], ['--version'], ['--help'], ['name', 'FRED<20>'], ['name', 'FRED'], ['name', 'A' * 16 + '<20>'])),
+    *((['name', '--bytes', digits], b'') for digits in (FRED, '0', FRED + '00', '20', '40', 'c00c', '0000')),
+    (['build', 'keepalive'], b''), (['build', 'query', '0001', 'FRED'], b''),
+    *((['build', 'unique', *PAIR, '00' * size, most], b'') for size, most in ((65_500, '65535'), (1, '0'))),
+    (['show'], b'tick 1\n139 2 85000000\n'), (['show'], b'tick 1\ntick 22'), (['show'], b'tick 1\nx\n'),
+    (['show', '--brief'], COMMENTED), (['show', '--comments', '--json'], COMMENTED),
+    (['replay', 'FRED<20>'], CAPTURE), (['replay', 'FRED<20>'], b'tick 1\ntick 22'), (['replay', 'FRED<20>'], b'tick 1\nx\n'),
+    (['replay', '--json', '--comments', 'FRED<20>'], COMMENTED), (['replay', *(f'N{it}<20>' for it in range(MOST_NAMES + 1))], b''),
+    *((['save', option, '1'], captures(2)) for option in ('--keys', '--per-source')), (['save'], b'tick 1\n138 0 17\n'), (['save'], b'x\n'),
+    (['merge'], TABLES), (['merge'], b''), (['merge'], b'00\n'), (['merge'], b'4e425432\n'),
+    (['list'], SPOILT), (['list', '--json'], SPOILT), (['list'], TABLES + b'\n'), (['list'], b'4e4254320000000000\n'),
+    (['agree'], TABLES), (['agree'], TABLES[:17] + SPOILT), (['agree'], b'x\n'),
+]
+READING = [['show'], ['save'], ['replay', 'FRED<20>'], ['merge'], ['list'], ['agree']]
 
 
 def repeated(count):

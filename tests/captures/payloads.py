@@ -15,9 +15,8 @@ import struct
 import sys
 
 sys.path[1:1] = [f'{sys.path[0]}/../{it}' for it in ('.', 'lib')]
-from fuzz_inputs import Maker, capture_lines, example_bytes, likely_port
-from object_inputs import LONGEST_PAYLOAD, ServicePacket, session_request
-from fuzz_traffic import Traffic
+from fuzz_inputs import LONGEST_PAYLOAD, Inputs
+from fuzz_traffic import ServicePacket, session_packet
 from model.limits import LINE_ROOM
 
 LONGEST, MOST_CUTS = 1_500, 150
@@ -27,28 +26,23 @@ IN_DATAGRAM = 65_503
 
 def library(rng, longest):
     """Payloads without an end, with their ports."""
-    maker = Maker(rng, list(example_bytes()), list(capture_lines()))
+    inputs = Inputs(rng)
     while True:
-        payload = maker.payload()[:LONGEST_PAYLOAD]
+        port, payload = inputs.payload()
         if len(payload) <= longest:
-            yield rng.choice((137, 138, 139)) if rng.random() < 0.2 else likely_port(payload), payload
+            yield port, payload
 
 
 def values(rng, longest):
     """The same, mostly of port 137."""
-    maker, traffic = Maker(rng, list(example_bytes()), list(capture_lines())), Traffic(rng)
-    made = lambda: ServicePacket(rng, traffic.name).made()
+    inputs = Inputs(rng)
     while True:
-        packet = made()
-        yield from ((137, each[:longest]) for each in (packet, made()))
-        for _ in range(6):
-            yield 137, maker.changed(made())[:longest]
+        packet, *others = (ServicePacket(rng).made() for _ in range(9))
+        yield from ((137, each[:longest]) for each in (packet, others[0], *map(inputs.changed, others)))
         yield 137, struct.pack('>6H', 1, 0x8500, *[rng.randrange(3) for _ in range(4)]) + rng.randbytes(rng.randrange(80))
-        request = rng.choice((session_request(rng, traffic.name), b'\x84\0\0\6' + rng.randbytes(6)))
-        yield 139, rng.choice((bytes, maker.changed))(request)
-        for _ in range(3):
-            payload = maker.payload()[:longest]
-            yield likely_port(payload), payload
+        yield 139, inputs.changed(session_packet(rng))[:longest]
+        for port, payload in (inputs.payload() for _ in range(4)):
+            yield port, payload[:longest]
         if len(packet) < MOST_CUTS and rng.random() < 0.1:
             yield from ((137, packet[:length]) for length in range(len(packet)))
 

@@ -62,7 +62,7 @@ network() {
 }
 
 # Captures made by chance, beside the page's reading of them.
-random() { counted_by wireshark/random_captures.py 30; }
+random() { counted_by wireshark/random_captures.py 12; }
 
 # ---- Long captures, and terminals.
 
@@ -77,7 +77,7 @@ long() {
     count $? 'pcap2cap on a terminal'
     [ -n "$took" ] && [ "$(tr '\r' '\n' <"$room/shown" | grep -c ' of [0-9]* bytes')" -le $((2 * took + 3)) ]
     count $? 'pcap2cap on a terminal: at most twice a second'
-    ended "$here/lib/terminal.py" "$room/output" "$each" --quiet "$files/network.pcap" >"$room/shown" && [ ! -s "$room/shown" ]
+    ended "$here/lib/terminal.py" "$room/output" "$each" --quiet "$here/../examples/office.pcap" >"$room/shown" && [ ! -s "$room/shown" ]
     count $? 'pcap2cap --quiet on a terminal'
     ended "$here/lib/terminal.py" "$room/output" sh -c "'$each' '$files/long.pcap' | cat" >"$room/shown" && ! grep -q ' of [0-9]* bytes' "$room/shown"
     count $? 'pcap2cap on a terminal, into a pipe: no progress among what its reader prints'

@@ -95,15 +95,11 @@ class Inputs:
         else:
             data[at:at] = rng.randbytes(rng.choice((1, 2, 4, 64)))
 
-    def example(self):
-        """The payload of an example, changed."""
-        return self.changed(self.rng.choice(self.payloads))
-
     def payload(self):
         """A payload and its port, which mostly fits it."""
         rng = self.rng
         port, make = rng.choice(((137, ServicePacket(rng).made), (138, lambda: rng.choice(self.traffic.payloads() or [b''])),
-                                 (139, lambda: session_packet(rng)), (None, self.example)))
+                                 (139, lambda: session_packet(rng)), (None, lambda: self.changed(rng.choice(self.payloads)))))
         payload = make()
         payload = (self.changed(payload) if rng.random() < 0.25 else payload)[:LONGEST_PAYLOAD]
         return (port or likely_port(payload)) if rng.random() < 0.97 else rng.choice((137, 138, 139)), payload
@@ -156,9 +152,10 @@ class Inputs:
 
     def words(self, command, given):
         """The words of a command with some of its options, in any order; each name of a station once or more."""
-        rng, options = self.rng, []
+        rng, options, size = self.rng, [], len(given) or 1
+        limit = rng.choice((size - 1, size - 1, size, size + 1, LATEST)) if rng.random() < 0.8 else rng.randrange(1, size + 1)
         for each in OPTIONS[command]:
-            values = {'--input-limit': self.input_limit(given), '--keys': rng.choice(LIMITS), '--per-source': rng.choice(LIMITS)}
+            values = {'--input-limit': max(1, limit), '--keys': rng.choice(LIMITS), '--per-source': rng.choice(LIMITS)}
             if each != '--json' and rng.random() < 0.4:
                 value = [str(values[each])] if each in values else []
                 options.append([each, *value] if rng.random() < 0.5 else ['='.join([each, *value])])
@@ -170,11 +167,6 @@ class Inputs:
             names = [text_of(it) for it in rng.choices(self.traffic.names, k=rng.choice((1, 2, 4)))]
             words += ['--', *names, *rng.sample(NAMES[:3], rng.randrange(3))]
         return words
-
-    def input_limit(self, given):
-        """A limit, which the input rarely passes."""
-        rng, size = self.rng, len(given) or 1
-        return max(1, rng.choice((size - 1, size - 1, size, size + 1, LATEST)) if rng.random() < 0.8 else rng.randrange(1, size + 1))
 
     def word(self, field=None):
         """A word of a command line: of this name in the rows of `nbt build`, or any."""

@@ -1,7 +1,9 @@
 """Packets made by chance, mostly good ones: of port 137 with names that lead into each other, of port 138 parts of a few datagrams, and of
 port 139."""
 from model.names import Name, labels_of, spelling_of
-from model.packets import ERROR, FIRST, KINDS, MORE, QUERIES, REQUEST, SESSION_LENGTHS, Fragment
+from model.objects import OPERATIONS
+from model.packets import ERROR, FIRST, KINDS, MORE, NEGATIVE, QUERIES, REQUEST, SESSION_LENGTHS, Fragment
+from model.phrases import REFUSALS
 from model.rdata import NB, NBSTAT, NS
 from model.tables import LONGEST
 from wire import datagram, session
@@ -21,6 +23,11 @@ TAILS = (b'', b'', b'\0', bytes(5), b'\x02\0\0\0\0\1', bytes(46))
 
 def any_name(rng):
     return Name(rng.choice(FRONTS).ljust(15) + bytes([rng.choice((0x20, 0x00, 0x1b, 0xff))]), rng.choice(SCOPES))
+
+
+def codes(rng):
+    """A code of an error or a refusal, mostly one that the standard has."""
+    return bytes([rng.choice((*REFUSALS, 0x84, 0x05))])
 
 
 def packet_of(fragment):
@@ -84,10 +91,11 @@ class Traffic:
             packet[at:at + size] = rng.choice(values).to_bytes(size, 'big')
             packet[1] &= ~FIRST if at == 12 else 0xff
             return bytes(packet)
+        said = rng.choice((b'', codes(rng), codes(rng) + b'rest', *[spelling_of(any_name(rng))] * 4))
         return rng.choice((
             packet_of(fragment._replace(flags=fragment.flags ^ FIRST)), bytes(packet[:rng.randrange(len(packet) + 1)]),
             packet_of(fragment._replace(**{rng.choice(('source', 'destination')): Name(bytes(16), TOO_LONG)})),
-            bytes([rng.choice((ERROR, *QUERIES))]) + packet[1:10] + rng.choice((b'', b'\x82', b'\x05rest', spelling_of(any_name(rng))))))
+            bytes([rng.choice((ERROR, *QUERIES))]) + packet[1:10] + said))
 
     def fragments(self, contradicted=0.05):
         """Fragments of all datagrams, in any order: most datagrams are whole, and some are contradicted."""
@@ -114,7 +122,9 @@ def session_packet(rng):
     kind = rng.choice((*SESSION_LENGTHS, 0, 0, 0, REQUEST, REQUEST))
     least, most = SESSION_LENGTHS[kind]
     body = rng.randbytes(least + min(rng.choice((0, 1, 3, 5, 40)), most - least))
-    if kind == REQUEST:
+    if kind == NEGATIVE:
+        body = codes(rng)
+    elif kind == REQUEST:
         names = [any_name(rng) if rng.random() < 0.95 else Name(bytes(16), TOO_LONG) for _ in range(2)]
         body = b''.join(map(spelling_of, names)) + rng.choice((b'',) * 6 + (b'\0', b'rest'))
     if rng.random() < 0.1:
@@ -135,8 +145,9 @@ class ServicePacket:
         rng = self.rng
         counts = [rng.choice((0, 0, 1, 1, 2, 5)) for _ in range(4)]
         stated = [it if rng.random() < 0.97 else rng.choice((it + 1, 256, 65_535)) for it in counts]
-        word = rng.randrange(65_536) if rng.random() < 0.5 else rng.choice((0x0110, 0x2910, 0x8580, 0xad86, 0x4000))
-        self.add(rng.randrange(65_536), word, *stated)
+        asked, outcome = rng.choice((*OPERATIONS, 0, 5, 15)), rng.choice((0, 0, 0, *range(9)))
+        word = rng.randrange(32) << 11 if rng.random() < 0.2 else rng.choice((0, 0x8000)) | asked << 11
+        self.add(rng.randrange(65_536), word | rng.randrange(128) << 4 | outcome, *stated)
         for section, count in enumerate(counts):
             for _ in range(count):
                 self.name()

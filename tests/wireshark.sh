@@ -19,8 +19,8 @@ cases() { counted_by lib/samples.py "$files" "$here/wireshark/cases.txt" "$1"; }
 nbt() { ended "$program" "$@"; }
 pcap2cap() { ended "$here/../tools/pcap2cap" "$@"; }
 
-# The packets of `nbt build`, in one file, as tshark dissects them: rows of tests/wireshark/dissected.txt have these fields, without empty ones
-# and without the words that it adds to a name's text; of more than 32 bytes the first eight. pcap2cap has the same lines of the file again.
+# The packets of `nbt build`, in one file, as tshark dissects them: rows of tests/wireshark/dissected.txt have these fields, no empty ones
+# and not the words that it adds to a name's text; of more than 32 bytes the first eight. pcap2cap has the same lines of the file again.
 built() {
     local rows=$here/wireshark/dissected.txt label longest fields wanted found
     label=$(printf 'L%.0s' {1..63}) longest=$label.$label.$label.${label:0:28}

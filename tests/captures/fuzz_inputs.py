@@ -111,7 +111,7 @@ class Inputs:
         return [(port, payload[:it]) for it in (fronts if len(fronts) <= 200 else sorted(self.rng.sample(fronts, 200)))]
 
     def capture(self):
-        """A capture of fragments that meet, of the fronts of a payload, or of any payloads: the clock mostly goes on, ticks and comments come
+        """A capture of fragments that meet, of the fronts of a payload, or of any payloads; the clock mostly goes on, ticks, comments come
         between, and rarely a malformed line, or one of the samples changed."""
         rng, lines = self.rng, []
         self.traffic, how = Traffic(rng), rng.random()

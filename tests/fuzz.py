@@ -27,8 +27,9 @@ import time
 
 sys.path[1:1] = [f'{sys.path[0]}/program']
 from beside_model import LONGEST_PRINTED, ROOT, Cases, unlike
-from chance import inputs_of, made_by_chance
+from chance import made_by_chance
 from every_request import command
+from fuzz_inputs import Inputs
 from parts import counts
 from served import Run, compiled
 
@@ -112,7 +113,7 @@ def main():
     given = parser.parse_args()
     print(f'seed {given.seed}', flush=True)
     fuzz, rounds = Fuzz(os.path.realpath(given.program), random.Random(given.seed), tempfile.mkdtemp(prefix='nbt-fuzz-')), 0
-    inputs, end = inputs_of(fuzz.rng), time.monotonic() + given.seconds
+    inputs, end = Inputs(fuzz.rng), time.monotonic() + given.seconds
     while rounds < given.inputs and time.monotonic() < end:
         rounds += 1
         made_by_chance(fuzz, inputs)

@@ -1,9 +1,10 @@
 #!/usr/bin/env bash
 # The built program beside Wireshark: what `nbt build` makes, as tshark dissects it, and a network's packets, as `nbt
-# show` has them, by way of tools/cap2pcap and tools/pcap2cap. Usage: tests/wireshark.sh [PROGRAM]; its last line is
-# 'N passed, M failed, K skipped'. Where tshark isn't installed all of it is left out.
+# show` has them, by way of tools/cap2pcap and tools/pcap2cap. Usage: tests/wireshark.sh [PROGRAM [PART..]]; its last line is
+# 'N passed, M failed, K skipped'. Of its parts those that are named are run. Where tshark isn't installed all of it is left out.
 set -uo pipefail
 . "$(dirname "$0")/lib/counting.sh"
+only=${*:2}
 of_tools "${1:-}"
 
 # What the samples of tests/wireshark/cases.txt have at hand.
@@ -18,15 +19,34 @@ cases() { counted_by lib/samples.py "$files" "$here/wireshark/cases.txt" "$1"; }
 nbt() { ended "$program" "$@"; }
 pcap2cap() { ended "$here/../tools/pcap2cap" "$@"; }
 
-# The packets of `nbt build`, by the cases of tests/wireshark/dissected.txt.
-built() { counted_by wireshark/dissected.py "$room/built.pcap"; }
+# The packets of `nbt build`, in one file, as tshark dissects them: rows of tests/wireshark/dissected.txt have these fields, no empty ones
+# and not the words that it adds to a name's text; of more than 32 bytes the first eight. pcap2cap has the same lines of the file again.
+built() {
+    local rows=$here/wireshark/dissected.txt label longest fields wanted found
+    label=$(printf 'L%.0s' {1..63}) longest=$label.$label.$label.${label:0:28}
+    fields=$(printf -- '-e %s ' _ws.malformed _ws.col.Protocol nbss.continuation_data nbns.{id,flags,name,type,class,ttl,nb_flags,addr} \
+        nbdgm.{type,flags,dgram_id,src.ip,src.port,dgram_len,pkt_offset,source_name,destination_name,error_code} \
+        nbss.{type,flags,length,called_name,calling_name,error_code,retarget_ip_address,retarget_port} data.data)
+    sed -n 's/^\* \(.*\) => .*/nbt build \1/p' "$rows" | label=$label longest=$longest bash >"$room/lines"
+    nbt-cap2pcap <"$room/lines" >"$room/built.pcap"
+    count $? 'cap2pcap: the packets that were built'
+    nbt-pcap2cap --bare --quiet "$room/built.pcap" | cmp -s - "$room/lines"
+    count $? 'pcap2cap: the packets that were built'
+    tshark -n -r "$room/built.pcap" -o tcp.reassemble_out_of_order:TRUE -Y 'nbns || nbdgm || nbss' -T fields $fields 2>"$room/errors" |
+        sed -E 's/^(\t[^\t]*\t)([^\t])/\1continued\t\2/; s/ \([A-Z][^)]*\)//g; s/\b([0-9a-f]{16})[0-9a-f]{49,}\b/\1../g
+            s/\t+/ /g; s/^ | $//g' >"$room/found"
+    while IFS=$'\t' read -r wanted found; do
+        [ "$wanted" = "$found" ]
+        count $? "tshark on nbt build: $found, not $wanted"
+    done < <(sed -n "s/\$longest/$longest/g; s/\$label/$label/g; s/.*=> //p" "$rows" | paste - "$room/found")
+}
 
 # ---- What a snap length leaves of payloads, by --cut. The frames of examples/office.pcap have 28 bytes before a payload of UDP.
 
 snapped() {
     local length
     pcap2cap --bare --no-ticks --quiet "$here/../examples/office.pcap" | grep -v '^139' >"$room/whole"
-    for length in 26 28 29 36 40 62 78 90 96 112 300; do
+    for length in 28 29 40 90 300; do
         editcap -s $length "$here/../examples/office.pcap" "$room/snapped.pcap"
         pcap2cap --cut --bare --no-ticks --quiet "$room/snapped.pcap" | grep '^13[78]' >"$room/cut"
         awk -v size=$((length > 28 ? 2 * (length - 28) : 0)) 'size { print $1, $2, substr($3, 1, size) }' "$room/whole" | cmp -s - "$room/cut"
@@ -42,7 +62,7 @@ network() {
 }
 
 # Captures made by chance, beside the page's reading of them.
-random() { counted_by wireshark/random_captures.py 30; }
+random() { counted_by wireshark/random_captures.py 12; }
 
 # ---- Long captures, and terminals.
 
@@ -53,11 +73,11 @@ long() {
     local each="$here/../tools/pcap2cap" began=$SECONDS took=''
     ended "$here/lib/terminal.py" "$room/output" "$each" "$files/long.pcap" >"$room/shown" && took=$((SECONDS - began)) &&
         grep -q $'^\rpcap2cap: [0-9]* of [0-9]* bytes *\r.* *\rpcap2cap: more than' <<<"$(head -n 1 "$room/shown")" &&
-        grep -qE $'(^| \r)100000 frames, 100000 of these ports, 0 left out\r$' <<<"$(tail -n 1 "$room/shown")"
+        grep -qE $'(^| \r)20000 frames, 20000 of these ports, 0 left out\r$' <<<"$(tail -n 1 "$room/shown")"
     count $? 'pcap2cap on a terminal'
     [ -n "$took" ] && [ "$(tr '\r' '\n' <"$room/shown" | grep -c ' of [0-9]* bytes')" -le $((2 * took + 3)) ]
     count $? 'pcap2cap on a terminal: at most twice a second'
-    ended "$here/lib/terminal.py" "$room/output" "$each" --quiet "$files/network.pcap" >"$room/shown" && [ ! -s "$room/shown" ]
+    ended "$here/lib/terminal.py" "$room/output" "$each" --quiet "$here/../examples/office.pcap" >"$room/shown" && [ ! -s "$room/shown" ]
     count $? 'pcap2cap --quiet on a terminal'
     ended "$here/lib/terminal.py" "$room/output" sh -c "'$each' '$files/long.pcap' | cat" >"$room/shown" && ! grep -q ' of [0-9]* bytes' "$room/shown"
     count $? 'pcap2cap on a terminal, into a pipe: no progress among what its reader prints'
@@ -66,9 +86,11 @@ long() {
 # A file five times as long, with five times as many streams, takes no more memory: streams that ended are let go.
 growing() {
     local each small large
-    for each in 10000 50000; do "$here/captures/big_pcap.py" $each "$files/$each.pcap"; done
-    cases growing
-    small=$(peak pcap2cap --quiet "$files/10000.pcap") large=$(peak pcap2cap --quiet "$files/50000.pcap")
+    for each in 6000 30000; do "$here/captures/big_pcap.py" $each "$room/$each.pcap"; done
+    small=$(peak pcap2cap "$room/6000.pcap")
+    nbt show <"$room/output" >"$room/shown" && [ -s "$room/shown" ] && ! grep -q ' refused ' "$room/shown" && ! grep -q 'left' "$room/output"
+    count $? 'pcap2cap: all packets of a long file'
+    large=$(peak pcap2cap "$room/30000.pcap")
     [ "${small% *}" = 0 ] && [ "${large% *}" = 0 ] && [ "${large#* }" -lt $((${small#* } + 16000)) ]
     count $? "pcap2cap, peak of memory: $small and $large"
 }
@@ -104,8 +126,27 @@ heard() {
         sed -n 's/^138 [0-9]* //p' | diff <("$here/captures/live.py" expected) -
 }
 
-# answered CAPTURE ANSWER: each packet is answered within a second.
-answered() { ended "$here/captures/live.py" 20138 "$1" "$2" >"$room/output" 2>"$room/errors"; }
+# sends NUMBER: a datagram that has it, over the loopback interface.
+sends() {
+    env printf %b "$(nbt build group "10.0.0.5:138/$1" 'JOE<00>' 'FRED<20>' 00 1 | sed 's/.* //; s/../\\x&/g')" >/dev/udp/127.0.0.1/20138
+}
+
+# answered CAPTURE ANSWER: of what the one prints the other names each datagram within a second, once one is heard; both end well.
+answered() {
+    local number tries=80 named="$room/output" capture answer
+    rm -f "$room/lines"
+    mkfifo "$room/lines"
+    eval "exec ${2:?}" <"$room/lines" >"$named" 2>"$room/errors" & answer=$!
+    eval "exec ${1:?}" >"$room/lines" & capture=$!
+    while sends 0000 && sleep 0.25 && ! grep -q /0000 "$named" && [ $((tries -= 1)) -gt 0 ]; do :; done
+    for number in 0001 0002 0003 0004 0005; do
+        sends $number
+        sleep 1
+        grep -q "10.0.0.5:138/$number " "$named" || echo "no answer to $number" >>"$room/errors"
+    done
+    kill -TERM $capture
+    wait $capture && wait $answer && [ ! -s "$room/errors" ]
+}
 
 # answers CAPTURE: by both commands that read captures as they grow.
 answers() {

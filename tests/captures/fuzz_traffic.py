@@ -1,36 +1,46 @@
-"""Captures of port 138 in which fragments of a few datagrams meet, and streams of port 139, made by chance, for
-tests/fuzz.py."""
-from dataclasses import dataclass, replace
+"""Packets made by chance, mostly good ones: of port 137 with names that lead into each other, of port 138 parts of a few datagrams, and of
+port 139."""
+from model.names import Name, labels_of, spelling_of
+from model.objects import OPERATIONS
+from model.packets import ERROR, FIRST, KINDS, MORE, NEGATIVE, QUERIES, REQUEST, SESSION_LENGTHS, Fragment
+from model.phrases import REFUSALS
+from model.rdata import NB, NBSTAT, NS
+from model.tables import LONGEST
+from wire import datagram, session
 
-from model.names import Name, spelling_of
-from model.packets import FIRST, MORE
-from model.tables import LONGEST, TIMER
-from wire import KEEPALIVE, datagram, session
-
-SCOPES = [(), (), (), (b'NETBIOS', b'COM'), (b'A',), (b'a',), (b'\x00.<', b'x' * 63)]
-FRONTS = [b'JOE', b'FRED', b'ANN', b'*' + bytes(14), b'', b'-', b'fred', b'A B', b'FIFTEEN LETTERS', b'\xff\\<.']
-LATEST = (1 << 64) - 1
 LONGEST_PIECE = 65_000
-LONGEST_LAST_LABEL = 28
+FRONTS = [b'JOE', b'FRED', b'ANN', b'*' + bytes(14), b'', b'-', b'fred', b'A B', b'FIFTEEN LETTERS', b'\xff\\<.']
+# Scopes, the longest one that there is, and one that is too long.
+FULL = (b'x' * 63,) * 3
+SCOPES = [(), (), (), (b'NETBIOS', b'COM'), (b'A',), (b'a',), (b'\x00.<', b'x' * 63), FULL + (b'y' * 28,)]
+TOO_LONG = FULL + (b'y' * 29,)
+# Places in a fragment, how many bytes a field has there, and what it rarely has: its kind, length and offset, and of its names some bytes.
+FIELDS = (((0,), 1, (0x0f, *range(0x13, 0x18), 0xff)), ((10,), 2, (0, 1, 34, 67, 68, 255, 65_535)),
+          ((12,), 2, (65_535, 65_534, 65_500, 32_768)),
+          ((14, 15, 46, 47, 48, 49, 80, 81), 1, (0, 1, 0x1f, 0x21, 0x3f, 0x40, 0x80, 0xc0, 0x51, 0x61)))
+TAILS = (b'', b'', b'\0', bytes(5), b'\x02\0\0\0\0\1', bytes(46))
 
 
-@dataclass
-class Datagram:
-    """What a sender sends."""
+def any_name(rng):
+    return Name(rng.choice(FRONTS).ljust(15) + bytes([rng.choice((0x20, 0x00, 0x1b, 0xff))]), rng.choice(SCOPES))
 
-    key: tuple
-    kind: int
-    names: list
-    data: bytes
 
-    def packet(self, start, end, flags):
-        """The payload of a part of it."""
-        address, port, identifier = self.key
-        return datagram(identifier, self.data[start:end], address, self.kind, flags, start, b''.join(map(spelling_of, self.names)), port)
+def codes(rng):
+    """A code of an error or a refusal, mostly one that the standard has."""
+    return bytes([rng.choice((*REFUSALS, 0x84, 0x05))])
 
-    def part(self, start, end):
-        """The same, with the flags that it has."""
-        return self.packet(start, end, (0 if start else FIRST) | (MORE if end < len(self.data) else 0))
+
+def packet_of(fragment):
+    """The payload of a fragment."""
+    kind, flags, (address, port, identifier), offset, source, destination, data = fragment
+    return datagram(identifier, data, address, kind, flags, offset, spelling_of(source) + spelling_of(destination), port)
+
+
+def part(whole, start, end):
+    """The fragment of a datagram from one place to another, with the flags that it has."""
+    size = len(whole.data)
+    flags = (0 if start else FIRST) | (MORE if end < size else 0)
+    return whole._replace(flags=flags, offset=start, data=whole.data[start:min(end, size)])
 
 
 class Traffic:
@@ -38,160 +48,167 @@ class Traffic:
 
     def __init__(self, rng):
         self.rng = rng
-        self.names = [self.name() for _ in range(4)]
+        self.names = [any_name(rng) for _ in range(4)]
         addresses = [bytes([10, 0, 0, rng.randrange(256)]) for _ in range(rng.choice((1, 2, 4)))]
-        self.keys = [(rng.choice(addresses), rng.choice((138, 138, 0, 65_535)), rng.choice((0, 1, 2, 255, 256, 65_535)))
-                     for _ in range(rng.choice((1, 2, 3, 6)))]
-        self.datagrams = [self.datagram(key) for key in dict.fromkeys(self.keys)]
+        keys = [(rng.choice(addresses), rng.choice((138, 138, 0, 65_535)), rng.choice((0, 1, 2, 255, 256, 65_535)))
+                for _ in range(rng.choice((1, 2, 3, 6)))]
+        self.datagrams = [Fragment(rng.choice((*KINDS, 0x11)), FIRST, key, 0, *rng.sample(self.names, 2), self.data())
+                          for key in dict.fromkeys(keys)]
 
-    def name(self):
-        """Any name."""
+    def data(self):
+        """The bytes of a datagram, rarely as many as there may be."""
         rng = self.rng
-        return Name(rng.choice(FRONTS).ljust(15) + bytes([rng.choice((0x20, 0x00, 0x1b, 0xff))]), rng.choice(SCOPES))
+        return rng.randbytes(LONGEST if rng.random() < 0.002 else rng.choice((0, 1, 2, 9, 40, rng.randrange(300))))
 
-    def datagram(self, key):
-        """A datagram of this key; rarely one of the greatest length."""
-        rng = self.rng
-        length = rng.choice((0, 1, 2, 9, 40, rng.randrange(300)))
-        if rng.random() < 0.002:
-            length = LONGEST
-        kind = rng.choice((0x10, 0x11, 0x11, 0x12))
-        return Datagram(key, kind, rng.sample(self.names, 2), rng.randbytes(length))
-
-    def parts(self, datagram):
+    def parts(self, whole):
         """Fragments of a datagram that have each of its bytes, in order."""
-        rng, length = self.rng, len(datagram.data)
+        rng, length = self.rng, len(whole.data)
         most = min(LONGEST_PIECE, max(1, length // rng.choice((1, 2, 3, 7))))
-        starts = range(0, max(1, length), most)
-        return [datagram.part(it, min(length, it + most + rng.choice((0, 0, 1, 5)))) for it in starts]
+        return [part(whole, it, it + most + rng.choice((0, 0, 1, 5))) for it in range(0, max(1, length), most)]
 
-    def loose_part(self, datagram):
+    def loose_part(self, whole):
         """Any part of a datagram, perhaps none of its bytes."""
-        start = self.rng.randrange(len(datagram.data) + 1)
-        end = min(len(datagram.data), start + self.rng.choice((0, 1, 3, 20, 200)))
-        return datagram.part(start, end)
+        start = self.rng.randrange(len(whole.data) + 1)
+        return part(whole, start, start + self.rng.choice((0, 1, 3, 20, 200)))
 
-    def dressed(self, packet):
-        """The same fragment, with other bits of FLAGS that mean nothing and bytes after the packet."""
-        if len(packet) < 14:
-            return packet
-        spare = self.rng.choice((0, 0, 0x0c, 0xf0, 0x80))
-        return packet[:1] + bytes([packet[1] | spare]) + packet[2:] + self.rng.choice((b'', b'', b'\0', b'rest'))
-
-    def contradiction(self, datagram):
+    def contradiction(self, whole):
         """A fragment that another sender with the same key might send."""
-        rng, names, data = self.rng, datagram.names, datagram.data
-        change = rng.choice((lambda: {'kind': rng.choice((0x10, 0x11, 0x12))},
-                             lambda: {'names': rng.choice((names[::-1], [names[0], self.name()]))},
-                             lambda: {'data': (data + rng.randbytes(rng.choice((1, 2, 50))))[:LONGEST]},
-                             lambda: {'data': data[:rng.randrange(len(data) + 1)]},
-                             lambda: {'data': self.flipped(data or b'a')}, None))
-        if not change:
-            start = rng.randrange(len(data) + 1)
-            return datagram.packet(start, min(len(data), start + LONGEST_PIECE), rng.randrange(4))
-        other = replace(datagram, **change())
-        return self.loose_part(other) if rng.random() < 0.5 else rng.choice(self.parts(other))
+        rng, data, at = self.rng, whole.data, self.rng.randrange(len(whole.data) + 1)
+        other = whole._replace(**rng.choice((
+            {'kind': rng.choice(list(KINDS))}, {'source': whole.destination, 'destination': whole.source}, {'destination': any_name(rng)},
+            {'data': (data + rng.randbytes(rng.choice((1, 2, 50))))[:LONGEST]}, {'data': data[:at]},
+            {'data': data[:at] + rng.randbytes(1) + data[at + 1:LONGEST]}, {})))
+        found = self.loose_part(other) if rng.random() < 0.5 else rng.choice(self.parts(other))
+        return found if other != whole else found._replace(flags=found.flags ^ MORE)
 
-    def flipped(self, data):
-        """Bytes with another bit."""
-        at = self.rng.randrange(len(data))
-        return data[:at] + bytes([data[at] ^ 1 << self.rng.randrange(8)]) + data[at + 1:]
-
-    def fault(self, datagram):
+    def fault(self, whole):
         """A payload that says nothing of a datagram, or is refused."""
-        rng = self.rng
-        packet = bytearray(rng.choice(self.parts(datagram)))
-        how = rng.randrange(9)
-        if how == 0:
-            packet[0] = rng.choice((0x0f, 0x13, 0x14, 0x15, 0x16, 0x17, 0xff))
-        elif how == 1:
-            packet[1] ^= FIRST
-        elif how == 2:
-            packet[12:14] = rng.choice((65_535, 65_534, 65_500, 32_768)).to_bytes(2, 'big')
-            packet[1] &= ~FIRST
-        elif how == 3:
-            del packet[rng.randrange(len(packet) + 1):]
-        elif how == 4:
-            packet[10:12] = rng.choice((0, 1, 34, 67, 68, 255, 65_535)).to_bytes(2, 'big')
-        elif how == 5:
-            packet[rng.choice((14, 15, 46, 47, 48, 49, 80, 81))] = rng.choice((0, 1, 0x1f, 0x21, 0x3f, 0x40, 0x80, 0xc0, 0x51, 0x61))
-        elif how == 6:
-            header = packet[:10]
-            return bytes([rng.choice((0x14, 0x15, 0x16))]) + bytes(header[1:]) + spelling_of(self.name())
-        elif how == 7:
-            name = Name(bytes(16), (b'x' * 63,) * 3 + (b'y' * rng.choice((LONGEST_LAST_LABEL, LONGEST_LAST_LABEL + 1)),))
-            return Datagram(datagram.key, datagram.kind, rng.choice(([name, name], [self.name(), name])), b'data').part(0, 4)
-        else:
-            return bytes([0x13]) + bytes(packet[1:10]) + rng.choice((b'', b'\x82', b'\x05rest'))
-        return bytes(packet)
+        rng, fragment = self.rng, self.rng.choice(self.parts(whole))
+        packet, how = bytearray(packet_of(fragment)), rng.randrange(8)
+        if how < len(FIELDS):
+            places, size, values = FIELDS[how]
+            at = rng.choice(places)
+            packet[at:at + size] = rng.choice(values).to_bytes(size, 'big')
+            packet[1] &= ~FIRST if at == 12 else 0xff
+            return bytes(packet)
+        said = rng.choice((b'', codes(rng), codes(rng) + b'rest', *[spelling_of(any_name(rng))] * 4))
+        return rng.choice((
+            packet_of(fragment._replace(flags=fragment.flags ^ FIRST)), bytes(packet[:rng.randrange(len(packet) + 1)]),
+            packet_of(fragment._replace(**{rng.choice(('source', 'destination')): Name(bytes(16), TOO_LONG)})),
+            bytes([rng.choice((ERROR, *QUERIES))]) + packet[1:10] + said))
 
     def fragments(self, contradicted=0.05):
         """Fragments of all datagrams, in any order: most datagrams are whole, and some are contradicted."""
-        rng = self.rng
-        found = []
-        for datagram in self.datagrams:
-            parts = self.parts(datagram)
+        rng, found = self.rng, []
+        for each in self.datagrams:
+            parts = self.parts(each)
             found += parts if rng.random() < 0.7 else rng.sample(parts, rng.randrange(len(parts) + 1))
-            found += [self.loose_part(datagram) for _ in range(rng.choice((0, 0, 1, 4)))]
+            found += [self.loose_part(each) for _ in range(rng.choice((0, 0, 1, 4)))]
             if rng.random() < 6 * contradicted:
-                found += [self.contradiction(datagram) for _ in range(rng.choice((1, 1, 3)))]
-        rng.shuffle(found)
-        return found
+                found += [self.contradiction(each) for _ in range(rng.choice((1, 1, 3)))]
+        return rng.sample(found, len(found))
 
     def payloads(self):
-        """Fragments and faults, in any order."""
+        """Fragments and faults, in any order; some have other bits of FLAGS, which mean nothing, and bytes after the packet."""
         rng = self.rng
-        found = self.fragments() + [self.fault(rng.choice(self.datagrams)) for _ in range(rng.choice((0, 1, 4)))]
-        found = [self.dressed(it) if rng.random() < 0.2 else it for it in found]
-        rng.shuffle(found)
-        return found
+        found = [packet_of(it) for it in self.fragments()] + [self.fault(rng.choice(self.datagrams)) for _ in range(rng.choice((0, 1, 4)))]
+        bits, rest = (0, 0, 0x0c, 0xf0, 0x80), (b'', b'', b'\0', b'rest')
+        dressed = lambda it: it[:1] + bytes([it[1] | rng.choice(bits)]) + it[2:] + rng.choice(rest)
+        return [dressed(it) if len(it) > 13 and rng.random() < 0.2 else it for it in rng.sample(found, len(found))]
 
-    def capture(self):
-        """A capture with ticks: a payload comes at a moment, and mostly the clock goes on."""
+
+def session_packet(rng):
+    """A session packet, mostly a good one: of a length that its type just may have, or may not, with a flag, or names that are too long."""
+    kind = rng.choice((*SESSION_LENGTHS, 0, 0, 0, REQUEST, REQUEST))
+    least, most = SESSION_LENGTHS[kind]
+    body = rng.randbytes(least + min(rng.choice((0, 1, 3, 5, 40)), most - least))
+    if kind == NEGATIVE:
+        body = codes(rng)
+    elif kind == REQUEST:
+        names = [any_name(rng) if rng.random() < 0.95 else Name(bytes(16), TOO_LONG) for _ in range(2)]
+        body = b''.join(map(spelling_of, names)) + rng.choice((b'',) * 6 + (b'\0', b'rest'))
+    if rng.random() < 0.1:
+        body = bytes(max(0, rng.choice((least, most)) + rng.choice((-1, 0, 1))))
+    packet = bytearray(session(kind, body))
+    packet[1] |= 1 << rng.randrange(8) if rng.random() < 0.05 else 0
+    return bytes(packet[:None if rng.random() < 0.1 or len(body) < 1_000 else 4])
+
+
+class ServicePacket:
+    """A packet of port 137 that grows by names, questions and records; it remembers at which offsets labels stand."""
+
+    def __init__(self, rng):
+        self.rng, self.places, self.data = rng, [], bytearray()
+
+    def made(self):
+        """The packet, mostly a good one."""
         rng = self.rng
-        clock = rng.choice((0, 0, 1_000, LATEST - 5_000, LATEST - TIMER + 1, LATEST - TIMER, LATEST))
-        lines = []
-        for payload in self.payloads() + (self.payloads() if rng.random() < 0.3 else []):
-            clock = min(LATEST, clock + rng.choice((0, 0, 0, 0, 1, 500, TIMER - 1, TIMER, TIMER + 1)))
-            moment = clock if rng.random() < 0.9 else rng.choice((0, clock // 2, LATEST))
-            lines.append(b'138 %d %b' % (moment, digits(payload)))
-            if rng.random() < 0.2:
-                lines.append(b'tick %d' % rng.choice((clock, clock, min(LATEST, clock + TIMER), 0, LATEST)))
-            if rng.random() < 0.05:
-                lines.append(rng.choice((b'', b'# any', b'137 0 00', b'139 5 empty')))
-        return b''.join(it + b'\n' for it in lines)
+        counts = [rng.choice((0, 0, 1, 1, 2, 5)) for _ in range(4)]
+        stated = [it if rng.random() < 0.97 else rng.choice((it + 1, 256, 65_535)) for it in counts]
+        asked, outcome = rng.choice((*OPERATIONS, 0, 5, 15)), rng.choice((0, 0, 0, *range(9)))
+        word = rng.randrange(32) << 11 if rng.random() < 0.2 else rng.choice((0, 0x8000)) | asked << 11
+        self.add(rng.randrange(65_536), word | rng.randrange(128) << 4 | outcome, *stated)
+        for section, count in enumerate(counts):
+            for _ in range(count):
+                self.name()
+                kind = rng.choice((NB, NB, NBSTAT, NBSTAT, NS, NS, 1, 10, rng.randrange(65_536)))
+                self.add(kind, 1 if rng.random() < 0.9 else rng.randrange(65_536))
+                if section:
+                    self.told(kind)
+        return bytes(self.data) + rng.choice((b'', b'', b'', b'rest'))
 
+    def add(self, *numbers):
+        for each in numbers:
+            self.data += each.to_bytes(2, 'big')
 
-def digits(payload):
-    """A payload as a capture has it."""
-    return payload.hex().encode() or b'empty'
+    def labels(self):
+        """Some labels, spelled out."""
+        rng = self.rng
+        return rng.choice((labels_of(any_name(rng)),) * 6 + (
+            [rng.randbytes(rng.choice((1, 2, 31, 32, 33, 63))) for _ in range(rng.choice((0, 1, 2, 4)))],
+            [b'x' * 63] * rng.choice((1, 3, 4)), [],
+            [b'CK' * 15 + rng.choice((b'AA', b'AQ', b'a1')), b'y' * rng.choice((1, 62, 63))]))
 
+    def name(self):
+        """A name: spelled out, or its labels and a pointer, mostly to labels before it."""
+        rng, begin, known = self.rng, len(self.data), list(self.places)
+        ends = rng.random() < 0.5 or not known
+        for label in self.labels() if ends or rng.random() < 0.3 else []:
+            self.places.append(len(self.data))
+            self.data += bytes([len(label)]) + label
+        if ends:
+            self.data.append(0 if rng.random() < 0.99 else rng.choice((0x40, 0x80, 0xbf)))
+        else:
+            self.point(rng.choice(known) if rng.random() < 0.95 else rng.choice((0, 2, 12, begin, len(self.data), rng.randrange(16_384))))
 
-def capture_of(payloads, port=138, moment=0):
-    """A capture of these payloads, without ticks."""
-    return b''.join(b'%d %d %b\n' % (port, moment, digits(it)) for it in payloads)
+    def point(self, target):
+        """A pointer, to which later names may lead."""
+        self.places.append(len(self.data))
+        self.add(0xc000 | target & 0x3fff)
 
+    def told(self, kind):
+        """What a record has after its class; its length is rarely wrong."""
+        rng = self.rng
+        self.data += rng.choice((0, 300_000, 0xffffffff, rng.randrange(1 << 32))).to_bytes(4, 'big')
+        at = len(self.data)
+        self.add(0)
+        if kind == NS:
+            self.name()
+        elif kind == NB:
+            self.data += rng.randbytes(6 * rng.choice((0, 1, 1, 2, 9)) + rng.choice((0, 0, 0, 0, 1, 5)))
+        elif kind == NBSTAT:
+            self.data += self.node_status()
+        elif rng.random() < 0.3:
+            self.point(len(self.data) + rng.choice((-2, 0, 2, 14, 40)))
+        else:
+            self.data += rng.randbytes(rng.choice((0, 1, 4, 6, 20)))
+        length = len(self.data) - at - 2 + (rng.choice((-1, 1, -2, 2, 40)) if rng.random() < 0.03 else 0)
+        self.data[at:at + 2] = max(0, length).to_bytes(2, 'big')
 
-def session_packet(rng, name):
-    """A session packet, mostly a good one."""
-    names = lambda: spelling_of(name()) + spelling_of(name())
-    how = rng.randrange(12)
-    if how >= 10:
-        return faulty_session_packet(rng, names)
-    message = 0x00, lambda: rng.randbytes(rng.choice((0, 1, 3, 4, 5, 40)))
-    others = (0x82, bytes), (0x83, lambda: rng.randbytes(1)), (0x84, lambda: rng.randbytes(6)), (0x85, bytes)
-    kind, body = (message, message, message, message, (0x81, names), (0x81, names), *others)[how]
-    return session(kind, body())
-
-
-def faulty_session_packet(rng, names):
-    """One that is refused, or a message that is long."""
-    def spoilt():
-        body = bytearray(names() + rng.choice((b'', b'', b'\0', b'rest')))
-        body[rng.randrange(len(body))] = rng.choice((0, 1, 0x40, 0xc0, 0x51, 0xff))
-        return session(0x81, body)
-
-    return rng.choice((lambda: rng.randbytes(4),
-                       lambda: bytes([rng.choice((0x00, 0x81, 0x85)), 1 << rng.randrange(8), 0, rng.randrange(2)]), spoilt,
-                       lambda: bytes([rng.choice((0x81, 0x82, 0x83, 0x84)), 0]) + rng.randrange(600).to_bytes(2, 'big'),
-                       lambda: session(0x00, bytes(rng.choice((65_535, 65_536, 70_000)))) if rng.random() < 0.1 else KEEPALIVE))()
+    def node_status(self):
+        """A node status, mostly with as many names as it says."""
+        rng = self.rng
+        number = rng.choice((0, 1, 2, 6)) if rng.random() < 0.97 else rng.randrange(256)
+        names = [any_name(rng).bytes + rng.randbytes(2) for _ in range(number)]
+        count = len(names) if rng.random() < 0.9 else rng.choice((0, 1, 255))
+        return (bytes([count]) + b''.join(names) + rng.choice(TAILS))[:None if rng.random() < 0.95 else rng.randrange(2)]

@@ -1,9 +1,9 @@
 #!/usr/bin/env python3
 """Payloads for the programs over the library, a line each: a port and digits, or `empty`.
 
-Usage: tests/captures/payloads.py [--seed N] [--longest BYTES] library|values|worst|inputs COUNT
+Usage: tests/captures/payloads.py [--seed N] library|values|worst|inputs COUNT
 
-library  as those of tests/fuzz.py, good and changed; longer ones than --longest are left out
+library  as those of tests/fuzz.py, good and changed
 values   for tests/model/values.py: packets of port 137 that are made by chance, with names that lead into each other and records of each
          type; some of these are changed, or cut at each length; any bytes after a header; and of other ports
 worst    those that cost the most, or of which the most is said, as long as they may be
@@ -15,9 +15,8 @@ import struct
 import sys
 
 sys.path[1:1] = [f'{sys.path[0]}/../{it}' for it in ('.', 'lib')]
-from fuzz_inputs import Maker, capture_lines, example_bytes, likely_port
-from object_inputs import LONGEST_PAYLOAD, ServicePacket, session_request
-from fuzz_traffic import Traffic
+from fuzz_inputs import Inputs
+from fuzz_traffic import ServicePacket, session_packet
 from model.limits import LINE_ROOM
 
 LONGEST, MOST_CUTS = 1_500, 150
@@ -25,30 +24,23 @@ LONGEST, MOST_CUTS = 1_500, 150
 IN_DATAGRAM = 65_503
 
 
-def library(rng, longest):
+def library(rng):
     """Payloads without an end, with their ports."""
-    maker = Maker(rng, list(example_bytes()), list(capture_lines()))
+    inputs = Inputs(rng)
     while True:
-        payload = maker.payload()[:LONGEST_PAYLOAD]
-        if len(payload) <= longest:
-            yield rng.choice((137, 138, 139)) if rng.random() < 0.2 else likely_port(payload), payload
+        yield inputs.payload()
 
 
-def values(rng, longest):
+def values(rng):
     """The same, mostly of port 137."""
-    maker, traffic = Maker(rng, list(example_bytes()), list(capture_lines())), Traffic(rng)
-    made = lambda: ServicePacket(rng, traffic.name).made()
+    inputs = Inputs(rng)
     while True:
-        packet = made()
-        yield from ((137, each[:longest]) for each in (packet, made()))
-        for _ in range(6):
-            yield 137, maker.changed(made())[:longest]
+        packet, *others = (ServicePacket(rng).made() for _ in range(9))
+        yield from ((137, each[:LONGEST]) for each in (packet, others[0], *map(inputs.changed, others)))
         yield 137, struct.pack('>6H', 1, 0x8500, *[rng.randrange(3) for _ in range(4)]) + rng.randbytes(rng.randrange(80))
-        request = rng.choice((session_request(rng, traffic.name), b'\x84\0\0\6' + rng.randbytes(6)))
-        yield 139, rng.choice((bytes, maker.changed))(request)
-        for _ in range(3):
-            payload = maker.payload()[:longest]
-            yield likely_port(payload), payload
+        yield 139, inputs.changed(session_packet(rng))[:LONGEST]
+        for port, payload in (inputs.payload() for _ in range(4)):
+            yield port, payload[:LONGEST]
         if len(packet) < MOST_CUTS and rng.random() < 0.1:
             yield from ((137, packet[:length]) for length in range(len(packet)))
 
@@ -70,7 +62,7 @@ def longest_phrases():
     return [payload.ljust(LINE_ROOM, b'\0') for payload in (claim, redirect)]
 
 
-def worst(_, __):
+def worst(_):
     """The longest phrases; a question with the longest name and as many pointers to it as there is room for; a datagram between the longest
     names; and a redirection of the longest name to a server of the longest name."""
     netbios = longest_name(True)
@@ -83,30 +75,23 @@ def worst(_, __):
     yield 137, bytes.fromhex('000180000000000000010000') + netbios + b'\0\2\0\1' + b'\xff' * 4 + b'\0\xff' + netbios
 
 
-def records(data):
-    """The ports and the payloads of an input, as tests/library/corpus.c cuts it."""
-    while len(data) >= 3:
-        end = 3 + int.from_bytes(data[1:3], 'big')
-        yield (137, 138, 139, 'table')[data[0] % 4], data[3:end]
-        data = data[end:]
-
-
-def inputs(_, __):
-    """The records of inputs."""
-    for each in sys.stdin.read().split():
-        yield from records(bytes.fromhex(each))
+def inputs(_):
+    """The ports and the payloads of inputs, as tests/library/corpus.c cuts them."""
+    for data in map(bytes.fromhex, sys.stdin.read().split()):
+        while len(data) >= 3:
+            end = 3 + int.from_bytes(data[1:3], 'big')
+            yield (137, 138, 139, 'table')[data[0] % 4], data[3:end]
+            data = data[end:]
 
 
 def main():
     """Prints as many as are asked for."""
     parser = argparse.ArgumentParser()
     parser.add_argument('--seed', type=int, default=1)
-    parser.add_argument('--longest', type=int)
     parser.add_argument('kind', choices=('library', 'values', 'worst', 'inputs'))
     parser.add_argument('count', type=int)
     words = parser.parse_args()
-    longest = words.longest or {'library': LONGEST_PAYLOAD}.get(words.kind, LONGEST)
-    for (port, payload), _ in zip(globals()[words.kind](random.Random(words.seed), longest), range(words.count)):
+    for (port, payload), _ in zip(globals()[words.kind](random.Random(words.seed)), range(words.count)):
         print(port, payload.hex() or 'empty')
 
 

@@ -12,13 +12,9 @@ START = 1_700_000_000 * 10**9
 OUTER = bytes([172, 16, 0, 1]), bytes([172, 16, 0, 2])
 
 
-def outer(protocol, data):
-    return ip(protocol, data, *OUTER, fragment=0x4000)
-
-
-# An outer packet around one: VXLAN, IP in IP, GRE.
-TUNNELS = (lambda packet: outer(UDP, udp(55_555, 4_789, b'\x08' + bytes(7) + ethernet(packet, bytes(6), bytes(6)))),
-           lambda packet: outer(4 if packet[0] >> 4 == 4 else 41, packet), lambda packet: outer(47, bytes(2) + ethernet(packet)[12:]))
+# The protocol of an outer packet around one, and what it carries: VXLAN, IP in IP, GRE.
+TUNNELS = (lambda packet: (UDP, udp(55_555, 4_789, b'\x08' + bytes(7) + ethernet(packet, bytes(6), bytes(6)))),
+           lambda packet: (4 if packet[0] >> 4 == 4 else 41, packet), lambda packet: (47, bytes(2) + ethernet(packet)[12:]))
 
 
 def pcap_of(rng, tunnels=TUNNELS, links=(ETHERNET, RAW)):
@@ -45,8 +41,8 @@ def conversation(rng, number, tunnels):
     tunnel = rng.choice((None, None, None, None, *TUNNELS))
     tags = rng.choice((b'', b'', b'', b'\x81\0\0\x05', b'\x88\xa8\0\x05\x81\0\0\x06'))
     for pause, packet in kind(rng, ends):
-        data = tunnel(packet) if tunnel in tunnels else packet
-        padding = bytes(max(0, 46 - len(data))) if rng.random() < 0.5 else b''
+        data = ip(*tunnel(packet), *OUTER, fragment=0x4000) if tunnel in tunnels else packet
+        padding = bytes(max(0, 46 - len(data))) if rng.random() < 0.5 and not tunnel else b''
         yield pause, data + padding, tags + ethernet(data)[12:14], len(data) - len(packet)
 
 
@@ -63,7 +59,7 @@ def front_of(link, kind):
 
 
 class Interface:
-    """Where frames come from: a link layer, how much of each is captured, and what a unit of time is."""
+    """Where frames come from: a link layer, how much of each is captured, and in how many digits of a second."""
 
     def __init__(self, rng, number, links):
         self.number = number
@@ -120,20 +116,13 @@ def datagrams(rng, ends):
 
 def fragments(rng, ends):
     """A datagram in fragments: out of order, missing, doubled, overlapping with other values, or more than a minute apart."""
-    for _ in range(rng.randrange(1, 4)):
-        identifier = rng.randrange(1, 65_536)
-        for _ in range(rng.choice((1, 1, 2))):
-            yield from datagram_in_fragments(rng, ends, identifier)
-
-
-def datagram_in_fragments(rng, ends, identifier):
-    payload = rng.randbytes(rng.randrange(40, 200))
-    whole = udp(138, 138, payload)
-    cuts = sorted(rng.sample(range(8, len(whole), 8), rng.randrange(1, 4)))
-    pieces = [(start, whole[start:end], end < len(whole)) for start, end in zip([0] + cuts, cuts + [len(whole)])]
-    pause = rng.choice((0.01,) * 6 + (25.0, 70.0))
-    for start, data, more in disordered(rng, pieces):
-        yield pause, ends.packet(UDP, data, more=more, offset=start, identifier=identifier, fragment=True)
+    for identifier in sorted(rng.choices(range(1, 65_536), k=3) * 2)[:rng.randrange(1, 6)]:
+        whole = udp(138, 138, rng.randbytes(rng.randrange(40, 200)))
+        cuts = sorted(rng.sample(range(8, len(whole), 8), rng.randrange(1, 4)))
+        pieces = [(start, whole[start:end], end < len(whole)) for start, end in zip([0] + cuts, cuts + [len(whole)])]
+        pause = rng.choice((0.01,) * 6 + (25.0, 70.0))
+        for start, data, more in disordered(rng, pieces):
+            yield pause, ends.packet(UDP, data, more=more, offset=start, identifier=identifier, fragment=True)
 
 
 def disordered(rng, items, *further):

@@ -5,23 +5,23 @@ import sys
 import tempfile
 
 from parts import tally
+from wire import written
 
 
 def compared(name, made, first_difference):
     """Makes captures of so many seeds, and says what differs in each, if anything does; one that fails is kept, and named. Answers whether
     any failed."""
-    count, seed = int(sys.argv[1]), sys.argv[2] if len(sys.argv) > 2 else name
-    return tally((each, difference_of(name, each, made, first_difference)) for each in (f'{seed}-{number}' for number in range(count)))
+    count, first = int(sys.argv[1]), sys.argv[2] if len(sys.argv) > 2 else name
 
+    def differences():
+        for seed in (f'{first}-{number}' for number in range(count)):
+            path = written(os.path.join(tempfile.gettempdir(), f'{name}-{os.getpid()}-{seed}.pcap'), made(random.Random(seed)))
+            difference = first_difference(path)
+            if not difference:
+                os.remove(path)
+            yield seed, difference and f'{difference} ({path})'
 
-def difference_of(name, seed, made, first_difference):
-    path = os.path.join(tempfile.gettempdir(), f'{name}-{os.getpid()}-{seed}.pcap')
-    with open(path, 'wb') as file:
-        file.write(made(random.Random(seed)))
-    difference = first_difference(path)
-    if not difference:
-        os.remove(path)
-    return difference and f'{difference} ({path})'
+    return tally(differences())
 
 
 def first_unlike(given, wanted):

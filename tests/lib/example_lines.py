@@ -21,6 +21,8 @@ SUBJECTS = ('names', 'service', 'session', 'datagram', 'text', 'table', 'member'
 OF_CAPTURES = ('member.replay', 'member.within', 'member.commented', 'member.over', 'member.next', 'member.next_within')
 OF_STATIONS = ('member.names', 'member.hears', 'member.take', 'member.run', 'member.two', *OF_CAPTURES[:4])
 STATION = ('16', '65535', '10.0.0.9:138')
+# A part of a word that has a long row of digits, which are written as runs.
+LONG_DIGITS = re.compile(r'(?<![^ +])(?:[0-9a-f]{2}){33,}(?![^ +])')
 # As many keys of one address as a table has of all.
 ANY_SOURCE = '4294967295'
 
@@ -103,12 +105,6 @@ def of_station(words):
     return ' '.join(['/'.join((names, *limits)), *others])
 
 
-def shorter(text):
-    """A word with its long rows of digits as runs."""
-    parts = (word(bytes.fromhex(it)) if re.fullmatch(r'(?:[0-9a-f]{2}){33,}', it) else it for it in text.split('+'))
-    return '+'.join(parts)
-
-
 def asked(call, words):
     """The words of a call as the program reads them."""
     if call == 'names.from_text':
@@ -126,7 +122,7 @@ def asked(call, words):
     if call == 'member.both':
         one, others = words.split(' ', 1)
         words = f'{of_station(one)} {of_station(others)}'
-    return ' '.join(map(shorter, words.split(' ')))
+    return LONG_DIGITS.sub(lambda found: word(bytes.fromhex(found[0])), words)
 
 
 def example(line):

@@ -16,7 +16,7 @@ import unittest
 sys.dont_write_bytecode = True
 sys.path[1:1] = [f'{sys.path[0]}/../{it}' for it in ('.', 'captures', 'lib')]
 import station_system
-from fuzz_inputs import Maker, capture_lines, example_bytes
+from fuzz_inputs import Inputs
 from limits import MOST_KEYS
 from parts import check, finish, leave_out
 from station_runs import (ANN, EMPTY, ENDING, GROUP, OWN, PATIENCE, UNIQUE, TooSlow, expect, nbt, packet, refused, replayed, result_of,
@@ -134,8 +134,8 @@ def json_lines():
 def any_payloads():
     """Payloads of all kinds, of which the station delivers what `nbt replay` does."""
     rng = random.Random(39)
-    maker = Maker(rng, list(example_bytes()), list(capture_lines()))
-    payloads = [maker.payload()[:60_000] for _ in range(300)]
+    inputs = Inputs(rng)
+    payloads = [inputs.payload()[1][:60_000] for _ in range(300)]
     names = ['FRED<20>', 'JOE<00>']
     with station(names=names) as each:
         began = time.monotonic()

@@ -17,8 +17,7 @@ import sys
 sys.dont_write_bytecode = True
 sys.path[1:1] = [f'{sys.path[0]}/../{it}' for it in ('.', 'captures', 'lib', '../bindings/python')]
 import nbt
-from fuzz_inputs import capture_lines, example_bytes
-from object_inputs import LONGEST_PAYLOAD, Inputs
+from fuzz_inputs import Inputs
 from parts import tally
 from plugin_files import packets
 from plugin_pcap import datagram_frame, fields_of, segment_frame
@@ -34,8 +33,7 @@ LENGTHS = (1, 3, 30, 500, 1_400)
 
 def payloads(rng, count):
     """So many payloads that came to each port. Wireshark hands no empty ones on."""
-    inputs = Inputs(rng, [each for each in example_bytes() if len(each) <= LONGEST_PAYLOAD], list(capture_lines()))
-    found = {137: [], 138: [], 139: []}
+    inputs, found = Inputs(rng), {137: [], 138: [], 139: []}
     while any(len(each) < count for each in found.values()):
         port, payload = inputs.payload()
         if len(found[port]) < count and 0 < len(payload) < 60_000:

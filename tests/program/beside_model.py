@@ -1,11 +1,11 @@
 #!/usr/bin/env python3
 """What the program prints of captures and saved tables, with `--json` and without, beside a model that reads payloads and tables.
 
-Usage: tests/program/beside_model.py [--seed N] [--payloads N] [--files FILE.. --] [PROGRAM]; its last line is 'N passed, M failed, K skipped', the one
-before says what was compared. A case is a command with an input: those of tests/cases, also for the commands that read alike, the payloads of the
-examples of crates/nb_examples, the captures of examples/, the examples cut at each length, saved tables drawn by lot, three merged in each order,
-and captures, saved tables and words made by chance, until so many payloads (10,000) were shown. It prints what the model has, byte for byte, and
-ends as that says, with `--json` too, where the command takes it. A case is also each kind of front and each phrase of docs/FORMATS.md: there were
+Usage: tests/program/beside_model.py [--seed N] [--payloads N] [--files FILE.. --] [PROGRAM]; its last line is 'N passed, M failed, K
+skipped', the one before says what was compared. A case is a command with an input: those of tests/cases, also for the commands that read
+alike, the payloads of the examples of crates/nb_examples, the captures of examples/, the examples cut at each length, and captures, saved
+tables and words made by chance, until so many payloads (10,000) were shown. It prints what the model has, byte for byte, and ends as that
+says, with `--json` too, where the command takes it. A case is also each kind of front and each phrase of docs/FORMATS.md: there were
 some; and the two longest phrases are as long as that page has it, and none is longer. With --files there are the commands of these files of
 tests/cases alone.
 """
@@ -21,11 +21,11 @@ import sys
 import tempfile
 
 TESTS = os.path.dirname(os.path.dirname(os.path.abspath(__file__)))
-sys.path[1:1] = [os.path.join(TESTS, it) for it in ('', 'captures', 'examples', 'lib', 'program')]
-from chance import capture_of, inputs_of, made_by_chance, merges
-from fuzz_inputs import ROOT, capture_lines, example_bytes
+sys.path[1:1] = [os.path.join(TESTS, it) for it in ('', 'captures', 'lib', 'program')]
+from chance import made_by_chance
+from example_lines import definitions
+from fuzz_inputs import OPTIONS, ROOT, Inputs, capture_lines, capture_of
 from model.objects import SECTIONS
-from object_inputs import OPTIONS
 from parts import check, finish
 from payloads import longest_phrases
 from printed import COMMANDS, MOST, Unknown, is_of_clap, parsed, wanted
@@ -215,11 +215,10 @@ def main():
             cases.check(each, capture)
     if given.files:
         return cases.end()
-    payloads = list(example_bytes())
+    payloads = list(definitions())
     samples(cases, payloads)
-    merges(cases)
     cases.check(['show', '--brief'], capture_of([NO_NAMES]))
-    inputs, most = inputs_of(cases.rng), cases.compared['payloads'] + given.payloads
+    inputs, most = Inputs(cases.rng), cases.compared['payloads'] + given.payloads
     while cases.compared['payloads'] < most:
         made_by_chance(cases, inputs)
     phrases(cases)

@@ -5,6 +5,7 @@ import json
 import re
 from dataclasses import dataclass
 
+from fuzz_inputs import OPTIONS
 from model.building import built
 from model.captures import LONGEST_LINE, comment_text, numbered, read_capture
 from model.limits import INPUT, KEYS, MOST_KEYS, MOST_NAMES
@@ -14,7 +15,6 @@ from model.phrases import said
 from model.reports import agrees, joined, listed, listed_text, report_text, reported, save
 from model.tables import PER_SOURCE, Table
 from model.text import front_lines, lines_of
-from object_inputs import OPTIONS
 
 COMMANDS = tuple(it for it in OPTIONS if it != 'help')
 NAMING = ('--bytes',)

@@ -21,6 +21,7 @@ sys.path[1:1] = [f'{sys.path[0]}/../{it}' for it in ('captures', 'lib')]
 from random_pcap import LINKS, TUNNELS, pcap_of
 from bundled import bundled
 from seeds import compared, first_unlike
+from wire import written
 
 TOP = os.path.realpath(f'{sys.path[0]}/../..')
 TOOL = [f'{TOP}/tools/pcap2cap']
@@ -38,12 +39,7 @@ def first_difference(program, path):
     seed = re.search(r'(\d+)\.pcap$', path)[1]
     if int(seed) % 3:
         return unlike(run([*program, path]), run([*TOOL, path]))
-    printed = []
-    for tunnels in ((), TUNNELS):
-        with open(path, 'wb') as file:
-            file.write(pcap_of(random.Random(seed), tunnels))
-        printed.append(run([*TOOL, path]))
-    return unlike(*printed)
+    return unlike(*(run([*TOOL, written(path, pcap_of(random.Random(seed), tunnels))]) for tunnels in ((), TUNNELS)))
 
 
 def run(words):

@@ -22,7 +22,6 @@ from wire import FRED, JOE, SERVER, pieces
 # How many payloads wait in the socket of a station that stands still.
 WAITING = 200
 
-# ---- the cases
 
 def any_payloads():
     """Pieces in any order with repeats, and payloads of all kinds: the station delivers what `nbt replay` does, and saves what `nbt save`
@@ -118,7 +117,6 @@ def joined_tables():
 
 
 CASES = (any_payloads, read_at_its_end, dropped_by_the_clock, error_packets, json_lines, limits, joined_tables, *station_system.CASES)
-
 
 for each in CASES if not sys.argv[3:] else (*CASES, *station_system.WITHIN):
     if each.__name__ in (sys.argv[3:] or [each.__name__]):

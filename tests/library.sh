@@ -17,6 +17,8 @@ built=$room/built
 CC=${CC:-cc}
 payloads=2000
 values=2000
+# What runs a program in Python that uses the package, over the shared object.
+in_python=(env NBT_LIBRARY="$built/libnbt.so.0" PYTHONDONTWRITEBYTECODE=1 PYTHONPATH="$top/bindings/python" python3)
 
 # The files, what they define and what they need.
 files() {
@@ -34,27 +36,19 @@ files() {
     well_made '' "$built"
 }
 
-# Each call of the header stands in an example.
 examples() {
-    local each run
-    for each in $(calls); do
-        grep -qw "$each" "$top"/bindings/c/*.c
-        count $? "an example of $each"
-    done
-    for each in "$top"/bindings/c/*.c; do
-        run=(env "LD_LIBRARY_PATH=$built")
-        example "$each" shared "$CC" "$each" "-L$built" -lnbt
-        run=()
-        example "$each" sanitized "$CC" "${sanitized[@]}" "$each" "$built/libnbt.a"
-    done
+    local each run=()
+    grep -ohE '\bnbt_[a-z_]+\b' "$top"/bindings/c/*.c | sort -u | comm -12 - <(calls) | same "$(calls)" 'each call stands in an example'
+    for each in "$top"/bindings/c/*.c; do example "$each" sanitized "$CC" "${sanitized[@]}" "$each" "$built/libnbt.a"; done
     printf '#include <nbt.h>\nint main() { return nbt_status_text(0, nullptr, 0, nullptr) == NBT_DONE; }\n' >"$room/header.cpp"
     c++ -Wall -Wextra -Werror "-I$top/include" -c -o "$room/header.o" "$room/header.cpp" >"$room/log" 2>&1
     count $? "the header in C++: $(head -n 1 "$room/log")"
 }
 
+# They run over the shared object too.
 under_valgrind() {
-    local each run=(valgrind -q --leak-check=full --read-inline-info=no)
-    for each in "$top"/bindings/c/*.c; do example "$each" valgrind "$CC" "$each" "$built/libnbt.a"; done
+    local each run=(env "LD_LIBRARY_PATH=$built" valgrind -q --leak-check=full --read-inline-info=no)
+    for each in "$top"/bindings/c/*.c; do example "$each" 'shared, valgrind' "$CC" "$each" "-L$built" -lnbt; done
 }
 
 # chain POINTERS RECORDS: a payload of port 137 of a record whose RDATA is a chain of pointers to the last byte of the header, which is zero,
@@ -141,9 +135,15 @@ limits() {
     processors
 }
 
-# in_python FILE [WORD]..: a program that uses the package, over the shared object.
-in_python() {
-    NBT_LIBRARY=$built/libnbt.so.0 PYTHONDONTWRITEBYTECODE=1 PYTHONPATH=$top/bindings/python ended python3 "$@"
+# What was found to reach the most of the library (tests/fuzz_coverage.py), once more. A place that is one off doesn't pass.
+corpus() {
+    "$here/captures/payloads.py" inputs 1000000 <"$here/library/corpus.txt" | "$here/library/payload_rows.py" >"$room/corpus"
+    judged 'of the corpus, sanitized' "$room/corpus" "$room/sanitized" judged
+    awk '/^datagram_read P ! truncated / { $NF++ } 1' "$room/corpus" | ended "$room/sanitized" judged >"$room/output" 2>&1
+    [ $? -ne 0 ] && grep -q 'not so: what a row says' "$room/output"
+    count $? "a place that is one off is found: $(tail -n 1 "$room/output")"
+    [ "$(stat -c %s "$here/library/corpus.txt")" -lt 2000000 ]
+    count $? 'the corpus has less than 2 MB'
 }
 
 # Payloads that are made by chance, and those of the corpus.
@@ -170,19 +170,19 @@ programs() {
     count $? "examples/claims.c: $(head -n 1 "$room/log")"
     ended "$room/claims" <"$room/office.txt" | same "$(printf 'FRED<20> 10.0.0.6\n%.0s' 1 2 3)" 'the claims of the office'
     ended "$room/claims" <"$room/samba.txt" | grep -c 'group$' | same 28 'the claims of groups that Samba sends'
-    in_python "$top/examples/claimants.py" <"$room/office.txt" | same 'no name has two claimants' 'the claimants of the office'
-    in_python "$top/examples/claimants.py" <"$room/samba.txt" | same "$(printf 'FRED<%s> 10.0.0.5 10.0.0.6\n' 00 03 20)" \
+    ended "${in_python[@]}" "$top/examples/claimants.py" <"$room/office.txt" | same 'no name has two claimants' 'the claimants of the office'
+    ended "${in_python[@]}" "$top/examples/claimants.py" <"$room/samba.txt" | same "$(printf 'FRED<%s> 10.0.0.5 10.0.0.6\n' 00 03 20)" \
         'the claimants of names that Samba sends'
 }
 
 # The package for Python, over the shared object.
 python() {
+    local each
     (cd "$top/bindings/python" && NBT_LIBRARY=$built/libnbt.so.0 PYTHONDONTWRITEBYTECODE=1 PYTHONPATH=. \
         ended python3 -m unittest discover -v tests) >"$room/log" 2>&1
     count $? "python3 -m unittest: $(tail -n 3 "$room/log" | head -c 300)"
     passed=$((passed + $(grep -cE '\.\.\. ok$' "$room/log")))
-    answers tests/library/answers.py "$room/asked" in_python "$here/library/answers.py"
-    answers tests/library/answers.py "$room/values" in_python "$here/library/answers.py"
+    for each in asked values; do answers tests/library/answers.py "$room/$each" "${in_python[@]}" "$here/library/answers.py"; done
 }
 
 # The types of the package, and of calls that use them, by mypy's strict rules for the oldest Python that it is for.
@@ -201,16 +201,13 @@ station() {
 
 # Installed in another folder, and found by pkg-config.
 installed() {
-    local each flags
+    local each
     make -s -C "$top" install-lib LIBRARY="$built" DESTDIR= PREFIX="$room/root" >"$room/log" 2>&1
     count $? "make install-lib: $(tail -n 1 "$room/log")"
-    for each in '' --static; do
-        flags=$(PKG_CONFIG_PATH=$room/root/lib/pkgconfig pkg-config --cflags --libs $each nbt 2>"$room/errors")
-        count $? "pkg-config $each: $(head -n 1 "$room/errors")"
-        $CC -std=c11 -o "$room/example" "$top/bindings/c/show.c" $flags ${each:+-static} >"$room/log" 2>&1
-        count $? "a program by pkg-config $each: $(head -n 1 "$room/log")"
-        LD_LIBRARY_PATH=$room/root/lib ended "$room/example" | same "$(wanted "$top/bindings/c/show.c")" "a program by pkg-config $each"
-    done
+    $CC -std=c11 -static -o "$room/example" "$top/bindings/c/show.c" \
+        $(PKG_CONFIG_PATH=$room/root/lib/pkgconfig pkg-config --cflags --libs --static nbt) >"$room/log" 2>&1
+    count $? "a program by pkg-config --static: $(head -n 1 "$room/log")"
+    ended "$room/example" | same "$(wanted "$top/bindings/c/show.c")" 'a program by pkg-config --static'
     # The programs of docs/CALLING.md, of which its commands run the first ones, and what it says that they print.
     mkdir "$room/page" && block c "$page" >"$room/page/first.c" && block python "$page" >"$room/page/first.py"
     commands 1 "$room/page" | same "$(block text "$page")" 'the commands for C of docs/CALLING.md'
@@ -233,7 +230,7 @@ commands() {
 }
 
 # installed_below PREFIX: the words of pkg-config lead a shell there, and a program that is linked with -rpath starts by itself; so
-# does the package for Python. uninstall-lib leaves nothing of it.
+# does the package for Python.
 installed_below() {
     local flags
     make -s -C "$top" install-lib LIBRARY="$built" DESTDIR= PREFIX="$1" >"$room/log" 2>&1
@@ -244,8 +241,6 @@ installed_below() {
     ended env -u LD_LIBRARY_PATH "$room/example" | same "$(block text "$page")" "a program below $1"
     env -u NBT_LIBRARY PYTHONPATH="$1/share/nbt/python" PYTHONDONTWRITEBYTECODE=1 "$timeout" 120 python3 "$room/page/first.py" 2>&1 \
         | same "$(block text "$page" 2)" "the package for Python below $1"
-    make -s -C "$top" uninstall-lib LIBRARY="$built" DESTDIR= PREFIX="$1" >"$room/log" 2>&1
-    find "$1" ! -type d | wc -l | same 0 "make uninstall-lib PREFIX=$1"
 }
 
 # What Cargo takes in the place of crates.io, without network: Debian's packages of crates, in which serde is.
@@ -265,16 +260,6 @@ in_rust() {
     count $? "cargo $1: $(grep -m 1 -E '^(error|Diff|test .* FAILED)' "$room/log")"
 }
 
-# in_rust_too TOOL COMMAND [OPTION]..: the same, where cargo has this tool.
-in_rust_too() {
-    if cargo "$1" --version >/dev/null 2>&1; then
-        in_rust "$@"
-    else
-        skipped=$((skipped + 1))
-        echo "skipped: cargo $1 (it isn't installed)"
-    fi
-}
-
 # The crate for Rust: its tests over the shared object, also in a program that links libnbt.a, and beside the model.
 # Programs that don't ask for the feature serde need no registry.
 rust() {
@@ -282,15 +267,18 @@ rust() {
     mkdir -p "$room/bindings/rust" && cp -R "$top"/bindings/rust/{Cargo.toml,build.rs,rustfmt.toml,src,tests} "$room/bindings/rust"
     in_rust test "${debian[@]}" --features serde
     passed=$((passed + $(awk '/^test result: ok/ { sum += $4 } END { print sum + 0 }' "$room/log")))
-    in_rust_too fmt --check
-    for each in '' serde; do
-        in_rust_too clippy "${debian[@]}" --features "$each" --all-targets -- -D warnings
-        RUSTDOCFLAGS='-D warnings' in_rust doc "${debian[@]}" --features "$each" --no-deps
-    done
-    released
-    in_rust build "${debian[@]}" --manifest-path "$room/released/Cargo.toml"
+    if ! { cargo fmt --version && cargo clippy --version; } >/dev/null 2>&1; then
+        skipped=$((skipped + 3)) && echo "skipped: cargo fmt, cargo clippy (one isn't installed)"
+    else
+        in_rust fmt --check
+        for each in '' serde; do in_rust clippy "${debian[@]}" --features "$each" --all-targets -- -D warnings; done
+    fi
+    for each in '' serde; do RUSTDOCFLAGS='-D warnings' in_rust doc "${debian[@]}" --features "$each" --no-deps; done
+    # The crate itself would have it compiled with what its tests need too.
+    package answering "$here/library/answers.rs" 'nbt.features = ["serde"]' 'serde_json = "1"'
+    in_rust build "${debian[@]}" --manifest-path "$room/answering/Cargo.toml"
     for each in asked values; do
-        LD_LIBRARY_PATH=$room/root/lib answers tests/library/answers.rs "$room/$each" ended "$room/target/debug/answers"
+        LD_LIBRARY_PATH=$room/root/lib answers tests/library/answers.rs "$room/$each" "$room/target/debug/answering"
     done
     block rust "$page" >"$room/first.rs"
     user_program first "$room/first.rs" </dev/null | same "$(block text "$page" 6)" 'the program in Rust of docs/CALLING.md'
@@ -303,14 +291,6 @@ rust() {
     [ ! -f "$room/samba.txt" ] || node_statuses
 }
 
-# released: a package of tests/library/answers.rs as a program: the crate itself would have it compiled with what its tests need too.
-released() {
-    mkdir "$room/released"
-    printf '[package]\nname = "released"\nversion = "0.1.0"\nedition = "2021"\n\n[dependencies]\nserde_json = "1"\n\n'\
-'[dependencies.nbt]\npath = "%s"\nfeatures = ["serde"]\n\n[[bin]]\nname = "answers"\npath = "%s"\n' \
-        "$room/bindings/rust" "$here/library/answers.rs" >"$room/released/Cargo.toml"
-}
-
 # The program of examples/ in Rust that answers: two requests of its own names and one of any, and neither another name nor a query.
 status_answers() {
     local each name
@@ -318,7 +298,6 @@ status_answers() {
         name=${each##* }
         ended "$program" build ${each% *} "$name"
     done >"$room/requests"
-    wc -l <"$room/requests" | same 5 'the requests are built'
     user_program status_answers "$top/examples/status_answers.rs" <"$room/requests" >"$room/answers"
     ended "$program" show <"$room/answers" | grep -oE 'id=[0-9a-f]{4} word=8400' | same "$(printf 'id=%s word=8400\n' 0001 0002 0003)" \
         'node status requests of its names are answered'
@@ -333,43 +312,41 @@ node_statuses() {
 '\01\02__MSBROWSE__\02<01> (group), OFFICE<00> (group), OFFICE<1d>, OFFICE<1e> (group)' 'the node status that Samba sends'
 }
 
-# user_program NAME FILE [LINE]..: a program in Rust in a folder of its own, over the crate that is installed, which runs. With further
-# lines of its dependencies it has Debian's crates.
-user_program() {
-    local words=(--offline)
-    [ $# -eq 2 ] || words=("${debian[@]}")
+# package NAME FILE [LINE]..: a program in Rust in a folder of its own, over the crate that is installed, with further lines of its
+# dependencies.
+package() {
     mkdir -p "$room/$1/src"
     printf '[package]\nname = "%s"\nversion = "0.1.0"\nedition = "2021"\n\n[dependencies]\nnbt.path = "%s"\n' \
         "$1" "$room/root/share/nbt/rust" >"$room/$1/Cargo.toml"
     printf '%s\n' "${@:3}" >>"$room/$1/Cargo.toml"
     cp "$2" "$room/$1/src/main.rs"
+}
+
+# user_program NAME FILE [LINE]..: it runs, over Debian's crates where it has further lines.
+user_program() {
+    local words=(--offline)
+    [ $# -eq 2 ] || words=("${debian[@]}")
+    package "$@"
     (cd "$room/$1" && PKG_CONFIG_PATH=$room/root/lib/pkgconfig NBT_STATIC=1 CARGO_TARGET_DIR=$room/target \
         "$timeout" -k 5 600 cargo run --quiet "${words[@]}") 2>&1
 }
 
 part readers counted_by library/packet_readers.py
 parts files examples
-if command -v valgrind >/dev/null; then
-    part valgrind under_valgrind
-    part chains chains
-else
-    lacks valgrind valgrind
-    lacks chains valgrind
-fi
+needing valgrind valgrind under_valgrind
+needing valgrind chains chains
 part callers callers
 part memory refused
-parts limits values
-if command -v tshark >/dev/null; then part programs programs; else lacks programs tshark; fi
+parts limits corpus values
+needing tshark programs programs
 part python python
-if command -v mypy >/dev/null; then part types types; else lacks types mypy; fi
+needing mypy types types
 part station station
-if command -v pkg-config >/dev/null; then part installed installed; else lacks installed pkg-config; fi
+needing pkg-config installed installed
 if ! command -v pkg-config >/dev/null; then
     lacks rust pkg-config
-elif ! command -v cargo >/dev/null; then
-    lacks rust cargo
 elif compgen -G "$registry/serde_json-*" >/dev/null && compgen -G "$registry/serde_derive-*" >/dev/null; then
-    part rust rust
+    needing cargo rust rust
 else
     lacks rust 'librust-serde-derive-dev and librust-serde-json-dev'
 fi

@@ -13,7 +13,6 @@ cd "$room" || exit
 line=$(limit MOST_LINE)
 
 save() { ended "$program" save --keys "$many"; }
-merge() { ended "$program" merge --keys "$many"; }
 
 # engine NAME WORD..: $room/NAME, a tool by these words; its first word is the program.
 engine() { printf '#!/bin/sh\nexec %s--program "$@"\n' "$(printf '%q ' "${@:2}")" >"$1" && chmod +x "$1"; }
@@ -44,7 +43,7 @@ gives() { told 0 '' "$@"; }
 # grouped NUMBER TABLE WORD..: OUT has so many lines, which join to the table, where one is named; the file `lines` keeps them.
 grouped() {
     ended ./nbt-parallel "$program" --by-source "$1" "${@:3}" out && [ "$(wc -l <out)" -eq "$1" ] &&
-        { [ -z "$2" ] || merge <out | cmp -s - "$2"; }
+        { [ -z "$2" ] || ended "$program" merge --keys "$many" <out | cmp -s - "$2"; }
     count $? "nbt-parallel --by-source $1 ${*:3}"
     mv out lines
 }
@@ -59,12 +58,11 @@ variant slow "save | merge)
     sleep 0.3
     while [ -s '$room/held' ] && [ \"\$(sed -n \"\$(cat '$room/held')s/ .*//p\" '$room/started')\" = \$\$ ]; do sleep 0.1; done 2>/dev/null ;;"
 
-# Programs that give no table: their memory runs out, or they are killed, at each try.
-printf '#!/bin/sh\necho nbt: memory >&2\nexit 3\n' >starving && chmod +x starving
-printf '#!/bin/sh\nkill -9 $$\n' >killed && chmod +x killed
-
-# Programs that print no table: one that never does, one that does so instead of a table, and one that joins none.
-printf '#!/bin/sh\necho "$@"\n' >echoing && chmod +x echoing
+# Programs that give no table at each try: their memory runs out, or they are killed; one prints no table at all, one does so instead of
+# a table, and one joins none.
+variant starving '*) echo nbt: memory >&2; exit 3 ;;'
+variant killed '*) kill -9 $$ ;;'
+variant echoing '*) echo "$@"; exit ;;'
 variant lying 'save | merge) echo 4e42543200; exit ;;'
 variant unjoining 'merge) exit 3 ;;'
 
@@ -105,69 +103,53 @@ loses_client() {
     gives table "$@" many --shard-bytes 1048576
 }
 
-# kills COUNT WORD..: the client is killed at random moments of a run, with all that it began, and run again.
-kills() {
-    local begin=$EPOCHREALTIME longest moment
-    gives gaps.table "${@:2}"
-    longest=$(awk "BEGIN { print $EPOCHREALTIME - $begin }")
-    for ((i = 0; i < $1; i++)); do
-        moment=$(awk "BEGIN { print $longest * $RANDOM / 32768 }")
-        setsid "${@:2}" out >output 2>errors </dev/null &
-        sleep "$moment"
-        kill -9 $! 2>/dev/null
-        wait $! 2>/dev/null
-        [ ! -e out ] || cmp -s gaps.table out
-        count $? "${*:2}, killed after $moment s: OUT"
-        [ -e out ] && [ ! -e out.work ] || ended "${@:2}" out >output 2>errors </dev/null
-        cmp -s gaps.table out && [ ! -s errors ] && [ ! -e out.work ]
-        count $? "${*:2}, killed after $moment s, and run again: $(cat errors)"
-        kill -9 -- -$! 2>/dev/null
-        rm -rf out out.work
-    done
-}
-
-# refusals ENGINE WORKING: inputs that are refused, devices that fail, and words that make no sense. What isn't refused before work
-# begins is asked of the second engine.
+# refusals ENGINE: a line that is refused, programs that fail, or print no table, an OUT that stays, and a table that would be too large.
 refusals() {
-    local name=${1#./}
-    refuses 1 "$name: bad: line 12345 is malformed (shard g0000-00000?)" "$2" "$program" bad
-    refuses 1 "$name: ever: lines 1 to * has * bytes, *: keys live across *(--by-source 3)*(nbt-pcap2cap --no-ticks)*" "$1" "$program" ever
-    refuses 1 "$name: $here/../examples/office.pcap is a pcap file, and a capture is wanted: nbt-pcap2cap --no-ticks makes one of it" \
-        "$1" "$program" "$here/../examples/office.pcap"
-    refuses 3 "$name: many: lines * (shard g0000-00000?): *nbt: memory*" "$2" "$room/starving" many
-    refuses 3 "$name: many: lines * (shard g0000-00000?): *signal 9 ended the program*" "$2" "$room/killed" many
-    refuses 3 "$name: nowhere: no such file" "$1" "$program" many nowhere
-    refuses 3 "$name: ./nbt: no such program*" "$1" ./nbt many
+    local name=${1##*/}
+    refuses 1 "$name: bad: line 12345 is malformed (shard g0000-00000?)" "$1" "$program" bad
+    refuses 3 "$name: many: lines * (shard g0000-00000?): *nbt: memory*" "$1" "$room/starving" many
+    refuses 3 "$name: many: lines * (shard g0000-00000?): *signal 9 ended the program*" "$1" "$room/killed" many
+    keeps 3 "$name: gaps: lines * (shard g0000-00000?): *$room/echoing printed isn't a saved table*" "$1" "$room/echoing" --force gaps
+    keeps 3 "$name: gaps: lines * (shard g0000-00000?): *$room/lying printed isn't a saved table*truncated*" "$1" "$room/lying" --force gaps
     cp bad kept && ends 2 "$name: kept is there, and is no saved table*" "$1" "$program" many kept && cmp -s bad kept
     count $? "$1: OUT is a capture: $(cat errors)"
-    keeps_table "$2" "$program" --tables gaps.table
-    keeps 2 "$name: out is there, and is a saved table: --force replaces it" "$1" "$program" gaps
-    wrong_programs "$2"
-}
-
-# keeps_table WORD..: an OUT that is a saved table, the result itself too, is replaced by --force alone.
-keeps_table() {
-    keeps 2 "*: out is there, and is a saved table: --force replaces it" "$@"
+    # The result itself too.
+    keeps 2 "$name: out is there, and is a saved table: --force replaces it" "$1" "$program" --tables flow.table
     cp flow.table out
-    gives gaps.table "$@" --force
-    ended "$@" out >output 2>errors
-    ends 2 '*' "$@" out && cmp -s gaps.table out && [ ! -e out.work ]
-    count $? "$*, the same words again: $(cat errors)"
+    gives gaps.table "$1" "$program" --tables gaps.table --force
+    : >started
+    refuses 1 "$name: keys has about 66000 keys and * bytes of saved tables, *. Cut by source address: --by-source 2" "$1" "$room/slow" keys
+    [ ! -s started ]
+    count $? "$1: nothing is begun where a table is too large"
+}
+
+# Of what both engines are made of.
+shared_refusals() {
+    refuses 1 "nbt-parallel: ever: lines 1 to * has * bytes, *: keys live across *(--by-source 3)*(nbt-pcap2cap --no-ticks)*" \
+        ./nbt-parallel "$program" ever
+    refuses 1 'nbt-parallel: * is a pcap file, and a capture is wanted: nbt-pcap2cap --no-ticks makes one of it' \
+        ./nbt-parallel "$program" "$here/../examples/office.pcap"
+    refuses 3 'nbt-parallel: nowhere: no such file' ./nbt-parallel "$program" many nowhere
+    refuses 3 'nbt-parallel: ./nbt: no such program*' ./nbt-parallel ./nbt many
     : >out
-    gives gaps.table "$@"
+    gives gaps.table ./nbt-parallel "$program" --tables gaps.table
+    refuses 1 'nbt-parallel: 2 tables are left, of which no two can be merged:*' ./nbt-parallel "$program" --tables middle large middle
+    # A malformed line in a group's shard that has ticks; what ticks dropped is no part of an estimate.
+    sed '3990s/.*/138 0 xyz/' flow >torn
+    refuses 1 'nbt-parallel: torn: line 3990 is malformed (shard g0000-00000?)' ./nbt-parallel "$program" --by-source 2 torn
+    { head -n 15000 wide; echo tick 2000; sed -n '15001,30000s/^138 0 /138 3000 /p' wide; echo tick 5000; tail -n 2000 gaps; } >past
+    gives gaps.table ./nbt-parallel "$program" past
+    refuses 1 'nbt-parallel: wide has about 50000 keys and * bytes of saved tables in 2 groups, *--by-source [5-7]' \
+        ./nbt-parallel "$program" --by-source 2 wide
+    refuses 1 'nbt-parallel: *: nbt: full: *' ./nbt-parallel "$program" --no-estimate keys
+    gives rubbish.table ./nbt-parallel "$program" rubbish
 }
 
-# wrong_programs ENGINE: what a program prints that isn't nbt, or prints no table, becomes no OUT.
-wrong_programs() {
-    keeps 3 "*gaps: lines * (shard g0000-00000?): *$room/echoing printed isn't a saved table*" "$1" "$room/echoing" --force gaps
-    keeps 3 "*gaps: lines * (shard g0000-00000?): *$room/lying printed isn't a saved table*truncated*" "$1" "$room/lying" --force gaps
-}
-
-# full_disk PART ENGINE OUTPUT ERRORS: a full disk: OUT's folder is one of 1 MiB; of one of 3 MiB what is left, and said.
+# full_disk PART ENGINE: a full disk: OUT's folder is one of 1 MiB; one of 3 MiB has no room for tables in OUT.work.
 full_disk() {
     mkdir -p disk
     if unshare -rm mount -t tmpfs none disk 2>/dev/null; then
-        part "$1" fills_disk "${@:2}"
+        part "$1" fills_disk "$2"
     else
         skip "$1" 'no tmpfs can be mounted here'
     fi
@@ -178,8 +160,9 @@ fills_disk() {
         "$1" "$2" --force many disk/out; echo $?; cat disk/out; ls disk' - "$1" "$program" &&
         printf '3\n4e425432\nout\n' | cmp -s - <(grep -v out.work output)
     count $? "$1: a full disk: $(cat errors)"
-    ends 0 "$3" unshare -rm bash -c 'mount -t tmpfs -o size=3m none disk; "$1" "$2" gaps disk/out; echo $?; ls disk' - "$1" "$program" &&
-        printf "$2" | cmp -s - output
+    [ "$1" = ./nbt-parallel ] || return 0
+    ends 0 "nbt-parallel: $room/disk/out.work*: No space left on device" unshare -rm bash -c 'mount -t tmpfs -o size=3m none disk
+        "$1" "$2" gaps disk/out; echo $?; ls disk' - "$1" "$program" && printf '3\nout.work\n' | cmp -s - output
     count $? "$1: a disk that a table fills: $(cat errors)"
 }
 
@@ -189,20 +172,13 @@ inputs() {
         python3 "$here/scale/scale_capture.py" $each "$room"
     done
     cp many bad && sed -i '12345s/.*/138 0 xyz/' bad
-
-    # Its parts, saved and merged in order, are what a program makes of all of it.
     save <many >table
     split -C 3m many part.
     for each in part.*; do save <"$each" >"$each.table"; done
-    cat part.*.table | merge | cmp -s - table
-    count $? 'nbt merge: the parts of a capture'
     head -n 12000 wide | save >large
     head -n 10000 wide | save >middle
-    cp large copy
-    ended "$program" list --keys "$many" <table | cmp -s - many.list
-    count $? 'nbt list: the datagrams of the table'
 
-    # What `make install` puts there, found by its name.
+    # What `make install` puts there.
     make -s -C "$here/.." -o build install PROGRAM="$program" DESTDIR="$room" PREFIX=/installed
     count $? 'make install'
     save <gaps >gaps.table
@@ -212,24 +188,22 @@ inputs() {
 
 # folders: a folder, or a link, of the name OUT.work that isn't of an earlier run is left as it is.
 folders() {
-    local files
-    for files in monday 'lock monday' 'lock plan'; do
-        mkdir out.work && cp gaps "out.work/${files##* }"
-        [ "$files" = monday ] || : >out.work/lock
-        left_alone "$files" "${files##* }" "out.work/${files##* }"
-    done
+    mkdir out.work && cp gaps out.work/monday
+    left_alone monday gaps
+    mkdir out.work && cp gaps out.work/monday && : >out.work/lock
+    left_alone 'lock monday' gaps
     mkdir theirs && cp gaps theirs/monday && ln -s theirs out.work
-    left_alone monday monday gaps
+    left_alone monday gaps
     ended ./nbt-parallel "$room/unjoining" --shard-bytes $((line + 1)) gaps out >output 2>errors
     mv theirs/monday out.work
-    left_alone "$(ls out.work | xargs)" monday gaps --shard-bytes $((line + 1))
+    left_alone "$(ls out.work | xargs)" gaps --shard-bytes $((line + 1))
     rm -r theirs
 }
 
-# left_alone FILES NAME WORD..: OUT.work has these files after the run too, and the one of this name is a capture as before.
+# left_alone FILES WORD..: OUT.work has these files after the run too, of which monday is a capture as before.
 left_alone() {
-    ends 2 "nbt-parallel: $room/out.work is there, and isn't of an earlier run: it is left as it is" ./nbt-parallel "$program" "${@:3}" out &&
-        [ ! -e out ] && [ "$(ls out.work | xargs)" = "$1" ] && cmp -s gaps "out.work/$2"
+    ends 2 "nbt-parallel: $room/out.work is there, and isn't of an earlier run: it is left as it is" \
+        ./nbt-parallel "$program" "${@:2}" out && [ ! -e out ] && [ "$(ls out.work | xargs)" = "$1" ] && cmp -s gaps out.work/monday
     count $? "nbt-parallel: OUT.work has $1: $(cat errors)"
     rm -rf out.work
 }
@@ -243,7 +217,10 @@ programs() {
         --shard-bytes $((line + 1)) gaps out && cmp -s gaps.table out && [ "$(wc -l <started)" -ge 8 ]
     count $? "nbt-parallel, after another program: $(cat errors)"
     rm -f out
-    # An OUT of other words, of a run that was killed before it took OUT.work away.
+    # A run that was killed when it had put OUT, before it took OUT.work away: one of the same words, and one of others.
+    ended ./nbt-parallel "$room/unjoining" --shard-bytes $((line + 1)) gaps out >output 2>errors
+    printf '%s %s\n' "$(ls out.work | grep -v lock)" "$(sha256sum <flow.table | cut -d ' ' -f 1)" >>out.work/lock
+    keeps 0 '' ./nbt-parallel "$room/unjoining" --shard-bytes $((line + 1)) gaps
     mkdir out.work && printf 'nbt-parallel\n%016d %s\n' 0 "$(sha256sum <flow.table | cut -d ' ' -f 1)" >out.work/lock
     keeps 2 'nbt-parallel: out is there, and is a saved table: --force replaces it' ./nbt-parallel "$program" gaps
     PATH=/usr/bin:/bin gives gaps.table "$room/installed/bin/nbt-parallel" gaps
@@ -253,12 +230,10 @@ programs() {
 settings() {
     local word
     mkdir -p home/.parallel killing && echo --dry-run >home/.parallel/config
-    HOME=$room/home gives gaps.table ./nbt-parallel "$program" gaps
-    PARALLEL=--dry-run gives gaps.table ./nbt-parallel "$program" gaps
-    PARALLEL_HOME=$room/home/.parallel gives gaps.table ./nbt-parallel "$program" gaps
+    HOME=$room/home PARALLEL=--dry-run PARALLEL_HOME=$room/home/.parallel TMPDIR=$room/nowhere \
+        gives gaps.table ./nbt-parallel "$program" gaps
     [ "$(find home ! -type d)" = home/.parallel/config ]
     count $? 'nbt-parallel leaves nothing in the home folder'
-    TMPDIR=$room/nowhere gives gaps.table ./nbt-parallel "$program" gaps
     for word in x '' 1.5 -- 9999999; do
         ends 2 '*nbt-parallel: error: argument --jobs: *' "$tools/nbt-parallel" --jobs "$word" --program "$program" gaps out && [ ! -e out ]
         count $? "nbt-parallel --jobs '$word': $(tail -n 1 errors)"
@@ -280,21 +255,13 @@ with_parallel() {
     loses_client ./nbt-parallel "$room/slow"
     [ "$(wc -l <started)" -lt 12 ]
     count $? "./nbt-parallel, run again: it goes on where it was, $(wc -l <started) runs of the program"
-    refusals ./nbt-parallel ./nbt-parallel
-    kills 5 ./nbt-parallel "$program" --shard-bytes $((line + 1)) gaps
+    refusals ./nbt-parallel
+    shared_refusals
+    gives gaps.table ./nbt-parallel "$program" --shard-bytes $((line + 1)) gaps
     folders
     programs
     settings
-    gives gaps.table ./nbt-parallel "$program" --shard-bytes $((line + 1)) gaps
-    PATH=$room/installed/bin:$PATH gives gaps.table nbt-parallel gaps
-    gives flow.table ./nbt-parallel "$program" --shard-bytes $((line + 1)) flow
-    grouped 3 flow.table --shard-bytes $((line + 1)) flow
     gives table ./nbt-parallel "$program" --tables part.*.table
-    refuses 1 'nbt-parallel: 2 tables are left, of which no two can be merged:*' ./nbt-parallel "$program" --tables large copy
-    refuses 1 'nbt-parallel: 2 tables are left, of which no two can be merged:*' ./nbt-parallel "$program" --tables middle large middle
-    after_ticks
-    too_large ./nbt-parallel ./nbt-parallel
-    grouped 2 '' keys
     grouped 7 '' wide
     # Comments make no difference, and go to all groups.
     sed '1~2i # a comment' flow >said
@@ -313,27 +280,6 @@ with_parallel() {
     shows_progress ./nbt-parallel
 }
 
-# after_ticks: a malformed line in a group's shard that has ticks; and what ticks dropped is no part of an estimate.
-after_ticks() {
-    sed '3990s/.*/138 0 xyz/' flow >torn
-    refuses 1 'nbt-parallel: torn: line 3990 is malformed (shard g0000-00000?)' ./nbt-parallel "$program" --by-source 2 torn
-    { head -n 15000 wide; echo tick 2000; sed -n '15001,30000s/^138 0 /138 3000 /p' wide; echo tick 5000; tail -n 2000 gaps; } >past
-    gives gaps.table ./nbt-parallel "$program" past
-}
-
-# too_large ENGINE WORKING: captures whose table is too large are refused before anything is done, with a number that is enough.
-too_large() {
-    local name=${1#./}
-    : >started
-    refuses 1 "$name: keys has about 66000 keys and * bytes of saved tables, *. Cut by source address: --by-source 2" "$1" "$room/slow" keys
-    refuses 1 "$name: wide has about 50000 keys and * bytes of saved tables, *. Cut by source address: --by-source [5-7]" "$1" "$room/slow" wide
-    refuses 1 "$name: wide has about 50000 keys and * in 2 groups, *--by-source [5-7]" "$1" "$room/slow" --by-source 2 wide
-    [ ! -s started ]
-    count $? "$1: nothing is begun where a table is too large"
-    refuses 1 "$name: *: nbt: full: *" "$2" "$program" --no-estimate keys
-    gives rubbish.table "$2" "$program" rubbish
-}
-
 # shows_progress ENGINE: how many shards are done, on a terminal; it is gone at the end.
 shows_progress() {
     ended "$here/lib/terminal.py" output "$1" "$room/slow" --shard-bytes 400000 gaps out >shown && cmp -s out gaps.table &&
@@ -346,15 +292,10 @@ shows_progress() {
 }
 
 with_dask() {
-    loses_worker ./nbt-dask "$room/slow"
+    loses_worker ./nbt-dask "$room/slow" --send
     loses_client ./nbt-dask "$room/slow"
-    on_cluster loses_worker "$tools/nbt-dask" --send --program "$room/slow" --scheduler
-    on_cluster shared
-    lonely
+    cluster
     taken_port
-    kills 2 ./nbt-dask "$program" --shard-bytes $((line + 1)) gaps
-    refuses 1 "nbt-dask: bad: line 12345 is malformed (shard g0000-00000?)" ./nbt-dask "$program" bad
-    shows_progress ./nbt-dask
     PATH=$room/installed/bin:$PATH gives gaps.table nbt-dask --workers 2 gaps
 }
 
@@ -362,7 +303,7 @@ part inputs inputs
 if [[ $(parallel --version 2>/dev/null) == 'GNU parallel'* ]]; then
     engine nbt-parallel "$tools/nbt-parallel" --jobs 2
     part nbt-parallel with_parallel
-    full_disk nbt-parallel-disk ./nbt-parallel '3\nout.work\n' "nbt-parallel: $room/disk/out.work*: No space left on device"
+    full_disk nbt-parallel-disk ./nbt-parallel
 else
     lacks nbt-parallel 'GNU parallel'
     lacks nbt-parallel-disk 'GNU parallel'
@@ -373,7 +314,7 @@ done
 if [ -n "$python" ]; then
     engine nbt-dask "$python" "$tools/nbt-dask" --workers 2
     part nbt-dask with_dask
-    full_disk nbt-dask-disk ./nbt-dask '0\nout\n' ''
+    full_disk nbt-dask-disk ./nbt-dask
 else
     lacks nbt-dask python3-distributed
     lacks nbt-dask-disk python3-distributed

@@ -1,9 +1,9 @@
 #!/usr/bin/env bash
 # The library for other targets, made of the module of which the one for x86-64 is made: the same calls answer the same on x86-64, on
-# aarch64 (by qemu) and in WebAssembly (in node), where memory runs out too; the examples of bindings/c on aarch64; the package for
-# JavaScript; what is said where a tool is missing. Usage: [MODULE=FILE] [OUT=FOLDER] tests/targets.sh [PROGRAM]; its last line is
-# 'N passed, M failed, K skipped'. MODULE is the module, if it is there; else tools/module makes it. MODULE.a is the archive that the kit
-# made of it, which tools/module leaves in crates/nb_c/out. OUT keeps what is made.
+# aarch64 (by qemu) and in WebAssembly (in node), where memory runs out too; the package for JavaScript; the packages of make dist; what is
+# said where a tool is missing. Usage: [MODULE=FILE] [OUT=FOLDER] tests/targets.sh [PROGRAM]; its last line is 'N passed, M failed, K
+# skipped'. MODULE is the module, if it is there; else tools/module makes it. MODULE.a is the archive that the kit made of it, which
+# tools/module leaves in crates/nb_c/out. OUT keeps what is made.
 set -uo pipefail
 shopt -s lastpipe
 . "$(dirname "$0")/lib/counting.sh"
@@ -41,14 +41,6 @@ files() {
     count $? "the same files once more: $(tail -n 1 "$room/log")"
 }
 
-# alike NAME WANTED COMMAND..: what a command prints is what a file has, and it ends well.
-alike() {
-    ended "${@:3}" >"$room/output" 2>"$room/errors"
-    count $? "$1: $(tail -n 1 "$room/errors")"
-    cmp -s "$2" "$room/output"
-    count $? "$1 answers the same: $(diff "$2" "$room/output" | head -c 300)"
-}
-
 # All calls, with the same words.
 all_calls() {
     compiled calls "${CC:-cc}" "$out/lib/libnbt.a"
@@ -69,25 +61,7 @@ refused() {
     refusals
 }
 
-# The examples of bindings/c on aarch64, over the shared object.
-examples() {
-    local each run=("${qemu[@]}" -E "LD_LIBRARY_PATH=$out/lib/aarch64")
-    for each in "$top"/bindings/c/*.c; do example "$each" aarch64 aarch64-linux-gnu-gcc "$each" "-L$out/lib/aarch64" -lnbt; done
-}
-
-# What was found to reach the most of the library (tests/fuzz_coverage.py), once more under sanitizers. A place that is one off doesn't pass.
-corpus() {
-    compiled sanitized "${CC:-cc}" "$out/lib/libnbt.a" "${sanitized[@]}"
-    "$here/captures/payloads.py" inputs 1000000 <"$here/library/corpus.txt" | "$here/library/payload_rows.py" >"$room/corpus"
-    judged 'of the corpus, sanitized' "$room/corpus" "$room/sanitized" judged
-    awk '/^datagram_read P ! truncated / { $NF++ } 1' "$room/corpus" | ended "$room/sanitized" judged >"$room/output" 2>&1
-    [ $? -ne 0 ] && grep -q 'not so: what a row says' "$room/output"
-    count $? "a place that is one off is found: $(tail -n 1 "$room/output")"
-    [ "$(stat -c %s "$here/library/corpus.txt")" -lt 2000000 ]
-    count $? 'the corpus has less than 2 MB'
-}
-
-# The package for JavaScript: its tests, and the program of its page.
+# The package for JavaScript: its tests, and what it answers. The part npm has the program of its page.
 javascript() {
     local each
     ended "${node[@]}" --expose-gc "$top/bindings/javascript/tests/nbt.test.mjs" "$out" "$top/include/nbt.h" >"$room/log" 2>&1
@@ -95,12 +69,8 @@ javascript() {
     passed=$((passed + $(grep -c '^ok ' "$room/log")))
     said "$room/values" "$here/captures/payloads.py" --seed 14 values 1500
     for each in asked values; do
-        answers tests/library/answers.mjs "$room/$each" ended "${node[@]}" "$here/library/answers.mjs" "$out"
+        answers tests/library/answers.mjs "$room/$each" "${node[@]}" "$here/library/answers.mjs" "$out"
     done
-    mkdir -p "$room/user/node_modules/nbt"
-    cp "$out/nbt.mjs" "$out/nbt.wasm" "$top/bindings/javascript/package.json" "$room/user/node_modules/nbt"
-    block js "$top/bindings/javascript/README.md" >"$room/user/first.mjs"
-    ended "${node[@]}" "$room/user/first.mjs" 2>&1 | same "$(block text "$top/bindings/javascript/README.md")" 'the program of bindings/javascript/README.md'
 }
 
 # The types of the package for JavaScript, and of calls that use them.
@@ -129,14 +99,12 @@ missing() {
     says 'no dpkg-deb' 'dpkg-deb is missing: install dpkg' env PATH="$few" "$python" "$top/tools/dist" "$out" "$out/lib" "$program" "$room/dist4"
     env -u CI PATH="$few" "$BASH" "$here/targets.sh" "$program" >"$room/output" 2>&1
     count $? 'without tools nothing is tried, and nothing fails'
-    ! env CI=true PATH="$few" "$BASH" "$here/targets.sh" "$program" >"$room/output" 2>&1 && grep -q '^failed: calls: CI has to install aarch64-linux-gnu-gcc$' "$room/output"
+    ! env CI=true PATH="$few" "$BASH" "$here/targets.sh" "$program" >"$room/output" 2>&1 && grep -q '^failed: all: CI has to install aarch64-linux-gnu-gcc$' "$room/output"
     count $? "where CI is true it does: $(tail -n 1 "$room/output")"
     rm "$few/rt"
     says 'no kit' 'install the kit first' env PATH="$few" "$BASH" "$top/tools/targets" check "$room/out2"
     echo >"$room/file"
     says 'a folder that is a file' "$room/file can't be written to" "$top/tools/targets" check "$room/file"
-    says 'make targets, to such a folder' "can't be written to" sh -c 'make -s -C "$0" targets TARGETS="$1" 2>&1 | grep -v "^make" >&2; exit 1' \
-        "$top" "$room/file/out"
     ended node -e "$memory64" || says 'node without memory64' '--experimental-wasm-memory64' node --input-type=module -e '
         import { pathToFileURL } from "node:url";
         const { load } = await import(pathToFileURL(process.argv[1]));
@@ -151,17 +119,16 @@ for tool in aarch64-linux-gnu-gcc qemu-aarch64 node; do
     command -v $tool >/dev/null || lacking=${lacking:-$tool}
 done
 [ -n "$lacking" ] || "${node[@]}" -e "$memory64" 2>/dev/null || lacking='a node with memory64'
-parts=(files calls memory examples corpus javascript types dist lintian debian wheels npm crate missing)
 if [ -n "$lacking" ]; then
-    for each in "${parts[@]}"; do lacks "$each" "$lacking"; done
+    lacks all "$lacking"
     finish
     exit
 fi
 part files files
 part calls all_calls
 part memory refused
-parts examples corpus javascript
-if command -v tsc >/dev/null; then part types types; else lacks types tsc; fi
+part javascript javascript
+needing tsc types types
 packages
 part missing missing
 finish

@@ -24,6 +24,7 @@ import tempfile
 from collections import defaultdict
 from concurrent.futures import ThreadPoolExecutor
 from dataclasses import dataclass
+from functools import cache
 from pathlib import Path
 
 sys.path[1:1] = [f'{sys.path[0]}/{it}' for it in ('docs', 'wrong_bodies')]
@@ -117,20 +118,17 @@ def well(output):
     return {met[1] for met in map(FUNCTION.match, output.splitlines()) if met and WELL.match(met[2])}
 
 
+@cache
 def below(crate):
     """The crates of the repository that a crate stands on."""
     listed = dict(re.findall(r'^(\w+)[^:#\n]*:(.*)', (ROOT / 'crates.txt').read_text(encoding='utf-8'), re.MULTILINE))
-    found, left = set(), [crate]
-    while left:
-        new = {it for it in listed[left.pop()].split() if it in listed} - found
-        found |= new
-        left += new
-    return sorted(found)
+    own = listed.keys() & listed[crate].split()
+    return own.union(*map(below, own))
 
 
 def stale(crate):
     """The crates below whose library isn't there, or is older than their sources."""
-    for name in below(crate):
+    for name in sorted(below(crate)):
         folder = ROOT / 'crates' / name
         built = folder / 'out' / 'rlib' / f'{name}.rlib' / 'format'
         files = [it for part in ('src', 'specs', 'proofs') for it in (folder / part).rglob('*') if it.is_file()]

@@ -103,12 +103,7 @@ debian() {
     ended chroot "$fresh" python3 /packages/first.py 2>&1 | same "$(block text "$each")" 'python3-nbt'
     printf 'import importlib.metadata, nbt\nprint(importlib.metadata.version("nbt") == nbt.__version__)\n' >"$fresh/packages/version.py"
     ended chroot "$fresh" python3 /packages/version.py 2>&1 | same True "the version in python3-nbt's metadata"
-    ended "$program" build group 10.0.0.5:138/0001 'JOE<00>' 'FRED<20>' 68656c6c6f 4 | ended "$program" save >"$fresh/packages/table"
-    "$timeout" -s TERM 120 chroot "$fresh" nbt-station --bind 127.0.0.1:0 --join /packages/table 'FRED<20>' >"$room/delivered" 2>"$room/log" &
-    while [ ! -s "$room/delivered" ] && kill -0 $! 2>/dev/null; do sleep 0.1; done
-    kill $! 2>/dev/null
-    wait $!
-    cut -d ' ' -f 2- "$room/delivered" | same '- delivered 10.0.0.5:138/0001 group JOE<00> FRED<20> 68656c6c6f' 'nbt-station, over python3-nbt'
+    ended chroot "$fresh" nbt-station --bind 127.0.0.1:0 FRED 2>&1 | same 'nbt-station: bad text 4' 'nbt-station, over python3-nbt'
     for each in amd64:x86_64-linux-gnu arm64:aarch64-linux-gnu; do
         grep -qx "$(sha256sum <"$fresh/usr/lib/${each#*:}/libnbt.so.0" | cut -c 1-64)  libnbt.so.0 of ${each%:*}" "$dist/PROOF"
         count $? "PROOF has the library for ${each%:*}"
@@ -171,7 +166,7 @@ packages() {
         return
     fi
     part dist made
-    if command -v lintian >/dev/null; then part lintian lint; else lacks lintian lintian; fi
+    needing lintian lintian lint
     if ! command -v mmdebstrap >/dev/null; then
         lacks debian mmdebstrap
     elif fresh_root; then
@@ -182,5 +177,5 @@ packages() {
     fi
     if python3 -c 'import ensurepip' 2>/dev/null; then part wheels wheels; else lacks wheels python3-venv; fi
     part npm node_package
-    if command -v cargo >/dev/null; then part crate crate; else lacks crate cargo; fi
+    needing cargo crate crate
 }

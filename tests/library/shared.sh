@@ -14,6 +14,9 @@ same() {
     count $? "$2: $(head -c 300 "$room/difference")"
 }
 
+# needing TOOL PART COMMAND: a part that is left out where a tool isn't there.
+needing() { if command -v "$1" >/dev/null; then part "$2" "$3"; else lacks "$2" "$1"; fi; }
+
 calls() { grep -oE '\bnbt_[a-z_]+\(' "$top/include/nbt.h" | tr -d '(' | sort -u; }
 
 # wanted FILE: what an example prints, which its last comment says.
@@ -60,8 +63,6 @@ rows_of() {
     [ "$(grep -c '^line$' "$room/rows")" -eq "$2" ] && [ "$(wc -l <"$room/rows")" -gt $((35 * $2)) ]
     count $? "the rows of $2 payloads"
     "$here/library/rows.py" <"$room/rows" >"$room/asked"
-    [ "$(wc -l <"$room/asked")" -gt $((12 * $2)) ]
-    count $? "what packages are asked of them"
 }
 
 # judged NAME ROWS COMMAND..: each call answers what its row says. What they answer is in $room/output.
@@ -99,11 +100,17 @@ said() {
     count $? "what tests/model/values.py reads in $(wc -l <"$1") payloads"
 }
 
+# alike NAME WANTED COMMAND..: what a command prints is what a file has, and it ends well.
+alike() {
+    ended "${@:3}" >"$room/output" 2>"$room/errors"
+    count $? "$1: $(tail -n 1 "$room/errors")"
+    diff "$2" "$room/output" >"$room/difference"
+    count $? "$1 answers the same: $(head -c 300 "$room/difference")"
+}
+
 # answers NAME FILE COMMAND..: a caller of the library answers what stands behind the tabs of a file, each line of which is a case.
 answers() {
-    cut -f 1 "$2" | "${@:3}" >"$room/output" 2>"$room/errors"
-    count $? "$1: $(tail -n 1 "$room/errors")"
-    cut -f 2 "$2" | diff - "$room/output" >"$room/difference"
-    count $? "$1 answers what rows say: $(head -c 300 "$room/difference")"
+    cut -f 2 "$2" >"$room/wanted"
+    cut -f 1 "$2" | alike "$1" "$room/wanted" "${@:3}"
     [ -s "$room/difference" ] || passed=$((passed + $(wc -l <"$2")))
 }

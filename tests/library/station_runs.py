@@ -17,9 +17,12 @@ TOOL, PROGRAM = map(os.path.abspath, sys.argv[1:3])
 PATIENCE = 20
 OWN = ('--bind', '127.0.0.1:0')
 ENDING = signal.SIGTERM, signal.SIGINT, signal.SIGHUP
-FRONT = re.compile(r'[0-9]{4}-[0-9]{2}-[0-9]{2}T[0-9]{2}:[0-9]{2}:[0-9]{2}\.[0-9]{6}Z ((127|10)(\.[0-9]{1,3}){3}:[0-9]{1,5}|-) ')
+# The time and the sender of a line, which is of this machine or none.
+FRONT = re.compile(r'^[0-9]{4}-[0-9]{2}-[0-9]{2}T[0-9]{2}:[0-9]{2}:[0-9]{2}\.[0-9]{6}Z ((127|10)(\.[0-9]{1,3}){3}:[0-9]{1,5}|-) ')
 ANN, NOBODY = first_level('ANN', 0x20), first_level('NOBODY', 0x20)
 UNIQUE, GROUP = 0x10, 0x11
+# What a line then says of a datagram.
+DELIVERED = 'delivered 10.0.0.5:138/%04x group JOE<00> FRED<20> %s'
 EMPTY = '4e42543200000000\n'
 # How often a case is tried whose keys may be dropped before it is done, where the machine is busy.
 TRIES = 5
@@ -54,25 +57,23 @@ class Station:
     """A tool that runs, and a socket that sends to it."""
 
     def __init__(self, folder, *words, names=('FRED<20>',), bind='127.0.0.1:0', out='out', **system):
-        self.folder, self.out = folder, out
-        with contextlib.ExitStack() as opened:
-            if isinstance(out, str):
-                self.out = os.path.join(folder, out)
-                out = opened.enter_context(open(self.out, 'wb'))
-            self.process = subprocess.Popen([TOOL, '--bind', bind, *words, *names], cwd=folder, stdin=subprocess.DEVNULL,
-                                            stdout=out, stderr=subprocess.PIPE, bufsize=0, **system)
+        self.folder = folder
+        with open(os.path.join(folder, out) if isinstance(out, str) else out, 'wb') as opened:
+            self.process = subprocess.Popen([TOOL, '--bind', bind, *words, *names], cwd=folder, stdin=subprocess.DEVNULL, stdout=opened,
+                                            stderr=subprocess.PIPE, bufsize=0, **system)
         first = self.process.stderr.readline().decode()
         if 'listens at' not in first:
             self.process.kill()
             raise AssertionError(f'it said {first!r}')
         self.broadcasts = '' if bind.startswith('0.0.0.0') else self.process.stderr.readline().decode()
-        self.last = 0x10000
+        self.last, self.sent = 0x10000, []
         host, self.port = first.split()[-1].split(':')[0], int(first.split(':')[-1])
         self.socket = socket.socket(socket.AF_INET, socket.SOCK_DGRAM)
         self.socket.settimeout(PATIENCE)
         self.socket.connect((host, self.port))
 
     def send(self, *payloads):
+        self.sent += payloads
         for payload in payloads:
             self.socket.send(payload)
 
@@ -87,31 +88,35 @@ class Station:
             pass
 
     def lines(self, count):
-        """What it printed, once it is so many lines, each without its time and its sender, which is of this machine or none."""
-        return [it if it.startswith('{') else without_sender(it) for it in self.printed(count)]
-
-    def printed(self, count):
-        """The lines themselves."""
-        lines = lambda: read(self.folder, self.out).splitlines()
+        """What it printed, once it is so many lines, each without its time and its sender."""
+        lines = lambda: read(self.folder, 'out').splitlines()
         until(lambda: len(lines()) >= count, f'it printed less than {count} lines')
-        return lines()
+        return [FRONT.sub('', it) for it in lines()]
 
-    def saved(self, name='table'):
-        """What stands in the file of a saved table, once it is there."""
-        until(lambda: os.path.exists(os.path.join(self.folder, name)), 'no table was saved')
-        return read(self.folder, name)
-
-    def ended(self, number=signal.SIGTERM):
-        """The status with which it ends at a signal, and what it says then."""
+    def send_signal(self, number=signal.SIGUSR1):
         self.process.send_signal(number)
-        said = self.process.communicate(timeout=PATIENCE)[1]
+
+    def saved(self):
+        """What stands in the file of its saved table, once it is there."""
+        until(lambda: os.path.exists(os.path.join(self.folder, 'table')), 'no table was saved')
+        return read(self.folder, 'table')
+
+    def ended(self, number=signal.SIGTERM, within=PATIENCE):
+        """The status with which it ends at a signal within so many seconds, and what it says then."""
+        self.send_signal(number)
+        said = self.process.communicate(timeout=within)[1]
         return self.process.returncode, said.decode()
+
+    def files(self):
+        return sorted(os.listdir(self.folder))
 
 
 @contextlib.contextmanager
-def station(*words, **named):
-    """A station in a folder of its own, which ends with the case."""
+def station(*words, files=None, **named):
+    """A station in a folder of its own with these files, which ends with the case."""
     with tempfile.TemporaryDirectory() as folder:
+        for name, text in (files or {}).items():
+            written(folder, name, text)
         each = Station(folder, *words, **named)
         try:
             yield each
@@ -121,30 +126,18 @@ def station(*words, **named):
             each.socket.close()
 
 
-def without_sender(line):
-    """What a line says of a datagram."""
-    match = FRONT.match(line)
-    if not match:
-        raise AssertionError(f'no time, or no sender: {line[:100]}')
-    return line[match.end():]
-
-
 def nbt(*words, text=''):
     return subprocess.run([PROGRAM, *words], input=text, capture_output=True, text=True, timeout=PATIENCE).stdout
 
 
+def capture(payloads):
+    return ''.join(f'138 0 {it.hex() or "empty"}\n' for it in payloads)
+
+
 def replayed(payloads, *names):
     """The deliveries of `nbt replay` of these payloads."""
-    capture = ''.join(f'138 0 {it.hex() or "empty"}\n' for it in payloads)
-    lines = nbt('replay', *MANY, *names, text=capture).splitlines()
+    lines = nbt('replay', *MANY, *names, text=capture(payloads)).splitlines()
     return [line.split(' ', 1)[1] for line in lines if ' delivered ' in line]
-
-
-def refused(folder, status, why, *words):
-    """The tool ends by itself, and says why, if that is asked for."""
-    done = subprocess.run([TOOL, *words], cwd=folder, capture_output=True, text=True, timeout=PATIENCE)
-    said = done.stderr.strip().splitlines()[-1]
-    expect((status, f'nbt-station: {why}' if why else said), (done.returncode, said))
 
 
 def read(folder, name):
@@ -152,14 +145,18 @@ def read(folder, name):
         return file.read()
 
 
+def written(folder, name, text):
+    with open(os.path.join(folder, name), 'w', encoding='ascii') as file:
+        file.write(text)
+
+
 def until(held, what):
-    """Waits until something holds, and answers it."""
+    """Waits until something holds."""
     last = time.monotonic() + PATIENCE
-    while not (found := held()):
+    while not held():
         if time.monotonic() > last:
             raise AssertionError(what)
         time.sleep(0.01)
-    return found
 
 
 def whole_tables(table, count):

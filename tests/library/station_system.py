@@ -1,5 +1,6 @@
 """What a system does to tools/nbt-station: the files that it is given, signals, standard streams, and networks."""
 import os
+import shlex
 import signal
 import socket
 import stat
@@ -9,8 +10,8 @@ import tempfile
 import time
 import unittest
 
-from station_runs import (EMPTY, ENDING, GROUP, NOBODY, OWN, PATIENCE, PROGRAM, TOOL, UNIQUE, Station, expect, packet, read, refused, station,
-                          until)
+from station_runs import (DELIVERED, EMPTY, GROUP, NOBODY, OWN, PATIENCE, PROGRAM, TOOL, UNIQUE, capture, expect, nbt, packet, read,
+                          station, until, whole_tables, written)
 from wire import FRED, pieces
 
 # More lines than a pipe and the station's own room take: each has some 120,000 bytes.
@@ -19,180 +20,144 @@ MANY, LONG = 110, bytes(60_000)
 LONG_PATH = './' * 1_500 + 'table'
 # A network of its own, with an address that has broadcasts, and one that has none.
 NETWORK = 'ip link set lo up && ip address add 10.9.0.1/24 dev lo && ip address add 10.8.0.1/32 dev lo'
-
-
-def written(folder, name, text, mode=0o644):
-    path = os.path.join(folder, name)
-    with open(path, 'w', encoding='ascii') as file:
-        file.write(text)
-    os.chmod(path, mode)
-    return path
-
-
-def mode_of(path):
-    return stat.S_IMODE(os.stat(path).st_mode)
-
-
-def within_a_second(each, number):
-    """The status with which a station ends at a signal, and what it said by then; it takes no longer than a second."""
-    began = time.monotonic()
-    ended = each.ended(number)
-    if time.monotonic() - began > 1:
-        raise AssertionError('it took more than a second')
-    return ended
+# Files, and the beginnings that are refused beside them: the status, the last line, and the words. {busy} is an address that is taken.
+# Behind them the files that aren't of the kind that an option wants.
+FILES = {'text': 'text\n', 'cut': EMPTY[:-1], 'two': EMPTY * 2, 'end': EMPTY[:-1] + 'x\n', 'newer': '4e425433\n', 'zero': '0\n',
+         'less': '-1\n', 'pids': '12 13\n', 'long': '9' * 20, 'running': f'{os.getpid()}\n', 'bad': EMPTY + 'x\n',
+         'full': nbt('save', text=capture(packet(GROUP, it, FRED, b'') for it in range(2)))}
+REFUSED = r"""
+1 | bad text 4 | FRED
+1 | bad text 8 | 'FRED<20> JOE<00>'
+1 | bad text 0 | ''
+1 | name: present 9 | 'FRED<20>'
+1 | bad: line 2: bad hex | --save new --join bad
+1 | full: line 1: table: full | --save new --join full --keys 1
+3 | none: No such file or directory | --save new --join none
+3 | {busy}: Address already in use | --bind {busy}
+2 | error: argument --bind: 'localhost' is no IPv4 address | --bind localhost
+2 | error: argument --bind: '' is no IPv4 address | --bind ::1
+2 | error: argument --port: 'x' is no number from 0 to 65535 | --port x
+2 | error: argument --keys: '0' is no number from 1 to 65535 | --keys 0
+2 | error: argument --per-source: '65536' is no number from 1 to 65535 | --per-source 65536
+2 | --bind has the port 138, and --port another | --bind 127.0.0.1:138 --port 139
+2 | --pid and --save name one file | --pid new --save ./new
+3 | running: the process {pid} is running | --pid running
+3 | folder: it is a folder, and stays as it is | --save folder
+3 | link: it is a link, and stays as it is | --save link
+3 | loose: it is a link, and stays as it is | --save loose
+3 | pipe: it is no regular file, and stays as it is | --save pipe
+3 | /dev/null: it is no regular file, and stays as it is | --pid /dev/null
+3 | none/new: No such file or directory | --save none/new
+3 | none/new: No such file or directory | --pid none/new
+3 | text/new: Not a directory | --save text/new
+"""
+OTHERS = ('--save', 'saved table', 'text cut two end newer'), ('--pid', 'pid file', 'text zero less pids long')
 
 
 # ---- files
 
-def others_stay(option, kind, *texts):
-    """The station begins with none of these as its file, nor with one that has one of these texts, and changes nothing."""
-    with tempfile.TemporaryDirectory() as folder:
-        other_kinds_stay(folder, option, kind)
-        for text in texts:
-            written(folder, 'almost', text)
-            refused(folder, 3, f'almost: it is no {kind}, and stays as it is', *OWN, option, 'almost', 'FRED<20>')
-            expect(text, read(folder, 'almost'))
-
-
-def other_kinds_stay(folder, option, kind):
-    other = written(folder, 'other', 'text\n')
-    os.mkdir(os.path.join(folder, 'folder'))
-    os.symlink(other, os.path.join(folder, 'link'))
-    os.symlink('nowhere', os.path.join(folder, 'loose'))
-    os.mkfifo(os.path.join(folder, 'pipe'))
-    stays = lambda what: f'it is {what}, and stays as it is'
-    for name, why in (('other', stays(f'no {kind}')), ('folder', stays('a folder')), ('link', stays('a link')), ('loose', stays('a link')),
-                      ('pipe', stays('no regular file')), ('/dev/null', stays('no regular file')),
-                      ('none/file', 'No such file or directory'), ('other/file', 'Not a directory')):
-        refused(folder, 3, f'{name}: {why}', *OWN, option, name, 'FRED<20>')
-    expect(['folder', 'link', 'loose', 'other', 'pipe'], sorted(os.listdir(folder)))
-    expect('text\n', read(folder, 'other'))
-    expect(True, stat.S_ISCHR(os.stat('/dev/null').st_mode))
-
-
-def other_files_at_save():
-    """Only a saved table, or an empty file, is replaced; it is judged before the station listens."""
-    others_stay('--save', 'saved table', EMPTY[:-1], EMPTY * 2, EMPTY[:-1] + 'x\n', '4e425433\n')
+def refused_beginnings():
+    """The station isn't begun so, and all files stay as they are."""
+    rows = REFUSED.strip().splitlines()
+    rows += [f'3 | {it}: it is no {kind}, and stays as it is | {option} {it}' for option, kind, names in OTHERS for it in names.split()]
+    with tempfile.TemporaryDirectory() as folder, socket.socket(socket.AF_INET, socket.SOCK_DGRAM) as taken:
+        taken.bind(('127.0.0.1', 0))
+        busy = '127.0.0.1:%d' % taken.getsockname()[1]
+        for name, text in FILES.items():
+            written(folder, name, text)
+        os.mkdir(os.path.join(folder, 'folder'))
+        os.mkfifo(os.path.join(folder, 'pipe'))
+        for name, target in ('link', 'text'), ('loose', 'nowhere'):
+            os.symlink(target, os.path.join(folder, name))
+        before = sorted(os.listdir(folder))
+        for row in rows:
+            status, why, words = row.format(busy=busy, pid=os.getpid()).split(' | ')
+            done = subprocess.run([TOOL, *OWN, *shlex.split(words), 'FRED<20>'], cwd=folder, capture_output=True, text=True,
+                                  timeout=PATIENCE)
+            expect((int(status), f'nbt-station: {why}'), (done.returncode, done.stderr.strip().rpartition('\n')[2]))
+        expect((before, FILES), (sorted(os.listdir(folder)), {it: read(folder, it) for it in FILES}))
 
 
 def modes_of_saved_tables():
     """A saved table keeps its mode, and a new one has that of the umask."""
-    for text, before, after in (EMPTY, 0o600, 0o600), ('4e425431' + EMPTY[8:], 0o664, 0o664), ('', 0o604, 0o604), (None, None, 0o640):
-        with tempfile.TemporaryDirectory() as folder:
-            path = os.path.join(folder, 'table')
-            if text is not None:
-                written(folder, 'table', text, before)
-            each = Station(folder, '--save', 'table', umask=0o027)
+    for files, mode in ({'table': EMPTY}, 0o600), ({'table': '4e425431' + EMPTY[8:]}, 0o664), ({'table': ''}, 0o604), ({}, 0o640):
+        with station('--save', 'table', files=files, umask=0o027) as each:
+            path = os.path.join(each.folder, 'table')
+            if files:
+                os.chmod(path, mode)
             expect((0, ''), each.ended())
-            each.socket.close()
-            expect((after, EMPTY), (mode_of(path), each.saved()))
-            expect(['out', 'table'], sorted(os.listdir(folder)))
-
-
-def file_put_there_meanwhile():
-    """What comes to stand where the table is to be saved stays, and the station goes on, and says so."""
-    with station('--save', 'table') as each:
-        written(each.folder, 'table', 'text\n')
-        each.process.send_signal(signal.SIGUSR1)
-        expect(b'nbt-station: table: it is no saved table, and stays as it is\n', each.process.stderr.readline())
-        each.reached()
-        expect((3, 'nbt-station: table: it is no saved table, and stays as it is\n'), each.ended())
-        expect('text\n', read(each.folder, 'table'))
+            expect((mode, EMPTY, ['out', 'table']), (stat.S_IMODE(os.stat(path).st_mode), each.saved(), each.files()))
 
 
 def pid_files():
-    """A pid file stands as long as the station listens, and leads to it."""
-    with station('--pid', 'pid', '--save', 'table') as each:
-        expect(f'{each.process.pid}\n', read(each.folder, 'pid'))
-        os.kill(int(read(each.folder, 'pid')), signal.SIGUSR1)
-        expect(EMPTY, each.saved())
-        refused(each.folder, 3, f'pid: the process {each.process.pid} is running', *OWN, '--pid', 'pid', 'FRED<20>')
-        expect((0, ''), each.ended())
-        expect(['out', 'table'], sorted(os.listdir(each.folder)))
+    """A pid file stands as long as the station listens, in place of one whose process ended; another that comes to stand there stays."""
     done = subprocess.Popen(['true'])
     done.wait()
-    for text in f'{done.pid}\n', str(done.pid), '':
-        with tempfile.TemporaryDirectory() as folder:
-            written(folder, 'pid', text)
-            each = Station(folder, '--pid', 'pid')
-            expect(f'{each.process.pid}\n', read(folder, 'pid'))
-            written(folder, 'pid', f'{os.getpid()}\n')
+    for text, then in (f'{done.pid}\n', None), (str(done.pid), None), ('', f'{os.getpid()}\n'):
+        with station('--pid', 'pid', files={'pid': text}) as each:
+            expect(f'{each.process.pid}\n', read(each.folder, 'pid'))
+            if then:
+                written(each.folder, 'pid', then)
             expect((0, ''), each.ended())
-            each.socket.close()
-            expect(['out', 'pid'], sorted(os.listdir(folder)))
-
-
-def other_files_at_pid():
-    others_stay('--pid', 'pid file', '0\n', '-1\n', '12 13\n', '9' * 20)
-    with tempfile.TemporaryDirectory() as folder:
-        refused(folder, 2, '--pid and --save name one file', *OWN, '--pid', 'new', '--save', './new', 'FRED<20>')
+            expect(['out', 'pid'] if then else ['out'], each.files())
 
 
 # ---- standard streams and signals
 
+def failing_devices():
+    """Standard output that takes nothing ends the station, and its table is saved."""
+    with station('--save', 'table', out='/dev/full') as each:
+        each.send(*pieces(1, b'hello'))
+        each.process.wait(PATIENCE)
+        expect((3, 'nbt-station: standard output: deliveries that were left out: 1\n'
+                   'nbt-station: standard output: No space left on device\n'), (each.process.returncode, each.process.stderr.read().decode()))
+        whole_tables(each.saved(), 1)
+
+
 def unread_output():
-    """While nobody reads its lines, a station takes payloads, saves its table and ends."""
-    for number in ENDING:
-        reader, writer = os.pipe()
-        try:
-            with station('--save', 'table', out=writer) as each:
-                for identifier in range(MANY):
-                    each.send(packet(GROUP, identifier, FRED, LONG))
-                    each.reached()
-                expect(b'nbt-station: standard output: its reader stands still, and deliveries are left out\n', each.process.stderr.readline())
-                began = time.monotonic()
-                each.process.send_signal(signal.SIGUSR1)
-                each.saved()
-                expect(True, time.monotonic() - began < 1)
-                os.unlink(os.path.join(each.folder, 'table'))
-                status, said = within_a_second(each, number)
-                expect((3, ['nbt-station:', 'standard', 'output:', 'deliveries', 'that', 'were', 'left', 'out:']), (status, said.split()[:-1]))
-                expect(True, MANY - 2 <= int(said.split()[-1]) <= MANY)
-                each.saved()
-        finally:
-            os.close(reader)
-            os.close(writer)
-
-
-def output_read_late():
-    """What was left out while nobody read is counted; the rest is printed in order once somebody reads."""
+    """While nobody reads its lines, a station takes payloads, saves its table and ends. What was left out is counted; the rest is
+    printed in order once somebody reads."""
     reader, writer = os.pipe()
-    with station(out=writer) as each, open(reader, encoding='ascii') as lines:
-        os.close(writer)
-        for identifier in range(MANY):
-            each.send(packet(GROUP, identifier, FRED, LONG))
-            each.reached()
-        found = [int(lines.readline().split('/')[1][:4], 16) for _ in range(60)]
-        expect(list(range(60)), found)
-        expect(True, b'stands still' in each.process.stderr.readline())
+    with station('--save', 'table', out=writer) as each, open(reader, encoding='ascii') as lines:
+        printed = lambda count: [int(lines.readline().split('/')[1][:4], 16) for _ in range(count)]
+        stand_still(each, 0)
+        each.send_signal()
+        began = time.monotonic()
+        each.saved()
+        expect(True, time.monotonic() - began < 1)
+        expect(list(range(60)), printed(60))
         goes_on = each.process.stderr.readline().decode().split()
         expect(['its', 'reader', 'goes', 'on;'], goes_on[3:7])
-        rest = MANY - 60 - int(goes_on[-1])
-        found = [int(lines.readline().split('/')[1][:4], 16) for _ in range(rest)]
-        expect(list(range(60, 60 + rest)), found)
-        each.send(packet(GROUP, MANY, FRED, b'hi'))
-        expect('6869', lines.readline().split()[-1])
-        expect((3, f'nbt-station: standard output: deliveries that were left out: {goes_on[-1]}\n'), each.ended())
+        left = int(goes_on[-1])
+        expect(list(range(60, MANY - left)), printed(MANY - 60 - left))
+        stand_still(each, MANY)
+        status, said = each.ended(within=1)
+        expect((3, 'nbt-station: standard output: deliveries that were left out:'), (status, said.rpartition(' ')[0]))
+        expect(True, MANY - 2 <= int(said.split()[-1]) - left <= MANY)
+
+
+def stand_still(each, first):
+    """Sends more than there's room for."""
+    for identifier in range(MANY):
+        each.send(packet(GROUP, first + identifier, FRED, LONG))
+        each.reached()
+    expect(b'nbt-station: standard output: its reader stands still, and deliveries are left out\n', each.process.stderr.readline())
 
 
 def unread_errors():
-    """Nobody reads its words either: it ends all the same."""
-    reader, writer = os.pipe()
-    try:
-        with station('--save', LONG_PATH, out=writer) as each:
-            said = each.process.stderr.fileno()
-            written(each.folder, 'table', 'text\n')
-            for _ in range(30):
-                each.process.send_signal(signal.SIGUSR1)
-                each.reached()
-            began = time.monotonic()
-            each.process.send_signal(signal.SIGTERM)
-            expect(3, each.process.wait(PATIENCE))
-            expect(True, time.monotonic() - began < 1)
-            expect(True, len(os.read(said, 1 << 20)) > 40_000)
-    finally:
-        os.close(reader)
-        os.close(writer)
+    """What comes to stand where the table is to be saved stays, and the station goes on, and says so; where nobody reads that, it ends all
+    the same."""
+    with station('--save', LONG_PATH) as each:
+        written(each.folder, 'table', 'text\n')
+        each.send_signal()
+        expect(f'nbt-station: {LONG_PATH}: it is no saved table, and stays as it is\n', each.process.stderr.readline().decode())
+        for _ in range(30):
+            each.send_signal()
+            each.reached()
+        each.send_signal(signal.SIGTERM)
+        expect(3, each.process.wait(1))
+        expect(True, len(os.read(each.process.stderr.fileno(), 1 << 20)) > 40_000)
+        expect('text\n', read(each.folder, 'table'))
 
 
 def closed_streams():
@@ -208,7 +173,7 @@ def closed_streams():
             each.send_signal(signal.SIGTERM)
             expect(0, each.wait(PATIENCE))
             expect(['out', 'table'], sorted(os.listdir(folder)))
-            expect(0, os.path.getsize(os.path.join(folder, 'out')))
+            expect('', read(folder, 'out'))
         finally:
             each.kill()
             each.wait()
@@ -228,29 +193,27 @@ def interrupted_before_it_listens():
                     said = each.communicate(timeout=PATIENCE)[1]
                 finally:
                     each.kill()
-                expect(True, (each.returncode, said) in ((128 + number, f'nbt-station: {words}\n'), (-number, '')))
-                if moment == 1:
-                    expect(128 + number, each.returncode)
+                expect(True, (each.returncode, said) in ((128 + number, f'nbt-station: {words}\n'), (-number, '') if moment < 1 else ()))
                 expect(['pipe'], os.listdir(folder))
 
 
 def hangup_that_is_ignored():
     """A station that nohup starts goes on at SIGHUP."""
-    with station('--save', 'table', preexec_fn=lambda: signal.signal(signal.SIGHUP, signal.SIG_IGN)) as each:
-        each.process.send_signal(signal.SIGHUP)
+    with station(preexec_fn=lambda: signal.signal(signal.SIGHUP, signal.SIG_IGN)) as each:
+        each.send_signal(signal.SIGHUP)
         each.send(*pieces(1, b'hello'))
         each.reached()
         expect((0, ''), each.ended())
-        expect(1, len(each.lines(1)))
+        expect([DELIVERED % (1, b'hello'.hex())], each.lines(1))
 
 
 # ---- networks
 
-def broadcast(address, port, *payloads, source='127.0.0.1', device=b'lo'):
+def broadcast(address, port, *payloads, source='127.0.0.1'):
     """Sends payloads to an address of broadcasts; answers the socket."""
     sock = socket.socket(socket.AF_INET, socket.SOCK_DGRAM)
     sock.setsockopt(socket.SOL_SOCKET, socket.SO_BROADCAST, 1)
-    sock.setsockopt(socket.SOL_SOCKET, socket.SO_BINDTODEVICE, device)
+    sock.setsockopt(socket.SOL_SOCKET, socket.SO_BINDTODEVICE, b'lo')
     sock.bind((source, 0))
     for each in payloads:
         sock.sendto(each, (address, port))
@@ -266,8 +229,7 @@ def broadcasts_heard():
         with broadcast('127.255.255.255', one.port, nobody, packet(GROUP, 1, FRED, b'to the network')) as sock, \
                 broadcast('255.255.255.255', one.port, packet(GROUP, 2, FRED, b'to all')):
             for each in one, other:
-                lines = each.lines(2)
-                expect([b'to all'.hex(), b'to the network'.hex()], sorted(it.split()[-1] for it in lines))
+                expect([b'to all'.hex(), b'to the network'.hex()], sorted(it.split()[-1] for it in each.lines(2)))
                 each.reached()
             sock.settimeout(0.2)
             try:
@@ -301,7 +263,7 @@ def within_a_network():
         expect('nbt-station: hears no broadcasts: 10.8.0.1 is in no network that has them\n', each.broadcasts)
 
 
-CASES = (other_files_at_save, modes_of_saved_tables, file_put_there_meanwhile, pid_files, other_files_at_pid, unread_output, output_read_late,
-         unread_errors, closed_streams, interrupted_before_it_listens, hangup_that_is_ignored, broadcasts_heard, broadcasts_of_a_network)
+CASES = (refused_beginnings, modes_of_saved_tables, pid_files, failing_devices, unread_output, unread_errors, closed_streams,
+         interrupted_before_it_listens, hangup_that_is_ignored, broadcasts_heard, broadcasts_of_a_network)
 # Run by broadcasts_of_a_network, elsewhere.
 WITHIN = (within_a_network,)

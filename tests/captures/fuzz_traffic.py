@@ -27,7 +27,7 @@ def any_name(rng):
 
 def codes(rng):
     """A code of an error or a refusal, mostly one that the standard has."""
-    return bytes([rng.choice((*REFUSALS, 0x84, 0x05))])
+    return bytes.fromhex(rng.choice((*REFUSALS, '84', '05')))
 
 
 def packet_of(fragment):

@@ -144,7 +144,7 @@ class Inputs:
             table, fragments = Table(), traffic.fragments(rng.choice((0, 0.1)))
             for each in rng.sample(fragments, rng.randrange(len(fragments) + 1)):
                 table.insert(each)
-            promised = any(each.promises for each in table.entries.values())
+            promised = any(each.promise >= 0 for each in table.entries.values())
             saved = rng.choice(self.saved) if rng.random() < 0.05 else table.saved(promised or rng.random() < 0.75)
             text = digits(self.changed(saved) if rng.random() < 0.1 else saved).encode()
             lines.append(text if rng.random() < 0.99 else self.changed(text))

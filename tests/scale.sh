@@ -40,12 +40,19 @@ keeps() {
 }
 gives() { told 0 '' "$@"; }
 
-# grouped NUMBER TABLE WORD..: OUT has so many lines, which join to the table, where one is named; the file `lines` keeps them.
+# grouped NUMBER TABLE WORD..: OUT has so many lines, no two of which have keys of one address, and which join to the table, where one is
+# named; the file `lines` keeps them.
 grouped() {
-    ended ./nbt-parallel "$program" --by-source "$1" "${@:3}" out && [ "$(wc -l <out)" -eq "$1" ] &&
+    ended ./nbt-parallel "$program" --by-source "$1" "${@:3}" out && [ "$(wc -l <out)" -eq "$1" ] && [ -z "$(addresses <out | uniq -d)" ] &&
         { [ -z "$2" ] || ended "$program" merge --keys "$many" <out | cmp -s - "$2"; }
     count $? "nbt-parallel --by-source $1 ${*:3}"
     mv out lines
+}
+
+# addresses: those of the keys of saved tables, a line for each table that has one, sorted.
+addresses() {
+    local each
+    while read -r each; do ended "$program" list --keys "$many" <<<"$each" | cut -d : -f 1 | sort -u; done | sort
 }
 
 # variant NAME CASES: $room/NAME, the program but for some commands, of which CASES says what is done first or instead.

@@ -62,7 +62,7 @@ network() {
 }
 
 # Captures made by chance, beside the page's reading of them.
-random() { counted_by wireshark/random_captures.py 12; }
+random() { counted_by wireshark/random_captures.py 30; }
 
 # ---- Long captures, and terminals.
 

@@ -45,7 +45,7 @@ class Program:
     def summary(self, name):
         """The tables of nbt-look: by title rows of cells, the head first."""
         tables = tables_in(self.bytes(f'nbt-look --summary {name}').decode())
-        return {title: [table.columns, *table.rows] for title, table in tables.items()}
+        return {title: [list(rows[0])[1:], *(list(row.values())[1:] for row in rows)] for title, rows in tables.items()}
 
     def told(self, line):
         """What a packet of a capture says, as an object."""

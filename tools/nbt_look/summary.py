@@ -20,7 +20,7 @@ class LeftOut:
         self.counts = {}
 
     def rows(self, _times):
-        return [dict(zip(self.head, pair)) for pair in sorted(self.counts.items(), key=lambda pair: -pair[1])]
+        return [dict(zip(self.head, pair)) for pair in sorted(self.counts.items(), key=lambda pair: (-pair[1], pair[0]))]
 
     def others(self):
         return 0

@@ -43,7 +43,8 @@ export class Seen {
 
     /** The tables, whose rows have times as they are. */
     tables() {
-        const left = Array.from(this.leftOut, ([reason, frames]) => ({ reason, frames })).sort((one, other) => other.frames - one.frames);
+        const left = Array.from(this.leftOut, ([reason, frames]) => ({ reason, frames }))
+            .sort((one, other) => other.frames - one.frames || (one.reason < other.reason ? -1 : 1));
         return { ...this.ofParts((part) => part.rows((time: bigint) => time)), 'left-out': left, unread: this.unread.rows() };
     }
 

@@ -117,8 +117,7 @@ class ViewCases:
         equal(len(commands), 3, f'{name}, the commands')
         for form, end, command in zip(('json', 'capture', 'table'), ('jsonl', 'capture.txt', 'table.txt'), commands):
             given = self.browser.saved(f'save-{form}', f"{plain.rpartition('.')[0]}.{end}")
-            # A command for the table of a capture of lines takes its ticks.
-            wanted = self.program.table(plain) if form == 'table' and plain.endswith('.txt') else self.program.bytes(command)
+            wanted = self.program.bytes(command)
             check(given == wanted and given, f'{name}, {form}: {given[:150]}, not {wanted[:150]} of {command}')
 
     def addressed(self):

@@ -9,7 +9,7 @@ const FORMS = [
     ['json', 'jsonl', 'JSON lines', 'Save JSON lines', 'an object for each packet', (file: string) => `nbt-pcap2cap ${file} | nbt show --json`, 'nbt show --json'],
     ['capture', 'capture.txt', 'Capture', 'Save the capture', 'the packets as text, with their frames', (file: string) => `nbt-pcap2cap ${file}`, ''],
     ['table', 'table.txt', 'Saved table', 'Save the table', 'what a station knows of all datagrams',
-        (file: string) => `nbt-pcap2cap --no-ticks ${file} | nbt save --keys ${MOST_KEYS}`, `nbt save --keys ${MOST_KEYS}`],
+        (file: string) => `nbt-pcap2cap --no-ticks ${file} | nbt save --keys ${MOST_KEYS}`, `grep -v ^tick | nbt save --keys ${MOST_KEYS}`],
 ] as const;
 
 export class ExportView {
@@ -49,7 +49,6 @@ export class ExportView {
 /** The command that prints the same of a file that is text.
  * @param command an empty text where that is the file itself */
 function textCommand(command: string, { name, isPacked }: Tap) {
-    const file = quoted(name);
-    if (isPacked) return `gzip -dc ${file}${command ? ` | ${command}` : ''}`;
-    return command ? `${command} <${file}` : `cat ${file}`;
+    const given = `${isPacked ? 'gzip -dc' : 'cat'} ${quoted(name)}`;
+    return command ? `${given} | ${command}` : given;
 }

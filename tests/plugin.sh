@@ -29,9 +29,10 @@ fi
 
 # Wireshark loads a user's plugins for users alone, not for root: there nobody runs it. $room/with has the commands with the plugin,
 # $room/without the same without it.
+# They read none of Wireshark's own files, as its dictionaries of Diameter: those are a third of a start.
 chmod 755 "$room"
 export XDG_DATA_HOME=
-as=(env -u XDG_CONFIG_HOME -u WIRESHARK_CONFIG_DIR)
+as=(env -u XDG_CONFIG_HOME -u WIRESHARK_CONFIG_DIR WIRESHARK_DATA_DIR="$room/none")
 [ "$(id -u)" -ne 0 ] || as=(setpriv --reuid=65534 --regid=65534 --clear-groups "${as[@]}")
 commands() {
     local kind tool
@@ -48,7 +49,9 @@ commands() {
 commands
 cp "$top"/examples/*.pcap "$room/states"
 "$here/plugin/plugin_files.py" "$room/states"
-chmod 644 "$room/states"/*.pcap
+editcap -r "$room/states/pieces.pcap" "$room/front.pcap" 1-200
+mergecap -a -w "$room/all.pcap" "$room/front.pcap" "$room"/states/{sessions,overlaps,gaps}.pcap
+chmod 644 "$room"/{,states/}*.pcap
 
 for each in built phrases states tools shown bad valgrind page; do
     [ $# -lt 3 ] || [[ " ${*:3} " == *" $each "* ]] || continue

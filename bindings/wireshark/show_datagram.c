@@ -28,14 +28,18 @@ static void show_fragments(packet_info *pinfo, proto_tree *tree, const struct pa
     }
 }
 
-/* The data that came in several fragments. */
+/* The data that came in several fragments. Where the Info column has the phrase, no words about them replace it. */
 static void show_joined(packet_info *pinfo, proto_tree *top, proto_tree *tree, tvbuff_t *parent, const struct datagram *datagram)
 {
     tvbuff_t *tvb = tvb_new_child_real_data(parent, datagram->data, datagram->length, (gint)datagram->length);
     heur_dtbl_entry_t *entry = NULL;
+    bool was_writable = col_get_writable(pinfo->cinfo, COL_INFO);
     add_new_data_source(pinfo, tvb, "Datagram put together");
     proto_item_set_generated(proto_tree_add_item(tree, hf_datagram, tvb, 0, (gint)datagram->length, ENC_NA));
-    if (inner != NULL && datagram->length > 0) dissector_try_heuristic(inner, tvb, pinfo, top, &entry, NULL);
+    if (inner == NULL || datagram->length == 0) return;
+    if (phrases_in_info) col_set_writable(pinfo->cinfo, COL_INFO, false);
+    dissector_try_heuristic(inner, tvb, pinfo, top, &entry, NULL);
+    if (phrases_in_info) col_set_writable(pinfo->cinfo, COL_INFO, was_writable);
 }
 
 /* The data of a datagram that is one packet: Wireshark's dissector of datagrams has handed it on. */

@@ -57,23 +57,22 @@ part_phrases() {
 
 # What becomes of datagrams is what nbt replay reports, in captures that one process reads one after the other, and files after these.
 part_states() {
-    counted_by plugin/plugin_states.py "$room/with/sharkd" "$room/with/tshark" "$program" "$room/states" 120 \
+    counted_by plugin/plugin_states.py "$room/with/sharkd" "$program" "$room/states" 48 \
         "$room"/states/{pieces,sessions,office,samba}.pcap
 }
 
-# The tools print the same beside the plugin: they ask tshark for the bytes of these ports.
+# The tools print the same beside the plugin: they ask tshark for the bytes of these ports, nbt-look by the same words for all its forms.
 part_tools() {
-    local file tool kind
+    local tool kind
     with_tools "$program"
-    for file in "$room"/states/{office,samba}.pcap; do
-        for tool in 'nbt-look' 'nbt-look --summary' 'nbt-look --json' nbt-pcap2cap; do
-            for kind in with without; do
-                # The tools give tshark a home of their own.
-                PATH=$room/$kind:$room/bin:$PATH ended $tool "$file" >"$room/$kind-output" 2>&1
-            done
-            [ -s "$room/with-output" ] && cmp -s "$room/with-output" "$room/without-output"
-            count $? "$tool $(basename "$file"), with the plugin and without it"
+    mergecap -a -w "$room/both.pcap" "$room"/states/{office,samba}.pcap && chmod 644 "$room/both.pcap"
+    for tool in 'nbt-look --json' nbt-pcap2cap; do
+        for kind in with without; do
+            # The tools give tshark a home of their own.
+            PATH=$room/$kind:$room/bin:$PATH ended $tool "$room/both.pcap" >"$room/$kind-output" 2>&1
         done
+        [ -s "$room/with-output" ] && cmp -s "$room/with-output" "$room/without-output"
+        count $? "$tool, with the plugin and without it"
     done
 }
 
@@ -94,7 +93,9 @@ part_shown() {
     with tshark -n -2 -r "$room/states/gaps.pcap" -T fields -e nbt.missing 2>/dev/null | uniq | same \
         $'4 bytes from byte 0 on\nall from byte 2 on\n3 bytes from byte 2 on' 'pieces of no bytes split no gap'
     with tshark -n -r "$room/states/untimed.pcap" -T fields -e nbt.state 2>/dev/null | xargs | same 'kept kept delivered' 'frames without a time'
-    with tshark -n -r "$file" -Y smb -T fields -e frame.number -e smb.cmd -e nbt.fragment 2>/dev/null | same $'5\t0x2b\t4,5' 'SMB in a datagram of two fragments'
+    with tshark -n -r "$file" -Y smb -o nbt.info:TRUE -T fields -e frame.number -e smb.cmd -e nbt.fragment -e _ws.col.Info 2>/dev/null |
+        same $'5\t0x2b\t4,5\tgroup datagram from JOE<00> to FRED<20>, 19 bytes at offset 20, the last' \
+            'SMB in a datagram of two fragments, whose phrase the Info column has'
     with tshark -n -q -r "$file" -z nbt,tree 2>/dev/null | awk -F '  +' '$2 ~ /^[0-9]+$/ { print $1 ": " $2 }' | sort >"$room/counts"
     sort <<'ROWS' | diff "$room/counts" -
 Packets: 4
@@ -109,23 +110,51 @@ Fragments: 2
  delivered: 1
 ROWS
     count $? 'tshark -z nbt,tree'
+    shown_aside
+    shown_to_experts
+}
+
+# What the file has a part of, what isn't a payload, and what is written to another file.
+shown_aside() {
+    with tshark -n -r "$room/states/cut.pcap" -T fields -e nbt.says -z nbt,tree 2>/dev/null |
+        awk -F '  +' '/^cut/ { print } /^Refused| by the snap/ { print $1 ": " $2 }' | sort |
+        same $' Cut by the snap length: 3\nRefused: 0\ncut: 20 of 50 bytes\ncut: 20 of 50 bytes\ncut: asks for FRED<20>, 54 of 60 bytes' \
+            'what the file has a part of'
+    with tshark -n -r "$room/states/aside.pcap" -d udp.port==1137,nbns -T fields -e nbt.says 2>/dev/null |
+        same $'\nasks for FRED<20>\n' 'of an ICMP error nothing is said, nor of port 445, but of a port that Decode As gives'
+    with tshark -n -2 -r "$room/states/marked.pcap" -Y nbt.datagram -w - 2>/dev/null | capinfos -Tmcr - 2>/dev/null | cut -d , -f 2 |
+        same 2 'what is written takes its fragments along'
+}
+
+# What experts are told of, by the fields that they are told for, where the names are none; and the Info column, if it has the phrases.
+shown_to_experts() {
+    local words=(-E separator=/t -E 'aggregator=;' -e_ws.col.Info
+        -enbt.{says,refused,refused.expert,follow,follow.expert,state,state.expert,spoilt.expert,missing,missing.expert,names.expert})
+    with tshark -n -2 -r "$room/all.pcap" -o nbt.info:TRUE -o 'nbt.names:NO<2' -T fields "${words[@]}" 2>/dev/null |
+        awk -F '\t' 'function is(cell) { return cell != "" }
+            { gsub(/;/, "; ", $2); for (cell = 4; cell <= 12; cell++) told[cell] += is($cell) }
+            is($2) && $1 != $2 || is($3) != is($4) || is($5) != is($6) || ($7 == "refused" && !is($3)) != is($8) || ($7 == "spoilt") != is($9) ||
+                is($11) > is($10) || ($7 ~ /kept|spoilt|delivered/) != is($12) { print "frame " NR }
+            END { print told[4], told[6], told[8], told[9], told[11], told[12] }' |
+        same '20 23 1 22 20 182' 'what experts are told, and the Info column'
 }
 
 # Changed captures, snap lengths, files that were joined, and filters, in one pass and in two: no crash, no link to a frame that isn't
 # there or is of another key, and the same phrases, faults and states.
-part_bad() { counted_by plugin/plugin_changed.py "$room/with/tshark" "$room/states" 20 "$room"/states/{office,samba,pieces,sessions}.pcap; }
+part_bad() { counted_by plugin/plugin_changed.py "$room/with/tshark" "$room/states" 4 "$room"/states/{office,samba,pieces,sessions}.pcap; }
 
 # Errors of memory: none; and nothing is lost that the plugin asked for, by names that are kept after Wireshark let it go.
 part_valgrind() {
+    local ours checked='valgrind --leak-check=full --keep-debuginfo=yes --keep-stacktraces=alloc --num-callers=8'
     sed "s|HOME=|WIRESHARK_DEBUG_WMEM_OVERRIDE=simple G_SLICE=always-malloc HOME=|
-        s|/usr/bin/tshark|valgrind --leak-check=full --keep-debuginfo=yes --log-file=$room/home-with/valgrind /usr/bin/tshark|" \
-        "$room/with/tshark" >"$room/with/checked"
-    chmod 755 "$room/with/checked"
-    "$timeout" -k 5 600 "$room/with/checked" -n -2 -r "$room/states/pieces.pcap" -V >"$room/output" 2>"$room/errors" &&
-        grep -q 'nbt\.state\|Fragment' "$room/output" && grep -q 'ERROR SUMMARY' "$room/home-with/valgrind"
+        s|/usr/bin/tshark|$checked --log-file=$room/home-with/valgrind /usr/bin/tshark|" "$room/with/tshark" >"$room/with/checked"
+    chmod 755 "$room/with/checked" && "$timeout" -k 5 600 "$room/with/checked" -n -2 -r "$room/all.pcap" -O nbt -o nbt.info:TRUE >"$room/output" \
+        2>"$room/errors" && grep -q 'Fragment: ' "$room/output" && grep -q 'ERROR SUMMARY' "$room/home-with/valgrind"
     count $? "valgrind, with the plugin: $(tail -n 1 "$room/errors")"
-    ! grep -qE 'nbt\.so|Invalid (read|write)|uninitialised' "$room/home-with/valgrind"
-    count $? "valgrind finds nothing in the plugin: $(grep -m 1 -B 5 'nbt\.so' "$room/home-with/valgrind" | head -n 3 | tr '\n' ' ')"
+    # Debug information has a source in the place of nbt.so.
+    ours="nbt\.so|\(($(cd "$top/bindings/wireshark" && printf '%s|' *.c)nbt\.h):"
+    ! grep -qE "$ours|Invalid (read|write)|uninitialised" "$room/home-with/valgrind"
+    count $? "valgrind finds nothing in the plugin: $(grep -m 1 -B 5 -E "$ours" "$room/home-with/valgrind" | head -n 3 | tr '\n' ' ')"
 }
 
 # The samples of the page, with a tshark that has the plugin.

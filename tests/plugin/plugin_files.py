@@ -4,7 +4,8 @@
 pieces.pcap has datagrams in many pieces, some lost, changed and repeated; sessions.pcap connections to port 139 in segments of all sizes,
 in order and not, with bytes of no packet, headers that ask for more than a packet has, and starts that the file lacks. marked.pcap has refused
 packets, one of which comes in two segments, and an SMB echo in a datagram of two fragments; overlaps.pcap segments that come again with
-other bytes; gaps.pcap pieces of no bytes; untimed.pcap frames without a time.
+other bytes; gaps.pcap pieces of no bytes; untimed.pcap frames without a time; cut.pcap queries of which the file has a part; aside.pcap
+queries in an ICMP error and to another port, and a message of the direct transport.
 """
 import random
 import struct
@@ -15,8 +16,9 @@ sys.path[1:1] = [f'{sys.path[0]}/../{it}' for it in ('captures', 'lib')]
 from plugin_captures import Made
 from plugin_pcap import datagram_frame, framed, segment_frame
 from random_pcap import Ends, mixed, stream
-from wire import KEEPALIVE, QUERY, REQUEST, START, block, datagram, interface, pcap, section, session, spaced, timed, written
+from wire import ICMP, KEEPALIVE, QUERY, REQUEST, SHORT, START, TCP, UDP, block, datagram, interface, ip, pcap, section, sent, session, spaced, tcp
 from wire import pieces as parts
+from wire import timed, udp, written
 
 NO_PACKETS = (b'\x81\x01\xff\xff' + bytes(30), b'\x00\xfe\xff\xff' + bytes(50), b'GET / HTTP/1.0\r\n\r\n', b'\x85\0\0\1x',
               b'\x81\0\0\x44' + b'\x20' + b'Z' * 67)
@@ -72,8 +74,19 @@ def untimed():
     return section() + interface() + without(first) + timed(0, START, second, len(second)) + without(third)
 
 
+def cut():
+    """By the snap length behind the packet and in it, and by an IP header that says less than that of UDP."""
+    whole, longer = (datagram_frame(137, QUERY + bytes(more)) for more in (0, 10))
+    return [(1_000, longer, 42 + 54), (2_000, whole, 42 + 20), (3_000, whole[:16] + b'\0\x30' + whole[18:], None)]
+
+
+def aside():
+    quoted = b'\3\3' + bytes(6) + sent(137, QUERY)
+    return spaced(map(framed, (ip(ICMP, quoted), ip(UDP, udp(1_137, 1_137, QUERY)), ip(TCP, tcp(1_024, 445, 1, SHORT)))))
+
+
 def main():
-    for each in (pieces, sessions, marked, overlaps, gaps, untimed):
+    for each in (pieces, sessions, marked, overlaps, gaps, untimed, cut, aside):
         made = each()
         written(f'{sys.argv[1]}/{each.__name__}.pcap', made if isinstance(made, bytes) else pcap(made))
 

@@ -1,18 +1,19 @@
 #!/usr/bin/env python3
 """What the plugin for Wireshark says of datagrams, beside the report of `nbt replay`.
 
-Usage: tests/plugin/plugin_states.py SHARKD TSHARK PROGRAM FOLDER COUNT FILE..
+Usage: tests/plugin/plugin_states.py SHARKD PROGRAM FOLDER COUNT FILE..
 
 So many captures of fragments that are shuffled, lost, repeated and changed, with pauses, times that go back, packets of other kinds and
 ports and frames that are cut. All are read by one sharkd, which has the plugin, one after the other, for a station with names or for all,
 with the timer or without it; the program replays the same with the ticks of nbt-pcap2cap or without. Of each payload of port 138 the
-state, the key and the data have to be those of the report, and the links and what is missing those of a plain model. sharkd shows the
-front of long data: of one capture in ten tshark prints all of it. Then it opens the files, in turn and back: it says the same of each as
-another one that opens it alone, also where names are none. A case is a capture or a file; the last line is 'N passed, M failed'.
+state, the key and the data have to be those of the report, and the links and what is missing those of a plain model. Of long data a
+column shows the front, and the frame's tree all. Then sharkd opens the files, in turn and back: it says the same of each as another one
+that opens it alone, also where names are none, and then one. A case is a capture or a file; the last line is 'N passed, M failed'.
 """
 import collections
 import json
 import random
+import re
 import subprocess
 import sys
 
@@ -21,13 +22,12 @@ sys.path.insert(1, f'{sys.path[0]}/../lib')
 from limits import MANY
 from parts import tally
 from plugin_captures import Made
-from plugin_pcap import fields_of
 from wire import pcap, written
 
 COLUMNS = ('nbt.state', 'nbt.key', 'nbt.datagram', 'nbt.whole_in', 'nbt.spoilt_in', 'nbt.missing', 'nbt.fragment')
-# How sharkd shows no bytes, and of how many digits it shows the front.
-NO_BYTES, DIGITS = '<MISSING>', 72
-WHOLE_OF, TIMER_OF = 10, 4
+# How sharkd shows no bytes, and of how many digits it shows the front; and how the tree has all, as a filter.
+NO_BYTES, DIGITS, ALL = '<MISSING>', 72, re.compile(r'nbt\.datagram == ([0-9a-f:]*)')
+TIMER_OF = 4
 BOOLEANS = ('FALSE', 'TRUE')
 
 
@@ -61,6 +61,11 @@ class Sharkd:
         columns = {f'column{number}': each + ':0' for number, each in enumerate(COLUMNS + others)}
         return {frame['num']: frame['c'] for frame in self.ask('frames', **columns)}
 
+    def data(self, frame):
+        """All of the data of the datagram that this frame completes."""
+        found = ALL.search(json.dumps(self.ask('frame', frame=frame, proto=True)))
+        return found and found[1].replace(':', '')
+
     def end(self):
         self.process.stdin.close()
         return self.process.wait(timeout=60)
@@ -87,23 +92,17 @@ def shown(data):
     return data or NO_BYTES, data[:DIGITS] + '…' if len(data) > DIGITS else data or NO_BYTES
 
 
-def first_difference(made, rows, states):
+def first_difference(made, sharkd, path, states):
     """The first frame that isn't as wanted, in words; '' where there is none."""
     links = made.links({frame: state[0] for frame, state in states.items()})
+    rows = sharkd.rows(path)
     for frame in range(1, len(made.frames) + 1):
         state, key, data = states.get(frame, ['', '', None])
         wanted = [[state, key, text, *links.get(frame, ['', '', '', ''])] for text in shown(data)]
         if rows[frame] not in wanted:
             return f'frame {frame}: {rows[frame]}, not {wanted[-1]}'
-    return ''
-
-
-def data_differ(tshark, path, asked, timer, states):
-    """The first frame whose data isn't that of the report, in words; '' where there is none."""
-    rows = fields_of(tshark, path, ['nbt.datagram'], '-o', 'nbt.names:' + ' '.join(asked), '-o', f'nbt.timer:{BOOLEANS[timer]}')
-    for frame, (_state, _key, data) in states.items():
-        if ''.join(rows[frame - 1][0]).replace(NO_BYTES, '') != (data or ''):
-            return f'frame {frame}: {rows[frame - 1]}, not {data}'
+        if data and len(data) > DIGITS and sharkd.data(frame) != data:
+            return f'frame {frame}: {sharkd.data(frame)}, not {data}'
     return ''
 
 
@@ -115,9 +114,11 @@ def opened(command, sharkd, files):
         yield path, sharkd.rows(path, 'nbt.says') != alone[path] or not any(map(any, alone[path].values()))
     sharkd.prefer(['NO<2'], True)
     yield 'names that are none: all are heard', sharkd.rows(files[0], 'nbt.says') != alone[files[0]]
+    sharkd.prefer(['NOBODY<20>'], True)
+    yield 'a name again', not any(row[0] == 'unheard' for row in sharkd.rows(files[0]).values())
 
 
-def cases(command, tshark, program, folder, count, *files):
+def cases(command, program, folder, count, *files):
     """Each capture, and what is wrong with what is said of it; what is reported is counted."""
     sharkd, seen = Sharkd(command), collections.Counter()
     for number in range(int(count)):
@@ -130,10 +131,7 @@ def cases(command, tshark, program, folder, count, *files):
         report = report_of(program, made.lines, asked or names)
         seen.update(words.split(' ')[0] for words in report.values())
         states = {frame: wanted_of(report[line]) for frame, line in made.datagrams.items()}
-        difference = first_difference(made, sharkd.rows(path), states)
-        if number % WHOLE_OF == number // WHOLE_OF % 2:
-            difference = difference or data_differ(tshark, path, asked, timer, states)
-        yield path, difference
+        yield path, first_difference(made, sharkd, path, states)
     yield from opened(command, sharkd, files)
     yield 'the end of sharkd', sharkd.end()
     print(', '.join(f'{number} {each}' for each, number in sorted(seen.items())))

@@ -101,7 +101,7 @@ def calls_page(crates):
 def spec_files(crate):
     """The files of a crate's definitions, in the order in which it lists them, but for lemmas and the words of its own loops."""
     specs = CRATES / crate / 'specs'
-    listed = re.findall(r'^pub mod (\w+)', (specs / 'Lib.antt').read_text(encoding='utf-8'), re.MULTILINE)
+    listed = re.findall(r'^pub mod (\w+)', (specs / 'Lib.antt').read_text(encoding='utf-8'), re.MULTILINE) if specs.is_dir() else ()
     return [specs / f'{it}.antt' for it in listed if it not in ('Code', 'Shared') and not it.endswith('Facts')]
 
 

@@ -24,7 +24,7 @@ sys.path.insert(1, f'{sys.path[0]}/../lib')
 from build_words import FORMS, compared
 from made_pages import calls, definitions_of, made, spec_files
 from parts import tally
-from sources import CRATES, LISTED, ROOT, aliases, edit, functions, law_files, planted, sources
+from sources import CRATES, LISTED, ROOT, aliases, edit, functions, law_files, planted, sources, text_of
 
 LIBRARIES = [it for it in LISTED if it != 'nbt' and not it.startswith('nb_examples')]
 TICKED = re.compile(r'`([^`\n]+)`')
@@ -35,6 +35,9 @@ ELSEWHERE = {
     'CALL-what_the_wrong_body_does.edit', 'proofs/SUBJECTLemmas.antt', 'crates/first', 'out/nbt.mjs', 'big.pcap', 'serde_json', 'checked_add',
 }
 WITH_NAMES = re.compile(r'\.(?:antt|rt|py|sh|c|h|rs|mjs|mts|txt|edit|1|ts|toml)$|/Makefile$|/tools/[\w-]+$|/archive$|/x86_64$')
+
+
+text_once = functools.lru_cache(None)(text_of)
 
 
 @functools.lru_cache(None)
@@ -136,7 +139,7 @@ def wrong_bodies():
     """Whether each such file says what is wrong and why, and its old lines stand once where it changes them."""
     for path, said, changes in edits():
         heads = {'what', 'why', 'file'} | ({'refused'} if 'wrong-bodies' in path.parts else set())
-        is_right = heads <= said.keys() and planted(CRATES / path.parts[0], changes)
+        is_right = heads <= said.keys() and planted(CRATES / path.parts[0], changes, text_once)
         yield is_right, f'{path}: {", ".join(sorted(heads))}, old lines'
         why = said.get('why', '')
         unknown = [it for it in re.findall(r'`(\w+(?:::\w+)*)`', why) if any(each not in named() for each in it.split('::'))]
@@ -170,8 +173,9 @@ def made_lines():
     """Whether each line of a page that is made is what the sources say, and nothing is missing."""
     for path, text in made(LIBRARIES).items():
         wanted, there = text.splitlines(), path.read_text(encoding='utf-8').splitlines() if path.exists() else []
+        both = set(wanted) & set(there)
         for line in dict.fromkeys(it for it in (*wanted, *there) if it):
-            yield line in wanted and line in there, f'docs/{path.name}: {"no longer so" if line in there else "new (--write)"}: {line}'
+            yield line in both, f'docs/{path.name}: {"no longer so" if line in there else "new (--write)"}: {line}'
         yield wanted == there, f'docs/{path.name} is what tests/docs/pages.py --write makes'
 
 

@@ -91,7 +91,7 @@ def clauses_at(code, text, place):
 
 def doc_before(text, start):
     """The first paragraph of the doc that stands before a place, and that of its errors."""
-    found = DOC.search(text[:start])
+    found = DOC.search(text[text.rfind('\n\n', 0, start) + 1:start])
     lines = [it.strip()[3:].strip() for it in found[1].splitlines()] if found else []
     errors = lines[lines.index('# Errors') + 1:] if '# Errors' in lines else []
     errors = errors[1:] if errors[:1] == [''] else errors
@@ -118,6 +118,7 @@ def functions(path):
     return found
 
 
+@functools.lru_cache(None)
 def sources(crate):
     """The source files of a crate."""
     return sorted((CRATES / crate / 'src').rglob('*.rt'))
@@ -130,6 +131,7 @@ def aliases(crate):
     return dict(re.findall(r'^pub(?:\(\w+\))? type (\w+)[^=;]*= (\w+)', text, re.MULTILINE))
 
 
+@functools.lru_cache(None)
 def law_files(crate):
     """The files with a crate's laws, each of whose public functions does nothing."""
     src = CRATES / crate / 'src'
@@ -153,12 +155,17 @@ def edit(path):
     return heads, changes
 
 
-def planted(folder, changes):
+def text_of(path):
+    """The text of a file that is there; nothing otherwise."""
+    return path.read_text(encoding='utf-8') if path.is_file() else ''
+
+
+def planted(folder, changes, text_of=text_of):
     """By its path each file of a crate as changes leave it, one after the other; None where an old line doesn't stand there once."""
     texts = {}
     for file, old, new in changes:
         path = folder / file
-        text = texts[path] if path in texts else path.read_text(encoding='utf-8') if path.is_file() else ''
+        text = texts.get(path, text_of(path))
         if text.count(old) != 1:
             return None
         texts[path] = text.replace(old, new)

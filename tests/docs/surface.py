@@ -83,7 +83,9 @@ class Crate:
         self.sources = {path.relative_to(self.src).with_suffix('').parts: Items(path) for path in sorted(self.src.rglob('*.rt'))}
         self.is_program = ('main',) in self.sources
         self.lines, self.types, self.traits, self.names = set(), {}, set(), set()
-        self.text = '\n'.join(it.code for it in self.sources.values())
+        text = '\n'.join(it.code for it in self.sources.values())
+        self.own_types = set(re.findall(r'\b(?:struct|enum|type) (\w+)', text))
+        self.own_traits = set(re.findall(r'^(?:pub(?:\(\w+\))? )?trait (\w+)', text, re.MULTILINE))
         self.walk((), 'main' if self.is_program else 'lib')
         for source in self.sources.values():
             self.blocks(source)
@@ -145,7 +147,7 @@ class Crate:
         """What stands in blocks of types that are handed out, and the traits that are implemented for them."""
         for brace, end, head in blocks(source.code):
             owner, trait = owner_of(head)
-            is_own = re.search(rf'\b(?:struct|enum|type) {owner}\b', self.text) is not None
+            is_own = not owner or owner in self.own_types
             if head.split()[-2:-1] == ['trait'] or (owner not in self.types if is_own else trait not in self.traits):
                 continue
             if not trait:
@@ -158,7 +160,7 @@ class Crate:
 
     def has_private(self, trait):
         """Whether a trait of this name stands in the crate."""
-        return re.search(rf'^(?:pub(?:\(\w+\))? )?trait {trait}\b', self.text, re.MULTILINE) is not None
+        return trait in self.own_traits
 
     def hands_out(self, function):
         """Whether a caller can name a public function: a free one, or one of a type or a trait that is handed out, but for private traits."""

@@ -7,19 +7,19 @@ CONSTANT = re.compile(r'const (\w+)(?:: \w+)? = (\w+(?: \+ \w+)*);')
 # A row of words: the status of a fault in a role.
 IN_ROLE = re.compile(r'\(\s*(\w+?)(?:_TEXT)? \+ ((?:NAME_|TABLE_)?(\w+)),\s*"')
 # By enumeration the files with its constants. Those that have other names there stand below.
-FILES = {'status': 'nb_c/src/statuses.rt', 'line_kind': 'nb_c/src/showing.rt', 'outcome': 'nb_c/src/taken.rt', 'record_type': 'nb_service/src/kinds.rt',
+FILES = {'status': 'nb_calls/src/statuses.rt', 'line_kind': 'nb_calls/src/showing.rt', 'outcome': 'nb_calls/src/taken.rt', 'record_type': 'nb_service/src/kinds.rt',
          'datagram_flag': 'nb_datagram/src/limits.rt', 'datagram_type': 'nb_datagram/src/limits.rt', 'word': 'nb_service/src/flags.rt',
          'name_flag': 'nb_service/src/flags.rt', 'operation': 'nb_text/src/words.rt', 'result_code': 'nb_text/src/words.rt'}
 NAMES = {'UNIQUE': 'DIRECT_UNIQUE', 'GROUP': 'DIRECT_GROUP', 'ERROR': 'ERROR_TYPE', 'FIND': 'QUERY_REQUEST', 'FOUND': 'POSITIVE_RESPONSE',
          'MISSING': 'NEGATIVE_RESPONSE'}
 # Those that are arms of a `match`, whose default has the other.
 ARMS = {'session_type': ('nb_session/src/packet.rt', r'Kind::(?P<name>\w+) => (?P<number>0x\w+),'),
-        'section': ('nb_c/src/service_reading.rt', r'Section::(?P<name>\w+)\) => (?P<number>\d)'),
-        'request': ('nb_c/src/service.rt', r'(?P<number>\d) => (?P<name>\w+?)(?:_request)?\(alloc')}
+        'section': ('nb_calls/src/service_reading.rt', r'Section::(?P<name>\w+)\) => (?P<number>\d)'),
+        'request': ('nb_calls/src/service.rt', r'(?P<number>\d) => (?P<name>\w+?)(?:_request)?\(alloc')}
 LIMITS = {'MOST_LINE': ('nb_member/src/limits.rt', 'MAX_LINE'), 'MOST_DATAGRAM': ('nb_datagram/src/limits.rt', 'MAX_LENGTH'),
           'MOST_BODY': ('nb_session/src/limits.rt', 'MAX_MESSAGE'), 'INPUT': ('nb_names/src/limits.rt', 'MAX_INPUT'),
           'MOST_NAMES': ('nb_member/src/limits.rt', 'MAX_NAMES'), 'KEPT_FOR': ('nb_member/src/limits.rt', 'FRAGMENT_TIMEOUT'),
-          'TAKE_ROOM': ('nb_c/src/taken.rt', 'TAKE_ROOM'), 'MOST_KEYS': ('nbt/src/limits.rt', 'MOST_KEYS'),
+          'TAKE_ROOM': ('nb_calls/src/taken.rt', 'TAKE_ROOM'), 'MOST_KEYS': ('nbt/src/limits.rt', 'MOST_KEYS'),
           'KEYS': ('nbt/src/limits.rt', 'KEYS')}
 
 

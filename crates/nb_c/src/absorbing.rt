@@ -1,21 +1,15 @@
 //! Tables of other stations, taken in by a station.
-ghost use Rattle.std.specs.Prelude.{◌≡◌, ◌++◌, IfOk, OnOk, Ok, Err};
-ghost use Rattle.nb_table.specs.Saved.{key_bytes};
-ghost use Rattle.nb_c.specs.Absorbing.{Absorbed, AbsorbsInto, Hears, Joined, all_heard, heard_bytes};
-ghost use Rattle.nb_c.specs.Outputs.{Answers, OrMemory, all_late, lent};
-ghost use Rattle.nb_c.specs.Stations.{OnStation};
-ghost use Rattle.nb_c.specs.declared.output.Refusal.TheVariants.{Fault};
-ghost use Rattle.nb_c.specs.declared.statuses.TheConstants.{NO_STATION};
+ghost use Rattle.std.specs.Prelude.{Err};
+ghost use Rattle.nb_calls.specs.Absorbing.{AbsorbsInto};
+ghost use Rattle.nb_calls.specs.Outputs.{Answers, lent};
+ghost use Rattle.nb_calls.specs.Stations.{OnStation};
+ghost use Rattle.nb_calls.specs.declared.output.Refusal.TheVariants.{Fault};
+ghost use Rattle.nb_calls.specs.declared.statuses.TheConstants.{NO_STATION};
 
-use crate::handle::{NbtStation, put_back, taken};
-use crate::output::{Refusal, answer_of, load_refusal, table_refusal, write_answer};
-use crate::statuses::{NO_ROLE, NO_STATION};
-use crate::tables::loaded;
-use nb_datagram::{Datagram, Datagrams, Key};
-use nb_member::Member;
-use nb_member::laws::a_preview_is_what_is_handed_over;
-use nb_names::{Bytes, NoMemory};
-use nb_table::Table;
+use nb_calls::absorbing::absorb_saved;
+use nb_calls::handle::{NbtStation, put_back, taken};
+use nb_calls::output::write_answer;
+use nb_calls::statuses::NO_STATION;
 use std::alloc::Global;
 
 /// Joins the saved table of another station to the station's at this moment, and writes the
@@ -46,110 +40,4 @@ pub extern "C" fn nbt_station_absorb(
             write_answer(answer, into, used, at)
         }
     }
-}
-
-/// Joins a saved table to a member's, where there is room for the bytes of what it hands over.
-fn absorb_saved(
-    alloc: Global,
-    member: &mut Member,
-    moment: u64,
-    table: &[u8],
-    room: usize,
-) -> Result<Bytes, Refusal>
-    ensures { Absorbed member.old moment table.now room member.new result }
-{
-    let settings = member.settings();
-    match loaded(
-        alloc,
-        table,
-        settings.keys,
-        settings.per_source,
-        settings.longest,
-    ) {
-        Err(fault) => Err(load_refusal(NO_ROLE, fault)),
-        Ok(other) => join(alloc, member, moment, &other, room),
-    }
-}
-
-/// Joins a table to a member's, where there is room for the bytes of what it hands over.
-fn join(
-    alloc: Global,
-    member: &mut Member,
-    moment: u64,
-    other: &Table,
-    room: usize,
-) -> Result<Bytes, Refusal>
-    ensures { Joined member.old moment other.now.contents room member.new result }
-{
-    match heard(alloc, member, other) {
-        Err(refusal) => Err(refusal),
-        Ok(bytes) => join_in_room(member, moment, other, bytes, room),
-    }
-}
-
-/// The bytes of the datagrams that a member would hand over.
-fn heard(alloc: Global, member: &Member, other: &Table) -> Result<Bytes, Refusal>
-    ensures { OrMemory all_late (Hears member.now other.now.contents) result }
-{
-    match member.preview(other) {
-        Err(fault) => Err(table_refusal(fault)),
-        Ok(datagrams) => answer_of(bytes_of(alloc, datagrams)),
-    }
-}
-
-/// Joins a table to a member's, where these bytes of what it hands over fit.
-fn join_in_room(
-    member: &mut Member,
-    moment: u64,
-    other: &Table,
-    bytes: Bytes,
-    room: usize,
-) -> Result<Bytes, Refusal>
-    requires { Hears member.old other.now.contents (Ok bytes) }
-    ensures { Joined member.old moment other.now.contents room member.new result }
-{
-    if room < bytes.as_slice().len() {
-        return Ok(bytes);
-    }
-    // For the clause; the call does nothing.
-    a_preview_is_what_is_handed_over();
-    match member.absorb(other, moment) {
-        Err(fault) => Err(table_refusal(fault)),
-        Ok(_) => Ok(bytes),
-    }
-}
-
-/// The bytes of datagrams, in order.
-fn bytes_of(alloc: Global, datagrams: Datagrams) -> Result<Bytes, NoMemory>
-    ensures { IfOk result (λ bytes. bytes ≡ all_heard datagrams) }
-{
-    let mut bytes = Vec::new(alloc);
-    for datagram in datagrams.into_vec() {
-        push_datagram(&datagram, &mut bytes)?;
-    }
-    Ok(Bytes::from_vec(bytes))
-}
-
-/// Adds the bytes of a datagram.
-fn push_datagram(datagram: &Datagram, bytes: &mut Vec<u8>) -> Result<(), NoMemory>
-    ensures { OnOk result (bytes.new.items ≡ bytes.old.items ++ heard_bytes datagram.now) }
-{
-    push_key(datagram.key(), bytes)?;
-    bytes.push(datagram.kind().message_type())?;
-    bytes.extend_from_slice(datagram.source().to_domain().spelling())?;
-    bytes.extend_from_slice(datagram.destination().to_domain().spelling())?;
-    let length = datagram.bytes().len() as u16;
-    bytes.extend_from_slice(&length.to_be_bytes())?;
-    bytes.extend_from_slice(datagram.bytes())?;
-    Ok(())
-}
-
-/// Adds the bytes of a key.
-fn push_key(key: Key, bytes: &mut Vec<u8>) -> Result<(), NoMemory>
-    ensures { OnOk result (bytes.new.items ≡ bytes.old.items ++ key_bytes key) }
-{
-    bytes.extend_from_slice(&key.ip)?;
-    bytes.extend_from_slice(&key.port.to_be_bytes())?;
-    bytes.extend_from_slice(&key.id.to_be_bytes())?;
-    Ok(())
 }

@@ -1,39 +1,13 @@
 //! Packets of the datagram service, written: datagrams cut into pieces, and packets without data.
-ghost use Rattle.std.specs.Prelude.{◌≡◌, ◌++◌, ◌≤◌, length, IfOk, OnOk, MatchOption, Ok};
-ghost use Rattle.std.specs.List.{flat_map};
-ghost use Rattle.nb_datagram.specs.declared.limits.TheConstants.{MAX_LENGTH};
-ghost use Rattle.nb_datagram.specs.declared.packet.Packet.TheVariants.{Query};
-ghost use Rattle.nb_datagram.specs.Packet.{packet_bytes};
-ghost use Rattle.nb_c.specs.Cutting.{Cuts, are_long, cut_answer, cut_names, key_from, key_of, kind_with, packet_of, packets_of, counted, Queries, error_packet, query_answer, query_with};
-ghost use Rattle.nb_c.specs.Outputs.{Does, OrMemory, none_late, lent};
+ghost use Rattle.std.specs.Prelude.{◌≡◌, Ok};
+ghost use Rattle.nb_calls.specs.Cutting.{Cuts, key_from, Queries, error_packet};
+ghost use Rattle.nb_calls.specs.Outputs.{Does, none_late, lent};
 
-use crate::names::name_of_text;
-use crate::output::{Refusal, answer_of, text_refusal, write_answer, write_bytes};
-use crate::statuses::{
-    DESTINATION_TEXT, LONG_DATA, NO_ROLE, SOURCE_TEXT, UNKNOWN_TYPE, ZERO_PIECE,
-};
-use nb_datagram::limits::{DIRECT_HEADER_LENGTH, MAX_LENGTH};
-use nb_datagram::{
-    Datagram, ErrorPacket, Fragment, Key, Kind, Packet, Pieces, QueryKind, QueryPacket, cut, encode,
-};
+use nb_calls::cutting::{Sent, error_packet, key_from, packets, query_of};
+use nb_calls::names::name_of_text;
+use nb_calls::output::{write_answer, write_bytes};
 use nb_names::laws::{one_name, one_text_fault};
-use nb_names::{Bytes, Name, NoMemory, TextFault};
 use std::alloc::Global;
-
-/// How a datagram is sent: what its packets say but for the names, and the most data of each.
-#[derive(Clone, Copy)]
-pub struct Sent {
-    /// MSG_TYPE.
-    pub packet_type: u8,
-    /// DGM_ID.
-    pub identifier: u16,
-    /// SOURCE_IP.
-    pub address: u32,
-    /// SOURCE_PORT.
-    pub port: u16,
-    /// The most bytes of data in a packet.
-    pub most: u16,
-}
 
 /// Writes the packets of a datagram, each after its length in two bytes.
 ///
@@ -78,163 +52,6 @@ pub extern "C" fn nbt_datagram_write(
     write_answer(packets, into, used, at)
 }
 
-/// The packets of the datagram between two names, if they are names.
-fn packets(
-    alloc: Global,
-    sent: Sent,
-    source: Result<Name, TextFault>,
-    destination: Result<Name, TextFault>,
-    contents: &[u8],
-) -> Result<Bytes, Refusal>
-    ensures { OrMemory none_late
-        (λ answer. answer ≡ cut_names sent source destination contents.now) result }
-{
-    match kind_with(sent.packet_type) {
-        None => Err(Refusal::Fault(UNKNOWN_TYPE)),
-        Some(kind) => match source {
-            Err(fault) => Err(text_refusal(SOURCE_TEXT, fault)),
-            Ok(source) => match destination {
-                Err(fault) => Err(text_refusal(DESTINATION_TEXT, fault)),
-                Ok(destination) => cut_data(alloc, sent, kind, source, destination, contents),
-            },
-        },
-    }
-}
-
-/// The kind of datagram with this MSG_TYPE.
-fn kind_with(packet_type: u8) -> Option<Kind>
-    ensures { result ≡ kind_with packet_type }
-{
-    match packet_type {
-        0x10 => Some(Kind::Unique),
-        0x11 => Some(Kind::Group),
-        0x12 => Some(Kind::Broadcast),
-        _ => None,
-    }
-}
-
-/// The packets of the datagram with this data, whose lengths are judged before memory is taken.
-fn cut_data(
-    alloc: Global,
-    sent: Sent,
-    kind: Kind,
-    source: Name,
-    destination: Name,
-    contents: &[u8],
-) -> Result<Bytes, Refusal>
-    ensures { OrMemory none_late (λ answer. answer ≡ cut_answer (record {
-      key = key_of sent;
-      kind = kind;
-      source = source;
-      destination = destination;
-      bytes = contents.now;
-    }) sent.most) result }
-{
-    if contents.len() > MAX_LENGTH {
-        return Err(Refusal::Fault(LONG_DATA));
-    }
-    if sent.most == 0 {
-        return Err(Refusal::Fault(ZERO_PIECE));
-    }
-    if are_long(&source, &destination, contents.len(), sent.most) {
-        return Err(Refusal::Fault(LONG_DATA));
-    }
-    answer_of(cut_whole(alloc, sent, kind, source, destination, contents))
-}
-
-/// The key of a datagram that is sent so.
-fn key_of(sent: Sent) -> Key
-    ensures { result ≡ key_of sent }
-{
-    key_from(sent.identifier, sent.address, sent.port)
-}
-
-/// The key with these numbers.
-pub(crate) fn key_from(identifier: u16, address: u32, port: u16) -> Key
-    ensures { result ≡ key_from identifier address port }
-{
-    Key {
-        ip: address.to_be_bytes(),
-        port,
-        id: identifier,
-    }
-}
-
-/// Whether the longest packet of a datagram with so many bytes passes 65,535 bytes.
-fn are_long(source: &Name, destination: &Name, size: usize, most: u16) -> bool
-    ensures { result ≡ are_long source.now destination.now size most }
-{
-    let names = source.to_domain().spelled_len() + destination.to_domain().spelled_len();
-    DIRECT_HEADER_LENGTH + names + size.min(usize::from(most)) > MAX_LENGTH
-}
-
-/// The packets of a datagram that isn't too long.
-fn cut_whole(
-    alloc: Global,
-    sent: Sent,
-    kind: Kind,
-    source: Name,
-    destination: Name,
-    contents: &[u8],
-) -> Result<Bytes, NoMemory>
-    requires { length contents.now ≤ MAX_LENGTH }
-    ensures { IfOk result (λ bytes. bytes ≡ packets_of (record {
-      key = key_of sent;
-      kind = kind;
-      source = source;
-      destination = destination;
-      bytes = contents.now;
-    }) sent.most) }
-{
-    let bytes = Bytes::copy(alloc, contents)?;
-    let datagram = Datagram::new(key_of(sent), kind, source, destination, bytes).unwrap();
-    cut_datagram(alloc, &datagram, sent.most)
-}
-
-/// The packets of a datagram, each with so many bytes of data at most.
-fn cut_datagram(alloc: Global, datagram: &Datagram, most: u16) -> Result<Bytes, NoMemory>
-    ensures { IfOk result (λ bytes. bytes ≡ packets_of datagram.now most) }
-{
-    match cut(alloc, datagram, most) {
-        Ok(pieces) => joined(alloc, pieces),
-        // The other faults were judged.
-        Err(_) => Err(NoMemory),
-    }
-}
-
-/// The packets of the pieces, each after its length.
-fn joined(alloc: Global, pieces: Pieces<'_>) -> Result<Bytes, NoMemory>
-    ensures { IfOk result (λ bytes.
-        bytes ≡ flat_map (λ piece. counted (packet_of piece)) pieces.entry) }
-{
-    let mut bytes = Vec::new(alloc);
-    for piece in pieces.into_vec() {
-        push_piece(alloc, piece, &mut bytes)?;
-    }
-    Ok(Bytes::from_vec(bytes))
-}
-
-/// Adds the packet of a piece, after its length.
-fn push_piece(alloc: Global, piece: Fragment<'_>, bytes: &mut Vec<u8>) -> Result<(), NoMemory>
-    ensures { OnOk result (bytes.new.items ≡ bytes.old.items ++ counted (packet_of piece.entry)) }
-{
-    let packet = encode(alloc, &Packet::Direct(piece))?;
-    push_counted(packet.as_slice(), bytes)
-}
-
-/// Adds the bytes of a packet, after their number in two bytes.
-fn push_counted(packet: &[u8], bytes: &mut Vec<u8>) -> Result<(), NoMemory>
-    ensures { OnOk result (bytes.new.items ≡ bytes.old.items ++ counted packet.now) }
-{
-    let length = (packet.len() % 65_536) as u16;
-    bytes.extend_from_slice(&length.to_be_bytes())?;
-    bytes.extend_from_slice(packet)?;
-    Ok(())
-}
-
-/// FLAGS: the first fragment, and no more of them.
-const FLAGS: u8 = 0x02;
-
 /// Writes an error packet with this key and this code.
 ///
 /// RFC 1002 section 4.4.3.
@@ -254,14 +71,6 @@ pub extern "C" fn nbt_datagram_error(
 {
     let key = key_from(identifier, address, port);
     write_bytes(error_packet(alloc, key, code), into, used)
-}
-
-/// The bytes of an error packet.
-fn error_packet(alloc: Global, key: Key, code: u8) -> Result<Bytes, NoMemory>
-    ensures { IfOk result (λ bytes. bytes ≡ error_packet key code) }
-{
-    let flags = FLAGS;
-    encode(alloc, &Packet::Error(ErrorPacket { flags, key, code }))
 }
 
 /// Writes a query packet with this type and this key about the name with this text.
@@ -288,48 +97,4 @@ pub extern "C" fn nbt_datagram_query(
     one_text_fault();
     let query = query_of(alloc, packet_type, key, name_of_text(name));
     write_answer(query, into, used, at)
-}
-
-/// The query about a name, if one was read.
-fn query_of(
-    alloc: Global,
-    packet_type: u8,
-    key: Key,
-    read: Result<Name, TextFault>,
-) -> Result<Bytes, Refusal>
-    ensures { OrMemory none_late (λ answer. answer ≡ query_answer packet_type key read) result }
-{
-    match query_with(packet_type) {
-        None => Err(Refusal::Fault(UNKNOWN_TYPE)),
-        Some(kind) => match read {
-            Ok(name) => answer_of(query_bytes(alloc, kind, key, name)),
-            Err(fault) => Err(text_refusal(NO_ROLE, fault)),
-        },
-    }
-}
-
-/// The kind of query with this MSG_TYPE.
-fn query_with(packet_type: u8) -> Option<QueryKind>
-    ensures { result ≡ query_with packet_type }
-{
-    match packet_type {
-        0x14 => Some(QueryKind::Request),
-        0x15 => Some(QueryKind::Positive),
-        0x16 => Some(QueryKind::Negative),
-        _ => None,
-    }
-}
-
-/// The bytes of a query about a name.
-fn query_bytes(alloc: Global, kind: QueryKind, key: Key, name: Name) -> Result<Bytes, NoMemory>
-    ensures { IfOk result (λ bytes. bytes ≡ packet_bytes
-        (Query (record { kind = kind; flags = 2; key = key; destination = name }))) }
-{
-    let query = QueryPacket {
-        kind,
-        flags: FLAGS,
-        key,
-        destination: name,
-    };
-    encode(alloc, &Packet::Query(query))
 }

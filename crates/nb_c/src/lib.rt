@@ -4,10 +4,7 @@
 pub mod absorbing;
 pub mod cutting;
 pub mod datagrams;
-mod handle;
-pub mod laws;
 pub mod names;
-mod output;
 pub mod service;
 pub mod service_entries;
 pub mod service_parts;
@@ -17,6 +14,5 @@ pub mod showing;
 pub mod stations;
 pub mod statuses;
 pub mod tables;
-pub mod taken;
 pub mod taking;
 pub mod version;

@@ -1,52 +1,21 @@
 //! Parts of RDATA of the name service: those that have numbers, and a domain name.
-ghost use Rattle.std.specs.Prelude.{◌≡◌, ℕ, List};
-ghost use Rattle.nb_c.specs.declared.service_parts.NbtServiceAddress.{NbtServiceAddress};
-ghost use Rattle.nb_c.specs.declared.service_parts.NbtServiceNode.{NbtServiceNode};
-ghost use Rattle.nb_c.specs.declared.service_parts.NbtServiceUnit.{NbtServiceUnit};
-ghost use Rattle.nb_c.specs.Outputs.{Alone, Answers, DoesAtOnce, Fills, lent};
-ghost use Rattle.nb_c.specs.ServiceParts.{ReadsAddress, ReadsDomain, ReadsNode, ReadsUnit, address_numbers, node_numbers, part_answer, spelled_answer, unit_answer};
+ghost use Rattle.nb_calls.specs.declared.service_parts.NbtServiceAddress.{NbtServiceAddress};
+ghost use Rattle.nb_calls.specs.declared.service_parts.NbtServiceNode.{NbtServiceNode};
+ghost use Rattle.nb_calls.specs.declared.service_parts.NbtServiceUnit.{NbtServiceUnit};
+ghost use Rattle.nb_calls.specs.Outputs.{DoesAtOnce, Fills, lent};
+ghost use Rattle.nb_calls.specs.ServiceParts.{ReadsAddress, ReadsDomain, ReadsNode, ReadsUnit};
 
-use crate::output::{Refusal, fill, name_refusal, put, refuse};
-use crate::statuses::{NAME_RDATA, NO_PART, NO_ROLE, OTHER_RDATA, TRUNCATED};
-use nb_names::laws::{one_fault, one_reading};
-use nb_names::limits::NAME_LENGTH;
-use nb_names::{DomainName, NameReader, Pointers};
-use nb_service::limits::UNIT_ID_LENGTH;
-use nb_service::{AddressEntries, NodeStatus};
-
-/// An address of a NetBIOS name, and the flags that go with it.
-#[repr(C)]
-#[derive(Clone, Copy)]
-pub struct NbtServiceAddress {
-    /// NB_ADDRESS.
-    pub address: u32,
-    /// NB_FLAGS.
-    pub flags: u16,
-}
-
-/// One of a node's names, and the flags that go with it.
-#[repr(C)]
-#[derive(Clone, Copy)]
-pub struct NbtServiceNode {
-    /// NAME_FLAGS.
-    pub flags: u16,
-    /// The sixteen bytes.
-    pub name: [u8; NAME_LENGTH],
-}
-
-/// The unit identifier of a node.
-#[repr(C)]
-#[derive(Clone, Copy)]
-pub struct NbtServiceUnit {
-    /// UNIT_ID.
-    pub bytes: [u8; UNIT_ID_LENGTH],
-}
+use nb_calls::output::fill;
+use nb_calls::service_parts::{
+    NbtServiceAddress, NbtServiceNode, NbtServiceUnit, address_at, domain_at, node_at, unit_at,
+    write_spelling,
+};
 
 /// Reads the entry of a number, counted from 0, of RDATA of a kind. No memory is taken.
 ///
 /// RFC 1002 section 4.2.13.
 #[unsafe(no_mangle)]
-#[tactic(auto, using(crate::proofs::AnswerLemmas::fills))]
+#[tactic(auto, using(nb_calls::proofs::AnswerLemmas::fills))]
 pub extern "C" fn nbt_service_address(
     kind: u16,
     contents: &[u8],
@@ -60,35 +29,11 @@ pub extern "C" fn nbt_service_address(
     fill(address_at(kind, contents, number), address, at)
 }
 
-/// The entry of a number of RDATA of a kind.
-#[tactic(auto, using(crate::proofs::AnswerLemmas::choices))]
-fn address_at(kind: u16, contents: &[u8], number: usize) -> Result<NbtServiceAddress, Refusal>
-    ensures { Alone NbtServiceAddress (ReadsAddress kind contents.now number) result }
-{
-    match AddressEntries::of_rdata(kind, contents) {
-        Some(entries) => address_of(&entries, number),
-        None => Err(Refusal::Fault(OTHER_RDATA)),
-    }
-}
-
-/// The entry of a number.
-fn address_of(entries: &AddressEntries<'_>, number: usize) -> Result<NbtServiceAddress, Refusal>
-    ensures { result ≡ part_answer address_numbers entries.now number }
-{
-    match entries.get(number) {
-        Some(entry) => Ok(NbtServiceAddress {
-            address: u32::from_be_bytes(entry.address),
-            flags: entry.flags,
-        }),
-        None => Err(Refusal::FaultAt(NO_PART, entries.len())),
-    }
-}
-
 /// Reads a node's name of a number, counted from 0, of RDATA of a kind. No memory is taken.
 ///
 /// RFC 1002 section 4.2.18.
 #[unsafe(no_mangle)]
-#[tactic(auto, using(crate::proofs::AnswerLemmas::fills))]
+#[tactic(auto, using(nb_calls::proofs::AnswerLemmas::fills))]
 pub extern "C" fn nbt_service_node(
     kind: u16,
     contents: &[u8],
@@ -102,37 +47,11 @@ pub extern "C" fn nbt_service_node(
     fill(node_at(kind, contents, number), node, at)
 }
 
-/// A node's name of a number of RDATA of a kind.
-fn node_at(kind: u16, contents: &[u8], number: usize) -> Result<NbtServiceNode, Refusal>
-    ensures { Alone NbtServiceNode (ReadsNode kind contents.now number) result }
-{
-    match NodeStatus::of_rdata(kind, contents) {
-        Some(status) => node_of(&status, number),
-        None => Err(Refusal::Fault(OTHER_RDATA)),
-    }
-}
-
-/// A node's name of a number.
-fn node_of(status: &NodeStatus<'_>, number: usize) -> Result<NbtServiceNode, Refusal>
-    ensures { result ≡ part_answer node_numbers status.now.names number }
-{
-    match status.get(number) {
-        Some(node) => {
-            let name = node.bytes;
-            Ok(NbtServiceNode {
-                flags: node.flags,
-                name,
-            })
-        }
-        None => Err(Refusal::FaultAt(NO_PART, status.len())),
-    }
-}
-
 /// Reads the unit identifier of a node of RDATA of a kind. No memory is taken.
 ///
 /// RFC 1002 section 4.2.18.
 #[unsafe(no_mangle)]
-#[tactic(auto, using(crate::proofs::AnswerLemmas::fills))]
+#[tactic(auto, using(nb_calls::proofs::AnswerLemmas::fills))]
 pub extern "C" fn nbt_service_unit(
     kind: u16,
     contents: &[u8],
@@ -143,26 +62,6 @@ pub extern "C" fn nbt_service_unit(
         unit.old unit.new at.old at.new result }
 {
     fill(unit_at(kind, contents), unit, at)
-}
-
-/// The unit identifier of RDATA of a kind.
-fn unit_at(kind: u16, contents: &[u8]) -> Result<NbtServiceUnit, Refusal>
-    ensures { Alone NbtServiceUnit (ReadsUnit kind contents.now) result }
-{
-    match NodeStatus::of_rdata(kind, contents) {
-        Some(status) => unit_of(&status, contents.len()),
-        None => Err(Refusal::Fault(OTHER_RDATA)),
-    }
-}
-
-/// The unit identifier of a status that ends after so many bytes.
-fn unit_of(status: &NodeStatus<'_>, size: usize) -> Result<NbtServiceUnit, Refusal>
-    ensures { result ≡ unit_answer status.now.statistics size }
-{
-    match status.unit_id() {
-        Some(bytes) => Ok(NbtServiceUnit { bytes }),
-        None => Err(Refusal::FaultAt(TRUNCATED, size)),
-    }
 }
 
 /// Writes the spelling of the domain name that is RDATA of type NS: so many bytes of a payload,
@@ -182,49 +81,4 @@ pub extern "C" fn nbt_service_domain(
         (lent into.new used.new at.new) result }
 {
     write_spelling(domain_at(payload, place, length), into, used, at)
-}
-
-/// The domain name that so many bytes of a payload are, from a place on.
-fn domain_at(payload: &[u8], place: usize, length: usize) -> Result<DomainName, Refusal>
-    ensures { Alone (List ℕ) (ReadsDomain payload.now place length) (spelled_answer result) }
-{
-    domain_by(&NameReader::of(payload, &mut []), place, length)
-}
-
-/// The same of a payload whose names are read so.
-pub(crate) fn domain_by(
-    names: &NameReader<'_, '_>,
-    place: usize,
-    length: usize,
-) -> Result<DomainName, Refusal>
-    ensures { Alone (List ℕ) (ReadsDomain names.now place length) (spelled_answer result) }
-{
-    // For the clause: at a place stands one name, or it has one fault. The calls do nothing.
-    one_reading();
-    one_fault();
-    match names.read_domain(place, Pointers::Followed) {
-        Ok((domain, next)) => {
-            if next.checked_sub(place) != Some(length) {
-                return Err(Refusal::FaultAt(NAME_RDATA, place));
-            }
-            Ok(domain)
-        }
-        Err(fault) => Err(name_refusal(NO_ROLE, fault)),
-    }
-}
-
-/// Writes the spelling of a name that was read, or where the fault stands.
-fn write_spelling(
-    read: Result<DomainName, Refusal>,
-    into: &mut [u8],
-    used: &mut usize,
-    at: &mut usize,
-) -> u32
-    ensures { Answers (spelled_answer read) (lent into.old used.old at.old)
-        (lent into.new used.new at.new) result }
-{
-    match read {
-        Ok(domain) => put(domain.spelling(), into, used),
-        Err(refusal) => refuse(refusal, at),
-    }
 }

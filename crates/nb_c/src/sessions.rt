@@ -1,36 +1,18 @@
 //! Packets of the session service: read, taken apart and written.
-ghost use Rattle.std.specs.Prelude.{◌≡◌, ◌++◌, ◌≤◌, List, ℕ, length, IfOk};
-ghost use Rattle.nb_session.specs.declared.limits.TheConstants.{MAX_MESSAGE};
-ghost use Rattle.nb_c.specs.declared.sessions.NbtSession.{NbtSession};
-ghost use Rattle.nb_c.specs.Outputs.{Alone, Fills, Does, OrMemory, lent};
-ghost use Rattle.nb_c.specs.Sessions.{Reads, session_of, ReadsFront, numbers, ReadsNames, ReadsRetarget, names_answer, names_of, retarget_answer, Stands, Writes, follow_the_type, frame};
-ghost use Rattle.nb_c.specs.declared.sessions.NbtSessionFront.{NbtSessionFront};
-ghost use Rattle.nb_c.specs.declared.sessions.NbtSessionNames.{NbtSessionNames};
-ghost use Rattle.nb_c.specs.declared.sessions.NbtSessionRetarget.{NbtSessionRetarget};
+ghost use Rattle.nb_calls.specs.declared.sessions.NbtSession.{NbtSession};
+ghost use Rattle.nb_calls.specs.Outputs.{Fills, Does, lent};
+ghost use Rattle.nb_calls.specs.Sessions.{Reads, ReadsFront, ReadsNames, ReadsRetarget, Writes, follow_the_type};
+ghost use Rattle.nb_calls.specs.declared.sessions.NbtSessionFront.{NbtSessionFront};
+ghost use Rattle.nb_calls.specs.declared.sessions.NbtSessionNames.{NbtSessionNames};
+ghost use Rattle.nb_calls.specs.declared.sessions.NbtSessionRetarget.{NbtSessionRetarget};
 
-use crate::names::spelled_in_place;
-use crate::output::{Refusal, fill, session_refusal, write_answer};
-use crate::statuses::{BAD_LENGTH, MORE, OTHER_TYPE, UNKNOWN_TYPE};
-use nb_names::limits::MAX_SPELLING;
-use nb_names::{Bytes, LentName, NoMemory};
-use nb_session::laws::{one_answer, one_header};
-use nb_session::limits::{HEADER_LENGTH, MAX_MESSAGE};
-use nb_session::{Header, Kind, LentPacket, Packet, Parsed, front_header, parse_lent};
+use nb_calls::output::{fill, write_answer};
+use nb_calls::sessions::{
+    NbtSession, NbtSessionFront, NbtSessionNames, NbtSessionRetarget, front_of, names_in,
+    packet_of, read, retarget_in,
+};
+use nb_session::laws::one_answer;
 use std::alloc::Global;
-
-/// A packet of the session service: its type, and where its body stands.
-#[repr(C)]
-#[derive(Clone, Copy)]
-pub struct NbtSession {
-    /// TYPE.
-    pub packet_type: u8,
-    /// Where the body begins.
-    pub body: usize,
-    /// How many bytes it has.
-    pub body_length: usize,
-    /// How many bytes the packet has.
-    pub used: usize,
-}
 
 /// Reads the packet at the front of what came over a connection. No memory is taken.
 ///
@@ -42,47 +24,12 @@ pub extern "C" fn nbt_session_read(bytes: &[u8], packet: &mut NbtSession, at: &m
     fill(read(bytes), packet, at)
 }
 
-/// What stands at the front of bytes: a packet, or why it isn't one.
-fn read(bytes: &[u8]) -> Result<NbtSession, Refusal>
-    ensures { Alone NbtSession (Reads bytes.now) result }
-{
-    match parse_lent(bytes) {
-        Parsed::Whole(packet, used) => Ok(session_of(&packet, used)),
-        Parsed::More(needed) => Err(Refusal::FaultAt(MORE, needed)),
-        Parsed::Refused(fault) => Err(session_refusal(fault)),
-    }
-}
-
-/// The type and the body of a packet that has so many bytes.
-fn session_of(packet: &LentPacket<'_>, used: usize) -> NbtSession
-    ensures { result ≡ session_of packet.now used }
-{
-    NbtSession {
-        packet_type: packet.kind().packet_type(),
-        body: HEADER_LENGTH,
-        body_length: used.saturating_sub(HEADER_LENGTH),
-        used,
-    }
-}
-
-/// The header of a packet of the session service.
-#[repr(C)]
-#[derive(Clone, Copy)]
-pub struct NbtSessionFront {
-    /// TYPE, also one that no packet has.
-    pub packet_type: u8,
-    /// FLAGS, all eight bits.
-    pub flags: u8,
-    /// How many bytes the body has: LENGTH, and 65,536 where the lowest bit of FLAGS is set.
-    pub body_length: usize,
-}
-
 /// Reads the header at the front of what came over a connection, whether or not a packet stands
 /// there. No memory is taken.
 ///
 /// RFC 1002 section 4.3.1.
 #[unsafe(no_mangle)]
-#[tactic(auto, using(crate::proofs::AnswerLemmas::fills))]
+#[tactic(auto, using(nb_calls::proofs::AnswerLemmas::fills))]
 pub extern "C" fn nbt_session_front(
     bytes: &[u8],
     front: &mut NbtSessionFront,
@@ -92,53 +39,6 @@ pub extern "C" fn nbt_session_front(
         front.old front.new at.old at.new result }
 {
     fill(front_of(bytes), front, at)
-}
-
-/// The header at the front of bytes, if it is there whole.
-fn front_of(bytes: &[u8]) -> Result<NbtSessionFront, Refusal>
-    ensures { Alone NbtSessionFront (ReadsFront bytes.now) result }
-{
-    // For the clause: bytes begin with one header at most. The call does nothing.
-    one_header();
-    match front_header(bytes) {
-        Some(header) => Ok(numbers(&header)),
-        None => Err(Refusal::FaultAt(MORE, HEADER_LENGTH - bytes.len())),
-    }
-}
-
-/// What a header says.
-fn numbers(header: &Header) -> NbtSessionFront
-    ensures { result ≡ numbers header.now }
-{
-    NbtSessionFront {
-        packet_type: header.packet_type,
-        flags: header.flags,
-        body_length: header.body_length(),
-    }
-}
-
-/// The names of a session request.
-#[repr(C)]
-#[derive(Clone, Copy)]
-pub struct NbtSessionNames {
-    /// How many bytes the spelling of the called name has.
-    pub called_length: u8,
-    /// The spelling of the called name, and bytes of zero after it.
-    pub called: [u8; MAX_SPELLING],
-    /// How many bytes the spelling of the calling name has.
-    pub calling_length: u8,
-    /// The spelling of the calling name, and bytes of zero after it.
-    pub calling: [u8; MAX_SPELLING],
-}
-
-/// Where a retarget leads.
-#[repr(C)]
-#[derive(Clone, Copy)]
-pub struct NbtSessionRetarget {
-    /// RETARGET_IP_ADDRESS.
-    pub address: u32,
-    /// PORT.
-    pub port: u16,
 }
 
 /// Reads the names of the session request at the front of what came over a connection. No memory
@@ -157,41 +57,6 @@ pub extern "C" fn nbt_session_names(
     fill(names_in(bytes), names, at)
 }
 
-/// The names of the request at the front of bytes, or why none stands there.
-fn names_in(bytes: &[u8]) -> Result<NbtSessionNames, Refusal>
-    ensures { Alone NbtSessionNames (ReadsNames bytes.now) result }
-{
-    match parse_lent(bytes) {
-        Parsed::Whole(packet, _) => names_answer(&packet),
-        Parsed::More(needed) => Err(Refusal::FaultAt(MORE, needed)),
-        Parsed::Refused(fault) => Err(session_refusal(fault)),
-    }
-}
-
-/// The names of a packet, if it is a request.
-fn names_answer(packet: &LentPacket<'_>) -> Result<NbtSessionNames, Refusal>
-    ensures { result ≡ names_answer packet.now }
-{
-    match packet {
-        Packet::Request { called, calling } => Ok(names_of(called, calling)),
-        _ => Err(Refusal::Fault(OTHER_TYPE)),
-    }
-}
-
-/// Both names of a request, spelled out.
-fn names_of(called: &LentName<'_>, calling: &LentName<'_>) -> NbtSessionNames
-    ensures { result ≡ names_of called.now calling.now }
-{
-    let called = called.to_domain();
-    let calling = calling.to_domain();
-    NbtSessionNames {
-        called_length: called.spelled_len() as u8,
-        called: spelled_in_place(&called),
-        calling_length: calling.spelled_len() as u8,
-        calling: spelled_in_place(&calling),
-    }
-}
-
 /// Reads where the retarget leads at the front of what came over a connection. No memory is taken.
 ///
 /// RFC 1002 section 4.3.5.
@@ -205,30 +70,6 @@ pub extern "C" fn nbt_session_retarget(
         retarget.old retarget.new at.old at.new result }
 {
     fill(retarget_in(bytes), retarget, at)
-}
-
-/// Where the retarget at the front of bytes leads, or why none stands there.
-fn retarget_in(bytes: &[u8]) -> Result<NbtSessionRetarget, Refusal>
-    ensures { Alone NbtSessionRetarget (ReadsRetarget bytes.now) result }
-{
-    match parse_lent(bytes) {
-        Parsed::Whole(packet, _) => retarget_answer(&packet),
-        Parsed::More(needed) => Err(Refusal::FaultAt(MORE, needed)),
-        Parsed::Refused(fault) => Err(session_refusal(fault)),
-    }
-}
-
-/// Where a packet leads, if it is a retarget.
-fn retarget_answer(packet: &LentPacket<'_>) -> Result<NbtSessionRetarget, Refusal>
-    ensures { result ≡ retarget_answer packet.now }
-{
-    match packet {
-        Packet::Retarget { address, port } => Ok(NbtSessionRetarget {
-            address: u32::from_be_bytes(*address),
-            port: *port,
-        }),
-        _ => Err(Refusal::Fault(OTHER_TYPE)),
-    }
 }
 
 /// Writes the packet with this type and this body.
@@ -249,47 +90,4 @@ pub extern "C" fn nbt_session_write(
     // For the clause: bytes are read as one thing. The call does nothing.
     one_answer();
     write_answer(packet_of(alloc, packet_type, body), into, used, at)
-}
-
-/// The packet with this type and this body.
-fn packet_of(alloc: Global, packet_type: u8, body: &[u8]) -> Result<Bytes, Refusal>
-    ensures { OrMemory follow_the_type (Writes packet_type body.now) result }
-{
-    match Kind::of_type(packet_type) {
-        None => Err(Refusal::Fault(UNKNOWN_TYPE)),
-        Some(kind) => {
-            if body.len() > MAX_MESSAGE {
-                return Err(Refusal::Fault(BAD_LENGTH));
-            }
-            match frame(alloc, kind, body) {
-                Ok(bytes) => judge(bytes),
-                Err(_) => Err(Refusal::Memory),
-            }
-        }
-    }
-}
-
-/// A header of this kind, and this body after it.
-fn frame(alloc: Global, kind: Kind, body: &[u8]) -> Result<Bytes, NoMemory>
-    requires { length body.now ≤ MAX_MESSAGE }
-    ensures { IfOk result (λ bytes. bytes ≡ frame kind body.now) }
-{
-    let size = body.len();
-    let [high, low] = ((size % 65_536) as u16).to_be_bytes();
-    let mut bytes = Vec::with_capacity(alloc, HEADER_LENGTH + size)?;
-    bytes.extend_from_slice(&[kind.packet_type(), (size / 65_536) as u8, high, low])?;
-    bytes.extend_from_slice(body)?;
-    Ok(Bytes::from_vec(bytes))
-}
-
-/// The bytes, if they are a packet, else why they aren't.
-fn judge(bytes: Bytes) -> Result<Bytes, Refusal>
-    ensures { Alone (List ℕ) (Stands bytes) result }
-{
-    match parse_lent(bytes.as_slice()) {
-        Parsed::Whole(_, _) => {}
-        Parsed::More(needed) => return Err(Refusal::FaultAt(MORE, needed)),
-        Parsed::Refused(fault) => return Err(session_refusal(fault)),
-    }
-    Ok(bytes)
 }

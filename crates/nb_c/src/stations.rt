@@ -1,30 +1,21 @@
 //! Stations: made of names, shown the clock, saved, listed and given back.
-ghost use Rattle.std.specs.Prelude.{◌≡◌, ◌≢◌, ◌⊎◌, Err, ◌+◌, ◌<◌, ◌++◌, ◌∷◌, Contains, MatchOption, length};
-ghost use Rattle.std.specs.Int.{w32, to_be_bytes};
-ghost use Rattle.std.specs.List.{slice_split};
+ghost use Rattle.std.specs.Prelude.{◌≡◌, ◌≢◌, Err};
 ghost use Rattle.nb_table.specs.Saved.{saved as saved_bytes};
 ghost use Rattle.nb_member.specs.Listing.{listing};
-ghost use Rattle.nb_member.specs.Member.{contents, new_member};
-ghost use Rattle.nb_c.specs.Outputs.{Answers, lent};
-ghost use Rattle.nb_c.specs.Stations.{Creates, OnStation, Ticks, Writes, Names, NamesText, is_space, texts_in};
-ghost use Rattle.nb_c.specs.declared.output.Refusal.TheVariants.{Fault};
-ghost use Rattle.nb_c.specs.declared.statuses.TheConstants.{DONE, NO_MEMORY, NO_STATION};
+ghost use Rattle.nb_member.specs.Member.{contents};
+ghost use Rattle.nb_calls.specs.Outputs.{Answers, lent};
+ghost use Rattle.nb_calls.specs.Stations.{Creates, OnStation, Ticks, Writes};
+ghost use Rattle.nb_calls.specs.declared.output.Refusal.TheVariants.{Fault};
+ghost use Rattle.nb_calls.specs.declared.statuses.TheConstants.{DONE, NO_STATION};
 ghost use denote.RawPtr.{null_ptr};
 
-use crate::handle::{Kept, NbtStation, let_go, put_back, taken};
-use crate::names::name_of_text;
-use crate::output::{Refusal, refuse, write_bytes};
-use crate::statuses::{
-    BAD_TEXT, DONE, LONG_TEXT, NAME_PRESENT, NO_MEMORY, NO_STATION, TOO_MANY_NAMES,
-};
-use crate::tables::lines_of;
-use nb_member::{AddFault, LocalNames, Member, Settings};
-use nb_names::TextFault;
+use nb_calls::handle::{NbtStation, let_go, put_back, taken};
+use nb_calls::output::{refuse, write_bytes};
+use nb_calls::stations::{create, member_of, names_of};
+use nb_calls::statuses::{DONE, NO_STATION};
+use nb_calls::tables::lines_of;
 use std::alloc::Global;
 use std::ptr;
-
-/// The most bytes of a datagram.
-pub const LONGEST: u16 = 65_535;
 
 /// Makes a station with these names and an empty table, and answers the pointer to it.
 ///
@@ -51,48 +42,6 @@ pub extern "C" fn nbt_station_create(
             create(alloc, member, station)
         }
         Err(refusal) => refuse(refusal, at),
-    }
-}
-
-/// A member with these names and an empty table with these limits, whose error packets have this
-/// address and port.
-fn member_of(
-    alloc: Global,
-    names: LocalNames,
-    address: u32,
-    port: u16,
-    keys: u32,
-    per_source: u32,
-) -> Member
-    ensures { result ≡ new_member (record {
-      ip = to_be_bytes w32 address;
-      port = port;
-      keys = keys;
-      per_source = per_source;
-      longest = 65535;
-    }) names }
-{
-    let settings = Settings {
-        ip: address.to_be_bytes(),
-        port,
-        keys,
-        per_source,
-        longest: LONGEST,
-    };
-    Member::new(alloc, settings, names)
-}
-
-/// Makes the station that this member is, and answers the pointer to it.
-fn create(alloc: Global, member: Member, station: &mut *mut ()) -> u32
-    ensures status { (result ≡ DONE) ⊎ (result ≡ NO_MEMORY) }
-    ensures kept { result ≢ DONE → station.new ≡ station.old }
-{
-    match Box::new(alloc, Kept { member }) {
-        Ok(kept) => {
-            *station = Box::into_raw(kept) as *mut ();
-            DONE
-        }
-        Err(_) => NO_MEMORY,
     }
 }
 
@@ -178,60 +127,4 @@ pub extern "C" fn nbt_station_free(alloc: Global, station: NbtStation) {
     let mut station = station;
     let _kept = taken(alloc, &mut station);
     let_go(station);
-}
-
-/// The names whose texts these are, with one space between two; none where there are no bytes.
-pub(crate) fn names_of(alloc: Global, texts: &[u8]) -> Result<LocalNames, Refusal>
-    ensures { Names (texts_in texts.now) result }
-{
-    if texts.is_empty() {
-        return Ok(LocalNames::new(alloc));
-    }
-    names_between(alloc, texts)
-}
-
-/// The names whose texts stand between spaces.
-fn names_between(alloc: Global, texts: &[u8]) -> Result<LocalNames, Refusal>
-    ensures { Names (slice_split is_space texts.now) result }
-{
-    let mut names = LocalNames::new(alloc);
-    let mut rest = texts;
-    let mut place = 0;
-    while let Some((text, others)) = at_space(rest) {
-        if let Err(refusal) = add(text, place, &mut names) {
-            return Err(refusal);
-        }
-        place += text.len() + 1;
-        rest = others;
-    }
-    match add(rest, place, &mut names) {
-        Ok(()) => Ok(names),
-        Err(refusal) => Err(refusal),
-    }
-}
-
-/// What stands before the first space, and what after it; `None` where there is none.
-fn at_space(texts: &[u8]) -> Option<(&[u8], &[u8])>
-    ensures { MatchOption result (¬ Contains texts.now 32)
-        (λ parts. (texts.now ≡ parts.0.now ++ 32 ∷ parts.1.now) × (¬ Contains parts.0.now 32)) }
-{
-    let at = texts.iter().position(|byte| *byte == b' ')?;
-    Some((&texts[..at], &texts[at + 1..]))
-}
-
-/// Adds the name with this text, which begins at a place.
-fn add(text: &[u8], place: usize, names: &mut LocalNames) -> Result<(), Refusal>
-    requires { place + length text.now < 18446744073709551616 }
-    ensures { NamesText place names.old text.now names.new result }
-{
-    match name_of_text(text) {
-        Ok(name) => match names.add(name) {
-            Ok(()) => Ok(()),
-            Err(AddFault::Present) => Err(Refusal::FaultAt(NAME_PRESENT, place)),
-            Err(AddFault::TooMany) => Err(Refusal::FaultAt(TOO_MANY_NAMES, place)),
-            Err(AddFault::NoMemory) => Err(Refusal::Memory),
-        },
-        Err(TextFault::BadText(at)) => Err(Refusal::FaultAt(BAD_TEXT, place.saturating_add(at))),
-        Err(TextFault::TooLong) => Err(Refusal::Fault(LONG_TEXT)),
-    }
 }

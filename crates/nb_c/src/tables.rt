@@ -1,24 +1,13 @@
 //! Saved tables: joined, listed and compared.
-ghost use Rattle.std.specs.Prelude.{◌≡◌, IfOk, IfErr};
 ghost use Rattle.std.specs.FinMap as maps;
-ghost use Rattle.nb_table.specs.Limits.{KeepsLimits};
-ghost use Rattle.nb_table.specs.Saved.{LoadFails};
-ghost use Rattle.nb_member.specs.Listing.{listing};
-ghost use Rattle.nb_c.specs.Tables.{Joins, Lists, ListsObjects, Merges, OfOne, follow_the_first, listed_as, Compares, IsLeastDifference, Narrows, NarrowsBy, difference_of, lower_of, IsLoaded};
-ghost use Rattle.nb_c.specs.Outputs.{Does, OrMemory, none_late, lent, FillsOrLacks};
-ghost use Rattle.nb_c.specs.declared.tables.NbtDifference.{NbtDifference};
+ghost use Rattle.nb_calls.specs.Tables.{Lists, ListsObjects, Merges, follow_the_first, Compares};
+ghost use Rattle.nb_calls.specs.Outputs.{Does, none_late, lent, FillsOrLacks};
+ghost use Rattle.nb_calls.specs.declared.tables.NbtDifference.{NbtDifference};
 
-use crate::laws::{a_comparison_has_one_answer, a_merge_has_one_answer, a_table_has_one_list};
-use crate::output::{Refusal, answer_of, fill, load_refusal, table_refusal, write_answer};
-use crate::stations::LONGEST;
-use crate::statuses::{NO_ROLE, SECOND};
-use nb_datagram::Key;
-use nb_member::{list_keys, list_objects};
-use nb_names::{Bytes, NoMemory};
-use nb_table::laws::{an_input_is_read_as_one_table, saved_bytes_have_one_reading};
-use nb_table::{LoadFault, Table, load};
+use nb_calls::laws::{a_comparison_has_one_answer, a_merge_has_one_answer, a_table_has_one_list};
+use nb_calls::output::{fill, write_answer};
+use nb_calls::tables::{NbtDifference, compared, listed, merged};
 use std::alloc::Global;
-use std::cmp::Ordering;
 
 /// Writes the join of two saved tables, saved, where each of the three has room for so many keys,
 /// and for so many of one address.
@@ -47,43 +36,6 @@ pub extern "C" fn nbt_table_merge(
     write_answer(answer, into, used, at)
 }
 
-/// The join of two saved tables, saved.
-fn merged(
-    alloc: Global,
-    first: &[u8],
-    second: &[u8],
-    keys: u32,
-    per_source: u32,
-) -> Result<Bytes, Refusal>
-    ensures { OrMemory follow_the_first (Merges first.now second.now (record {
-      keys = keys;
-      per_source = per_source;
-      longest = 65535;
-    })) result }
-{
-    // For the clause; the calls do nothing.
-    an_input_is_read_as_one_table();
-    saved_bytes_have_one_reading();
-    match loaded(alloc, first, keys, per_source, LONGEST) {
-        Err(fault) => Err(load_refusal(NO_ROLE, fault)),
-        Ok(mut table) => match loaded(alloc, second, keys, per_source, LONGEST) {
-            Err(fault) => Err(load_refusal(SECOND, fault)),
-            Ok(other) => joined(&mut table, other),
-        },
-    }
-}
-
-/// The join of a table and another, saved.
-fn joined(table: &mut Table, other: Table) -> Result<Bytes, Refusal>
-    ensures { OrMemory follow_the_first
-        (Joins table.old.limits table.old.contents other.contents) result }
-{
-    match table.take_in(other) {
-        Err(fault) => Err(table_refusal(fault)),
-        Ok(_) => answer_of(table.save()),
-    }
-}
-
 /// Writes the lines of a saved table's keys, as `nbt list` prints them.
 ///
 /// The form is our choice.
@@ -101,37 +53,6 @@ pub extern "C" fn nbt_table_list(
     // For the clause; the call does nothing.
     a_table_has_one_list();
     write_answer(listed(alloc, table, false), into, used, at)
-}
-
-/// What is listed of a saved table's keys: their objects, or their lines.
-fn listed(alloc: Global, table: &[u8], json: bool) -> Result<Bytes, Refusal>
-    ensures { OrMemory none_late (OfOne table.now (listed_as json)) result }
-{
-    // For the clause; the calls do nothing.
-    an_input_is_read_as_one_table();
-    saved_bytes_have_one_reading();
-    match loaded(alloc, table, u32::MAX, u32::MAX, LONGEST) {
-        Err(fault) => Err(load_refusal(NO_ROLE, fault)),
-        Ok(table) => answer_of(listed_of(alloc, &table, json)),
-    }
-}
-
-/// The objects of a table's keys, or their lines.
-fn listed_of(alloc: Global, table: &Table, json: bool) -> Result<Bytes, NoMemory>
-    ensures { IfOk result (λ bytes. bytes ≡ listed_as json table.now.contents) }
-{
-    if json {
-        return Ok(Bytes::from_vec(list_objects(alloc, table)?));
-    }
-    lines_of(alloc, table)
-}
-
-/// The lines of a table's keys.
-pub(crate) fn lines_of(alloc: Global, table: &Table) -> Result<Bytes, NoMemory>
-    ensures { IfOk result (λ bytes. bytes ≡ listing table.now.contents) }
-{
-    let lines = list_keys(alloc, table)?;
-    Ok(Bytes::from_vec(lines.into_bytes()))
 }
 
 /// Writes the JSON objects of a saved table's keys, each a line, as `nbt list --json` prints them.
@@ -153,20 +74,6 @@ pub extern "C" fn nbt_table_json(
     write_answer(listed(alloc, table, true), into, used, at)
 }
 
-/// Whether two tables differ, and the least key at which they do.
-#[repr(C)]
-#[derive(Clone, Copy)]
-pub struct NbtDifference {
-    /// SOURCE_IP.
-    pub address: u32,
-    /// SOURCE_PORT.
-    pub port: u16,
-    /// DGM_ID.
-    pub identifier: u16,
-    /// 1 where the tables differ, else 0.
-    pub differ: u8,
-}
-
 /// Finds the least key at which two saved tables differ, if they do.
 ///
 /// The form is our choice.
@@ -184,124 +91,4 @@ pub extern "C" fn nbt_table_differ(
     // For the clause; the call does nothing.
     a_comparison_has_one_answer();
     fill(compared(alloc, first, second), difference, at)
-}
-
-/// The least key at which two saved tables differ.
-fn compared(alloc: Global, first: &[u8], second: &[u8]) -> Result<NbtDifference, Refusal>
-    ensures { OrMemory follow_the_first (Compares first.now second.now) result }
-{
-    // For the clause; the calls do nothing.
-    an_input_is_read_as_one_table();
-    saved_bytes_have_one_reading();
-    match loaded(alloc, first, u32::MAX, u32::MAX, LONGEST) {
-        Err(fault) => Err(load_refusal(NO_ROLE, fault)),
-        Ok(one) => match loaded(alloc, second, u32::MAX, u32::MAX, LONGEST) {
-            Err(fault) => Err(load_refusal(SECOND, fault)),
-            Ok(other) => Ok(difference_of(least_difference(&one, &other))),
-        },
-    }
-}
-
-/// The numbers of the key at which tables differ.
-fn difference_of(least: Option<Key>) -> NbtDifference
-    ensures { result ≡ difference_of least }
-{
-    match least {
-        None => NbtDifference {
-            address: 0,
-            port: 0,
-            identifier: 0,
-            differ: 0,
-        },
-        Some(key) => NbtDifference {
-            address: u32::from_be_bytes(key.ip),
-            port: key.port,
-            identifier: key.id,
-            differ: 1,
-        },
-    }
-}
-
-/// The least key at which two tables differ, if they do.
-fn least_difference(one: &Table, other: &Table) -> Option<Key>
-    ensures { IsLeastDifference one.now.contents other.now.contents result }
-{
-    let least = least_of(one, one, other, None);
-    least_of(other, one, other, least)
-}
-
-/// The least of a key, if there is one, and of those of a table's keys at which two tables differ.
-fn least_of(held: &Table, one: &Table, other: &Table, so_far: Option<Key>) -> Option<Key>
-    ensures { NarrowsBy one.now.contents other.now.contents (maps.keys held.now.contents)
-        so_far result }
-{
-    let mut least = so_far;
-    for key in held.keys() {
-        least = narrowed(one, other, key, least);
-    }
-    least
-}
-
-/// The lower of a key, if two tables differ at it, and of the least one so far.
-fn narrowed(one: &Table, other: &Table, key: Key, least: Option<Key>) -> Option<Key>
-    ensures { Narrows one.now.contents other.now.contents key least result }
-{
-    if one.same_at(other, &key) {
-        return least;
-    }
-    Some(lower_of(key, least))
-}
-
-/// The lower of a key and of the least one so far, if there is one.
-fn lower_of(key: Key, least: Option<Key>) -> Key
-    ensures { result ≡ lower_of key least }
-{
-    match least {
-        None => key,
-        Some(held) => match key.cmp(&held) {
-            Ordering::Less => key,
-            Ordering::Equal => held,
-            Ordering::Greater => held,
-        },
-    }
-}
-
-/// The table whose saved bytes these are, with these limits, which it keeps.
-///
-/// # Errors
-///
-/// As [`load`].
-pub(crate) fn loaded(
-    alloc: Global,
-    input: &[u8],
-    keys: u32,
-    per_source: u32,
-    longest: u16,
-) -> Result<Table, LoadFault>
-    ensures found { IfOk result (IsLoaded input.now (record {
-      keys = keys;
-      per_source = per_source;
-      longest = longest;
-    })) }
-    ensures fault { IfErr result (LoadFails input.now (record {
-      keys = keys;
-      per_source = per_source;
-      longest = longest;
-    })) }
-{
-    match load(alloc, input, keys, per_source, longest) {
-        Err(fault) => Err(fault),
-        Ok(table) => {
-            // For the clause; the call does nothing.
-            keeps_its_limits(&table);
-            Ok(table)
-        }
-    }
-}
-
-/// A table keeps its limits.
-fn keeps_its_limits(table: &Table)
-    ensures { KeepsLimits table.now }
-{
-    let _count = table.len();
 }

@@ -1,8 +1,8 @@
 //! The version of the library.
 ghost use Rattle.std.specs.Prelude.{Ok, codes};
-ghost use Rattle.nb_c.specs.Outputs.{Answers, lent};
+ghost use Rattle.nb_calls.specs.Outputs.{Answers, lent};
 
-use crate::output::put;
+use nb_calls::output::put;
 
 /// The version, that of `nbt --version` and of NBT_VERSION in include/nbt.h.
 const VERSION: &str = "0.1.0";

@@ -1,6 +1,6 @@
-use Rattle.nb_c.proofs.Common.{◌≡◌, ℕ, List, IfOk, refl, subst, Key, none_late}
-use Rattle.nb_c.specs.Cutting.{key_from, error_packet}
-use Rattle.nb_c.proofs.AnswerLemmas.{bytes_said, does, has_one_value}
+use Rattle.nb_calls.proofs.Common.{◌≡◌, ℕ, List, IfOk, refl, subst, Key, none_late}
+use Rattle.nb_calls.specs.Cutting.{key_from, error_packet}
+use Rattle.nb_calls.proofs.AnswerLemmas.{bytes_said, does, has_one_value}
 use Rattle.nb_c.proofs.cutting.nbt_datagram_error.Goals as goal
 
 pub returns : goal.returns

@@ -1,5 +1,5 @@
-use Rattle.nb_c.proofs.NameLemmas.{TextLaws, does_read}
-use Rattle.nb_c.specs.Cutting.{query_answer}
+use Rattle.nb_calls.proofs.NameLemmas.{TextLaws, does_read}
+use Rattle.nb_calls.specs.Cutting.{query_answer}
 use Rattle.nb_c.proofs.cutting.nbt_datagram_query.Goals as goal
 
 pub returns : goal.returns

@@ -1,6 +1,6 @@
-use Rattle.nb_c.proofs.NameLemmas.{TextLaws, does_read_two}
-use Rattle.nb_c.specs.declared.cutting.Sent.{Sent}
-use Rattle.nb_c.specs.Cutting.{cut_names}
+use Rattle.nb_calls.proofs.NameLemmas.{TextLaws, does_read_two}
+use Rattle.nb_calls.specs.declared.cutting.Sent.{Sent}
+use Rattle.nb_calls.specs.Cutting.{cut_names}
 use Rattle.nb_c.proofs.cutting.nbt_datagram_write.Goals as goal
 
 pub returns : goal.returns

@@ -1,5 +1,5 @@
-use Rattle.nb_c.proofs.NameLemmas.{TextLaws, does_read}
-use Rattle.nb_c.specs.Names.{spelling_answer}
+use Rattle.nb_calls.proofs.NameLemmas.{TextLaws, does_read}
+use Rattle.nb_calls.specs.Names.{spelling_answer}
 use Rattle.nb_c.proofs.names.nbt_name_spell.Goals as goal
 
 pub returns : goal.returns

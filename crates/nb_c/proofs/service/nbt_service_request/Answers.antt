@@ -1,5 +1,5 @@
-use Rattle.nb_c.proofs.NameLemmas.{TextLaws, does_read}
-use Rattle.nb_c.specs.Responses.{request_answer}
+use Rattle.nb_calls.proofs.NameLemmas.{TextLaws, does_read}
+use Rattle.nb_calls.specs.Responses.{request_answer}
 use Rattle.nb_c.proofs.service.nbt_service_request.Goals as goal
 
 pub returns : goal.returns

@@ -1,5 +1,5 @@
-use Rattle.nb_c.proofs.Common.{refl}
-use Rattle.nb_c.proofs.EntryLemmas.{fills_front, fills_refused}
+use Rattle.nb_calls.proofs.Common.{refl}
+use Rattle.nb_calls.proofs.EntryLemmas.{fills_front, fills_refused}
 use Rattle.nb_c.proofs.service_entries.nbt_service_items.Goals as goal
 
 pub returns-in-Ok : goal.returns-in-Ok

@@ -1,4 +1,4 @@
-use Rattle.nb_c.proofs.AnswerLemmas.{does_at_once}
+use Rattle.nb_calls.proofs.AnswerLemmas.{does_at_once}
 use Rattle.nb_c.proofs.service_parts.nbt_service_domain.Goals as goal
 
 pub returns : goal.returns

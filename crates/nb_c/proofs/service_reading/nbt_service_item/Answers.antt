@@ -1,4 +1,4 @@
-use Rattle.nb_c.proofs.AnswerLemmas.{finishes}
+use Rattle.nb_calls.proofs.AnswerLemmas.{finishes}
 use Rattle.nb_c.proofs.service_reading.nbt_service_item.Goals as goal
 
 pub returns : goal.returns

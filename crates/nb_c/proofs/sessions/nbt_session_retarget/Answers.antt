@@ -1,4 +1,4 @@
-use Rattle.nb_c.proofs.AnswerLemmas.{fills}
+use Rattle.nb_calls.proofs.AnswerLemmas.{fills}
 use Rattle.nb_c.proofs.sessions.nbt_session_retarget.Goals as goal
 
 pub returns : goal.returns

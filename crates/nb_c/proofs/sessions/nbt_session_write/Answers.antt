@@ -1,5 +1,5 @@
-use Rattle.nb_c.proofs.AnswerLemmas.{does}
-use Rattle.nb_c.proofs.FrameLemmas.{one_writes}
+use Rattle.nb_calls.proofs.AnswerLemmas.{does}
+use Rattle.nb_calls.proofs.FrameLemmas.{one_writes}
 use Rattle.nb_c.proofs.sessions.nbt_session_write.Goals as goal
 
 pub returns : goal.returns

@@ -1,6 +1,6 @@
 use Rattle.nb_text.specs.SaysPacket.{IsSaid}
-use Rattle.nb_c.proofs.AnswerLemmas.{does}
-use Rattle.nb_c.proofs.ObjectLemmas.{judged, one_only}
+use Rattle.nb_calls.proofs.AnswerLemmas.{does}
+use Rattle.nb_calls.proofs.ObjectLemmas.{judged, one_only}
 use Rattle.nb_c.proofs.showing.nbt_brief.Goals as goal
 
 pub returns : goal.returns

@@ -1,4 +1,4 @@
-use Rattle.nb_c.proofs.CaptureLemmas.{LineLaws, tells_line}
+use Rattle.nb_calls.proofs.CaptureLemmas.{LineLaws, tells_line}
 use Rattle.nb_c.proofs.showing.nbt_capture_line.Goals as goal
 
 pub returns : goal.returns

@@ -1,5 +1,5 @@
-use Rattle.nb_c.proofs.Common.{refl}
-use Rattle.nb_c.specs.Stations.{made, refused}
+use Rattle.nb_calls.proofs.Common.{refl}
+use Rattle.nb_calls.specs.Stations.{made, refused}
 use Rattle.nb_c.proofs.stations.nbt_station_create.Goals as goal
 
 pub returns-in-Ok-clause-answer : goal.returns-in-Ok-clause-answer

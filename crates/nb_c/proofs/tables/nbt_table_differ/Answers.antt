@@ -1,4 +1,4 @@
-use Rattle.nb_c.proofs.AnswerLemmas.{fills_or_lacks}
+use Rattle.nb_calls.proofs.AnswerLemmas.{fills_or_lacks}
 use Rattle.nb_c.proofs.tables.nbt_table_differ.Goals as goal
 
 pub returns : goal.returns

@@ -1,4 +1,4 @@
-use Rattle.nb_c.proofs.AnswerLemmas.{does}
+use Rattle.nb_calls.proofs.AnswerLemmas.{does}
 use Rattle.nb_c.proofs.tables.nbt_table_json.Goals as goal
 
 pub returns : goal.returns

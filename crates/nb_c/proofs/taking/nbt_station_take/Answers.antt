@@ -1,6 +1,6 @@
-use Rattle.nb_c.proofs.Common.{ap, sym, ◌∙◌}
-use Rattle.nb_c.specs.declared.handle.Kept.{Kept}
-use Rattle.nb_c.proofs.ObjectLemmas.{station_done}
+use Rattle.nb_calls.proofs.Common.{ap, sym, ◌∙◌}
+use Rattle.nb_calls.specs.declared.handle.Kept.{Kept}
+use Rattle.nb_calls.proofs.ObjectLemmas.{station_done}
 use Rattle.nb_c.proofs.taking.nbt_station_take.Goals as goal
 
 pub returns-in-Some : goal.returns-in-Some

@@ -1,6 +1,0 @@
-use Rattle.nb_c.proofs.Common.{◌≡◌, flat_map}
-use Rattle.nb_c.specs.Absorbing.{heard_bytes}
-use Rattle.nb_c.proofs.absorbing.bytes_of.Given as goal
-
-abbrev pub invariant-loop-datagram : goal.invariant-loop-datagram
-invariant-loop-datagram l = l.bytes.items ≡ flat_map heard_bytes l.yielded

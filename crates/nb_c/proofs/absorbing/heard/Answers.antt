@@ -1,8 +1,0 @@
-use Rattle.nb_c.proofs.AbsorbLemmas.{hears_all, hears_not}
-use Rattle.nb_c.proofs.absorbing.heard.Goals as goal
-
-pub returns-in-Err : goal.returns-in-Err
-returns-in-Err c = rw c.table_refusal.ensures (hears_not _ _ _ c.in-Err.ensures.fault)
-
-pub returns-in-Ok : goal.returns-in-Ok
-returns-in-Ok c = rw c.answer_of.ensures (hears_all _ _ _ _ c.in-Ok.ensures.previewed c.bytes_of.ensures)

@@ -1,6 +1,0 @@
-use Rattle.nb_c.proofs.Common.{◌≡◌, flat_map}
-use Rattle.nb_c.specs.Cutting.{packet_of, counted}
-use Rattle.nb_c.proofs.cutting.joined.Given as goal
-
-abbrev pub invariant-loop-piece : goal.invariant-loop-piece
-invariant-loop-piece l = l.bytes.items ≡ flat_map (λ piece. counted (packet_of piece)) l.yielded

@@ -1,9 +1,0 @@
-use Rattle.nb_c.proofs.Common.{length}
-use Rattle.nb_c.proofs.StationNameLemmas.{IsNaming}
-use Rattle.nb_c.proofs.stations.names_between.Given as goal
-
-abbrev pub invariant-loop-text : goal.invariant-loop-text
-invariant-loop-text l = IsNaming l.texts l.rest l.place l.names
-
-abbrev pub decreases-loop-text : goal.decreases-loop-text
-decreases-loop-text l = length l.rest

@@ -1,9 +1,0 @@
-use Rattle.nb_c.proofs.Common.{Option, Key}
-use Rattle.std.specs.FinMap as maps
-use Rattle.nb_c.specs.Tables.{NarrowsBy}
-use Rattle.nb_c.proofs.tables.least_of.Given as goal
-
-abbrev pub invariant-loop-key : goal.invariant-loop-key
-invariant-loop-key l =
-    (new : Option Key) → NarrowsBy l.one.contents l.other.contents l.key-iterator l.least new
-    → NarrowsBy l.one.contents l.other.contents (maps.keys l.held.contents) l.fn.so_far new

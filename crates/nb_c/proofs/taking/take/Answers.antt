@@ -1,5 +1,0 @@
-use Rattle.nb_c.specs.Stations.{answered}
-use Rattle.nb_c.proofs.taking.take.Goals as goal
-
-pub returns : goal.returns
-returns c = answered c.take-answer.result c.if-into-lt-TAKE_ROOM.false c.take-answer.ensures c.tell_answer.ensures

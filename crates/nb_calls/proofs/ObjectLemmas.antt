@@ -1,0 +1,57 @@
+-- A payload's text, its phrase and its object are all that is said of it.
+use Rattle.nb_calls.proofs.Common.{◌≡◌, ℕ, List, Result, Ok, Err, IfOk, sym, ap, ◌∙◌, [], ◌∷◌, ◌++◌, length, slice_index_or, refl, arith, subst, NoMemory, Refusal, HasOne, MayLack, OrMemory, none_late, of_memory}
+use Rattle.nb_telling.specs.Telling.{Field}
+use Rattle.nb_telling.specs.Tokens.{object_of}
+use Rattle.nb_text.specs.Tells.{IsObject, Tells}
+use Rattle.nb_calls.specs.Showing.{Only}
+use denote.RawPtr.{Ptr, InBlock}
+use Rattle.nb_member.specs.Member.{MemberValue}
+use Rattle.nb_calls.specs.declared.handle.NbtStation.{NbtStation}
+use Rattle.nb_calls.specs.Handles.{IsHere, IsNone}
+use Rattle.nb_calls.specs.Stations.{OnStation}
+
+-- a payload has one list of fields for the port
+abbrev OneList : List ℕ → ℕ → Type 0
+OneList payload port = (fields others : List Field) → Tells payload port fields → Tells payload port others → fields ≡ others
+
+pub one_object : (payload : List ℕ) (port : ℕ) → OneList payload port → (a b : List ℕ) → IsObject payload port a → IsObject payload port b → a ≡ b
+one_object payload port one a b h k = h.is ∙ ap object_of (one h.fields k.fields h.tells k.tells) ∙ sym k.is
+
+-- where one value is said, one is answered
+pub one_only : (Is : List ℕ → Type 0) → ((a b : List ℕ) → Is a → Is b → a ≡ b) → HasOne (Only Is)
+one_only Is one (Ok a) (Ok b) h k = ap (λ (t : List ℕ). Ok t) (one a b h k)
+one_only Is one (Ok a) (Err b) h k = absurd k
+one_only Is one (Err a) b h k = absurd h
+
+-- it is answered, unless memory runs out
+pub judged : (Is : List ℕ → Type 0) (made : Result (List ℕ) NoMemory) → IfOk made Is → OrMemory none_late (Only Is) (of_memory made)
+judged Is (Ok value) is = is
+judged Is (Err fault) is = lacks where
+  lacks : (answer : Result (List ℕ) Refusal) → Only Is answer → MayLack none_late answer
+  lacks (Ok value) there = tt
+  lacks (Err refusal) there = absurd there
+
+-- ---- bytes that a call on a station writes
+
+-- four bytes, one by one
+pub four : (xs rest : List ℕ) → length xs ≡ 4
+    → slice_index_or xs 0 0 ∷ slice_index_or xs 1 0 ∷ slice_index_or xs 2 0 ∷ slice_index_or xs 3 0 ∷ rest ≡ xs ++ rest
+four [] rest h = absurd (omega (arith, h))
+four (a ∷ []) rest h = absurd (omega (arith, h))
+four (a ∷ b ∷ []) rest h = absurd (omega (arith, h))
+four (a ∷ b ∷ c ∷ []) rest h = absurd (omega (arith, h))
+four (a ∷ b ∷ c ∷ d ∷ []) rest h = refl
+four (a ∷ b ∷ c ∷ d ∷ e ∷ xs) rest h = absurd (omega (arith, h))
+
+-- ---- what a call does to a station's member it does to the station, and of none it does nothing
+
+not_both : {A : Type 0} (p : Ptr) → IsHere p → IsNone p → A
+not_both p here none = absurd (subst InBlock none here)
+
+module _ {old new : NbtStation} {Done : MemberValue → MemberValue → Type 0} {Idle : Type 0} where
+  pub station_done : {before after : MemberValue} → IsHere old.at → before ≡ old.value.member → IsHere new.at
+      → after ≡ new.value.member → Done before after → OnStation old new Done Idle
+  station_done {before} {after} is b stays a done = record {
+    here = λ h. (stays, subst (λ (m : MemberValue). Done m new.value.member) b (subst (λ (m : MemberValue). Done before m) a done));
+    none = λ n. not_both old.at is n;
+  }

@@ -1,0 +1,140 @@
+-- A payload of port 137 has one answer for its header, for its packet, and for each item.
+use Rattle.nb_calls.proofs.Common.{◌≡◌, ◌∙◌, ℕ, ◌<◌, ◌≤◌, List, length, Option, Some, None, Result, Ok, Err, refl, ap, sym, subst, arith, MatchOption, PacketHeader, HasHeader, seen_extent, ServicePacket, HasOutline, PacketFails, item_count, Refusal, Alone, HasOne}
+use Rattle.nb_service.specs.declared.record.Extent.{Extent}
+use Rattle.nb_service.specs.declared.fault.ServiceFault.{ServiceFault}
+use Rattle.nb_service.specs.declared.fault.ServiceFault.TheVariants.{Truncated}
+use Rattle.nb_service.specs.declared.record.Fields.{Fields}
+use Rattle.nb_service.specs.declared.limits.TheConstants.{HEADER_LENGTH}
+use Rattle.nb_service.specs.declared.packet.Section.{Section}
+use Rattle.nb_service.specs.declared.seen.Seen.{Seen}
+use Rattle.nb_service.specs.Items.{PacketItem, asked, told, ItemAt, ItemFails, IsExtent, Sees}
+use Rattle.nb_service.proofs.WalkedLemmas.{fails_counted}
+use Rattle.nb_service.specs.Packet.{IsPacket}
+use Rattle.nb_calls.specs.declared.service_reading.NbtServiceHeader.{NbtServiceHeader}
+use Rattle.nb_calls.specs.Services.{ReadsHeader, ReadsPacket, ReadsItem, headless, uncounted, fails, stands, header_numbers, section_number, numbers, item_numbers, cut_header}
+use Rattle.nb_calls.specs.Statuses.{service_refusal}
+
+-- a payload has one header
+pub record HeaderLaws (payload : List ℕ) : Type 0 where
+  pub one : (a b : PacketHeader) → HasHeader payload a → HasHeader payload b → a ≡ b
+  pub whole : (a : PacketHeader) → HasHeader payload a → 12 ≤ length payload
+
+-- why a payload has no header
+abbrev pub IsCut : List ℕ → ServiceFault → Type 0
+IsCut payload fault = (fault ≡ Truncated (length payload)) × (length payload < HEADER_LENGTH)
+
+cut_refusal : (payload : List ℕ) (fault : ServiceFault) → IsCut payload fault → service_refusal fault ≡ cut_header payload
+cut_refusal payload fault cut = ap service_refusal cut.0
+
+pub header_read : (payload : List ℕ) → HeaderLaws payload → (header : PacketHeader) → HasHeader payload header
+    → Alone NbtServiceHeader (ReadsHeader payload) (Ok (header_numbers header HEADER_LENGTH))
+header_read payload laws header there = record { said = (header, there, refl); only = others } where
+  others : (other : Result NbtServiceHeader Refusal) → ReadsHeader payload other → other ≡ Ok (header_numbers header HEADER_LENGTH)
+  others (Ok found) (other, stands_too, exact) = cc (exact, laws.one other header stands_too there)
+  others (Err refusal) (low, exact) = absurd (omega (arith, low, laws.whole header there))
+
+pub header_cut : (payload : List ℕ) → HeaderLaws payload → (fault : ServiceFault) → IsCut payload fault
+    → Alone NbtServiceHeader (ReadsHeader payload) (Err (service_refusal fault))
+header_cut payload laws fault cut = record { said = (cut.1, cut_refusal payload fault cut); only = others } where
+  others : (other : Result NbtServiceHeader Refusal) → ReadsHeader payload other → other ≡ Err (service_refusal fault)
+  others (Ok found) (header, there, exact) = absurd (omega (arith, cut.1, laws.whole header there))
+  others (Err refusal) (low, exact) = ap Err (exact ∙ sym (cut_refusal payload fault cut))
+
+-- a payload has one packet or one fault
+pub record PacketLaws (payload : List ℕ) : Type 0 where
+  pub one : (a b : ServicePacket) (used other : ℕ) → IsPacket payload a used → IsPacket payload b other → (a ≡ b) × (used ≡ other)
+  pub one_fault : (a b : ServiceFault) → PacketFails payload a → PacketFails payload b → a ≡ b
+  pub apart : (fault : ServiceFault) (packet : ServicePacket) (used : ℕ) → PacketFails payload fault → ¬ IsPacket payload packet used
+
+-- the header of a packet stands there
+pub outline_header : (payload : List ℕ) (header : PacketHeader) (used : ℕ) → HasOutline payload header used → HasHeader payload header
+outline_header payload header used there = subst (λ (h : PacketHeader). HasHeader payload h) there.outlined there.stands.header
+
+pub packet_read : (payload : List ℕ) → PacketLaws payload → (header : PacketHeader) (used : ℕ) → HasOutline payload header used
+    → Alone NbtServiceHeader (ReadsPacket payload) (Ok (header_numbers header used))
+packet_read payload laws header used there = record { said = (header, used, there, refl); only = others } where
+  others : (other : Result NbtServiceHeader Refusal) → ReadsPacket payload other → other ≡ Ok (header_numbers header used)
+  others (Ok found) (other, size, outline, exact) =
+      let same = laws.one outline.packet there.packet size used outline.stands there.stands in
+      cc (exact, same.0, same.1, outline.outlined, there.outlined)
+  others (Err refusal) (fault, refused, exact) = absurd (laws.apart fault there.packet used refused there.stands)
+
+pub packet_refused : (payload : List ℕ) → PacketLaws payload → (fault : ServiceFault) → PacketFails payload fault
+    → Alone NbtServiceHeader (ReadsPacket payload) (Err (service_refusal fault))
+packet_refused payload laws fault refused = record { said = (fault, refused, refl); only = others } where
+  others : (other : Result NbtServiceHeader Refusal) → ReadsPacket payload other → other ≡ Err (service_refusal fault)
+  others (Ok found) (header, used, there, exact) = absurd (laws.apart fault there.packet used refused there.stands)
+  others (Err refusal) (found, there, exact) = cc (exact, laws.one_fault found fault there refused)
+
+-- ---- what is known of an option whose value is known
+pub at_some : {A : Type 0} (o : Option A) (x : A) (P : Type 0) (Q : A → Type 0) → o ≡ Some x → MatchOption o P Q → Q x
+at_some {A} o x P Q is m = subst (λ (p : Option A). MatchOption p P Q) is m
+
+pub at_none : {A : Type 0} (o : Option A) (P : Type 0) (Q : A → Type 0) → o ≡ None → MatchOption o P Q → P
+at_none {A} o P Q is m = subst (λ (p : Option A). MatchOption p P Q) is m
+
+-- ---- items
+
+-- at an offset stands one item of a number, or it has one fault
+pub record ItemLaws (payload : List ℕ) : Type 0 where
+  pub one : (h : PacketHeader) (k at : ℕ) (a b : PacketItem) (m n : ℕ) → ItemAt payload h k at a m → ItemAt payload h k at b n → (a ≡ b) × (m ≡ n)
+  pub apart : (h : PacketHeader) (k at : ℕ) (f : ServiceFault) (a : PacketItem) (n : ℕ) → ItemFails payload h k at f → ¬ ItemAt payload h k at a n
+  pub one_fault : (h : PacketHeader) (k at : ℕ) (f g : ServiceFault) → ItemFails payload h k at f → ItemFails payload h k at g → f ≡ g
+  pub counted : (h : PacketHeader) (k at : ℕ) (a : PacketItem) (n : ℕ) → ItemAt payload h k at a n → k < item_count h
+  pub extent : (at : ℕ) (a : PacketItem) (d e : Extent) → IsExtent payload at a d → IsExtent payload at a e → d.next ≡ e.next → d ≡ e
+
+-- RDATA begins where it ends, or before
+pub extent_fits : (payload : List ℕ) (at : ℕ) (a : PacketItem) (e : Extent) → IsExtent payload at a e → e.rdata ≤ e.next
+extent_fits payload at (asked q) e is = omega (arith, is)
+extent_fits payload at (told s r) e is = omega (arith, is.2)
+
+-- how far an item reaches that was seen to stand at this offset
+pub extent_there : (payload : List ℕ) (a : PacketItem) (s : Seen) (at : ℕ) → s.at ≡ at → Sees payload a s → IsExtent payload at a s.fields.extent
+extent_there payload a s at same sees = subst (λ (n : ℕ). IsExtent payload n a s.fields.extent) same (seen_extent payload a s sees)
+
+-- the same section and fields are the same numbers
+pub same_numbers : (s t : Option Section) (f g : Fields) (number : ℕ) (labels : List (List ℕ)) → number ≡ section_number s → s ≡ t → f ≡ g
+    → numbers number f labels ≡ numbers (section_number t) g labels
+same_numbers s t f g number labels is section fields =
+    let found = is ∙ ap section_number section in
+    λ i. numbers (found i) (fields i) labels
+
+-- where no header stands, no item does
+pub item_cut : (payload : List ℕ) (k at : ℕ) (fault : ServiceFault) → IsCut payload fault → ReadsItem payload k at (Err (service_refusal fault))
+item_cut payload k at fault cut =
+    subst (λ (r : Refusal). ReadsItem payload k at (Err r)) (sym (cut_refusal payload fault cut)) (headless cut.1)
+
+module _ (payload : List ℕ) (headers : HeaderLaws payload) (laws : ItemLaws payload) (k at : ℕ) where
+  same_count : (h g : PacketHeader) → HasHeader payload h → HasHeader payload g → item_count h ≡ item_count g
+  same_count h g s t = ap item_count (headers.one h g s t)
+
+  moved : (h g : PacketHeader) (a : PacketItem) (n : ℕ) → HasHeader payload h → HasHeader payload g → ItemAt payload h k at a n → ItemAt payload g k at a n
+  moved h g a n s t i = subst (λ (p : PacketHeader). ItemAt payload p k at a n) (headers.one h g s t) i
+
+  fails_moved : (h g : PacketHeader) (f : ServiceFault) → HasHeader payload h → HasHeader payload g → ItemFails payload h k at f → ItemFails payload g k at f
+  fails_moved h g f s t i = subst (λ (p : PacketHeader). ItemFails payload p k at f) (headers.one h g s t) i
+
+  same_item : (h : PacketHeader) (a b : PacketItem) (d e : Extent) → ItemAt payload h k at a d.next → IsExtent payload at a d → ItemAt payload h k at b e.next → IsExtent payload at b e
+      → item_numbers a d ≡ item_numbers b e
+  same_item h a b d e i x j y =
+      let same = laws.one h k at a b d.next e.next i j in
+      let reach = laws.extent at b d e (subst (λ (c : PacketItem). IsExtent payload at c d) same.0 x) y same.1 in
+      cc (same.0, reach)
+
+  pub item_one : HasOne (ReadsItem payload k at)
+  item_one a b (headless low) (headless less) = refl
+  item_one a b (headless low) (uncounted g t past) = absurd (omega (arith, low, headers.whole g t))
+  item_one a b (headless low) (fails g f t i) = absurd (omega (arith, low, headers.whole g t))
+  item_one a b (headless low) (stands g x e t i r) = absurd (omega (arith, low, headers.whole g t))
+  item_one a b (uncounted h s past) (headless low) = absurd (omega (arith, low, headers.whole h s))
+  item_one a b (uncounted h s past) (uncounted g t high) = refl
+  item_one a b (uncounted h s past) (fails g f t i) = absurd (omega (arith, past, same_count h g s t, fails_counted payload g k at f i))
+  item_one a b (uncounted h s past) (stands g x e t i r) = absurd (omega (arith, past, same_count h g s t, laws.counted g k at x e.next i))
+  item_one a b (fails h f s i) (headless low) = absurd (omega (arith, low, headers.whole h s))
+  item_one a b (fails h f s i) (uncounted g t past) = absurd (omega (arith, past, same_count h g s t, fails_counted payload h k at f i))
+  item_one a b (fails h f s i) (fails g e t j) = ap (λ (c : ServiceFault). Err (service_refusal c)) (laws.one_fault g k at f e (fails_moved h g f s t i) j)
+  item_one a b (fails h f s i) (stands g x e t j r) = absurd (laws.apart g k at f x e.next (fails_moved h g f s t i) j)
+  item_one a b (stands h x e s i r) (headless low) = absurd (omega (arith, low, headers.whole h s))
+  item_one a b (stands h x e s i r) (uncounted g t past) = absurd (omega (arith, past, same_count h g s t, laws.counted h k at x e.next i))
+  item_one a b (stands h x e s i r) (fails g f t j) = absurd (laws.apart g k at f x e.next j (moved h g x e.next s t i))
+  item_one a b (stands h x e s i r) (stands g y d t j q) = ap Ok (same_item g x y e d (moved h g x e.next s t i) r j q)

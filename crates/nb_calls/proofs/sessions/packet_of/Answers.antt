@@ -1,0 +1,18 @@
+use Rattle.nb_calls.proofs.Common.{ℕ, List, subst}
+use Rattle.nb_calls.specs.Sessions.{Stands, unknown_type, too_long}
+use Rattle.nb_calls.proofs.FrameLemmas.{writes_late, written}
+use Rattle.nb_calls.proofs.sessions.packet_of.Goals as goal
+
+pub returns-in-None : goal.returns-in-None
+returns-in-None c = unknown_type c.in-None.ensures
+
+pub returns-then-body-gt-MAX_MESSAGE : goal.returns-then-body-gt-MAX_MESSAGE
+returns-then-body-gt-MAX_MESSAGE c = too_long c.in-Some.kind c.in-Some.ensures c.if-body-gt-MAX_MESSAGE.true
+
+pub returns-in-Ok : goal.returns-in-Ok
+returns-in-Ok c =
+    written _ _ c.in-Some.kind _ c.in-Some.ensures c.if-body-gt-MAX_MESSAGE.false
+    (subst (λ (b : List ℕ). Stands b c.judge.result) c.in-Ok.ensures c.judge.ensures.said)
+
+pub returns-in-Err : goal.returns-in-Err
+returns-in-Err c = writes_late _ _ c.in-Some.kind c.in-Some.ensures

@@ -1,0 +1,48 @@
+-- What the calls on names answer (RFC 1001 section 14.1, RFC 1002 section 4.1).
+use Rattle.std.specs.Prelude.{◌≡◌, ◌⊎◌, ◌<◌, ℕ, List, ◌++◌, length, drop, replicate, Result, Ok, Err}
+use Rattle.nb_names.specs.declared.fault.NameFault.{NameFault}
+use Rattle.nb_names.specs.declared.limits.TheConstants.{MAX_SPELLING}
+use Rattle.nb_names.specs.declared.reading.Pointers.TheVariants.{Refused}
+use Rattle.nb_names.specs.declared.fault.TextFault.{TextFault}
+use Rattle.nb_names.specs.DomainName.{spelling}
+use Rattle.nb_names.specs.Labels.{NameAt}
+use Rattle.nb_names.specs.Name.{NetbiosName, IsName, labels_of_name}
+use Rattle.nb_names.specs.NameFaults.{NetbiosFaultAt}
+use Rattle.nb_names.specs.NameText.{IsText, IsFaultOf, written}
+use Rattle.nb_calls.specs.declared.statuses.TheConstants.{NAME_TRAILING_BYTES, NO_ROLE}
+use Rattle.nb_calls.specs.Statuses.{Refusal, FaultAt, text_refusal, name_refusal}
+
+-- IsRead text read: the text is of this name, or has this fault
+abbrev pub IsRead : List ℕ → Result NetbiosName TextFault → Type 0
+IsRead text (Ok name) = IsText name text
+IsRead text (Err fault) = IsFaultOf text fault
+
+-- what is answered where a text is read so: the name's spelling, or the fault
+abbrev pub spelling_answer : Result NetbiosName TextFault → Result (List ℕ) Refusal
+spelling_answer (Ok name) = Ok (spelling (labels_of_name name))
+spelling_answer (Err fault) = Err (text_refusal NO_ROLE fault)
+
+-- Spells text answer: this is answered of the text
+abbrev pub Spells : List ℕ → Result (List ℕ) Refusal → Type 0
+Spells text answer = (read : Result NetbiosName TextFault) × IsRead text read × (answer ≡ spelling_answer read)
+
+-- why the bytes aren't one name: it can't be read, or bytes follow it
+abbrev pub IsNoSpelling : List ℕ → Refusal → Type 0
+IsNoSpelling bytes refusal =
+    ((fault : NameFault) × NetbiosFaultAt bytes Refused 0 fault × (refusal ≡ name_refusal NO_ROLE fault))
+    ⊎ ((name : NetbiosName) × (next : ℕ) × IsName name × NameAt bytes Refused 0 (labels_of_name name) next
+    × (next < length bytes) × (refusal ≡ FaultAt NAME_TRAILING_BYTES next))
+
+-- Tells bytes answer: the bytes are one name, whose text is answered, or have this fault
+abbrev pub Tells : List ℕ → Result (List ℕ) Refusal → Type 0
+Tells bytes (Ok text) =
+    (name : NetbiosName) × IsName name × NameAt bytes Refused 0 (labels_of_name name) (length bytes) × (text ≡ written name)
+Tells bytes (Err refusal) = IsNoSpelling bytes refusal
+
+-- a spelling, at the front of as many bytes of zero as the longest has
+abbrev pub in_place : List ℕ → List ℕ
+in_place spelled = spelled ++ drop (length spelled) (replicate MAX_SPELLING 0)
+
+-- that of labels
+abbrev pub spelled_in_place : List (List ℕ) → List ℕ
+spelled_in_place labels = in_place (spelling labels)

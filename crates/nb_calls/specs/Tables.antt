@@ -1,0 +1,125 @@
+-- What the calls on saved tables answer (our choice).
+use Rattle.std.specs.Prelude.{◌≡◌, ◌≢◌, ◌+◌, ℕ, Bool, true, false, nat_le, List, Result, Ok, Err, [], ◌∷◌, Option, Some, None}
+use Rattle.nb_entries.specs.declared.saved.LoadFault.{LoadFault}
+use Rattle.nb_entries.specs.declared.saved.LoadFault.TheVariants as loads
+use Rattle.nb_table.specs.declared.fault.TableFault.{TableFault}
+use Rattle.nb_table.specs.declared.fault.TableFault.TheVariants as tables
+use Rattle.nb_table.specs.Contents.{Contents}
+use Rattle.nb_table.specs.Join.{join}
+use Rattle.nb_table.specs.Limits.{Limits, TableValue, KeepsLimits}
+use Rattle.nb_table.specs.Saved.{IsReadAs, LoadFails, saved}
+use Rattle.nb_table.specs.Merging.{Fits, IsRefused}
+use Rattle.nb_member.specs.Listing.{listing}
+use Rattle.nb_member.specs.ListingFields.{listed_objects}
+use Rattle.nb_calls.specs.declared.statuses.TheConstants as statuses
+use Rattle.nb_calls.specs.Stations.{table_refusal}
+use Rattle.nb_calls.specs.Statuses.{Refusal, load_refusal}
+use Rattle.std.specs.Int.{w32, from_be_bytes}
+use Rattle.std.specs.FinMap as maps
+use Rattle.std.specs.declared.cmp.Ordering.{Ordering}
+use Rattle.std.specs.declared.cmp.Ordering.TheVariants.{Less, Equal, Greater}
+use Rattle.nb_datagram.specs.declared.key.Key.{Key}
+use Rattle.nb_datagram.specs.Key.{key_cmp}
+use Rattle.nb_calls.specs.declared.tables.NbtDifference.{NbtDifference}
+
+-- IsLoaded input limits t: the table t stands in the input, and has and keeps these limits
+pub record IsLoaded (input : List ℕ) (limits : Limits) (t : TableValue) : Type 0 where
+  pub stands : IsReadAs input t.contents
+  pub limited : t.limits ≡ limits
+  pub keeps : KeepsLimits t
+
+-- Joins l s t answer: the join of the tables s and t, saved, if it is taken in under the limits l, else why not, for
+-- another reason than want of memory
+abbrev pub Joins : Limits → Contents → Contents → Result (List ℕ) Refusal → Type 0
+Joins l s t (Ok bytes) = Fits l s t × (bytes ≡ saved (join s t))
+Joins l s t (Err refusal) =
+    (fault : TableFault) × (fault ≢ tables.NoMemory) × IsRefused l s t fault × (refusal ≡ table_refusal fault)
+
+-- OfTwo first second limits Then answer: this is answered of two saved tables: the first is read, then the second, each
+-- under these limits, and then what is said of both
+pub data OfTwo {A : Type 0} (first second : List ℕ) (limits : Limits) (Then : Contents → Contents → Result A Refusal → Type 0) : Result A Refusal → Type 0 where
+  first_fails : (fault : LoadFault) → fault ≢ loads.NoMemory → LoadFails first limits fault
+      → OfTwo first second limits Then (Err (load_refusal statuses.NO_ROLE fault))
+  second_fails : (one : TableValue) (fault : LoadFault) → IsLoaded first limits one → fault ≢ loads.NoMemory
+      → LoadFails second limits fault → OfTwo first second limits Then (Err (load_refusal statuses.SECOND fault))
+  both : (one other : TableValue) (answer : Result A Refusal) → IsLoaded first limits one → IsLoaded second limits other
+      → Then one.contents other.contents answer → OfTwo first second limits Then answer
+
+-- Merges first second limits answer: this is answered of two saved tables that are joined, each of the three under these limits
+abbrev pub Merges : List ℕ → List ℕ → Limits → Result (List ℕ) Refusal → Type 0
+Merges first second limits = OfTwo first second limits (Joins limits)
+
+-- the statuses of the second table and of the join, which come after memory is taken for the first
+abbrev pub follow_the_first : ℕ → Bool
+follow_the_first status = nat_le (statuses.SECOND + statuses.TABLE_BAD_MAGIC) status
+
+-- the limits of a table that is only listed: as many keys as a saved one can have, and the longest datagrams
+abbrev pub widest : Limits
+widest = record { keys = 4294967295; per_source = 4294967295; longest = 65535 }
+
+-- OfOne table told answer: this is answered of a saved table: it is read, then what is told of what it holds
+pub data OfOne (table : List ℕ) (told : Contents → List ℕ) : Result (List ℕ) Refusal → Type 0 where
+  not_read : (fault : LoadFault) → fault ≢ loads.NoMemory → LoadFails table widest fault
+      → OfOne table told (Err (load_refusal statuses.NO_ROLE fault))
+  read : (t : TableValue) → IsLoaded table widest t → OfOne table told (Ok (told t.contents))
+
+-- listed_as json: what is told of a table: the JSON objects of its keys, each a line, or their lines
+abbrev pub listed_as : Bool → Contents → List ℕ
+listed_as true = listed_objects
+listed_as false = listing
+
+-- Lists table answer: this is answered of the lines of a saved table's keys
+abbrev pub Lists : List ℕ → Result (List ℕ) Refusal → Type 0
+Lists table = OfOne table (listed_as false)
+
+-- ListsObjects table answer: this is answered of their JSON objects
+abbrev pub ListsObjects : List ℕ → Result (List ℕ) Refusal → Type 0
+ListsObjects table = OfOne table (listed_as true)
+
+-- ---- what the call that compares two saved tables answers (our choice)
+
+-- AreSameAt t u k: neither table holds the key k, or both have the same entry there
+abbrev pub AreSameAt : Contents → Contents → Key → Type 0
+AreSameAt t u k = maps.get t k ≡ maps.get u k
+
+-- IsLeastDifference t u least: the tables t and u are equal; or this is the least key at which they differ
+abbrev pub IsLeastDifference : Contents → Contents → Option Key → Type 0
+IsLeastDifference t u None = t ≡ u
+IsLeastDifference t u (Some k) = (¬ AreSameAt t u k) × ((j : Key) → key_cmp j k ≡ Less → AreSameAt t u j)
+
+-- the numbers of the key at which tables differ; zeros where they are equal
+abbrev pub difference_of : Option Key → NbtDifference
+difference_of None = record { address = 0; port = 0; identifier = 0; differ = 0 }
+difference_of (Some k) = record { address = from_be_bytes w32 k.ip; port = k.port; identifier = k.id; differ = 1 }
+
+-- Differs t u answer: the least key at which the tables differ is answered, if there is one
+abbrev pub Differs : Contents → Contents → Result NbtDifference Refusal → Type 0
+Differs t u answer = (least : Option Key) × IsLeastDifference t u least × (answer ≡ Ok (difference_of least))
+
+-- Compares first second answer: this is answered of two saved tables that are compared, whatever limits they keep
+abbrev pub Compares : List ℕ → List ℕ → Result NbtDifference Refusal → Type 0
+Compares first second = OfTwo first second widest Differs
+
+-- ---- the search for it
+
+-- the first of two keys where it is below the second, else the second
+abbrev pub lower_by : Ordering → Key → Key → Key
+lower_by Less k held = k
+lower_by Equal k held = held
+lower_by Greater k held = held
+
+-- lower_of k least: the lower of the key and of the least so far, if there is one
+abbrev pub lower_of : Key → Option Key → Key
+lower_of k None = k
+lower_of k (Some held) = lower_by (key_cmp k held) k held
+
+-- Narrows t u k least new: at the key k the least difference so far becomes the new one
+pub data Narrows (t u : Contents) (k : Key) (least : Option Key) : Option Key → Type 0 where
+  same : AreSameAt t u k → Narrows t u k least least
+  differs : ¬ AreSameAt t u k → Narrows t u k least (Some (lower_of k least))
+
+-- NarrowsBy t u ks least new: at these keys, one after another, it does
+pub data NarrowsBy (t u : Contents) : List Key → Option Key → Option Key → Type 0 where
+  at_none : {least : Option Key} → NarrowsBy t u [] least least
+  at_one : {k : Key} {ks : List Key} {least next new : Option Key} → Narrows t u k least next → NarrowsBy t u ks next new
+      → NarrowsBy t u (k ∷ ks) least new

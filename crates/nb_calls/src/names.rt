@@ -1,0 +1,156 @@
+//! Names: as texts, as spellings, and spelled out in place.
+ghost use Rattle.std.specs.Prelude.{◌≡◌, IfOk, ◌≤◌, ℕ, List, length};
+ghost use Rattle.std.specs.Str.{IsValidUpTo};
+ghost use Rattle.nb_names.specs.NameText.{written, IsBad};
+ghost use Rattle.nb_names.specs.declared.limits.TheConstants.{MAX_SPELLING};
+ghost use Rattle.nb_names.specs.declared.reading.Pointers.TheVariants.{Followed};
+ghost use Rattle.nb_names.specs.Labels.{NameAt};
+ghost use Rattle.nb_names.specs.Skipped.{IsSkipped};
+ghost use Rattle.nb_calls.specs.Names.{Tells, spelling_answer, IsRead, in_place, spelled_in_place};
+ghost use Rattle.nb_calls.specs.Outputs.{HasOne, OrMemory, none_late, lent};
+ghost use Rattle.nb_calls.specs.Statuses.{place_of};
+
+use crate::output::{Refusal, answer_of, name_refusal, text_refusal};
+use crate::statuses::{NAME_TRAILING_BYTES, NO_ROLE};
+use nb_names::laws::{labels_tell_the_name, one_netbios_fault, one_reading};
+use nb_names::limits::{LETTERS, MAX_SPELLING};
+use nb_names::{
+    Bytes, DomainName, Name, NameReader, NoMemory, Pointers, Skipped, TextFault, name_from_text,
+    name_text, read_name, write_domain,
+};
+use std::alloc::Global;
+
+/// The spelling of a name, if one was read.
+pub fn spelling_of(alloc: Global, read: Result<Name, TextFault>) -> Result<Bytes, Refusal>
+    ensures { OrMemory none_late (λ answer. answer ≡ spelling_answer read) result }
+{
+    match read {
+        Ok(name) => answer_of(write_domain(alloc, &name.to_domain())),
+        Err(fault) => Err(text_refusal(NO_ROLE, fault)),
+    }
+}
+
+/// The text of the name with this spelling.
+pub fn text_of(alloc: Global, spelling: &[u8]) -> Result<Bytes, Refusal>
+    ensures answer { OrMemory none_late (Tells spelling.now) result }
+    ensures one { HasOne (Tells spelling.now) }
+{
+    // For the clause: a spelling has one name or one fault. The calls do nothing.
+    one_reading();
+    one_netbios_fault();
+    labels_tell_the_name();
+    match read_name(spelling, 0, Pointers::Refused) {
+        Ok((name, next)) => {
+            if next < spelling.len() {
+                return Err(Refusal::FaultAt(NAME_TRAILING_BYTES, next));
+            }
+            answer_of(text_bytes(alloc, &name))
+        }
+        Err(fault) => Err(name_refusal(NO_ROLE, fault)),
+    }
+}
+
+/// The bytes of a name's text.
+fn text_bytes(alloc: Global, name: &Name) -> Result<Bytes, NoMemory>
+    ensures { IfOk result (λ bytes. bytes ≡ written name.now) }
+{
+    Ok(Bytes::from_vec(name_text(alloc, name)?.into_bytes()))
+}
+
+/// The name that the bytes of a text stand for.
+///
+/// # Errors
+///
+/// As [`name_from_text`]. A byte that isn't ASCII is of no text of the form.
+pub fn name_of_text(text: &[u8]) -> Result<Name, TextFault>
+    ensures { IsRead text.now result }
+{
+    match str::from_utf8(text) {
+        Ok(whole) => name_from_text(whole),
+        Err(fault) => Err(TextFault::BadText(bad_place(text, fault.valid_up_to()))),
+    }
+}
+
+/// Where a text leaves the form that is UTF-8 up to a place alone.
+fn bad_place(text: &[u8], valid: usize) -> usize
+    requires { IsValidUpTo text.now valid }
+    ensures { IsBad text.now result }
+{
+    match str::from_utf8(&text[..valid]) {
+        Ok(front) => match name_from_text(front) {
+            Ok(_) => valid,
+            Err(fault) => place_of(fault, valid),
+        },
+        Err(_) => 0,
+    }
+}
+
+/// The place of a fault, if it has one, else the other.
+fn place_of(fault: TextFault, other: usize) -> usize
+    ensures { result ≡ place_of fault other }
+{
+    match fault {
+        TextFault::BadText(place) => place,
+        TextFault::TooLong => other,
+    }
+}
+
+/// The spelling of labels, and bytes of zero after it.
+pub(crate) fn spelled_in_place(domain: &DomainName) -> [u8; MAX_SPELLING]
+    ensures { result ≡ spelled_in_place domain.now }
+{
+    let mut bytes = [0; MAX_SPELLING];
+    fill_spelling(domain.spelling(), &mut bytes);
+    bytes
+}
+
+/// Fills in the spelling of the domain name at an offset of a packet that was judged so, and bytes
+/// of zero after it. Where it stands in the packet whole, it is copied from there.
+pub(crate) fn spell_domain(
+    names: &NameReader<'_, '_>,
+    at: usize,
+    name: &Skipped,
+    into: &mut [u8; MAX_SPELLING],
+)
+    requires { (labels : List (List ℕ)) × IsSkipped names.now Followed at labels name.now }
+    ensures { (labels : List (List ℕ)) → IsSkipped names.now Followed at labels name.now →
+        into.new ≡ spelled_in_place labels }
+{
+    match names.lent_at(at, Pointers::Followed, name) {
+        Some(lent) => fill_spelling(lent.spelling(), into),
+        None => spell_along(names, at, into),
+    }
+}
+
+/// Fills in the spelling of the domain name at an offset of a packet, along the runs in which its
+/// labels stand. It is out of line, so that others don't pay for the room of a name, and given no
+/// more than it needs, so that nothing is kept for it.
+#[inline(never)]
+fn spell_along(names: &NameReader<'_, '_>, at: usize, into: &mut [u8; MAX_SPELLING])
+    requires { (labels : List (List ℕ)) × (next : ℕ) × NameAt names.now Followed at labels next }
+    ensures { (labels : List (List ℕ)) (next : ℕ) → NameAt names.now Followed at labels next →
+        into.new ≡ spelled_in_place labels }
+{
+    let (domain, _) = names.read_domain(at, Pointers::Followed).unwrap();
+    fill_spelling(domain.spelling(), into);
+}
+
+/// How many bytes the spelling of a NetBIOS name has whose scope has no label.
+const WITHOUT_SCOPE: usize = 1 + LETTERS + 1;
+
+/// Fills in a spelling, and bytes of zero after it. Of the length that nearly all have it is copied
+/// without a call of the C library, and by way of an array, which overlaps nothing.
+#[inline(always)]
+fn fill_spelling(spelling: &[u8], into: &mut [u8; MAX_SPELLING])
+    requires { length spelling.now ≤ MAX_SPELLING }
+    ensures { into.new ≡ in_place spelling.now }
+{
+    *into = [0; MAX_SPELLING];
+    if spelling.len() == WITHOUT_SCOPE {
+        let mut front = [0; WITHOUT_SCOPE];
+        front.copy_from_slice(spelling);
+        into[..WITHOUT_SCOPE].copy_from_slice(&front);
+    } else {
+        into[..spelling.len()].copy_from_slice(spelling);
+    }
+}

@@ -1,0 +1,200 @@
+//! Payloads that a station takes, and what becomes of each.
+ghost use Rattle.std.specs.Prelude.{◌≤◌, length, Err, ◌≡◌, ◌++◌, drop, Some};
+ghost use Rattle.nb_calls.specs.Stations.{Took, Tells, answer_told, lent_for, told_of, told_refused, delivered_bytes, error_bytes};
+ghost use Rattle.nb_calls.specs.declared.output.Refusal.TheVariants.{Fault};
+ghost use Rattle.nb_calls.specs.declared.statuses.TheConstants.{NO_STATION};
+ghost use Rattle.nb_calls.specs.declared.taken.TheConstants.{TAKE_ROOM};
+ghost use Rattle.nb_datagram.specs.Packet.{packet_bytes};
+ghost use Rattle.nb_datagram.specs.declared.packet.Packet.TheVariants.{Error};
+
+use crate::output::{datagram_refusal, status_of, table_refusal};
+use crate::statuses::{DONE, NO_ROOM, NO_STATION};
+use crate::taken::{
+    KEPT, NbtTaken, SPOILT, TAKE_ROOM, of_delivered, of_key, of_other, of_refused, of_unheard,
+};
+use nb_datagram::{Datagram, DatagramFault, ErrorPacket};
+use nb_member::{Member, MemberFault, Outcome};
+
+/// Takes a payload, and tells what became of it, where the buffer has room.
+pub fn take(
+    member: &mut Member,
+    moment: u64,
+    payload: &[u8],
+    taken: &mut NbtTaken,
+    into: &mut [u8],
+    used: &mut usize,
+) -> u32
+    ensures { Took member.old moment payload.now member.new (lent_for taken.old into.old used.old)
+        (lent_for taken.new into.new used.new) result }
+{
+    if into.len() < TAKE_ROOM {
+        *used = TAKE_ROOM;
+        return NO_ROOM;
+    }
+    let answer = member.take(moment, payload);
+    tell_answer(&answer, taken, into, used)
+}
+
+/// Tells what a member answered, in a buffer that has room.
+fn tell_answer(
+    answer: &Result<Outcome, MemberFault>,
+    taken: &mut NbtTaken,
+    into: &mut [u8],
+    used: &mut usize,
+) -> u32
+    requires { TAKE_ROOM ≤ length into.old }
+    ensures { Tells (answer_told answer.now) (lent_for taken.old into.old used.old)
+        (lent_for taken.new into.new used.new) result }
+{
+    match answer {
+        Ok(outcome) => *used = tell(outcome, taken, into),
+        Err(MemberFault::Packet(fault, error)) => {
+            *used = tell_refused(*fault, *error, taken, into);
+        }
+        Err(MemberFault::Table(fault)) => return status_of(table_refusal(*fault)),
+    }
+    DONE
+}
+
+/// MSG_TYPE of error packets (RFC 1002 section 4.4.3).
+const ERROR_TYPE: u8 = 0x13;
+
+/// Writes what became of a payload, and answers how many bytes that is.
+pub(crate) fn tell(outcome: &Outcome, taken: &mut NbtTaken, into: &mut [u8]) -> usize
+    requires { TAKE_ROOM ≤ length into.old }
+    ensures numbers { taken.new ≡ (told_of outcome.now).numbers }
+    ensures bytes { into.new ≡ (told_of outcome.now).bytes
+        ++ drop (length (told_of outcome.now).bytes) into.old }
+    ensures count { result ≡ length (told_of outcome.now).bytes }
+{
+    match outcome {
+        Outcome::Kept(key) => {
+            *taken = of_key(KEPT, *key);
+            0
+        }
+        Outcome::Spoilt(key) => {
+            *taken = of_key(SPOILT, *key);
+            0
+        }
+        Outcome::Delivered(datagram) => tell_delivered(datagram, taken, into),
+        Outcome::Unheard(key, error) => {
+            let size = put_error(*error, into);
+            *taken = of_unheard(*key, size);
+            size
+        }
+        Outcome::Other => {
+            *taken = of_other();
+            0
+        }
+    }
+}
+
+/// Writes why a payload is refused, and answers how many bytes that is.
+pub(crate) fn tell_refused(
+    fault: DatagramFault,
+    error: Option<ErrorPacket>,
+    taken: &mut NbtTaken,
+    into: &mut [u8],
+) -> usize
+    requires { TAKE_ROOM ≤ length into.old }
+    ensures numbers { taken.new ≡ (told_refused fault error).numbers }
+    ensures bytes { into.new ≡ error_bytes error ++ drop (length (error_bytes error)) into.old }
+    ensures count { result ≡ length (error_bytes error) }
+{
+    let size = put_error(error, into);
+    *taken = of_refused(datagram_refusal(fault), size);
+    size
+}
+
+/// Writes a datagram that is handed over, and answers how many bytes that is.
+fn tell_delivered(datagram: &Datagram, taken: &mut NbtTaken, into: &mut [u8]) -> usize
+    requires { TAKE_ROOM ≤ length into.old }
+    ensures numbers { taken.new ≡ (told_of (Outcome.Delivered datagram.now)).numbers }
+    ensures bytes { into.new ≡ delivered_bytes datagram.now
+        ++ drop (length (delivered_bytes datagram.now)) into.old }
+    ensures count { result ≡ length (delivered_bytes datagram.now) }
+{
+    let source = datagram.source().to_domain();
+    let destination = datagram.destination().to_domain();
+    *taken = of_delivered(datagram, source.spelled_len(), destination.spelled_len());
+    put_three(
+        source.spelling(),
+        destination.spelling(),
+        datagram.bytes(),
+        into,
+    )
+}
+
+/// Writes three rows of bytes one after the other, and answers how many they are.
+fn put_three(first: &[u8], second: &[u8], third: &[u8], into: &mut [u8]) -> usize
+    requires { length (first.now ++ (second.now ++ third.now)) ≤ length into.old }
+    ensures bytes { into.new ≡ (first.now ++ (second.now ++ third.now))
+        ++ drop (length (first.now ++ (second.now ++ third.now))) into.old }
+    ensures count { result ≡ length (first.now ++ (second.now ++ third.now)) }
+{
+    let size = put_front(first, into);
+    size + put_two(second, third, &mut into[size..])
+}
+
+/// Writes two rows of bytes one after the other, and answers how many they are.
+fn put_two(first: &[u8], second: &[u8], into: &mut [u8]) -> usize
+    requires { length (first.now ++ second.now) ≤ length into.old }
+    ensures bytes { into.new ≡ (first.now ++ second.now)
+        ++ drop (length (first.now ++ second.now)) into.old }
+    ensures count { result ≡ length (first.now ++ second.now) }
+{
+    let size = put_front(first, into);
+    size + put_front(second, &mut into[size..])
+}
+
+/// Copies bytes to the front of a buffer that has room for them, and answers how many they are.
+fn put_front(bytes: &[u8], into: &mut [u8]) -> usize
+    requires { length bytes.now ≤ length into.old }
+    ensures bytes { into.new ≡ bytes.now ++ drop (length bytes.now) into.old }
+    ensures count { result ≡ length bytes.now }
+{
+    into[..bytes.len()].copy_from_slice(bytes);
+    bytes.len()
+}
+
+/// Writes the packet to send, if there is one, and answers how many bytes it has.
+fn put_error(error: Option<ErrorPacket>, into: &mut [u8]) -> usize
+    requires { TAKE_ROOM ≤ length into.old }
+    ensures bytes { into.new ≡ error_bytes error ++ drop (length (error_bytes error)) into.old }
+    ensures count { result ≡ length (error_bytes error) }
+{
+    match error {
+        Some(error) => put_front(&packet_of(&error), into),
+        None => 0,
+    }
+}
+
+/// The bytes of an error packet.
+pub fn packet_of(error: &ErrorPacket) -> [u8; 11]
+    ensures bytes { result ≡ packet_bytes (Error error.now) }
+    ensures count { length result ≡ 11 }
+{
+    // For the clause; the call does nothing.
+    has_four(error.key.ip);
+    let [id_high, id_low] = error.key.id.to_be_bytes();
+    let [first, second, third, fourth] = error.key.ip;
+    let [port_high, port_low] = error.key.port.to_be_bytes();
+    [
+        ERROR_TYPE,
+        error.flags,
+        id_high,
+        id_low,
+        first,
+        second,
+        third,
+        fourth,
+        port_high,
+        port_low,
+        error.code,
+    ]
+}
+
+/// An address has four bytes.
+fn has_four(_ip: [u8; 4])
+    ensures { length _ip ≡ 4 }
+{}

@@ -1,12 +1,7 @@
 """Which packets are wanted: by name, host, port and kind; the words for kinds of packets: those of --kind, what each is, and which one is meant by
 other words."""
-import difflib
-
-from .claims import Claims
 from .items import LeftOut, Packet
 from .kinds import kinds_of
-from .messages import message_of
-from .sessions import Streams
 from .vocabulary import KINDS, KINDS_OF
 
 
@@ -17,8 +12,13 @@ class Filter:
         self.names = {each.casefold() for each in options.names}
         self.hosts, self.ports, self.kinds = set(options.hosts), set(options.only_ports), set(options.kinds)
         self.is_all = not (self.names or self.hosts or self.ports or self.kinds)
-        self.claims = Claims() if 'conflict' in self.kinds else None
-        self.streams = Streams(options.session_ports) if self.names else None
+        self.claims = self.streams = None
+        if 'conflict' in self.kinds:
+            from . import claims, messages
+            self.claims, self.message_of = claims.Claims(), messages.message_of
+        if self.names:
+            from .sessions import Streams
+            self.streams = Streams(options.session_ports)
 
     def opened(self, item):
         if self.streams:
@@ -26,7 +26,7 @@ class Filter:
 
     def wants(self, item, shown):
         """Whether an item is wanted, by the object of a packet; None stands for what is left out. Takes each item in turn."""
-        message = message_of(item, shown) if self.claims and shown else None
+        message = self.message_of(item, shown) if self.claims and shown else None
         is_conflict = message is not None and self.claims.take(message)
         called = self.streams.called(item, shown) if self.streams and isinstance(item, Packet) else ()
         ends = item.frame if isinstance(item, LeftOut) else item
@@ -87,6 +87,7 @@ def advice(word):
             return '%s is no kind: %s' % (word, ANSWERS[each])
         if each in KINDS or each in KIND_MEANT:
             return '%s is no kind: perhaps %s' % (word, KIND_MEANT.get(each, each))
+    import difflib
     near = difflib.get_close_matches(word, KINDS, 1)
     return '%s is none of %s' % (word, ', '.join(KINDS)) if not near else '%s is no kind: perhaps %s' % (word, near[0])
 

@@ -6,7 +6,6 @@ import subprocess
 
 from nbt_pcap import arguments as pcap_arguments
 from nbt_pcap import tshark
-from nbt_pcap.lines import Refused
 from nbt_pcap.process import Stopped, say
 from nbt_pcap.progress import Progress
 from nbt_pcap.reasons import CUT
@@ -20,16 +19,16 @@ from .items import WINDOW, Cut, Opened, Ordering, Packet
 from .listing import Listing
 from .objects import Objects
 from .screen import Screen
-from .summary import Summary
 from .tally import Tally
 from .telling import READ, Telling
-from .texts import batches_of
 from .times import Times
 from .whole import Whole, WholeObject
 
 
 def at_text(options, pipe):
     """Shows a capture that is text; answers the exit status."""
+    from nbt_pcap.lines import Refused
+    from .texts import batches_of
     look = Look(options)
     left_out = collections.Counter()
     try:
@@ -108,6 +107,7 @@ class Look:
         if options.frame is not None:
             return (WholeObject if options.json else Whole)(self.screen, self.times, options.frame, self.program)
         if options.summary:
+            from .summary import Summary
             return Summary(self.screen, self.times, options, self.program)
         return Objects(self.screen, self.times) if options.json else Listing(self.screen, self.times)
 

@@ -9,9 +9,10 @@ import subprocess
 import tempfile
 
 from nbt_pcap.header import MOST_KEYS
-from nbt_pcap.process import Stopped
+from nbt_pcap.process import Stopped, faults_of
 
 from .ending import progress
+from .tables import checksum_of_file
 
 # A job: reads what it was given, counts it, and puts the table there at once, if it is one. Its last line tells what it did.
 JOB = r'''
@@ -62,6 +63,13 @@ def find_tools(options):
     version = subprocess.run(['parallel', '--version'], stdin=subprocess.DEVNULL, capture_output=True)
     if not version.stdout.startswith(b'GNU parallel'):
         raise Stopped(3, 'parallel: the program of that name isn\'t GNU parallel; Debian\'s package parallel has it')
+
+
+def identity(program):
+    """Which program it is: its version, and the checksum of its file."""
+    with faults_of(program):
+        version = subprocess.run([program, '--version'], stdin=subprocess.DEVNULL, capture_output=True).stdout
+        return ['%s %s' % (version.decode(errors='replace').strip(), checksum_of_file(program))]
 
 
 def identities(options):

@@ -1,11 +1,8 @@
 """The program nbt: where it is, and which one."""
 import os
 import shutil
-import subprocess
 
-from nbt_pcap.process import Stopped, faults_of
-
-from .tables import checksum_of_file
+from nbt_pcap.process import Stopped
 
 HERE = os.path.dirname(os.path.abspath(__file__))
 BUILT = os.path.join(HERE, '..', '..', 'crates', 'nbt', 'out', 'nbt')
@@ -21,10 +18,3 @@ def local_program(asked):
     if found is None:
         raise Stopped(3, '%s: no such program; `make build` builds it, --program PATH names another' % asked)
     return os.path.abspath(found)
-
-
-def identity(program):
-    """Which program it is: its version, and the checksum of its file."""
-    with faults_of(program):
-        version = subprocess.run([program, '--version'], stdin=subprocess.DEVNULL, capture_output=True).stdout
-        return ['%s %s' % (version.decode(errors='replace').strip(), checksum_of_file(program))]

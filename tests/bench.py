@@ -5,8 +5,8 @@ Prints the lines of the first two tables of docs/PERFORMANCE.md. A row is a comm
 valgrind's cachegrind, where it is installed; they are the same from run to run), the peak of resident memory, how many times the instructions
 are those of the plain program of tests/plain/ on the same crates, or of the same packets as text, beside the most that they may be
 (tests/bench/bench_bars.py), and packets a second (the best of three runs). Then come rows on growth. A number that is more than 5 % past its
-bar, or past what it is known to be, is a failure, and the last line counts them. With --small captures are a tenth as long, and rows on
-growth have two sizes of three.
+bar, or past what it is known to be, is a failure, and the last line counts them. With --small captures are a tenth as long, those of an
+office a twentieth, one run is timed, and rows on growth have two sizes of three.
 """
 import os
 import random
@@ -87,7 +87,7 @@ class Bench:
         command = [self.program, *words]
         counted = instructions(command, path)
         cells = (shown(None if counted is None else counted // packets), shown(peak(command, path)))
-        rate = packets / min(wall_seconds(command, path) for _ in range(3))
+        rate = packets / min(wall_seconds(command, path) for _ in range(1 if self.small else 3))
         name = ' '.join([words[0], *(it for it in words if it in TEXT)])
         self.judged(name, title, counted / beside if counted and beside else None, bar, cells, f'{rate:,.0f} packets a second')
         return counted
@@ -121,7 +121,7 @@ class Bench:
         """The rows of what an office's stations send to each port, as text, as phrases and as objects."""
         for port, count in ((137, 50_000), (138, 40_000), (139, 40_000)):
             title = f'an office, port {port}'
-            capture = captured(self.folder, title, office(port, count // self.part))
+            capture = captured(self.folder, title, office(port, count // (20 if self.small else 1)))
             text = self.beside_plain(SHOW, title, *capture)
             for form, bar in TEXT.items():
                 self.row(SHOW + [form], title, *capture, text, bar)

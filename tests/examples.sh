@@ -58,62 +58,6 @@ changed() {
     count $? "each of $(wc -l <"$room/input") changed examples is found wrong: $(tail -n 1 "$room/output")"
 }
 
-# ---- The lines of examples/memory.txt, whose calls ask for memory, and of examples/quiet.txt, whose calls don't.
-
-# each_line SUBJECT COMMAND: the command, with each example of a file, which is the program's input, $room/input.
-each_line() {
-    local line
-    while IFS= read -r line; do
-        printf '%s\n' "$line" >"$room/input"
-        "$2" "$line"
-    done < <("$here/join_examples.py" "$1")
-}
-
-# calls NAME=VALUE..: runs the program on its input; $room/calls has how many requests each call between marks made.
-calls() {
-    : >"$room/calls"
-    refusing NBT_CALLS="$room/calls" "$@" "$program" <"$room/input" >"$room/output"
-}
-
-# refuses LINE: of each call that the line makes between marks the Nth request is refused, for N from 1 on until no call
-# meets a refusal; it prints how many requests the calls made.
-refuses() {
-    local name=${1:0:70} most total n
-    calls
-    [ $? -eq 0 ] && grep -qvx 0 "$room/calls"
-    count $? "$name: it asks for memory"
-    most=$(sort -n "$room/calls" | tail -n 1)
-    total=$(awk '{ total += $1 } END { print total + 0 }' "$room/calls")
-    echo "$total requests in $(wc -l <"$room/calls") calls, $most the most: $name"
-    for ((n = 1; n <= most; n++)); do
-        calls NBT_CALL_REFUSED=$n
-        [ $? -eq 1 ] && is_told
-        count $? "$name: request $n of $most refused"
-    done
-    calls NBT_CALL_REFUSED=$n
-    count $? "$name: no request refused"
-}
-
-# Whether the output says that memory ran out in a call, that its object answered as before it, and then what the line has.
-# `N bytes taken` is what a device has given by then: a header.
-is_told() {
-    local wanted answered
-    wanted=$(head -n 1 "$room/output")
-    wanted=${wanted#* = }
-    answered=$(sed -n '2s/^    answered: //p' "$room/output")
-    [[ $answered == *memory,* ]] &&
-        [ "$(sed -E 's/memory, (as before, |4 bytes taken, )?//g' <<<"$answered")" = "$wanted" ] &&
-        [ "$(tail -n 1 "$room/output")" = '1 examples, 1 wrong' ]
-}
-
-# wants_none LINE: with the first request of each call refused that the line makes between marks, it answers as ever, and no
-# call has made a request.
-wants_none() {
-    calls NBT_CALL_REFUSED=1
-    [ $? -eq 0 ] && [ -s "$room/calls" ] && ! grep -qvx 0 "$room/calls"
-    count $? "${1:0:70}: no request between marks"
-}
-
 # ---- The first example of each call, with each request of the whole program refused.
 
 # subject NAME: the first example of each call of a file, of which one lacks memory where a request is refused.
@@ -133,7 +77,6 @@ subjects() {
 
 part shims compile refuse_memory
 part ordinary ordinary
-part memory each_line memory refuses
-part quiet each_line quiet wants_none
+for each in memory quiet; do part $each counted_by examples/each_call.py "$room/refuse_memory.so" "$program" $each; done
 part subjects subjects
 finish

@@ -45,10 +45,21 @@ examples() {
     count $? "the header in C++: $(head -n 1 "$room/log")"
 }
 
-# They run over the shared object too.
+# They run over the shared object too, all in one program, for valgrind takes a second to begin. What each prints stands behind its name.
 under_valgrind() {
-    local each run=(env "LD_LIBRARY_PATH=$built" valgrind -q --leak-check=full --read-inline-info=no)
-    for each in "$top"/bindings/c/*.c; do example "$each" 'shared, valgrind' "$CC" "$each" "-L$built" -lnbt; done
+    local each name texts='' calls='#include <stdio.h>'$'\n''int main(void) { int failed = 0;'
+    for each in "$top"/bindings/c/*.c; do
+        name=$(basename "$each" .c)
+        $CC "${strict[@]}" "-Dmain=of_$name" -c -o "$room/of_$name.o" "$each" >"$room/log" 2>&1
+        count $? "$name.c, shared: $(head -n 1 "$room/log")"
+        calls+="int of_$name(void); puts(\"== $name\"); failed |= of_$name();"
+        texts+="== $name"$'\n'$(wanted "$each")$'\n'
+    done
+    $CC -o "$room/examples" -x c - -x none "$room"/of_*.o "-L$built" -lnbt <<<"$calls return failed; }" >"$room/log" 2>&1
+    LD_LIBRARY_PATH=$built ended valgrind -q --leak-check=full --read-inline-info=no "$room/examples" 2>"$room/errors" | sed 's/ *$//' \
+        | same "${texts%$'\n'}" "all examples, shared: $(head -n 1 "$room/log")"
+    [ ! -s "$room/errors" ]
+    count $? "all examples, valgrind: $(head -n 1 "$room/errors")"
 }
 
 # chain POINTERS RECORDS: a payload of port 137 of a record whose RDATA is a chain of pointers to the last byte of the header, which is zero,
@@ -83,7 +94,9 @@ callers() {
     compiled sanitized "$CC" "$built/libnbt.a" "${sanitized[@]}"
     rows_of 1 "$payloads"
     judged plain "$room/rows" "$room/plain" judged 64
-    judged sanitized "$room/rows" "$room/sanitized" judged 8
+    # Those of no payload that is made by chance: of all rows tests/library/memory.c sees what is written past a block, or given back twice.
+    "$here/library/payload_rows.py" cases limits </dev/null >"$room/limits"
+    judged sanitized "$room/limits" "$room/sanitized" judged 8
     sed -nE '/^enum nbt_status/,/^};/s/^ .* = ([0-9]+).*/\1/p' "$top/include/nbt.h" | sort \
         | same "$(sed -n 's/^status_text \([0-9]*\) = .*/\1/p' "$room/rows" | sort)" 'the words of each status are in a row'
 }
@@ -120,13 +133,12 @@ processors() {
 
 # The limits of what the header allows, to each of which a caller goes, its bounds, and the statuses that it lists for each call.
 limits() {
-    "$here/library/payload_rows.py" cases limits </dev/null >"$room/limits"
-    ended "$room/sanitized" varied <"$room/limits" >"$room/statuses" 2>"$room/errors"
+    ended "$room/plain" varied <"$room/limits" >"$room/statuses" 2>"$room/errors"
     count $? "calls at each limit: $(tail -n 3 "$room/errors" | head -c 500)"
     "$here/library/statuses_reached.py" "$top/include/nbt.h" <"$room/statuses" >"$room/output" 2>&1
     count $? "each call answers what the header lists: $(head -n 3 "$room/output" | head -c 300)"
-    { "$here/captures/payloads.py" --seed 5 library 500; "$here/captures/payloads.py" worst 6; } \
-        | "$here/library/payload_rows.py" cases limits | ended "$room/plain" measured >"$room/output" 2>"$room/errors"
+    { cat "$room/rows" && "$here/captures/payloads.py" worst 6 | "$here/library/payload_rows.py"; } \
+        | ended "$room/plain" measured >"$room/output" 2>"$room/errors"
     count $? "the stack and the texts of calls: $(tail -n 1 "$room/errors")"
     sed -nE 's/^(brief|capture_line|name_text): .*, ([0-9]+) of text$/\1 \2/p' "$room/output" | sort \
         | same "$(printf '%s\n' 'brief 1633' "capture_line $(limit LINE_ROOM)" "name_text $(limit NAME_ROOM)")" 'the longest texts'
@@ -138,8 +150,8 @@ limits() {
 # What was found to reach the most of the library (tests/fuzz_coverage.py), once more. A place that is one off doesn't pass.
 corpus() {
     "$here/captures/payloads.py" inputs 1000000 <"$here/library/corpus.txt" | "$here/library/payload_rows.py" >"$room/corpus"
-    judged 'of the corpus, sanitized' "$room/corpus" "$room/sanitized" judged
-    awk '/^datagram_read P ! truncated / { $NF++ } 1' "$room/corpus" | ended "$room/sanitized" judged >"$room/output" 2>&1
+    judged 'of the corpus' "$room/corpus" "$room/plain" judged
+    awk '/^datagram_read P ! truncated / { $NF++ } 1' "$room/corpus" | ended "$room/plain" judged >"$room/output" 2>&1
     [ $? -ne 0 ] && grep -q 'not so: what a row says' "$room/output"
     count $? "a place that is one off is found: $(tail -n 1 "$room/output")"
     [ "$(stat -c %s "$here/library/corpus.txt")" -lt 2000000 ]
@@ -246,8 +258,10 @@ installed_below() {
 # What Cargo takes in the place of crates.io, without network: Debian's packages of crates, in which serde is.
 registry=/usr/share/cargo/registry
 debian=(--offline --config 'source.crates-io.replace-with="debian"' --config "source.debian.directory=\"$registry\"")
-# What is compiled here runs a few times: nothing is kept for a later compilation, nor for a debugger.
-export CARGO_INCREMENTAL=0 CARGO_PROFILE_DEV_DEBUG=0
+# What is compiled here runs a few times: nothing is kept for a later compilation, nor for a debugger, and nothing is cut into parts that
+# are compiled side by side, which takes more in all. All has the same words, so that a crate that several programs need is compiled once.
+export CARGO_INCREMENTAL=0 CARGO_PROFILE_DEV_DEBUG=0 CARGO_PROFILE_DEV_CODEGEN_UNITS=1 CARGO_PROFILE_DEV_BUILD_OVERRIDE_CODEGEN_UNITS=1
+export RUSTFLAGS='-D warnings'
 
 # in_rust COMMAND [OPTION]..: cargo's command on a copy of the crate for Rust, over what is installed below $room/root. It may take ten
 # minutes, for beside other work serde alone takes two.
@@ -255,7 +269,7 @@ in_rust() {
     (
         cd "$room/bindings/rust" || exit
         export PKG_CONFIG_PATH=$room/root/lib/pkgconfig LD_LIBRARY_PATH=$room/root/lib CARGO_TARGET_DIR=$room/target
-        "$timeout" -k 5 600 cargo "$@"
+        "${linting[@]}" "$timeout" -k 5 600 cargo "$@"
     ) >"$room/log" 2>&1
     count $? "cargo $1: $(grep -m 1 -E '^(error|Diff|test .* FAILED)' "$room/log")"
 }
@@ -263,26 +277,33 @@ in_rust() {
 # The crate for Rust: its tests over the shared object, also in a program that links libnbt.a, and beside the model.
 # Programs that don't ask for the feature serde need no registry.
 rust() {
-    local each
+    local each linting=()
     mkdir -p "$room/bindings/rust" && cp -R "$top"/bindings/rust/{Cargo.toml,build.rs,rustfmt.toml,src,tests} "$room/bindings/rust"
-    in_rust test "${debian[@]}" --features serde
-    passed=$((passed + $(awk '/^test result: ok/ { sum += $4 } END { print sum + 0 }' "$room/log")))
-    if ! { cargo fmt --version && cargo clippy --version; } >/dev/null 2>&1; then
-        skipped=$((skipped + 3)) && echo "skipped: cargo fmt, cargo clippy (one isn't installed)"
+    # The compiler that Clippy is compiles them, where it is there: another one would compile serde once more.
+    if ! { cargo fmt --version && cargo clippy --version && command -v clippy-driver; } >/dev/null 2>&1; then
+        skipped=$((skipped + 2)) && echo "skipped: cargo fmt, cargo clippy (one isn't installed)"
     else
         in_rust fmt --check
-        for each in '' serde; do in_rust clippy "${debian[@]}" --features "$each" --all-targets -- -D warnings; done
+        in_rust clippy "${debian[@]}"
+        linting=(env RUSTC_WORKSPACE_WRAPPER=clippy-driver)
     fi
-    for each in '' serde; do RUSTDOCFLAGS='-D warnings' in_rust doc "${debian[@]}" --features "$each" --no-deps; done
+    for each in '--test=*' --doc; do
+        in_rust test "${debian[@]}" --features serde "$each"
+        passed=$((passed + $(awk '/^test result: ok/ { sum += $4 } END { print sum + 0 }' "$room/log")))
+    done
+    linting=()
+    RUSTDOCFLAGS='-D warnings' in_rust doc "${debian[@]}" --no-deps
+    # For cargo's word serde would be checked once more.
+    (cd "$room/bindings/rust" && ended rustdoc --edition 2021 --crate-name nbt -D warnings --cfg 'feature="serde"' -L "$room/target/debug/deps" \
+        --extern "serde=$(echo "$room"/target/debug/deps/libserde-*.rlib)" -o "$room/doc" src/lib.rs) >"$room/log" 2>&1
+    count $? "rustdoc with serde: $(head -n 1 "$room/log")"
     # The crate itself would have it compiled with what its tests need too.
     package answering "$here/library/answers.rs" 'nbt.features = ["serde"]' 'serde_json = "1"'
-    in_rust build "${debian[@]}" --manifest-path "$room/answering/Cargo.toml"
-    for each in asked values; do
-        LD_LIBRARY_PATH=$room/root/lib answers tests/library/answers.rs "$room/$each" "$room/target/debug/answering"
-    done
+    NBT_STATIC=1 in_rust build "${debian[@]}" --manifest-path "$room/answering/Cargo.toml"
+    for each in asked values; do answers tests/library/answers.rs "$room/$each" "$room/target/debug/answering"; done
     block rust "$page" >"$room/first.rs"
-    user_program first "$room/first.rs" </dev/null | same "$(block text "$page" 6)" 'the program in Rust of docs/CALLING.md'
-    CARGO_TARGET_DIR=$room/commands commands 3 "$room/first" </dev/null \
+    package first "$room/first.rs"
+    CARGO_TARGET_DIR=$room/target commands 3 "$room/first" </dev/null \
         | same "$(printf '%s\n' "$(block text "$page" 6)" "$(block text "$page" 6)")" 'the commands for Rust of docs/CALLING.md'
     block rust "$page" 2 >"$room/as_json.rs"
     user_program as_json "$room/as_json.rs" 'nbt.features = ["serde"]' 'serde_json = "1"' </dev/null \

@@ -7,8 +7,11 @@ set -uo pipefail
 only=${*:2}
 of_tools "${1:-}"
 
-# What the samples have at hand: captures, the tool apart from this repository, and two commands.
+# What the samples have at hand: captures, the tool apart from this repository, and commands. Python compiles once.
 prepared() {
+    export PYTHONPYCACHEPREFIX=$room/compiled KEPT=$room TSHARK="$(command -v tshark)"
+    (cd "$here/../tools" && PYTHONDONTWRITEBYTECODE='' python3 -c "import logging, queue$(printf ', %s' nbt_*/[a-z]*.py | sed 's/\.py//g; s|/|.|g')")
+    ln -s "$here/look/tshark.sh" "$room/bin/tshark"
     mkdir "$files/elsewhere"
     "$here/captures/look_captures.py" "$files"
     cp -r "$here"/../tools/{nbt_look,nbt_pcap,nbt_shards,nbt-look} "$files/elsewhere"
@@ -37,23 +40,23 @@ samba() {
 # What makes a row of each table, by docs/SUMMARY.md.
 summaries() { counted_by look/summary.py "$program"; }
 
-# Random captures.
-random() { counted_by look/beside_tshark.py 10; }
+# Random captures, ten in one file.
+random() { counted_by look/beside_tshark.py 1; }
 
-# By the system's Python, for which Debian has rich.
+# By the system's Python, for which Debian has rich: the others have none.
 colours() {
     mkdir "$room/system" && ln -s /usr/bin/python3 "$room/system"
-    PATH=$room/system:$PATH cases colours
+    PATH=$room/system:$PATH PYTHONPYCACHEPREFIX='' cases colours
 }
 
-# A file five times as long takes no more memory; its summary takes some 16 MB for queries between other pairs of stations.
+# A file three times as long takes little more memory, so many kB: a summary some 10,000, for queries between other pairs of stations.
 growing() {
     local each small large
-    for each in 10000 50000; do "$here/captures/big_pcap.py" $each "$room/$each.pcap"; done
-    for each in '' --summary --json; do
-        small=$(peak nbt-look $each --quiet "$room/10000.pcap") large=$(peak nbt-look $each --quiet "$room/50000.pcap")
-        [ "${small% *}" = 0 ] && [ "${large% *}" = 0 ] && [ "${large#* }" -lt $((${small#* } + 24000)) ] && [ "${large#* }" -lt 150000 ]
-        count $? "nbt-look $each, peak of memory: $small and $large"
+    for each in 10000 30000; do "$here/captures/big_pcap.py" $each "$room/$each.pcap"; done
+    for each in '12000 ' '14500 --summary' '12000 --json'; do
+        small=$(peak nbt-look ${each#* } --quiet "$room/10000.pcap") large=$(peak nbt-look ${each#* } --quiet "$room/30000.pcap")
+        [ "${small% *}" = 0 ] && [ "${large% *}" = 0 ] && [ "${large#* }" -lt $((${small#* } + ${each% *})) ] && [ "${large#* }" -lt 150000 ]
+        count $? "nbt-look ${each#* }, peak of memory: $small and $large"
     done
 }
 

@@ -5,7 +5,7 @@
 # Usage: tests/manual.sh [PROGRAM]; its last line is 'N passed, M failed, K skipped'.
 set -uo pipefail
 . "$(dirname "$0")/lib/counting.sh"
-program=${1:-$here/../crates/nbt/out/nbt}
+program=$(realpath "${1:-$here/../crates/nbt/out/nbt}")
 tools=(nbt-look nbt-pcap2cap nbt-cap2pcap nbt-parallel nbt-dask nbt-station)
 
 # Pages of other programs needn't be installed.
@@ -18,23 +18,28 @@ lint() {
     done
 }
 
-# installing TARGET [PREFIX]: make install, uninstall, install-lib or uninstall-lib, without rt, of the built program and of what
+# installing TARGET PREFIX: make install, uninstall, install-lib or uninstall-lib, without rt, of the built program and of what
 # stands for the library, below $room/root.
 installing() {
     (
-        PATH=$room/no_rt
-        "$(command -v make)" -s -C "$here/.." "$1" PROGRAM="$(realpath "$program")" LIBRARY="$room/lib" \
-            DESTDIR="$room/root" PREFIX="${2:-/usr}"
+        PATH=$no_rt
+        "$(command -v make)" -s -C "$here/.." "$1" PROGRAM="$program" LIBRARY="$room/lib" \
+            DESTDIR="$room/root" PREFIX="$2"
     ) >"$room/output" 2>&1
-    count $? "make $1 PREFIX=${2:-/usr}, without rt: $(cat "$room/output")"
+    count $? "make $1 PREFIX=$2, without rt: $(cat "$room/output")"
 }
 
-# The programs on PATH but rt.
+# The programs on PATH but rt: $no_rt, in which $room/no_rt stands for each folder that has one.
 without_rt() {
     local folder
     mkdir "$room/no_rt"
+    no_rt=
     for folder in ${PATH//:/ }; do
-        find "$folder/" -maxdepth 1 ! -type d ! -name rt -exec ln -s -t "$room/no_rt" {} + 2>/dev/null
+        if [ -e "$folder/rt" ]; then
+            find "$folder/" -maxdepth 1 ! -type d ! -name rt -exec ln -s -t "$room/no_rt" {} + 2>/dev/null
+            folder=$room/no_rt
+        fi
+        no_rt+=${no_rt:+:}$folder
     done
 }
 
@@ -107,13 +112,13 @@ refused_prefix() {
     count $? "make install-lib PREFIX=$1: $(cat "$room/output")"
 }
 
-# What is put where below all sorts of prefixes, and what takes it away.
+# What is put where below a prefix with all sorts of characters, and what takes it away; the package is made of what is put below a plain one.
 prefixes() {
     local each
     without_rt
     mkdir "$room/lib"
     touch "$room/lib/libnbt.a" "$room/lib/libnbt.so.0"
-    for each in /usr "/it's here" '/a b&c|d;e'; do apart "$each"; done
+    apart "/it's a b&c|d;e"
     for each in 'usr' '/a#b' '/a"b' '/a(b)'; do refused_prefix "$each"; done
 }
 
@@ -139,27 +144,36 @@ nbt-station --p|--port --per-source --pid
 END
 }
 
-# offered LINE..: what bash offers at the end of a command line, a line for each.
+# offered_by_bash LINE..: what bash offers at the end of command lines, a line for each.
 offered_by_bash() {
-    local line words
-    for line; do
-        IFS=' ' read -ra words <<<"$line"
-        [[ $line != *' ' ]] || words+=('')
-        ended bash -c '
-            . "$0"
-            [[ $(complete -p "$1") =~ -F\ ([a-z_]+) ]]
-            COMP_WORDS=("$@") COMP_CWORD=$(($# - 1))
-            "${BASH_REMATCH[1]}" "$1" "${!#}" "${COMP_WORDS[COMP_CWORD - 1]}"
-            echo "${COMPREPLY[*]}"' "$here/../completions/nbt.bash" "${words[@]}"
-    done
+    ended bash -c '
+        . "$0"
+        for line; do
+            read -ra COMP_WORDS <<<"$line"
+            [[ $line != *" " ]] || COMP_WORDS+=("")
+            COMP_CWORD=$((${#COMP_WORDS[@]} - 1)) COMPREPLY=()
+            [[ $(complete -p "${COMP_WORDS[0]}") =~ -F\ ([a-z_]+) ]]
+            "${BASH_REMATCH[1]}" "${COMP_WORDS[0]}" "${COMP_WORDS[COMP_CWORD]}" "${COMP_WORDS[COMP_CWORD - 1]}"
+            echo "${COMPREPLY[*]}"
+        done' "$here/../completions/nbt.bash" "$@"
 }
 
 offered_by_zsh() { ended zsh -f "$here/program/completed.zsh" "$here/../completions" "$@"; }
 
+# What tools/completions.py writes for each shell, into $room/written.SHELL; each help is asked once.
+written() {
+    (cd "$room" && PYTHONPATH=$here/../tools python3 -c 'import contextlib, functools, sys, completions
+completions.help_of = functools.lru_cache(None)(completions.help_of)
+for shell in "bash", "zsh":
+    sys.argv = ["completions.py", shell, sys.argv[-1]]
+    with open(f"written.{shell}", "w") as file, contextlib.redirect_stdout(file):
+        completions.main()' "$program")
+}
+
 # completion SHELL FILE: the shell offers these words, and tools/completions.py writes the file anew.
 completion() {
     local lines line wanted offered
-    "$here/../tools/completions.py" "$1" "$program" | cmp -s - "$here/../completions/$2"
+    cmp -s "$room/written.$1" "$here/../completions/$2"
     count $? "completions/$2 is what tools/completions.py writes: make completions"
     mapfile -t lines < <(offers)
     mapfile -t offered < <("offered_by_$1" "${lines[@]%%|*}" 2>&1)
@@ -171,11 +185,11 @@ completion() {
 }
 
 # The package has what is installed, its program and tools run, and its version is the program's and CHANGELOG.md's. That it is made
-# of the same bytes once more, and what lintian says of it, tests/targets.sh shows of all packages.
+# of the same bytes once more, and what lintian says of it, tests/targets.sh shows of all packages, which it packs as people get them.
 package() {
     local tool version package
-    DEBFULLNAME='A tester' DEBEMAIL=tester@example.org \
-        make -s -C "$here/.." deb PROGRAM="$(realpath "$program")" DEB="$room/deb" >"$room/output" 2>&1
+    DEBFULLNAME='A tester' DEBEMAIL=tester@example.org DPKG_DEB_COMPRESSOR_TYPE=none \
+        make -s -C "$here/.." deb PROGRAM="$program" DEB="$room/deb" >"$room/output" 2>&1
     count $? "make deb: $(cat "$room/output")"
     package=$(echo "$room"/deb/nbt_*_amd64.deb)
     version=$(sed -nE '/^## /{ s/^## ([0-9.]+), [0-9-]{10}$/\1/p; q; }' "$here/../CHANGELOG.md")
@@ -192,6 +206,7 @@ if command -v mandoc >/dev/null; then part mandoc lint; else lacks mandoc mandoc
 part helps counted_by program/helps.py "$program"
 part pages counted_by docs/pages.py
 part lists counted "$here/../tools/lists.py" --check
+written
 part bash completion bash nbt.bash
 if command -v zsh >/dev/null; then part zsh completion zsh _nbt; else lacks zsh zsh; fi
 parts prefixes

@@ -18,7 +18,7 @@ import time
 sys.dont_write_bytecode = True
 TESTS = os.path.dirname(os.path.abspath(__file__))
 TOP = os.path.realpath(f'{TESTS}/..')
-sys.path[1:1] = [f'{TESTS}/{it}' for it in ('captures', 'lib', 'look', 'page')]
+sys.path[1:1] = [f'{TESTS}/{it}' for it in ('captures', 'lib', 'look', 'page', '../tools')]
 import look_captures
 import page_files
 from bundled import bundled
@@ -35,7 +35,7 @@ ONLY = [each.removeprefix('--part=') for each in sys.argv[1:] if each.startswith
 FOLDER = os.path.realpath(WORDS[0]) if WORDS else f'{TOP}/out'
 PROGRAM = os.path.realpath(WORDS[1]) if WORDS[1:] else f'{TOP}/crates/nbt/out/nbt'
 LACKS = 'chromium, chromium-driver, python3-selenium, esbuild, nodejs, node-typescript and tshark'
-NETWORKS = 100
+NETWORKS = 34
 EMPTY_CATCH = re.compile(r'catch\s*(?:\(\w*\))?\s*\{\s*\}|catch\(\(\w*\) => \{\s*\}\)')
 PARTS = ('modules', 'rows', 'names', 'faults', 'filters', 'deliveries', 'taps', 'exports', 'bad', 'hostile', 'keys', 'given', 'placing', 'stop',
          'unread', 'changed', 'addressed', 'packed', 'singles', 'looks', 'quiet')
@@ -49,7 +49,7 @@ def modules():
         said = subprocess.run(['node', '--test', '--test-reporter=tap', folder], capture_output=True, text=True).stdout
     for passed, name in re.findall(r'^(ok|not ok) \d+ - (.*)$', said, re.MULTILINE):
         check(passed == 'ok', f'page/tests: {name}')
-    types = subprocess.run(['tsc', '-p', f'{TOP}/page'], capture_output=True, text=True)
+    types = subprocess.run(['tsc', '--skipDefaultLibCheck', '-p', f'{TOP}/page'], capture_output=True, text=True)
     check(types.returncode == 0, f'tsc -p page: {types.stdout[:300]}')
     check(not (empty := empty_catches()), f'faults that nobody hears of: {empty}')
     counted([f'{TESTS}/look/summary.py', '--page', PROGRAM])

@@ -7,9 +7,13 @@ set -uo pipefail
 only=${*:2}
 of_tools "${1:-}"
 
-# What the samples of tests/wireshark/cases.txt have at hand.
-mkdir "$files/bare"
-ln -s "$(realpath "$here/../tools/pcap2cap")" "$(realpath "$here/../tools/cap2pcap")" "$room/bin"
+# The tools, beside what Python makes of their modules once, and what the samples of tests/wireshark/cases.txt have at hand.
+tools=$room/tools
+mkdir "$tools" "$files/bare"
+cp -r "$here"/../tools/{pcap2cap,cap2pcap,nbt_pcap} "$tools"
+env -u PYTHONDONTWRITEBYTECODE python3 -m compileall -q "$tools/nbt_pcap"
+for each in {,nbt-}{pcap2cap,cap2pcap}; do ln -sf "$tools/${each#nbt-}" "$room/bin/$each"; done
+ln -s "$tools" "$files/tools"
 ln -s "$(command -v cat)" "$(command -v env)" "$(python3 -c 'import sys; print(sys.executable)')" "$files/bare"
 echo '{"a": 1}' >"$files/words"
 
@@ -17,7 +21,7 @@ echo '{"a": 1}' >"$files/words"
 cases() { counted_by lib/samples.py "$files" "$here/wireshark/cases.txt" "$1"; }
 
 nbt() { ended "$program" "$@"; }
-pcap2cap() { ended "$here/../tools/pcap2cap" "$@"; }
+pcap2cap() { ended "$tools/pcap2cap" "$@"; }
 
 # The packets of `nbt build`, in one file, as tshark dissects them: rows of tests/wireshark/dissected.txt have these fields, no empty ones
 # and not the words that it adds to a name's text; of more than 32 bytes the first eight. pcap2cap has the same lines of the file again.
@@ -41,16 +45,23 @@ built() {
     done < <(sed -n "s/\$longest/$longest/g; s/\$label/$label/g; s/.*=> //p" "$rows" | paste - "$room/found")
 }
 
-# ---- What a snap length leaves of payloads, by --cut. The frames of examples/office.pcap have 28 bytes before a payload of UDP.
+# ---- What a snap length leaves of payloads, by --cut. The 16 frames of examples/office.pcap have 28 bytes before a payload of UDP; in one file
+# all stand as the first length leaves them, then as the next one does.
 
 snapped() {
-    local length
-    pcap2cap --bare --no-ticks --quiet "$here/../examples/office.pcap" | grep -v '^139' >"$room/whole"
-    for length in 28 29 40 90 300; do
-        editcap -s $length "$here/../examples/office.pcap" "$room/snapped.pcap"
-        pcap2cap --cut --bare --no-ticks --quiet "$room/snapped.pcap" | grep '^13[78]' >"$room/cut"
-        awk -v size=$((length > 28 ? 2 * (length - 28) : 0)) 'size { print $1, $2, substr($3, 1, size) }' "$room/whole" | cmp -s - "$room/cut"
-        count $? "pcap2cap --cut: $length bytes of each frame"
+    local lengths=(28 29 40 90 300) at
+    "$here/../examples/office.sh" >"$room/whole"
+    for at in "${!lengths[@]}"; do
+        : >"$room/cut.$at"
+        editcap -s "${lengths[at]}" "$here/../examples/office.pcap" "$room/snapped.$at"
+    done
+    mergecap -a -w "$room/snapped.pcap" "$room"/snapped.?
+    pcap2cap --cut --no-ticks --quiet "$room/snapped.pcap" | awk -v cut="$room/cut." '
+        /^# frame [0-9]+ [0-9]/ { at = int(($3 - 1) / 16) }
+        /^13[78]/ { print >(cut at) }'
+    for at in "${!lengths[@]}"; do
+        awk -v size=$((2 * (lengths[at] - 28))) '/^13[78]/ && size { print $1, $2, substr($3, 1, size) }' "$room/whole" | cmp -s - "$room/cut.$at"
+        count $? "pcap2cap --cut: ${lengths[at]} bytes of each frame"
     done
 }
 
@@ -62,7 +73,7 @@ network() {
 }
 
 # Captures made by chance, beside the page's reading of them.
-random() { counted_by wireshark/random_captures.py 30; }
+random() { counted_by wireshark/random_captures.py 6; }
 
 # ---- Long captures, and terminals.
 
@@ -70,28 +81,30 @@ long() {
     cases long
 
     # On a terminal the progress comes, at most twice a second, and goes; not with --quiet.
-    local each="$here/../tools/pcap2cap" began=$SECONDS took=''
+    local each="$tools/pcap2cap" began=$SECONDS took='' reads='nbt reads them with --input-limit 18446744073709551615'
     ended "$here/lib/terminal.py" "$room/output" "$each" "$files/long.pcap" >"$room/shown" && took=$((SECONDS - began)) &&
-        grep -q $'^\rpcap2cap: [0-9]* of [0-9]* bytes *\r.* *\rpcap2cap: more than' <<<"$(head -n 1 "$room/shown")" &&
-        grep -qE $'(^| \r)20000 frames, 20000 of these ports, 0 left out\r$' <<<"$(tail -n 1 "$room/shown")"
+        grep -qE $'^\rpcap2cap: [0-9]* of [0-9]* bytes *\r.* *\rpcap2cap: more than 16777216 bytes are written now: '"$reads"$'\r$' \
+            <<<"$(head -n 1 "$room/shown")" &&
+        grep -qE $'(^| \r)500 frames, 500 of these ports, 0 left out\r$' <<<"$(tail -n 1 "$room/shown")"
     count $? 'pcap2cap on a terminal'
     [ -n "$took" ] && [ "$(tr '\r' '\n' <"$room/shown" | grep -c ' of [0-9]* bytes')" -le $((2 * took + 3)) ]
     count $? 'pcap2cap on a terminal: at most twice a second'
     ended "$here/lib/terminal.py" "$room/output" "$each" --quiet "$here/../examples/office.pcap" >"$room/shown" && [ ! -s "$room/shown" ]
     count $? 'pcap2cap --quiet on a terminal'
-    ended "$here/lib/terminal.py" "$room/output" sh -c "'$each' '$files/long.pcap' | cat" >"$room/shown" && ! grep -q ' of [0-9]* bytes' "$room/shown"
+    ended "$here/lib/terminal.py" "$room/output" sh -c "'$each' '$files/part.pcap' | cat" >"$room/shown" && ! grep -q ' of [0-9]* bytes' "$room/shown"
     count $? 'pcap2cap on a terminal, into a pipe: no progress among what its reader prints'
 }
 
-# A file five times as long, with five times as many streams, takes no more memory: streams that ended are let go.
+# A file five times as long, with five times as many streams, takes no more memory: streams that ended are let go. Lines that were kept would
+# take 6 MB more.
 growing() {
     local each small large
-    for each in 6000 30000; do "$here/captures/big_pcap.py" $each "$room/$each.pcap"; done
-    small=$(peak pcap2cap "$room/6000.pcap")
+    for each in 2000 10000; do "$here/captures/big_pcap.py" $each "$room/$each.pcap"; done
+    small=$(peak pcap2cap "$room/2000.pcap")
+    large=$(peak pcap2cap "$room/10000.pcap")
     nbt show <"$room/output" >"$room/shown" && [ -s "$room/shown" ] && ! grep -q ' refused ' "$room/shown" && ! grep -q 'left' "$room/output"
     count $? 'pcap2cap: all packets of a long file'
-    large=$(peak pcap2cap "$room/30000.pcap")
-    [ "${small% *}" = 0 ] && [ "${large% *}" = 0 ] && [ "${large#* }" -lt $((${small#* } + 16000)) ]
+    [ "${small% *}" = 0 ] && [ "${large% *}" = 0 ] && [ "${large#* }" -lt $((${small#* } + 3000)) ]
     count $? "pcap2cap, peak of memory: $small and $large"
 }
 
@@ -112,7 +125,7 @@ thrice() {
 # live TIMES: a packet, a pause, another one, and Ctrl-C; what tshark has to begin and to end is so many times as long.
 live() {
     (sleep $((2 * $1)); printf abc >/dev/udp/127.0.0.1/20137; sleep 4; printf last >/dev/udp/127.0.0.1/138) &
-    timeout --preserve-status -s INT $((5 * $1 + 4)) "$here/../tools/pcap2cap" -i lo --port 137=20137 >"$room/output" 2>"$room/errors"
+    timeout --preserve-status -s INT $((5 * $1 + 4)) "$tools/pcap2cap" -i lo --port 137=20137 >"$room/output" 2>"$room/errors"
     [ $? -eq 0 ] && [ "$(cat "$room/errors")" = '2 frames, 2 of these ports, 0 left out' ] &&
         sed -E 's/^(# frame [12]) 2[-0-9T:.]+Z 127.0.0.1:[0-9]+/\1/; s/^(138 4)[0-9]+/\1/; 9q' "$room/output" | diff - <(printf '%s\n' \
             '# frame 1 > 127.0.0.1:20137' '137 0 616263' 'tick 1000' 'tick 2000' 'tick 3000' 'tick 4000' '# frame 2 > 127.0.0.1:138' \
@@ -122,7 +135,7 @@ live() {
 # heard TIMES: frames with tags, PPPoE and extension headers, by the capture filter of -i.
 heard() {
     (sleep $((3 * $1)); "$here/captures/live.py" send) &
-    timeout --preserve-status -s INT $((6 * $1)) "$here/../tools/pcap2cap" -i lo --bare --quiet --port 138=20137 2>"$room/errors" |
+    timeout --preserve-status -s INT $((6 * $1)) "$tools/pcap2cap" -i lo --bare --quiet --port 138=20137 2>"$room/errors" |
         sed -n 's/^138 [0-9]* //p' | diff <("$here/captures/live.py" expected) -
 }
 
@@ -148,11 +161,8 @@ answered() {
     wait $capture && wait $answer && [ ! -s "$room/errors" ]
 }
 
-# answers CAPTURE: by both commands that read captures as they grow.
-answers() {
-    local each
-    for each in show "replay 'FRED<20>'"; do thrice "$1 | nbt $each" answered "$1" "'$program' $each"; done
-}
+# answers CAPTURE COMMAND: by one of both commands that read captures as they grow; the other capture's is the other one.
+answers() { thrice "$1 | nbt $2" answered "$1" "'$program' $2"; }
 
 # The same of packets that come from tcpdump by a pipe, which ends with tcpdump.
 dumped() {
@@ -162,19 +172,19 @@ dumped() {
         skip dumped 'tcpdump may not listen to lo here'
     else
         answers "bash -c \"exec tcpdump -i lo --immediate-mode -U -w - udp port 20138 2>'$room/dump' \
-            > >(exec '$here/../tools/pcap2cap' --quiet --port 138=20138 -)\""
+            > >(exec '$tools/pcap2cap' --quiet --port 138=20138 -)\"" show
     fi
 }
 
 waits() {
     cases waits
-    if ended tshark -i lo -a duration:0 >"$room/output" 2>&1; then
+    if ended dumpcap -i lo -a duration:0 -w "$room/output" 2>"$room/errors"; then
         thrice 'pcap2cap -i lo' live
-        answers "'$here/../tools/pcap2cap' -i lo --quiet --port 138=20138"
+        answers "'$tools/pcap2cap' -i lo --quiet --port 138=20138" "replay 'FRED<20>'"
         thrice 'pcap2cap -i lo: frames with tags, PPPoE and extension headers' heard
     else
-        skipped=$((skipped + 4))
-        echo 'skipped: pcap2cap -i lo, 4 cases (tshark may not listen to lo here)'
+        skipped=$((skipped + 3))
+        echo 'skipped: pcap2cap -i lo, 3 cases (tshark may not listen to lo here)'
     fi
 }
 

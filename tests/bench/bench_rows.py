@@ -1,16 +1,21 @@
 """Tables of what is measured, a row for each way, beside its bar: for the scripts tests/bench*.py. And what measures."""
+import atexit
+import functools
 import os
 import re
 import resource
 import shutil
 import subprocess
+import tempfile
 import time
 from dataclasses import dataclass
 from typing import Optional
 
 from parts import check, counts
+from served import Program, Served, compiled
 
 RUNS = 5
+FOLDER = tempfile.TemporaryDirectory()
 # By how much a bar may be missed: what differs from run to run, and from compiler to compiler.
 SLACK = 1.05
 
@@ -83,9 +88,23 @@ def instructions(command, path):
     """How many instructions the command takes over an input, or None without valgrind."""
     if not shutil.which('valgrind'):
         return None
+    given, served = counted(*command)
+    os.truncate(given, 0)
+    with open(path, 'rb') as file:
+        os.pwrite(given, file.read(), 0)
+    did = served.run(seconds=3_600)
+    assert did.status == 0, did
+    return int(re.search(rb'I +refs: +([\d,]+)', did.errors).group(1).replace(b',', b''))
+
+
+@functools.cache
+def counted(*command):
+    """The input of a command, and the command, which valgrind's cachegrind loads once for all of its runs."""
+    given, shim = os.memfd_create('given'), compiled(FOLDER.name, 'refuse_memory', '-DSERVES_ONLY')
     count = ['valgrind', '--tool=cachegrind', '--cache-sim=no', '--cachegrind-out-file=/dev/null']
-    done = run(count + command, path, stderr=subprocess.PIPE)
-    return int(re.search(rb'I +refs: +([\d,]+)', done.stderr).group(1).replace(b',', b''))
+    served = Served(Program(shim, command, given, count))
+    atexit.register(served.__exit__)
+    return given, served
 
 
 def peak(command, path):

@@ -17,20 +17,24 @@ TUNNELS = (lambda packet: (UDP, udp(55_555, 4_789, b'\x08' + bytes(7) + ethernet
            lambda packet: (4 if packet[0] >> 4 == 4 else 41, packet), lambda packet: (47, bytes(2) + ethernet(packet)[12:]))
 
 
-def pcap_of(rng, tunnels=TUNNELS, links=(ETHERNET, RAW)):
+def pcap_of(rng, tunnels=TUNNELS, links=(ETHERNET, RAW), sections=1):
     """The bytes of a file, in which some packets are below tunnels of these kinds. Snap lengths leave as much of a packet below one. Its first
-    interface, or the only one, has the first of these link layers."""
-    interfaces = [Interface(rng, number, links) for number in range(rng.choice((1, 1, 2, 3)))]
-    records = list(mixed(rng, [list(conversation(rng, number, tunnels)) for number in range(rng.randrange(2, 12))]))
-    is_ng = len(interfaces) > 1 or rng.random() < 0.3
-    order = rng.choice('<>')
-    parts, now = [head(order, interfaces, is_ng)], START
-    for pause, data, kind, above in records:
-        now += int(pause * rng.random() * 2 * 10**9)
-        if able := [each for each in interfaces if front_of(each.link, kind) is not None]:
-            chosen = rng.choice(able)
-            framed = front_of(chosen.link, kind) + data
-            parts.append(chosen.record(order, is_ng, now, framed, framed if chosen.snap is None else framed[:chosen.snap + above]))
+    interface, or the only one, has the first of these link layers. Of several sections, of pcapng, each has hosts and interfaces of its own."""
+    parts, now, hosts = [], START, 0
+    for _ in range(sections):
+        interfaces = [Interface(rng, number, links) for number in range(rng.choice((1, 1, 2, 3)))]
+        conversations = [list(conversation(rng, number, tunnels)) for number in range(hosts, hosts + rng.randrange(2, 12))]
+        hosts += len(conversations)
+        records = list(mixed(rng, conversations))
+        is_ng = len(interfaces) > 1 or rng.random() < 0.3 or sections > 1
+        order = rng.choice('<>')
+        parts.append(head(order, interfaces, is_ng))
+        for pause, data, kind, above in records:
+            now += int(pause * rng.random() * 2 * 10**9)
+            if able := [each for each in interfaces if front_of(each.link, kind) is not None]:
+                chosen = rng.choice(able)
+                framed = front_of(chosen.link, kind) + data
+                parts.append(chosen.record(order, is_ng, now, framed, framed if chosen.snap is None else framed[:chosen.snap + above]))
     return b''.join(parts)
 
 

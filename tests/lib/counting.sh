@@ -8,9 +8,11 @@ passed=0
 failed=0
 skipped=0
 
-# python3 by its own place: what versions of it are chosen by may take as long as its start.
+# python3 by its own place, and without the packages beside it: what its version is chosen by, and what such packages do at each start, may take
+# several times as long as the start itself.
 mkdir "$room/python"
 ln -s "$(python3 -c 'import os, sys; print(os.path.realpath(sys.executable))')" "$room/python/python3"
+printf 'home = %s\ninclude-system-site-packages = false\n' "$(dirname "$(realpath "$room/python/python3")")" >"$room/python/pyvenv.cfg"
 PATH=$room/python:$PATH
 
 # limit NAME: a limit of include/nbt.h. many: as many keys as a command takes.
@@ -81,9 +83,6 @@ compile() {
         count $? "tests/lib/$shim.c is compiled"
     done
 }
-
-# refusing NAME=VALUE.. COMMAND: runs a command over tests/lib/refuse_memory.c.
-refusing() { ended env LD_PRELOAD="$room/refuse_memory.so" "$@"; }
 
 # counted COMMAND..: the cases of a command whose last line is 'N passed, M failed', perhaps with ', K skipped'.
 counted() {

@@ -25,7 +25,7 @@ def main():
         if time.monotonic() > until:
             process.kill()
             return 124
-        time.sleep(0.001)
+        time.sleep(0.001 if is_time else 0.02)
     time.sleep(float(when) if is_time else 0)
     process.send_signal(signal.SIGINT)
     try:

@@ -12,12 +12,12 @@ from dataclasses import dataclass
 LONGEST = 120
 
 
-def compiled(folder, shim):
+def compiled(folder, shim, *words):
     """What stands before the C library in some runs, tests/lib/devices.c or refuse_memory.c, made in a folder where it isn't there yet."""
     path, source = os.path.join(folder, f'{shim}.so'), os.path.join(os.path.dirname(os.path.abspath(__file__)), f'{shim}.c')
     if not os.path.exists(path):
         compiler = shlex.split(os.environ.get('CC', 'cc'))
-        subprocess.run([*compiler, '-O1', '-shared', '-fPIC', '-o', path, source, '-ldl'], check=True)
+        subprocess.run([*compiler, '-O1', '-shared', '-fPIC', *words, '-o', path, source, '-ldl'], check=True)
     return path
 
 
@@ -38,17 +38,17 @@ class Run:
 
 
 class Program:
-    """A program over the shim, with its words and an input. What it writes goes to files, which each run begins anew."""
+    """A program over the shim, with its words and an input; perhaps another one runs it. What it writes goes to files, which each run begins anew."""
 
-    def __init__(self, shim, command, given):
-        self.shim, self.command = shim, command
+    def __init__(self, shim, command, given, runner=()):
+        self.shim, self.command, self.runner = shim, command, runner
         self.streams = [given, *(os.memfd_create(name) for name in ('output', 'errors'))]
 
     def start(self, others=(), **settings):
         """Starts it."""
         self.rewind()
         given, output, errors = self.streams
-        return subprocess.Popen(self.command, stdin=given, stdout=output, stderr=errors, pass_fds=others, start_new_session=True,
+        return subprocess.Popen([*self.runner, *self.command], stdin=given, stdout=output, stderr=errors, pass_fds=others, start_new_session=True,
                                 env={**os.environ, 'LD_PRELOAD': self.shim, **settings})
 
     def rewind(self):
@@ -74,7 +74,7 @@ class Served:
         self.program = program
         theirs, self.numbers = os.pipe()
         self.statuses, to_us = os.pipe()
-        self.server = program.start((theirs, to_us), NBT_SERVES=f'{theirs} {to_us}')
+        self.server = program.start((theirs, to_us), NBT_SERVES=f'{theirs} {to_us} {program.command[0]}')
         os.close(theirs)
         os.close(to_us)
 
@@ -87,10 +87,10 @@ class Served:
         os.close(self.numbers)
         os.close(self.statuses)
 
-    def run(self, refused=0):
-        """Runs it with the request of this number refused, or none."""
+    def run(self, refused=0, of_call=0, seconds=LONGEST):
+        """Runs it with the request of this number refused, or that of each call between marks, or none."""
         self.program.rewind()
-        os.write(self.numbers, struct.pack('L', refused))
-        if not select.select([self.statuses], [], [], LONGEST)[0]:
-            raise TimeoutError(f'{self.program.command}: it takes more than {LONGEST} seconds')
+        os.write(self.numbers, struct.pack('LL', refused, of_call))
+        if not select.select([self.statuses], [], [], seconds)[0]:
+            raise TimeoutError(f'{self.program.command}: it takes more than {seconds} seconds')
         return self.program.ran(os.waitstatus_to_exitcode(*struct.unpack('i', os.read(self.statuses, 4))))

@@ -7,11 +7,12 @@
 #include <sys/mman.h>
 #include <ucontext.h>
 
-enum { PAINT = 0x5a, STACK = 1 << 20, PAGE = 4096 };
+/* A call that wants twice what it may meets a page that can't be touched. */
+enum { PAINT = 0x5a, PAGE = 4096, STACK = 2 * NBT_STACK };
 
 /* ---- the stack of a call */
 
-static uint8_t *stack;
+static uint8_t *stack, painted[PAGE];
 static ucontext_t caller;
 static struct sample row;
 static size_t used;
@@ -28,6 +29,7 @@ static uint8_t *new_stack(void) {
     uint8_t *made = mmap(NULL, PAGE + STACK, PROT_READ | PROT_WRITE, MAP_PRIVATE | MAP_ANONYMOUS, -1, 0);
     if (made == MAP_FAILED || mprotect(made, PAGE, PROT_NONE) != 0)
         exit(2);
+    memset(painted, PAINT, PAGE);
     return made + PAGE;
 }
 
@@ -42,6 +44,8 @@ static size_t depth(void) {
     context.uc_link = &caller;
     makecontext(&context, start, 0);
     swapcontext(&caller, &context);
+    while (untouched < STACK && memcmp(stack + untouched, painted, PAGE) == 0)
+        untouched += PAGE;
     while (untouched < STACK && stack[untouched] == PAINT)
         untouched++;
     return STACK - untouched;

@@ -22,7 +22,7 @@ const base = Number(nbt.heap_take(big(4 * SPACE + WRITTEN_SPACE)));
 const [numbers, ...inputs] = [0, 1, 2, 3].map((which) => base + which * SPACE), into = base + 4 * SPACE;
 const [used, at, filled] = [numbers, numbers + 8, numbers + 1024], stationAt = (which) => numbers + 64 + 8 * which;
 const names = new Map(), stations = new Map();
-let memory, view, out, number, refusals = 0;
+let memory, view, out, number, refusals = 0, untouched = Buffer.alloc(1 << 12, FILL);
 
 function look() {
     if (memory?.buffer === nbt.memory.buffer) return;
@@ -38,14 +38,18 @@ function expect(holds, what) {
 }
 
 const size = (place) => view.getBigUint64(place, true);
-const isUntouched = (start, end) => memory.subarray(start, end).every((byte) => byte === FILL);
+const isUntouched = (start, end) => {
+    if (untouched.length < end - start) untouched = Buffer.alloc(end - start, FILL);
+    return untouched.compare(memory, start, end, 0, end - start) === 0;
+};
 
 /** The bytes of a name, or of digits. */
 const bytesOf = (word) => names.get(word) ?? Uint8Array.from(Buffer.from(word.replace('empty', ''), 'hex'));
 
-/** The digits of a sum of bytes. */
-function sumOf(bytes) {
-    const sum = bytes.reduce((sum, byte) => Math.imul(sum ^ byte, 0x01000193), 0x811c9dc5);
+/** The digits of a sum of bytes, or of those that are fields of structures. */
+function sumOf(bytes, isField = [true]) {
+    let sum = 0x811c9dc5;
+    for (let place = 0; place < bytes.length; place++) if (isField[place % isField.length]) sum = Math.imul(sum ^ bytes[place], 0x01000193);
     return (sum >>> 0).toString(16).padStart(8, '0');
 }
 
@@ -114,8 +118,8 @@ function answer(name, asked, isRefused) {
         ({ status, count } = made(name, row, asked, room + 3, isRefused));
     }
     const structures = status !== DONE ? 0 : row.words.includes('ENTRIES') ? Number(size(used)) : 1;
-    const fields = memory.subarray(filled, filled + structures * row.size).filter((_, place) => row.isField[place % row.size]);
-    out.push(`${number} ${name} ${status} ${said(used)} ${said(at)} ${sumOf(memory.subarray(into, into + count))} ${sumOf(fields)}\n`);
+    const fields = memory.subarray(filled, filled + structures * row.size);
+    out.push(`${number} ${name} ${status} ${said(used)} ${said(at)} ${sumOf(memory.subarray(into, into + count))} ${sumOf(fields, row.isField)}\n`);
 }
 
 /** What all calls answer. */

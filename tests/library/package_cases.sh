@@ -41,40 +41,42 @@ made() {
     count $? 'which are left there'
 }
 
-# No error in a package, but that none says under what licence it is: a file with that is for the owner to add.
+# No error in a package, but that none says under what licence it is: a file with that is for the owner to add. Those of the other machine
+# are made by the same lines.
 lint() {
-    ended lintian --tag-display-limit 0 --fail-on none "$dist"/*.deb >"$room/lint" 2>/dev/null
+    ended lintian --tag-display-limit 0 --fail-on none "$dist"/*_{amd64,all}.deb >"$room/lint" 2>/dev/null
     [ $? -lt 2 ] && ! grep '^E: ' "$room/lint" | grep -v 'no-copyright-file' >"$room/log"
     count $? "lintian finds no error: $(head -n 3 "$room/log" | tr '\n' ' ')"
 }
 
-# A root that has what each Debian system has, and may take packages of both machines; from the place, and of the release, of this
-# machine's own packages. What mmdebstrap mounts there, as /proc, nobody else sees: a script that is stopped meanwhile empties $room
-# of files alone.
+# A root that has what each Debian system must have, from the place, and of the release, of this machine's own packages; and all of ours in it, of
+# both machines, with what they want, as apt finds it there: $fresh/packages/status has how that went. The root's folders are /usr's from the
+# start, by a hook of mmdebstrap, or perl would come to make them so. What mmdebstrap mounts there, as /proc, nobody else sees: a script that is
+# stopped meanwhile empties $room of files alone.
 fresh_root() {
-    local mirror='' suite=''
+    local mirror='' suite='' merged=/usr/share/mmdebstrap/hooks/merged-usr/setup00.sh
     apt-get indextargets --format '$(REPO_URI) $(CODENAME)' 'Created-By: Packages' 'Label: Debian' 2>"$room/log" \
         | grep -v -- - | read -r mirror suite
-    "$timeout" -k 5 600 unshare --mount --propagation private \
-        mmdebstrap --quiet --mode=root --variant=apt --architectures=amd64,arm64 --skip=cleanup/apt/lists --aptopt='Acquire::Retries "3"' \
+    [ -x "$merged" ] || merged=true
+    dist=$dist "$timeout" -k 5 900 unshare --mount --propagation private \
+        mmdebstrap --quiet --mode=root --variant=essential --architectures=amd64,arm64 --skip=cleanup/apt/lists \
+        --aptopt='Acquire::Retries "3"' --aptopt='Acquire::Languages "none"' --dpkgopt=force-unsafe-io --setup-hook="$merged" \
+        --customize-hook='mkdir "$1/packages" && cp "$dist"/*.deb "$1/packages"
+            APT_CONFIG=$MMDEBSTRAP_APT_CONFIG DEBIAN_FRONTEND=noninteractive LC_ALL=C apt-get install -qq -y --no-install-recommends \
+                -o DPkg::Chroot-Directory="$1" "$1"/packages/*.deb >"$1/packages/log" 2>&1
+            echo $? >"$1/packages/status"' \
         "${suite:-stable}" "$fresh" "${mirror:-http://deb.debian.org/debian}" >"$room/log" 2>&1
 }
 
 # The packages, in the fresh root.
 installed() {
-    mkdir "$fresh/packages" && cp "$dist"/*.deb "$fresh/packages" && cp /etc/resolv.conf "$fresh/etc"
-    in_root apt-get install -qq -y --no-install-recommends ./nbt_*_amd64.deb
-    count $? "apt-get install ./nbt_..deb: $(tail -n 1 "$room/log")"
-    in_root apt-get install -qq -y --no-install-recommends ./libnbt0_*_amd64.deb ./libnbt-dev_*_amd64.deb ./python3-nbt_*_all.deb
-    count $? "apt-get install of the library for amd64: $(tail -n 1 "$room/log")"
-    in_root apt-get install -qq -y --no-install-recommends ./libnbt0_*_arm64.deb ./libnbt-dev_*_arm64.deb
-    count $? "apt-get install of the library for arm64, beside it: $(tail -n 1 "$room/log")"
-}
-
-# in_root COMMAND..: a command in the fresh root, in its folder packages.
-in_root() {
-    "$timeout" -k 5 300 env DEBIAN_FRONTEND=noninteractive LC_ALL=C PATH=/usr/sbin:/usr/bin:/sbin:/bin \
-        chroot "$fresh" sh -c "cd /packages && $*" >"$room/log" 2>&1
+    local each
+    [ "$(cat "$fresh/packages/status")" = 0 ]
+    count $? "apt-get install ./*.deb: $(tail -n 1 "$fresh/packages/log")"
+    dpkg-deb -f "$dist"/nbt_*_amd64.deb Depends | grep -c nbt | same 0 'the program can be installed without the others'
+    for each in nbt:amd64 'libnbt0:amd64 libnbt-dev:amd64 python3-nbt' 'libnbt0:arm64 libnbt-dev:arm64'; do
+        dpkg-query --admindir="$fresh/var/lib/dpkg" -W -f '${db:Status-Status}\n' $each 2>&1 | sort -u | same installed "in the fresh root: $each"
+    done
 }
 
 # in_c COMPILER PROGRAM OPTION..: the first program of docs/CALLING.md, compiled so. c_says COMMAND..: what it prints, by this command.
@@ -112,16 +114,20 @@ debian() {
 
 # A wheel in an environment of its own, and the other machine's by pip's word for that machine.
 wheels() {
-    local page each glibc alone=(env -u PYTHONPATH -u NBT_LIBRARY -u LD_LIBRARY_PATH)
-    ended python3 -m venv "$room/venv" >"$room/log" 2>&1 \
-        && ended "$room/venv/bin/pip" install -q --no-index "$dist"/*x86_64.whl >"$room/log" 2>&1
+    local page each glibc alone=(env -u PYTHONPATH -u NBT_LIBRARY -u LD_LIBRARY_PATH) without=() pip=("$room/venv/bin/pip")
+    # Where python3 has a pip that installs into others, the environment needs none, which takes the longest to put there.
+    if python3 -c 'import pip, sys; sys.exit(int(pip.__version__.split(".")[0]) < 23)' 2>/dev/null; then
+        without=(--without-pip) pip=(python3 -m pip --python "$room/venv/bin/python")
+    fi
+    ended python3 -m venv "${without[@]}" "$room/venv" >"$room/log" 2>&1 \
+        && ended "${pip[@]}" install -q --no-index "$dist"/*x86_64.whl >"$room/log" 2>&1
     count $? "pip install of the wheel: $(tail -n 1 "$room/log")"
     page=$(echo "$room"/venv/lib/python3*/site-packages/nbt-*.dist-info/METADATA)
     block python "$page" >"$room/first.py"
     (cd "$room" && ended "${alone[@]}" "$room/venv/bin/python" first.py) 2>&1 | same "$(block text "$page")" 'the wheel'
-    ended "$room/venv/bin/pip" uninstall -q -y nbt >"$room/log" 2>&1 && [ ! -e "${page%/*}" ] && [ ! -e "${page%/*/*}/nbt" ]
+    ended "${pip[@]}" uninstall -q -y nbt >"$room/log" 2>&1 && [ ! -e "${page%/*}" ] && [ ! -e "${page%/*/*}/nbt" ]
     count $? "pip uninstall: $(tail -n 1 "$room/log")"
-    ended "$room/venv/bin/pip" install -q --no-index --only-binary :all: --platform manylinux_2_17_aarch64 --target "$room/wheel" \
+    ended "${pip[@]}" install -q --no-index --only-binary :all: --platform manylinux_2_17_aarch64 --target "$room/wheel" \
         "$dist"/*aarch64.whl >"$room/log" 2>&1
     count $? "pip install of the wheel for aarch64: $(tail -n 1 "$room/log")"
     in_c aarch64-linux-gnu-gcc "$room/first.arm" "-I$top/include" "$room/wheel/nbt/libnbt.so.0"

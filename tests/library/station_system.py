@@ -1,5 +1,8 @@
 """What a system does to tools/nbt-station: the files that it is given, signals, standard streams, and networks."""
+import importlib
+import multiprocessing
 import os
+import runpy
 import shlex
 import signal
 import socket
@@ -56,8 +59,30 @@ OTHERS = ('--save', 'saved table', 'text cut two end newer'), ('--pid', 'pid fil
 
 # ---- files
 
+def begin(folder, said, words):
+    os.chdir(folder)
+    os.dup2(said.fileno(), 2)
+    sys.argv[:] = TOOL, *words
+    runpy.run_path(TOOL, run_name='__main__')
+
+
+def begun(folder, *words):
+    """The status with which the tool ends, and its last line, in a process that has the modules of others from the start."""
+    with tempfile.TemporaryFile('w+') as said:
+        each = multiprocessing.get_context('fork').Process(target=begin, args=(folder, said, words))
+        each.start()
+        each.join(PATIENCE)
+        each.kill()
+        each.join()
+        said.seek(0)
+        return each.exitcode, said.read().strip().rpartition('\n')[2]
+
+
 def refused_beginnings():
     """The station isn't begun so, and all files stay as they are."""
+    sys.path[1:1] = os.path.dirname(TOOL), os.path.join(os.path.dirname(TOOL), '../bindings/python')
+    for each in 'argparse', 'asyncio', 'nbt':
+        importlib.import_module(each)
     rows = REFUSED.strip().splitlines()
     rows += [f'3 | {it}: it is no {kind}, and stays as it is | {option} {it}' for option, kind, names in OTHERS for it in names.split()]
     with tempfile.TemporaryDirectory() as folder, socket.socket(socket.AF_INET, socket.SOCK_DGRAM) as taken:
@@ -72,9 +97,7 @@ def refused_beginnings():
         before = sorted(os.listdir(folder))
         for row in rows:
             status, why, words = row.format(busy=busy, pid=os.getpid()).split(' | ')
-            done = subprocess.run([TOOL, *OWN, *shlex.split(words), 'FRED<20>'], cwd=folder, capture_output=True, text=True,
-                                  timeout=PATIENCE)
-            expect((int(status), f'nbt-station: {why}'), (done.returncode, done.stderr.strip().rpartition('\n')[2]))
+            expect((int(status), f'nbt-station: {why}'), begun(folder, *OWN, *shlex.split(words), 'FRED<20>'))
         expect((before, FILES), (sorted(os.listdir(folder)), {it: read(folder, it) for it in FILES}))
 
 

@@ -3,8 +3,8 @@
 
 Usage: tests/look/beside_tshark.py COUNT [SEED], or .. FILE..
 
-Random captures are those of tests/captures/random_pcap.py; tests/wireshark/random_captures.py says which packets they have. Of each
-capture the packets are those that pcap2cap has, each with its frame, time, addresses, ports and service; as much is left out for each
+Random captures are those of tests/captures/random_pcap.py, ten in a file; tests/wireshark/random_captures.py says which packets they
+have. The packets are those that pcap2cap has, each with its frame, time, addresses, ports and service; as much is left out for each
 reason, but for fragments of IP; and what the last lines count adds up.
 
 Of each frame of a file the packets are those that tshark dissects: nbns by the number and the word of its header, nbdgm by its kind and
@@ -18,12 +18,14 @@ import json
 import re
 import subprocess
 import sys
+import tempfile
 
 sys.dont_write_bytecode = True
 sys.path[1:1] = [f'{sys.path[0]}/../{it}' for it in ('captures', 'lib')]
 from parts import tally
 from random_pcap import pcap_of
 from seeds import compared
+from wire import written
 
 TOOLS = f'{sys.path[0]}/../../tools'
 PAYLOAD = re.compile(r'^(# frame .* > .*)\n(13[789]) ', re.MULTILINE)
@@ -37,7 +39,14 @@ REFUSED, EMPTY = None, 'truncated 0'
 def main():
     if sys.argv[1].endswith('.pcap'):
         return tally((path, first_difference(path, unlike_tshark)) for path in sys.argv[1:])
-    return compared('looks', pcap_of, first_difference)
+    return compared('looks', ten, first_difference)
+
+
+def ten(rng):
+    """Random captures, one after the other in a file."""
+    with tempfile.TemporaryDirectory() as folder:
+        paths = [written(f'{folder}/{number}.pcap', pcap_of(rng)) for number in range(10)]
+        return subprocess.run(['mergecap', '-a', '-F', 'pcapng', '-w', '-', *paths], stdout=subprocess.PIPE, check=True).stdout
 
 
 def first_difference(path, beside=lambda path, objects: ''):

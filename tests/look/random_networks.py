@@ -6,7 +6,6 @@ PROGRAM for the page. A network has parts of the captures of tests/summary/, who
 later, with stations exchanged, few names, and other bits of headers. Of every other one bytes are changed, and frames cut, left out,
 doubled and moved. The last line is 'N passed, M failed'; a capture that fails is kept in the folder of temporary files, and named.
 """
-import concurrent.futures
 import os
 import random
 import re
@@ -18,9 +17,9 @@ sys.dont_write_bytecode = True
 sys.path[1:1] = [f'{sys.path[0]}/../{it}' for it in ('captures', 'lib')]
 from parts import tally
 import summary
-from wire import UDP, pcap, written
+from wire import TCP, UDP, pcap, written
 
-AT_ONCE, PART = 2, 20
+PART = 10
 UNREAD = 'not read here'         # what the page says alone
 SNAPS = (None,) * 6 + (96, 110, 128)
 TELLING = (0, 0x40, 0x80, 0xc0, 255)
@@ -30,25 +29,27 @@ STATION = re.compile(rb'(\x02\0\0\0\0|\x0a[\0\1]\0)([%s])' % STATIONS)
 NAME = re.compile(rb'\x20[A-P]{32}\0')
 # In a frame its protocol, its payload with UDP, and the last byte of an identifier, which flags follow.
 PROTOCOL, PAYLOAD, HEADER = 23, 42, (43, 44, 44, 45, 45)
+# The ports of TCP, and that of the service.
+PORTS, SESSION = (34, 36), b'\0\x8b'
 
 
 def network(seed, captures):
     """The frames of a network, by the chances of a seed."""
     rng, frames, start = random.Random(f'network {seed}'), [], 0
     least, names = rng.choice(SNAPS), rng.sample(sorted({name for it in captures for _, data, _ in it for name in NAME.findall(data)}), 3)
-    for _ in range(rng.randint(4, 40)):
+    for _ in range(rng.randint(12, 120)):
         capture = rng.choice(captures)
         first = rng.choice((0, rng.randrange(len(capture))))
         part = capture[first:first + rng.randint(1, 8)]
         start += rng.choice((0, 3, 245, 400, 3_000, 12_000, 400_000)) * 1_000 + rng.randint(0, 999)
-        frames += [(start + at - part[0][0], data, snap or (least and min(least, len(data)))) for at, data, snap in moved(part, names, rng)]
+        frames += [(start + at - part[0][0], data, snap or (least and min(least, len(data)))) for at, data, snap in moved(part, names, rng, seed)]
         start += rng.choice((0, max(part[-1][0] - part[0][0], 0)))
     frames.sort(key=lambda each: each[0])
     return list(changed(frames, rng)) if seed % 2 else frames
 
 
-def moved(part, names, rng):
-    """Frames among other stations, perhaps, about these names, and some with another bit of their headers."""
+def moved(part, names, rng, seed):
+    """Frames among other stations, perhaps, about these names, some with another bit of their headers; ports of clients are this network's."""
     others = dict(zip(STATIONS, rng.sample(STATIONS, len(STATIONS)) if rng.random() < 0.6 else STATIONS))
     named = {}
     for at, data, snap in part:
@@ -56,6 +57,9 @@ def moved(part, names, rng):
         data = bytearray(NAME.sub(lambda it: named.setdefault(it[0], rng.choice(names)), data))
         if data[PROTOCOL] == UDP and rng.random() < 0.08:
             data[rng.choice(HEADER)] ^= 1 << rng.randrange(8)
+        for place in PORTS if data[PROTOCOL] == TCP else ():
+            if data[place:place + 2] != SESSION:
+                data[place] = (data[place] + seed) % 256
         yield at, bytes(data), snap
 
 
@@ -77,12 +81,13 @@ def main():
     count, first = int(sys.argv[1]), int(sys.argv[2]) if sys.argv[2:] else 1
     program = summary.program_of(sys.argv[3:])
     captures = [summary.frames_of(each, program) for each in summary.cases()]
+    networks = [network(seed, captures) for seed in range(first, first + count)]
     with tempfile.TemporaryDirectory() as folder:
-        paths = [written(f'{folder}/{seed}.pcap', pcap(network(seed, captures))) for seed in range(first, first + count)]
+        paths = [written(f'{folder}/{seed}.pcap', pcap(each)) for seed, each in enumerate(networks, first)]
         # Some at a time, since each time may take so long alone.
         by_page = [each for at in range(0, count, PART) for each in summary.shown_by_page(program, paths[at:at + PART])]
-        with concurrent.futures.ProcessPoolExecutor(AT_ONCE) as pool:
-            return tally((path, difference(path, *tables)) for path, *tables in zip(paths, by_page, pool.map(summary.shown_by_tool, paths)))
+        by_tool = map(summary.shown_by_tool, paths, summary.rows_of_all(networks, folder))
+        return tally((path, difference(path, *tables)) for path, *tables in zip(paths, by_page, by_tool))
 
 
 def difference(path, page, tool):

@@ -37,7 +37,9 @@ HERE = os.path.dirname(os.path.abspath(__file__))
 TOOLS = f'{HERE}/../../tools'
 sys.path[1:1] = [*(f'{HERE}/../{it}' for it in ('captures', 'lib')), TOOLS]
 from bundled import bundled
-from nbt_look import looking, page  # noqa: F401: what the tool would import anew for each capture
+from nbt_look import arguments, frames, looking, summary  # noqa: F401: what the tool would import anew for each capture
+from nbt_pcap import tshark
+from nbt_pcap.frames import COUNTED
 from parts import tally
 from wire import ACK, SYN, Frames, pcap, written
 
@@ -182,9 +184,10 @@ def difference(case, shown):
 def main():
     program = program_of([each for each in sys.argv[1:] if each != '--page'])
     chosen = cases()
+    captures = [frames_of(each, program) for each in chosen]
     with tempfile.TemporaryDirectory() as folder:
-        paths = [written(f'{folder}/{number}', pcap(frames_of(each, program))) for number, each in enumerate(chosen)]
-        shown = shown_by_page(program, paths) if '--page' in sys.argv else list(map(shown_by_tool, paths))
+        paths = [written(f'{folder}/{number}', pcap(each)) for number, each in enumerate(captures)]
+        shown = shown_by_page(program, paths) if '--page' in sys.argv else list(map(shown_by_tool, paths, rows_of_all(captures, folder)))
     return tally((f'{each.file}: {each.what}', difference(each, tables)) for each, tables in zip(chosen, shown))
 
 
@@ -196,11 +199,30 @@ def program_of(words):
     return program
 
 
-def shown_by_tool(path):
-    """What the tool shows of a capture, in a process that has its modules from the start."""
+def rows_of_all(captures, folder):
+    """Of each capture a place of a tshark that prints what tshark prints of it. One run of tshark has them all, one after the other, and says as
+    much of their frames as of those of a capture alone, but for their numbers."""
+    options = arguments.options_of(['--summary', written(f'{folder}/all', pcap(sum(captures, [])))])
+    firsts = ','.join(str(1 + sum(map(len, captures[:at]))) for at in range(len(captures)))
+    command = tshark.command_of(options, frames.FIELDS, ())
+    command[command.index('-Y') + 1] += f' || frame.number in {{{firsts}}}'
+    done = subprocess.run(command, capture_output=True, check=True, env=tshark.environment(folder))
+    rows, before = {int(at): row for at, tab, row in (line.partition(b'\t') for line in done.stdout.splitlines(True)) if tab}, 0
+    for number, capture in enumerate(captures):
+        os.mkdir(f'{folder}/{number}-tshark')
+        printed = b''.join(b'%d\t%s' % (at, rows[before + at]) for at in range(1, len(capture) + 1) if before + at in rows)
+        printed += b'%s%d\nEND\n' % (COUNTED.encode(), len(capture))
+        os.chmod(written(f'{folder}/{number}-tshark/tshark', b"#!/bin/sh\nexec cat <<'END'\n" + printed), 0o755)
+        yield f'{folder}/{number}-tshark:'
+        before += len(capture)
+
+
+def shown_by_tool(path, places=''):
+    """What the tool shows of a capture, in a process that has its modules from the start; programs are looked for in these places first."""
     with tempfile.TemporaryFile() as shown:
         if not (child := os.fork()):
             os.dup2(shown.fileno(), 1)
+            os.environ['PATH'] = places + os.environ['PATH']
             sys.argv = [TOOL, '--summary', path]
             try:
                 runpy.run_path(TOOL, run_name='__main__')

@@ -1,10 +1,13 @@
 """Captures, line by line (docs/FORMATS.md, "Captures")."""
 import collections
+import functools
 import re
 
 from .limits import MOST_LINE as LONGEST_LINE
 
 LINE = re.compile(rb'(?:#.*|(13[789]) (\d{1,20}) (empty|(?:[0-9A-Fa-f]{2})+)|tick (\d{1,20})|)', re.DOTALL)
+FILLED = re.compile(rb'[^\n]+')
+NOT_PRINTED = re.compile(rb'[^ -~]')
 
 Line = collections.namedtuple('Line', 'number port moment payload')
 
@@ -27,12 +30,15 @@ def read_capture(given):
 
 def numbered(given):
     """The lines of an input that have bytes, with their numbers."""
-    number, end = 1, 0
-    for found in re.finditer(rb'[^\n]+', given):
-        number, end = number + given.count(b'\n', end, found.start()), found.start()
-        yield number, found[0]
+    number, at, lines = 1, 0, []
+    for found in FILLED.finditer(given):
+        number += given.count(b'\n', at, found.start())
+        at = found.end()
+        lines.append((number, found[0]))
+    return lines
 
 
+@functools.lru_cache(1)
 def cut_at_line_feeds(given):
     """The lines of an input, of which the last may lack its line feed."""
     lines = given.split(b'\n')
@@ -41,7 +47,7 @@ def cut_at_line_feeds(given):
 
 def comment_text(line):
     """A comment as it is printed."""
-    return ''.join(chr(it) if 0x20 <= it <= 0x7e else f'\\{it:02x}' for it in line)
+    return NOT_PRINTED.sub(lambda it: b'\\%02x' % ord(it[0]), line).decode()
 
 
 def digits(payload):

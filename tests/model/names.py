@@ -10,6 +10,8 @@ ITEM = rb'(?:[!-\-/-;=?-\[\]-~]|\\[0-9A-Fa-f]{2})'
 TEXT = re.compile(rb'(%b*)<([0-9A-Fa-f]{2})>((?:\.%b+)*)' % (ITEM, ITEM))
 # What begins some name's text is completed by one of these.
 ENDINGS = (b'', b'0', b'00', b'>', b'0>', b'00>', b'<00>', b'0<00>', b'00<00>')
+# How each byte is written there.
+WRITTEN = [chr(it) if re.fullmatch(ITEM, bytes([it])) else f'\\{it:02x}' for it in range(256)]
 
 Name = collections.namedtuple('Name', 'bytes scope')
 
@@ -20,7 +22,7 @@ class Refused(Exception):
 
 def items(data):
     """How bytes are written in a name's text."""
-    return ''.join(chr(it) if re.fullmatch(ITEM, bytes([it])) else f'\\{it:02x}' for it in data)
+    return ''.join(map(WRITTEN.__getitem__, data))
 
 
 def values(text):
@@ -63,7 +65,7 @@ def spelling_of(name):
 def read_labels(data, start, pointers=False):
     """The labels of the name at an offset of bytes which end where the name has to, and the offset after it. A pointer, where
     there may be one, leads below the start of the row of labels that it ends."""
-    at, row, after, labels = start, start, None, []
+    at, row, after, labels, size = start, start, None, [], 1
     while True:
         first = data[at] if at < len(data) else None
         if first is None or first < 64 and at + first >= len(data) or first >= 192 and at + 1 == len(data):
@@ -80,7 +82,8 @@ def read_labels(data, start, pointers=False):
             continue
         if first == 0:
             return labels, after or at + 1
-        if len(spelled(labels)) + 1 + first > LONGEST_SPELLING:
+        size += 1 + first
+        if size > LONGEST_SPELLING:
             raise Refused(f'too long {at}')
         labels.append(data[at + 1:at + 1 + first])
         at += 1 + first
@@ -91,9 +94,9 @@ def name_of(labels):
     letters = labels[0] if labels else b''
     if len(letters) != 32:
         raise Refused('not netbios 0')
-    for place, letter in enumerate(letters):
-        if not ord('A') <= letter <= ord('P'):
-            raise Refused(f'not netbios {1 + place}')
+    place = re.match(rb'[A-P]*', letters).end()
+    if place < len(letters):
+        raise Refused(f'not netbios {1 + place}')
     halves = [it - ord('A') for it in letters]
     return Name(bytes(16 * high + low for high, low in zip(halves[::2], halves[1::2])), tuple(labels[1:]))
 

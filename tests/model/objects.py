@@ -1,5 +1,7 @@
 """The objects of `nbt show --json` (docs/FORMATS.md, "JSON" and "Packets in part"): dictionaries whose keys stand in the order of the
 page's tables."""
+import functools
+
 from .names import domain_text, text_of
 from .packets import ERROR, KEEPALIVE, KINDS, MESSAGE, NEGATIVE, POSITIVE, QUERIES, REQUEST, RETARGET, Service, Session, read
 from .rdata import VIEWS, address_text, set_of, view
@@ -12,6 +14,7 @@ DATAGRAMS = {**KINDS, ERROR: 'error', **QUERIES}
 SESSIONS = {MESSAGE: 'message', REQUEST: 'request', POSITIVE: 'positive', NEGATIVE: 'negative', RETARGET: 'retarget', KEEPALIVE: 'keepalive'}
 
 
+@functools.lru_cache(maxsize=1)
 def shown(port, payload):
     """What `nbt show --json` says of a payload that came to a port, after its line, port and moment."""
     packet = read(port, payload)

@@ -96,7 +96,7 @@ class Table:
     def admit(self, keys, moment=0):
         """Has entries for all of these keys, if there is room for those that aren't held."""
         new = [it for it in keys if it not in self.entries]
-        held = collections.Counter(address for address, _, _ in (*self.entries, *new) if new)
+        held = collections.Counter(address for address, _, _ in (*self.entries, *new)) if new else {}
         if any(held[address] > self.per_source for address, _, _ in new):
             raise Refused('full source')
         if len(self.entries) + len(new) > self.keys:

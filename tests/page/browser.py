@@ -10,9 +10,12 @@ from selenium.webdriver.common.keys import Keys
 
 CHROMIUM, DRIVER = '/usr/bin/chromium', '/usr/bin/chromedriver'
 WORDS = ('--headless=new', '--no-sandbox', '--disable-dev-shm-usage', '--disable-background-networking', '--disable-component-update',
-         '--no-first-run', '--window-size=1400,800')
+         '--no-first-run', '--window-size=1400,800', '--disable-features=BackForwardCache,SpareRendererForSitePerProcess')
 # How many seconds a file may take to be read, on a machine that is busy.
 LONG = 300
+# Whether files are read or refused.
+IS_ANSWERED = ('const at = (name) => document.getElementById(name);'
+               'return at("stop").disabled && (at("live").textContent !== "" || at("message").checkVisibility())')
 # What may come after the page itself: what it makes of its own blocks.
 OWN = ('blob:', 'data:', 'about:', 'chrome://', 'chrome-extension://', 'devtools://')
 # What has to have a name, by its role in the accessibility tree.
@@ -62,11 +65,12 @@ class Browser:
 
     def wait(self, what, seconds=60):
         """Waits until a function has an answer that counts as true, and answers that."""
-        end = time.monotonic() + seconds
+        end, pause = time.monotonic() + seconds, 0.01
         while not (found := what()):
             if time.monotonic() > end:
                 raise TimeoutError(f'{what.__code__.co_names}: {self.text("words-of-message")} {self.text("live")}')
-            time.sleep(0.01)
+            time.sleep(pause)
+            pause = min(1.5 * pause, 0.2)
         return found
 
     def give(self, *names, answer=''):
@@ -75,7 +79,7 @@ class Browser:
         self.offer(*names)
         if answer:
             self.answer(answer)
-        self.wait(lambda: self.is_read() and (self.text('live') or self.message()), LONG)
+        self.wait(lambda: self.run(IS_ANSWERED), LONG)
 
     def offer(self, *names):
         """Chooses files."""

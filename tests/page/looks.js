@@ -4,18 +4,21 @@ const holds = (element) => Array.from(element.childNodes).some((each) => each.no
 
 // A colour over another, how light it is, what is below an element, and how far a colour stands out from that, as WCAG 2.2 has it.
 const canvas = document.createElement('canvas').getContext('2d', { willReadFrequently: true });
-const over = (color, below) => {
+const kept = (given, key, make) => given.get(key) ?? given.set(key, make()).get(key);
+const [blends, papers] = [new Map(), new Map()];
+const over = (color, below) => kept(blends, `${color} on ${below}`, () => {
     for (const each of [`rgb(${below.join(' ')})`, color]) {
         canvas.fillStyle = each;
         canvas.fillRect(0, 0, 1, 1);
     }
     return Array.from(canvas.getImageData(0, 0, 1, 1).data.slice(0, 3));
-};
+});
 const light = (color) => {
     const [red, green, blue] = color.map((each) => (each / 255 <= 0.04045 ? each / 255 / 12.92 : ((each / 255 + 0.055) / 1.055) ** 2.4));
     return 0.2126 * red + 0.7152 * green + 0.0722 * blue;
 };
-const paper = (element) => over(getComputedStyle(element).backgroundColor, element.parentElement ? paper(element.parentElement) : [255, 255, 255]);
+const paper = (element) => kept(papers, element, () =>
+    over(getComputedStyle(element).backgroundColor, element.parentElement ? paper(element.parentElement) : [255, 255, 255]));
 const ratio = (color, below) => {
     const [one, other] = [light(below), light(over(color, below))].sort((first, second) => second - first);
     return (one + 0.05) / (other + 0.05);

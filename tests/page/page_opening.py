@@ -21,14 +21,16 @@ class OpeningCases:
 
     def bad(self):
         """Each bad file gets one line that says what and where, and the page goes on."""
+        self.browser.open(self.page)
         for name, data, wanted in page_files.bad(self.program):
-            self.opened(*(self.path(*each) for each in (data if isinstance(data, list) else [(name, data)])))
+            self.browser.give(*(self.path(*each) for each in (data if isinstance(data, list) else [(name, data)])))
             message = self.browser.message()
             check(wanted in message and '\n' not in message, f'{name}: {message!r}, which lacks {wanted!r}')
             self.browser.id('dismiss').click()
             if self.browser.id('try').is_displayed():
                 self.browser.sample()
             check(self.browser.rows() or self.browser.text('title') != 'nbt', f'{name}: the page goes on')
+            self.close_all()
         self.without_memory64()
 
     def without_memory64(self):

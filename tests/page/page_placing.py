@@ -7,6 +7,8 @@ from parts import check, equal
 
 NAMES = ['As a second tap, beside one.txt', 'Instead of one.txt']
 BOTH = ['Instead of tap 1, one.txt', 'Instead of tap 2, two.txt', 'Alone, instead of both']
+# Packets of a file that is long enough to be stopped while it is read, and those that have a row: not a SYN, nor a FIN.
+LONG, ROWS = 20_000, '19,295 rows'
 
 
 class PlacingCases:
@@ -82,9 +84,14 @@ class PlacingCases:
         self.browser.all(f'#title button[aria-label="Close {name}"]')[0].click()
         self.browser.wait(lambda: self.browser.text('live') == f'{name} is closed')
 
+    def close_all(self):
+        """Closes what is open, so that the page is as at first."""
+        while buttons := self.browser.all('#title button'):
+            self.close(buttons[0].get_attribute('aria-label').removeprefix('Close '))
+
     def stop(self):
         """A long file is stopped: what was read stays, and can be looked at."""
-        self.program.bytes(f'{self.program.top}/tests/captures/big_pcap.py 60000 long.pcap')
+        self.program.bytes(f'{self.program.top}/tests/captures/big_pcap.py {LONG} long.pcap')
         self.begin_long()
         self.browser.choose(self.browser.rows()[3][0])
         self.browser.id('stop').click()
@@ -109,8 +116,6 @@ class PlacingCases:
 
     def bad_while_reading(self):
         """A bad file is opened while the second tap is read: that goes on."""
-        self.opened('long.pcap')
-        whole = self.browser.text('shown')
         self.opened('keep.txt')
         self.browser.offer('long.pcap')
         self.browser.answer('As a second tap')
@@ -122,4 +127,4 @@ class PlacingCases:
         for when in ('meanwhile', 'at the end'):
             check('third.png: no pcap' in self.browser.message(), f'a bad file {when}: {self.browser.message()}')
             self.browser.wait(lambda: self.browser.is_read() and self.browser.text('live').startswith('long.pcap: '), 300)
-        equal(self.browser.text('shown'), whole, 'all of it is read')
+        equal(self.browser.text('shown'), ROWS, 'all of it is read')

@@ -1,4 +1,5 @@
 """What the program and its tools say, for the tests of the page."""
+import collections
 import itertools
 import json
 import os
@@ -8,11 +9,20 @@ import shutil
 import subprocess
 
 from limits import MANY
+from nbt_look.kinds import kinds_of
 from summary import tables_in
+from wire import written
 
 COUNTS = re.compile(r'(\d+ frames?, )?\d+ packets?, \d+ malformed, ')
 ROW = re.compile(r' *(\d+) +(\S+) +(\S+) +(\S+) +(.*)')
 MOST = ' '.join(MANY)
+# A tshark that keeps what the real one prints, for the same words and bytes of a file.
+TSHARK = '''#!/bin/sh
+for file; do :; done
+kept=$0-$({ cat "$file"; printf '%s\\n' "$@" | sed '$d'; } | sha256sum | cut -c1-64)
+[ -e "$kept" ] || { REAL "$@" >"$kept.new" && mv "$kept.new" "$kept"; } || exit
+exec cat "$kept"
+'''
 
 
 class Program:
@@ -23,6 +33,7 @@ class Program:
         os.mkdir(f'{folder}/bin')
         for name, path in (('nbt', program), ('nbt-look', f'{top}/tools/nbt-look'), ('nbt-pcap2cap', f'{top}/tools/pcap2cap')):
             os.symlink(path, f'{folder}/bin/{name}')
+        os.chmod(written(f'{folder}/bin/tshark', TSHARK.replace('REAL', shutil.which('tshark')).encode()), 0o755)
         self.env = {**os.environ, 'PATH': f"{folder}/bin:{os.environ['PATH']}", 'WIRESHARK_CONFIG_DIR': f'{folder}/settings'}
 
     def bytes(self, command, given=''):
@@ -41,6 +52,13 @@ class Program:
         """The rows of nbt-look: frame, time, from, to, and what is said."""
         lines = itertools.takewhile(lambda line: not COUNTS.match(line), self.lines(f'nbt-look {options} {name}'))
         return [list(ROW.fullmatch(line).groups()) for line in lines]
+
+    def kinds(self, name):
+        """How many packets of a file are of each kind of nbt-look --kind."""
+        packets = map(json.loads, self.lines(f'nbt-look --json --quiet {name}'))
+        kinds = collections.Counter(kind for packet in packets for kind in kinds_of(packet['port'], packet))
+        kinds['conflict'] = len(self.listed(name, '--kind conflict'))
+        return kinds
 
     def summary(self, name):
         """The tables of nbt-look: by title rows of cells, the head first."""

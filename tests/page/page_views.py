@@ -105,7 +105,7 @@ class ViewCases:
 
     def exports(self):
         """What is given out is byte for byte what the program prints, by the command that is shown with it, whatever the file's name is."""
-        for name in ('office.pcap', 'samba.pcap', 'odd.pcap', 'capture.txt', "it's $HOME.pcap"):
+        for name in ('samba.pcap', 'odd.pcap', 'capture.txt', "it's $HOME.pcap"):
             self.opened(name)
             self.exported(name, name)
 

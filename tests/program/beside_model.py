@@ -42,10 +42,11 @@ LONGEST_EXAMPLE, IN_CAPTURE, FRONTS = 400, 500, 10_000
 RECORDER = f'''#!/bin/sh
 case $1 in
 {" | ".join(COMMANDS)})
-    record=$(mktemp -d "$NBT_RECORDS/XXXXXX")
-    cat >"$record/input"
-    for word; do printf '%s\\n' "$word"; done >"$record/words"
-    exec "$NBT_PROGRAM" "$@" <"$record/input"
+    record=$NBT_RECORDS/$$
+    while [ -e "$record.words" ]; do record=$record+; done
+    for word; do printf '%s\\n' "$word"; done >"$record.words"
+    cat >"$record.input"
+    exec "$NBT_PROGRAM" "$@" <"$record.input"
     ;;
 esac
 exec "$NBT_PROGRAM" "$@"
@@ -85,7 +86,10 @@ class Cases:
             self.remember(rest, found['model'].objects)
 
     def run(self, words, given):
-        made = subprocess.run([self.program, *words], input=given, capture_output=True, timeout=SECONDS, check=False)
+        with open(os.memfd_create('given'), 'w+b') as file:
+            file.write(given)
+            file.seek(0)
+            made = subprocess.run([self.program, *words], stdin=file, capture_output=True, timeout=SECONDS, check=False)
         return Run(made.returncode, made.stdout, made.stderr)
 
     def judge(self, words, given, why):
@@ -130,7 +134,7 @@ def known_commands(files):
 
 
 def recorded(cases, chosen):
-    """The words and the input of each run of such a command; devices that fail are left out."""
+    """The words and the input of each run of such a command, and of those that read alike; devices that fail are left out."""
     with tempfile.TemporaryDirectory() as room:
         records, tools, files = (os.path.join(room, it) for it in ('records', 'bin', 'files'))
         for folder in (records, tools, files):
@@ -146,12 +150,11 @@ def recorded(cases, chosen):
                            stderr=subprocess.DEVNULL, timeout=SECONDS, check=False)
             if is_alone:
                 well('' if len(os.listdir(records)) > before else f'the model holds nothing of: {command}')
-        seen = set()
-        for record in sorted(os.listdir(records)):
-            words, given = (pathlib.Path(records, record, it).read_bytes() for it in ('words', 'input'))
-            if (words, given) not in seen:
-                seen.add((words, given))
-                yield words.decode(errors='surrogateescape').split('\n')[:-1], given
+        found = {}
+        for record in sorted(pathlib.Path(records).glob('*.words')):
+            words, given = record.read_bytes().decode(errors='surrogateescape').split('\n')[:-1], record.with_suffix('.input').read_bytes()
+            found.update(dict.fromkeys((tuple(it for it in each if it != '--json'), given) for each in (words, *alike(words))))
+    yield from found
 
 
 def alike(words):
@@ -211,8 +214,7 @@ def main():
         parser.error(f'{given.program} is missing: `make build` makes it')
     cases = Cases(given.program, random.Random(given.seed))
     for words, capture in recorded(cases, given.files):
-        for each in (words, *alike(words)):
-            cases.check(each, capture)
+        cases.check(words, capture)
     if given.files:
         return cases.end()
     payloads = list(definitions())

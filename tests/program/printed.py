@@ -1,5 +1,6 @@
 """What a command line prints of an input by the model (tests/model), with `--json` and without, and how it ends: options, comments, malformed lines
 and limits, from docs/FORMATS.md. For tests/program/beside_model.py and tests/fuzz.py."""
+import functools
 import getopt
 import json
 import re
@@ -167,6 +168,7 @@ def told(command, table, names, line, options):
     return [f'{number} {port} {first}', *parts, *more], moment, phrase | shown(port, payload) | front
 
 
+@functools.lru_cache(1)
 def read_within(given, limit):
     """The lines of an input that are answered, with their numbers, those of them that say something, the status and standard
     error. In an input that is too long a line that isn't finished is malformed only by its length."""
@@ -176,6 +178,5 @@ def read_within(given, limit):
     if malformed is None and len(whole) - len(finished) > LONGEST_LINE:
         malformed = finished.count(b'\n') + 1
     if malformed is not None:
-        answered = [it for it in numbered(finished) if it[0] < malformed]
-        return answered, lines, 1, f'nbt: line {malformed}\n'.encode()
+        return [it for it in numbered(finished) if it[0] < malformed], lines, 1, f'nbt: line {malformed}\n'.encode()
     return numbered(finished), lines, *((3, b'nbt: read\n') if cut else (0, b''))

@@ -1,13 +1,13 @@
 #!/usr/bin/env python3
-"""Captures for tests/scale.sh, always the same.  Usage: tests/scale/scale_capture.py KIND FOLDER
+"""Captures for tests/scale.sh, always the same.  Usage: tests/scale/scale_capture.py KIND.. FOLDER
 
-many   FOLDER/many, 12 MiB: 400 datagrams of 50 senders in pieces of 64 bytes, shuffled, with repeats and one liar
-few    FOLDER/few, 40 MiB: the same of 250 datagrams of 50 senders
+many   FOLDER/many, 9 MiB: 400 datagrams of 50 senders in pieces of 128 bytes, shuffled, with repeats and one liar
+few    FOLDER/few, 40 MiB: the same of 250 datagrams of 50 senders, in pieces of 64 bytes
 keys   FOLDER/keys: 66,000 datagrams, each in one packet
 gaps   FOLDER/gaps: 40 bursts of packets, five seconds apart, a tick after each; only the last is held at the end
 flow   FOLDER/flow: a packet each 5 ms, and a tick each 100 ms, so that keys live across each tick
-ever   FOLDER/ever: the same of more than 16 MiB
-wide   FOLDER/wide: 50,000 datagrams, each in one packet, whose table has 39 MB
+ever   FOLDER/ever: the same of more than 16 MiB, of longer packets
+wide   FOLDER/wide: 16,500 datagrams, each in one packet, whose table has 21 MB; all addresses are even
 rubbish  FOLDER/rubbish: 70,000 payloads that look like fragments and have no names, and a datagram
 """
 import os
@@ -28,16 +28,16 @@ def own(place, data):
 
 
 def few(rng):
-    return many(rng, 5, 40)
+    return many(rng, 5, 40, 64)
 
 
-def many(rng, of_each=8, size=12):
+def many(rng, of_each=8, size=9, piece=128):
     lines = []
     for sender in range(1, 51):
         for identifier in range(of_each):
             data = rng.randbytes(rng.randrange(4_000, 6_000))
             for each in (data, data[:640][::-1] + data[640:]) if (sender, identifier) == (7, 7) else (data,):
-                lines += [line(0, it) for it in pieces(identifier, each, 64, source=bytes([10, 0, 0, sender]))]
+                lines += [line(0, it) for it in pieces(identifier, each, piece, source=bytes([10, 0, 0, sender]))]
     missing = size * 1_048_576 - sum(map(len, lines))
     while missing > 0:
         lines.append(rng.choice(lines))
@@ -59,20 +59,20 @@ def gaps(rng):
         yield line(200_000 + place, own(place, rng.randbytes(100)))
 
 
-def flow(rng, packets=4_000):
+def flow(rng, packets=4_000, size=200):
     for place in range(packets):
         if place % 20 == 19:
             yield 'tick %d\n' % (5 * place)
-        yield line(5 * place, own(place, rng.randbytes(200)))
+        yield line(5 * place, own(place, rng.randbytes(size)))
 
 
 def ever(rng):
-    return flow(rng, 32_000)
+    return flow(rng, 16_000, 450)
 
 
 def wide(rng):
-    for place in range(50_000):
-        yield line(0, own(place, rng.randbytes(300)))
+    for place in range(16_500):
+        yield line(0, datagram(place // 25, rng.randbytes(550), bytes([10, 0, 0, 2 + 2 * (place % 25)])))
 
 
 def rubbish(rng):
@@ -82,9 +82,10 @@ def rubbish(rng):
 
 
 def main():
-    kind, folder = sys.argv[1:]
-    with open(os.path.join(folder, kind), 'w') as file:
-        file.writelines(globals()[kind](random.Random(kind)))
+    *kinds, folder = sys.argv[1:]
+    for kind in kinds:
+        with open(os.path.join(folder, kind), 'w') as file:
+            file.writelines(globals()[kind](random.Random(kind)))
 
 
 if __name__ == '__main__':

@@ -4,10 +4,10 @@
 Usage: tests/wireshark/random_captures.py COUNT [SEED]
 
 Each has datagrams, fragments of IP and TCP streams as networks deliver them, below VLAN tags, with snap lengths, as pcap or pcapng, in
-either byte order; some of them cooked as Linux does, in both versions, or from a loopback. What both print has to be the same, byte for
-byte: payloads with their moments, frames and ends, comments on what is left out, ticks, and the summary with its counts by reason. The page reads no
-tunnels: of one capture in three pcap2cap has to print the same with tunnels around its packets and without. The last line is 'N passed, M failed'; a
-capture that fails is kept in the folder of temporary files, and named.
+either byte order; some of them cooked as Linux does, in both versions, or from a loopback; two of three have sections, each as one more capture,
+which one start of tshark reads. What both print has to be the same, byte for byte: payloads with their moments, frames and ends, comments on what is
+left out, ticks, and the summary with its counts by reason. The page reads no tunnels: of one capture in three pcap2cap has to print the same with
+tunnels around its packets and without. The last line is 'N passed, M failed'; a capture that fails is kept in the folder of temporary files, and named.
 """
 import os
 import random
@@ -25,13 +25,17 @@ from wire import written
 
 TOP = os.path.realpath(f'{sys.path[0]}/../..')
 TOOL = [f'{TOP}/tools/pcap2cap']
+SECTIONS = (1, 14, 14)
 
 
 def main():
     with tempfile.TemporaryDirectory() as folder:
         program = ['node', *bundled(folder, 'capture.mjs')]
-        return compared('captures', lambda rng: pcap_of(rng, (), rng.sample(LINKS, len(LINKS))),
-                        lambda path: first_difference(program, path))
+        return compared('captures', lambda rng: made(rng, (), rng.sample(LINKS, len(LINKS))), lambda path: first_difference(program, path))
+
+
+def made(rng, *words):
+    return pcap_of(rng, *words, sections=rng.choice(SECTIONS))
 
 
 def first_difference(program, path):
@@ -39,7 +43,7 @@ def first_difference(program, path):
     seed = re.search(r'(\d+)\.pcap$', path)[1]
     if int(seed) % 3:
         return unlike(run([*program, path]), run([*TOOL, path]))
-    return unlike(*(run([*TOOL, written(path, pcap_of(random.Random(seed), tunnels))]) for tunnels in ((), TUNNELS)))
+    return unlike(*(run([*TOOL, written(path, made(random.Random(seed), tunnels))]) for tunnels in ((), TUNNELS)))
 
 
 def run(words):

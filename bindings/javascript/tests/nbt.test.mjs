@@ -360,10 +360,7 @@ test('memory: what is freed is used again, and blocks keep their bytes', async (
     const heap = await raw(), blocks = [];
     let seed = 1, held = 0;
     const random = (below) => { seed = (Math.imul(seed, 1_103_515_245) + 12_345) >>> 0; return (seed >>> 8) % below; };
-    const check = ({ at, length, byte }) => {
-        const bytes = new Uint8Array(heap.memory.buffer, at, length);
-        assert.ok(bytes.every((each) => each === byte));
-    };
+    const check = ({ at, length, byte }) => assert.ok(Buffer.from(heap.memory.buffer, at, length).equals(Buffer.alloc(length, byte)));
     for (let step = 0; step < 40_000; step += 1) {
         if (blocks.length === 0 || (held < 3 << 20 && random(2) === 0)) {
             const length = random(8) === 0 ? random(100_000) : random(400), at = Number(heap.heap_take(BigInt(length)));

@@ -1,13 +1,13 @@
-"""Eight threads and one station: 100,000 payloads are taken. Among them the table is saved, and the station is closed and
+"""Eight threads and one station: 20,000 payloads are taken. Among them the table is saved, and the station is closed and
 replaced by another: by one thread while the others go on, and by all at once. Prints how many of its own each was handed."""
 import sys
 import threading
 
 import nbt
 
-THREADS, TAKES = 8, 12_500
+THREADS, TAKES = 8, 2_500
 # After how many payloads a thread saves the table, and after how many the station was closed by all, and by each.
-SAVED, CLOSED = 100, 1_250
+SAVED, CLOSED = 50, 250
 
 
 class Shared:
@@ -55,12 +55,12 @@ def run(shared, thread, handed, everybody):
             shared.call('tick', 10 * number)
         if number % CLOSED == 0:
             shared.close(everybody.wait)
-        elif number % CLOSED == 100 * thread + 50:
+        elif number % CLOSED == 20 * thread + 10:
             shared.close()
 
 
 def main():
-    sys.setswitchinterval(1e-4)
+    sys.setswitchinterval(1e-5)
     shared, handed, everybody = Shared(), [0] * THREADS, threading.Barrier(THREADS)
     threads = [threading.Thread(target=run, args=(shared, each, handed, everybody)) for each in range(THREADS)]
     for each in threads:

@@ -92,7 +92,7 @@ pub(crate) fn bytes_if_made(
 }
 
 /// A request about a name.
-pub fn packet_of<'a>(
+fn packet_of<'a>(
     alloc: Global,
     asked: Asked,
     name: &Name,

@@ -136,7 +136,7 @@ fn names_answer(packet: &LentPacket<'_>) -> Result<NbtSessionNames, Refusal>
 }
 
 /// Both names of a request, spelled out.
-pub fn names_of(called: &LentName<'_>, calling: &LentName<'_>) -> NbtSessionNames
+fn names_of(called: &LentName<'_>, calling: &LentName<'_>) -> NbtSessionNames
     ensures { result ≡ names_of called.now calling.now }
 {
     let called = called.to_domain();

@@ -170,7 +170,7 @@ fn put_error(error: Option<ErrorPacket>, into: &mut [u8]) -> usize
 }
 
 /// The bytes of an error packet.
-pub fn packet_of(error: &ErrorPacket) -> [u8; 11]
+fn packet_of(error: &ErrorPacket) -> [u8; 11]
     ensures bytes { result ≡ packet_bytes (Error error.now) }
     ensures count { length result ≡ 11 }
 {

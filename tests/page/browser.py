@@ -102,8 +102,13 @@ class Browser:
         """The line of a fault, if one is shown."""
         return self.text('words-of-message') if self.id('message').is_displayed() else ''
 
+    def drawn(self):
+        """Waits for the next picture: rows that have come, or changed, stand in the page by then."""
+        self.driver.execute_async_script('requestAnimationFrame(arguments[0])')
+
     def rows(self):
         """The cells of the rows that are in sight."""
+        self.drawn()
         return self.run('return Array.from(document.querySelectorAll(".sight .row")).filter((row) => !row.hidden)'
                         '.map((row) => Array.from(row.children, (cell) => cell.textContent))')
 
@@ -120,6 +125,7 @@ class Browser:
 
     def choose(self, frame):
         """Chooses the row of a frame, or of a line, that is in sight, and waits for its packet."""
+        self.drawn()
         next(each for each in self.all('.sight .row:not([hidden])') if each.text.split('\n')[0] == str(frame)).click()
         self.wait(lambda: self.texts('#packet h2') in ([f'Frame {frame}'], [f'Line {frame}']))
 

@@ -19,8 +19,8 @@ use std::ptr;
 
 /// Makes a station with these names and an empty table, and answers the pointer to it.
 ///
-/// No clause says what the pointer leads to; what is boxed is what [`member_of`] answers of the
-/// names. The form of names is our choice.
+/// What stands behind the pointer is what [`member_of`] answers of the names; no clause says so. The
+/// form of names is our choice.
 #[unsafe(no_mangle)]
 pub extern "C" fn nbt_station_create(
     alloc: Global,
@@ -32,7 +32,7 @@ pub extern "C" fn nbt_station_create(
     station: &mut *mut (),
     at: &mut usize,
 ) -> u32
-    ensures answer { Creates names.now at.old at.new result }
+    ensures answer { Creates names.now at.old at.new station.new result }
     ensures none { result ≢ DONE → station.new ≡ null_ptr }
 {
     *station = ptr::null_mut();

@@ -1,6 +1,6 @@
 //! The numbers that calls answer. Each stands for one thing, in all versions, and has its words.
 ghost use Rattle.nb_calls.specs.Outputs.{Answers, lent};
-ghost use Rattle.nb_calls.specs.Statuses.{status_answer, status_word};
+ghost use Rattle.nb_calls.specs.Statuses.{status_answer};
 
 use nb_calls::output::put;
 use nb_calls::statuses::{UNKNOWN_STATUS, status_words};

@@ -1,5 +1,4 @@
 //! Saved tables: joined, listed and compared.
-ghost use Rattle.std.specs.FinMap as maps;
 ghost use Rattle.nb_calls.specs.Tables.{Lists, ListsObjects, Merges, follow_the_first, Compares};
 ghost use Rattle.nb_calls.specs.Outputs.{Does, none_late, lent, FillsOrLacks};
 ghost use Rattle.nb_calls.specs.declared.tables.NbtDifference.{NbtDifference};

@@ -1,5 +1,5 @@
 //! Payloads that a station takes, and what becomes of each.
-ghost use Rattle.std.specs.Prelude.{Err, Some};
+ghost use Rattle.std.specs.Prelude.{Err};
 ghost use Rattle.nb_calls.specs.Stations.{OnStation, Took, Tells, lent_for};
 ghost use Rattle.nb_calls.specs.declared.output.Refusal.TheVariants.{Fault};
 ghost use Rattle.nb_calls.specs.declared.statuses.TheConstants.{NO_STATION};

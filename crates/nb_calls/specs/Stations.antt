@@ -19,6 +19,7 @@ use Rattle.nb_member.specs.declared.outcome.MemberFault.TheVariants.{Packet, Tab
 use Rattle.nb_member.specs.declared.outcome.Outcome.{Outcome}
 use Rattle.nb_member.specs.declared.outcome.Outcome.TheVariants.{Delivered, Unheard, Kept, Spoilt, Other}
 use Rattle.std.specs.FinMap as maps
+use denote.RawPtr.{Ptr, null_ptr}
 use Rattle.nb_member.specs.Member.{MemberValue, contents, with_timed, after_clock}
 use Rattle.nb_member.specs.Taking.{Takes}
 use Rattle.nb_calls.specs.declared.handle.NbtStation.{NbtStation}
@@ -89,13 +90,19 @@ Names words (Err Memory) = BeginsWithName words
 Names words (Err (Fault status)) = AreNames 0 [] words (Err (Fault status))
 Names words (Err (FaultAt status at)) = AreNames 0 [] words (Err (FaultAt status at))
 
--- Creates bytes at at' status: what the call that makes a station of names with their texts in the bytes answers, and what
--- it leaves of the place: nothing is wrong with the names, and it is done or memory ran out; or they have a fault
-pub data Creates (bytes : List ℕ) (at at' status : ℕ) : Type 0 where
+-- IsCreated old new status: a station stands behind the new pointer; or memory ran out, and the pointer is the old one
+abbrev pub IsCreated : Ptr → Ptr → ℕ → Type 0
+IsCreated old new status =
+    ((status ≡ statuses.DONE) × IsHere new) ⊎ ((status ≡ statuses.NO_MEMORY) × (new ≡ old))
+
+-- Creates bytes at at' station status: what the call that makes a station of names with their texts in the bytes answers,
+-- and what it leaves of the place and of the pointer: nothing is wrong with the names, and a station stands behind the
+-- pointer or memory ran out; or they have a fault. Without a station the pointer is null
+pub data Creates (bytes : List ℕ) (at at' : ℕ) (station : Ptr) (status : ℕ) : Type 0 where
   made : (names : List NetbiosName) → Names (texts_in bytes) (Ok names) → at' ≡ at
-      → (status ≡ statuses.DONE) ⊎ (status ≡ statuses.NO_MEMORY) → Creates bytes at at' status
+      → IsCreated null_ptr station status → Creates bytes at at' station status
   refused : (refusal : Refusal) → Names (texts_in bytes) (Err refusal) → at' ≡ at_refused refusal at
-      → status ≡ refused_status refusal → Creates bytes at at' status
+      → status ≡ refused_status refusal → IsNone station → Creates bytes at at' station status
 
 -- ---- what became of a payload
 

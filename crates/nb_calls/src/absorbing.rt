@@ -1,12 +1,11 @@
 //! Tables of other stations, taken in by a station.
-ghost use Rattle.std.specs.Prelude.{◌≡◌, ◌++◌, IfOk, OnOk, Ok, Err};
+ghost use Rattle.std.specs.Prelude.{◌≡◌, ◌++◌, IfOk, OnOk, Ok};
 ghost use Rattle.nb_table.specs.Saved.{key_bytes};
 ghost use Rattle.nb_calls.specs.Absorbing.{Absorbed, Hears, Joined, all_heard, heard_bytes};
 ghost use Rattle.nb_calls.specs.Outputs.{OrMemory, all_late};
-ghost use Rattle.nb_calls.specs.declared.statuses.TheConstants.{NO_STATION};
 
 use crate::output::{Refusal, answer_of, load_refusal, table_refusal};
-use crate::statuses::{NO_ROLE, NO_STATION};
+use crate::statuses::NO_ROLE;
 use crate::tables::loaded;
 use nb_datagram::{Datagram, Datagrams, Key};
 use nb_member::Member;

@@ -55,6 +55,14 @@ fn show(alloc: Global, station: NbtStation) -> Parts<Kept, Global>
     }
 }
 
+/// The pointer to a station, which stays behind it.
+pub(crate) fn pointer_of(station: NbtStation) -> *mut ()
+    ensures { result ≡ station.at }
+{
+    let NbtStation { at } = station;
+    at
+}
+
 /// A station that is none.
 fn none() -> NbtStation
     ensures { IsNone result.at }

@@ -7,7 +7,7 @@ ghost use Rattle.nb_names.specs.declared.reading.Pointers.TheVariants.{Followed}
 ghost use Rattle.nb_names.specs.Labels.{NameAt};
 ghost use Rattle.nb_names.specs.Skipped.{IsSkipped};
 ghost use Rattle.nb_calls.specs.Names.{Tells, spelling_answer, IsRead, in_place, spelled_in_place};
-ghost use Rattle.nb_calls.specs.Outputs.{HasOne, OrMemory, none_late, lent};
+ghost use Rattle.nb_calls.specs.Outputs.{HasOne, OrMemory, none_late};
 ghost use Rattle.nb_calls.specs.Statuses.{place_of};
 
 use crate::output::{Refusal, answer_of, name_refusal, text_refusal};

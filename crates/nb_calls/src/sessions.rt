@@ -2,7 +2,7 @@
 ghost use Rattle.std.specs.Prelude.{◌≡◌, ◌≤◌, List, ℕ, length, IfOk};
 ghost use Rattle.nb_session.specs.declared.limits.TheConstants.{MAX_MESSAGE};
 ghost use Rattle.nb_calls.specs.declared.sessions.NbtSession.{NbtSession};
-ghost use Rattle.nb_calls.specs.Outputs.{Alone, OrMemory, lent};
+ghost use Rattle.nb_calls.specs.Outputs.{Alone, OrMemory};
 ghost use Rattle.nb_calls.specs.Sessions.{Reads, session_of, ReadsFront, numbers, ReadsNames, ReadsRetarget, names_answer, names_of, retarget_answer, Stands, Writes, follow_the_type, frame};
 ghost use Rattle.nb_calls.specs.declared.sessions.NbtSessionFront.{NbtSessionFront};
 ghost use Rattle.nb_calls.specs.declared.sessions.NbtSessionNames.{NbtSessionNames};

@@ -1,5 +1,5 @@
 //! The texts of packets, their phrases and JSON objects, and the lines of captures.
-ghost use Rattle.std.specs.Prelude.{IfOk, ◌≡◌, Ok, Some};
+ghost use Rattle.std.specs.Prelude.{IfOk, ◌≡◌, Ok};
 ghost use Rattle.nb_text.specs.SaysPacket.{IsSaid};
 ghost use Rattle.nb_text.specs.Shown.{Shown};
 ghost use Rattle.nb_calls.specs.Outputs.{Answers, of_memory, lent};

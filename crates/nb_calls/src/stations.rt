@@ -1,18 +1,14 @@
 //! Stations: made of names, shown the clock, saved, listed and given back.
-ghost use Rattle.std.specs.Prelude.{◌≡◌, ◌≢◌, ◌⊎◌, Err, ◌+◌, ◌<◌, ◌++◌, ◌∷◌, Contains, MatchOption, length};
+ghost use Rattle.std.specs.Prelude.{◌≡◌, ◌+◌, ◌<◌, ◌++◌, ◌∷◌, Contains, MatchOption, length};
 ghost use Rattle.std.specs.Int.{w32, to_be_bytes};
 ghost use Rattle.std.specs.List.{slice_split};
 ghost use Rattle.nb_member.specs.Member.{new_member};
-ghost use Rattle.nb_calls.specs.Stations.{Names, NamesText, is_space, texts_in};
-ghost use Rattle.nb_calls.specs.declared.output.Refusal.TheVariants.{Fault};
-ghost use Rattle.nb_calls.specs.declared.statuses.TheConstants.{DONE, NO_MEMORY, NO_STATION};
+ghost use Rattle.nb_calls.specs.Stations.{IsCreated, Names, NamesText, is_space, texts_in};
 
-use crate::handle::Kept;
+use crate::handle::{Kept, Parts, hide, pointer_of};
 use crate::names::name_of_text;
 use crate::output::Refusal;
-use crate::statuses::{
-    BAD_TEXT, DONE, LONG_TEXT, NAME_PRESENT, NO_MEMORY, NO_STATION, TOO_MANY_NAMES,
-};
+use crate::statuses::{BAD_TEXT, DONE, LONG_TEXT, NAME_PRESENT, NO_MEMORY, TOO_MANY_NAMES};
 use nb_member::{AddFault, LocalNames, Member, Settings};
 use nb_names::TextFault;
 use std::alloc::Global;
@@ -50,12 +46,11 @@ pub fn member_of(
 
 /// Makes the station that this member is, and answers the pointer to it.
 pub fn create(alloc: Global, member: Member, station: &mut *mut ()) -> u32
-    ensures status { (result ≡ DONE) ⊎ (result ≡ NO_MEMORY) }
-    ensures kept { result ≢ DONE → station.new ≡ station.old }
+    ensures { IsCreated station.old station.new result }
 {
     match Box::new(alloc, Kept { member }) {
         Ok(kept) => {
-            *station = Box::into_raw(kept) as *mut ();
+            *station = pointer_of(hide(Parts::of(kept)));
             DONE
         }
         Err(_) => NO_MEMORY,

@@ -6,7 +6,6 @@ ghost use Rattle.nb_table.specs.Saved.{LoadFails};
 ghost use Rattle.nb_member.specs.Listing.{listing};
 ghost use Rattle.nb_calls.specs.Tables.{Joins, Merges, OfOne, follow_the_first, listed_as, Compares, IsLeastDifference, Narrows, NarrowsBy, difference_of, lower_of, IsLoaded};
 ghost use Rattle.nb_calls.specs.Outputs.{OrMemory, none_late};
-ghost use Rattle.nb_calls.specs.declared.tables.NbtDifference.{NbtDifference};
 
 use crate::output::{Refusal, answer_of, load_refusal, table_refusal};
 use crate::stations::LONGEST;

@@ -1,14 +1,12 @@
 //! Payloads that a station takes, and what becomes of each.
-ghost use Rattle.std.specs.Prelude.{◌≤◌, length, Err, ◌≡◌, ◌++◌, drop, Some};
+ghost use Rattle.std.specs.Prelude.{◌≤◌, length, ◌≡◌, ◌++◌, drop};
 ghost use Rattle.nb_calls.specs.Stations.{Took, Tells, answer_told, lent_for, told_of, told_refused, delivered_bytes, error_bytes};
-ghost use Rattle.nb_calls.specs.declared.output.Refusal.TheVariants.{Fault};
-ghost use Rattle.nb_calls.specs.declared.statuses.TheConstants.{NO_STATION};
 ghost use Rattle.nb_calls.specs.declared.taken.TheConstants.{TAKE_ROOM};
 ghost use Rattle.nb_datagram.specs.Packet.{packet_bytes};
 ghost use Rattle.nb_datagram.specs.declared.packet.Packet.TheVariants.{Error};
 
 use crate::output::{datagram_refusal, status_of, table_refusal};
-use crate::statuses::{DONE, NO_ROOM, NO_STATION};
+use crate::statuses::{DONE, NO_ROOM};
 use crate::taken::{
     KEPT, NbtTaken, SPOILT, TAKE_ROOM, of_delivered, of_key, of_other, of_refused, of_unheard,
 };

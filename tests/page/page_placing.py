@@ -7,8 +7,10 @@ from parts import check, equal
 
 NAMES = ['As a second tap, beside one.txt', 'Instead of one.txt']
 BOTH = ['Instead of tap 1, one.txt', 'Instead of tap 2, two.txt', 'Alone, instead of both']
-# Packets of a file that is long enough to be stopped while it is read, and those that have a row: not a SYN, nor a FIN.
+# Packets of a file that takes a second or two to read, and those that have a row: not a SYN, nor a FIN.
 LONG, ROWS = 20_000, '19,295 rows'
+# How often these stand in one that is stopped or closed while it is read, and the bytes before them.
+TIMES, HEAD = 10, 24
 
 
 class PlacingCases:
@@ -92,24 +94,26 @@ class PlacingCases:
     def stop(self):
         """A long file is stopped: what was read stays, and can be looked at."""
         self.program.bytes(f'{self.program.top}/tests/captures/big_pcap.py {LONG} long.pcap')
-        self.begin_long()
+        data = self.program.bytes('cat long.pcap')
+        self.path('longer.pcap', data[:HEAD] + TIMES * data[HEAD:])
+        self.begin_longer()
         self.browser.choose(self.browser.rows()[3][0])
         self.browser.id('stop').click()
         self.browser.wait(self.browser.message)
-        check(re.fullmatch('.*long.pcap: stopped after frame [0-9]+', self.browser.message()), f'stopped: {self.browser.message()}')
+        check(re.fullmatch('.*longer.pcap: stopped after frame [0-9]+', self.browser.message()), f'stopped: {self.browser.message()}')
         self.browser.choose(self.browser.rows()[5][0])
         self.close_while_reading()
         self.bad_while_reading()
 
-    def begin_long(self):
+    def begin_longer(self):
         self.browser.open(self.page)
-        self.browser.offer('long.pcap')
+        self.browser.offer('longer.pcap')
         self.browser.wait(lambda: not self.browser.is_read() and self.browser.rows())
 
     def close_while_reading(self):
         """A tap closes while it is read: no row of it comes after that, and another file is read."""
-        self.begin_long()
-        self.close('long.pcap')
+        self.begin_longer()
+        self.close('longer.pcap')
         check(self.browser.is_read(), 'nothing is read any more')
         self.browser.give(self.path('keep.txt'))
         equal([self.title(), self.browser.text('shown'), self.browser.message()], ['keep.txt', '1 row', ''], 'another file after that')

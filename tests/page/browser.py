@@ -103,8 +103,8 @@ class Browser:
         return self.text('words-of-message') if self.id('message').is_displayed() else ''
 
     def drawn(self):
-        """Waits for the next picture: rows that have come, or changed, stand in the page by then."""
-        self.driver.execute_async_script('requestAnimationFrame(arguments[0])')
+        """Waits for the second picture from now on: rows that have come, or for which there is another room, stand in the page by then."""
+        self.driver.execute_async_script('requestAnimationFrame(() => requestAnimationFrame(arguments[0]))')
 
     def rows(self):
         """The cells of the rows that are in sight."""

@@ -19,8 +19,8 @@ use std::ptr;
 
 /// Makes a station with these names and an empty table, and answers the pointer to it.
 ///
-/// What stands behind the pointer is what [`member_of`] answers of the names; no clause says so. The
-/// form of names is our choice.
+/// What stands behind the pointer is what [`member_of`] answers of the names; no clause says so.
+/// The form of names is our choice.
 #[unsafe(no_mangle)]
 pub extern "C" fn nbt_station_create(
     alloc: Global,

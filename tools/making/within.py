@@ -1,7 +1,7 @@
 """What stands of nbt.h within other files, as limits in pages, found by what stands around it."""
 OF_TABLES = ((r'(How many keys the table holds at most, 1 to )\d+(\.\nWithout it they are )\d+', '{MOST_KEYS}', '{KEYS}'),
              (r'(How many keys of one source address the table holds at most, 1 to )\d+', '{MOST_KEYS}'))
-OF_NAMES = (r"(more than a station's )\d+", '{MOST_NAMES}'),
+OF_NAMES = (r"(a station has at most )\d+", '{MOST_NAMES}'),
 OF_NBT = (*OF_TABLES, (r'(How many bytes the capture may have, 1 to \d+\.\nWithout it they are )\d+', '{INPUT}'))
 OF_HEADER = ((r'(\* NBT_BAD_LINE for any other line, and for one of more than )[\d,]+', '{MOST_LINE:,}'),
              (r'(Of a payload of at most )[\d,]+', '{LINE_ROOM:,}'),

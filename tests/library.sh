@@ -38,7 +38,7 @@ files() {
 
 examples() {
     local each run=()
-    grep -ohE '\bnbt_[a-z_]+\b' "$top"/bindings/c/*.c | sort -u | comm -12 - <(calls) | same "$(calls)" 'each call stands in an example'
+    grep -ohE '\bnbt_[a-z_]+\b' "$top"/bindings/c/*.c | sort -u | comm -12 - <(all_of_header) | same "$(all_of_header)" 'each call stands in an example'
     for each in "$top"/bindings/c/*.c; do example "$each" sanitized "$CC" "${sanitized[@]}" "$each" "$built/libnbt.a"; done
     printf '#include <nbt.h>\nint main() { return nbt_status_text(0, nullptr, 0, nullptr) == NBT_DONE; }\n' >"$room/header.cpp"
     c++ -Wall -Wextra -Werror "-I$top/include" -c -o "$room/header.o" "$room/header.cpp" >"$room/log" 2>&1

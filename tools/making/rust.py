@@ -77,7 +77,8 @@ impl Status {{
 def rust_enum(header, place, enum, names, says, case, missing):
     """A type of an enumeration, with its numbers and words."""
     title = says or header.titles[enum].partition('. ')[0].removesuffix('.') + '.'
-    lines = [f'/// {title}', *[SERDE % f'rename_all = "{case}"'] * bool(case), f'{place[1]} {{']
+    # Of those in which a number may have no name another may get one.
+    lines = [f'/// {title}', *['#[non_exhaustive]'] * (missing == 'number'), *[SERDE % f'rename_all = "{case}"'] * bool(case), f'{place[1]} {{']
     for it in header.enums[enum]:
         if not names or it.name in names:
             word = word_of(enum, it.name)

@@ -12,12 +12,13 @@
 //! - [`merge`], [`differ`], [`list_table`], [`table_json`]: saved tables, joined, compared and listed
 //!
 //! ```
-//! let payload = [0x83, 0, 0, 1, 0x82];
-//! assert_eq!(nbt::show(139, &payload)?, "negative code=82 used=5\n");
+//! let payload = nbt::service::Request::Query.write(3, "FRED<20>", true)?;
+//! let packet = nbt::service::read(&payload)?;
+//! assert!(packet.questions().all(|it| it.name.to_string() == "FRED<20>"));
 //!
-//! let refused = nbt::spell("FRED").unwrap_err();
-//! assert_eq!((refused.status(), refused.at()), (nbt::Status::BadText, Some(4)));
-//! assert_eq!(refused.to_string(), "bad text 4");
+//! let refused = nbt::service::read(&payload[..40]).unwrap_err();
+//! assert_eq!((refused.status(), refused.at()), (nbt::Status::NameTruncated, Some(40)));
+//! assert_eq!(refused.to_string(), "name: truncated 40");
 //! # Ok::<(), nbt::Error>(())
 //! ```
 //!

@@ -226,7 +226,9 @@ installed() {
     commands 2 "$room/page" | same "$(block text "$page" 2)" 'the command for Python of docs/CALLING.md'
     for each in 2 3 4; do
         block python "$page" $each >"$room/first.py"
-        PYTHONPATH=$room/root/share/nbt/python PYTHONDONTWRITEBYTECODE=1 ended python3 "$room/first.py" 2>&1 \
+        local words=("$room/first.py")
+        [ $each -gt 2 ] || words=("$here/library/gateway.py" "$room/first.py")
+        PYTHONPATH=$room/root/share/nbt/python PYTHONDONTWRITEBYTECODE=1 ended python3 "${words[@]}" 2>&1 \
             | same "$(block text "$page" $((each + 1)))" "program $each in Python of docs/CALLING.md"
     done
     installed_below "$room/it's a place & more"

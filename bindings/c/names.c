@@ -34,11 +34,11 @@ static void show(const uint8_t *spelling, size_t length) {
 static void sixteen(const char *text) {
     uint8_t name[16], again[64];
     size_t used, at;
-    uint32_t status = nbt_node_name_bytes((const uint8_t *)text, strlen(text), name, &at);
-    if (status == NBT_DONE && nbt_node_name_text(name, again, sizeof again, &used) == NBT_DONE)
+    if (nbt_node_name_bytes((const uint8_t *)text, strlen(text), name, &at) == NBT_DONE
+        && nbt_node_name_text(name, again, sizeof again, &used) == NBT_DONE)
         printf("%02x %02x .. %02x: %.*s\n", name[0], name[1], name[15], (int)used, (const char *)again);
     else
-        printf("%s: status %u\n", text, (unsigned)status);
+        printf("%s: no sixteen bytes\n", text);
 }
 
 int main(void) {
@@ -61,5 +61,5 @@ int main(void) {
  * status 20 at 40
  * 46 52 .. 20: FRED<20>
  * 01 02 .. 01: \01\02__MSBROWSE__\02<01>
- * FRED<20>.COM: status 11
+ * FRED<20>.COM: no sixteen bytes
  */

@@ -44,8 +44,7 @@ def python_file(header):
     for enum, name in IN_PYTHON.items():
         lines = [f'    {each.name} = {each.digits}' for each in header.enums[enum]]
         said = PYTHON_SAYS.get(enum) or header.titles[enum]
-        kind = 'IntFlag' if name.endswith('Flag') else 'IntEnum'
-        parts.append('\n'.join([f'class {name}(enum.{kind}):', f'    """{said}"""', '', *lines]))
+        parts.append('\n'.join([f'class {name}(enum.Int{"Flag" if name.endswith("Flag") else "Enum"}):', f'    """{said}"""', '', *lines]))
     numbers = in_lines([f'{it},' for it in sorted(header.placed)], '    ', 120)
     constants = [together((each.name, each.digits) for each in header.enums[enum]) for enum in CONSTANTS]
     limits = [f'{name} = {number:_}' for name, number in header.limits.items()]

@@ -22,13 +22,11 @@ class Names(unittest.TestCase):
             self.assertEqual(nbt.split_name(nbt.join_name(name, suffix)), (name, suffix, ''))
 
     def test_no_parts(self):
-        for error, words in ((ValueError, (bytes(16), 0)), (ValueError, (b'', 256)), (TypeError, ('FRED', 0))):
-            self.assertRaises(error, nbt.join_name, *words)
-        for scope, status, at in ('a..b', Status.BAD_TEXT, 11), ('a' * 64, Status.LONG_TEXT, None):
-            with self.assertRaises(nbt.NbtError) as caught:
-                nbt.join_name(b'FRED', 0x20, scope)
-            self.assertEqual((caught.exception.status, caught.exception.at), (status, at))
-        self.assertRaises(nbt.NbtError, nbt.split_name, 'FRED')
+        for error, said, *words in (
+                (ValueError, '^characters: 16 ', bytes(16), 0), (ValueError, '^suffix: 256 ', b'', 256), (TypeError, '^str is no', 'FRED', 0),
+                (nbt.NbtError, '^bad text 11$', b'FRED', 0x20, 'a..b'), (nbt.NbtError, '^text too long$', b'FRED', 0x20, 'a' * 64)):
+            self.assertRaisesRegex(error, said, nbt.join_name, *words)
+        self.assertRaisesRegex(nbt.NbtError, '^bad text 4$', nbt.split_name, 'FRED')
 
 
 class Types(unittest.TestCase):
@@ -39,8 +37,7 @@ class Types(unittest.TestCase):
         self.assertEqual((query.flags, query.questions[0].type), (nbt.HeaderFlag.RD | nbt.HeaderFlag.B, nbt.RecordType.NB))
         answer = nbt.ServicePacket.read(nbt.response(1, 'JOE<00>', b'', type=nbt.RecordType.NULL, flags=nbt.HeaderFlag.AA))
         self.assertEqual((answer.flags, answer.answers[0].type), (0x0400, 10))
-        self.assertEqual(nbt.NameFlag(0x8400), nbt.NameFlag.G | nbt.NameFlag.ACT)
-        self.assertEqual(nbt.DatagramFlag.FIRST, nbt.Datagram.read(HELLO).flags)
+        self.assertEqual((nbt.NameFlag.G | nbt.NameFlag.ACT, nbt.DatagramFlag.FIRST), (0x8400, nbt.Datagram.read(HELLO).flags))
 
     def test_flags(self):
         for flags, first, more in (0, False, False), (1, False, True), (2, True, False), (0xff, True, True):

@@ -12,14 +12,22 @@
 //! - [`merge`], [`differ`], [`list_table`], [`table_json`]: saved tables, joined, compared and listed
 //!
 //! ```
-//! let payload = nbt::service::Request::Query.write(3, "FRED<20>", true)?;
-//! let packet = nbt::service::read(&payload)?;
-//! assert!(packet.questions().all(|it| it.name.to_string() == "FRED<20>"));
+//! use nbt::service::{read, Entry, Operation, Rdata, Request};
 //!
-//! let refused = nbt::service::read(&payload[..40]).unwrap_err();
+//! let entry = Entry { nb_flags: 0, address: "10.0.0.6".parse()? };
+//! let payload = Request::Registration(entry, 300_000).write(2, "FRED<20>", true)?;
+//! let packet = read(&payload)?;
+//! assert_eq!(packet.header.operation(), Ok(Operation::Registration));
+//! for record in packet.additional() {
+//!     assert_eq!(record.name.to_string(), "FRED<20>");
+//!     if let Rdata::Addresses(mut claimants) = record.rdata() {
+//!         assert_eq!(claimants.next(), Some(entry));
+//!     }
+//! }
+//! let refused = read(&payload[..40]).unwrap_err();
 //! assert_eq!((refused.status(), refused.at()), (nbt::Status::NameTruncated, Some(40)));
 //! assert_eq!(refused.to_string(), "name: truncated 40");
-//! # Ok::<(), nbt::Error>(())
+//! # Ok::<(), Box<dyn std::error::Error>>(())
 //! ```
 //!
 //! Names as texts are written as in `FRED<20>` or `FRED<20>.NETBIOS.COM` (our choice): the characters of the name, its

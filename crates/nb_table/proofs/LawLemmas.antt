@@ -9,7 +9,7 @@ use Rattle.nb_entries.specs.Entry.{EntryValue}
 use Rattle.nb_table.specs.Conflict.{without_key}
 use Rattle.nb_table.specs.Contents.{Contents, table_of}
 use Rattle.nb_table.proofs.Changes.{one_change, one_state}
-use Rattle.nb_table.specs.Shared.ConflictLemmas.{at_promise_conflicts, conflicts_decides, is_spoilt_decides, past_promise_fits}
+use Rattle.nb_table.specs.Shared.ConflictLemmas.{at_promise_conflicts, is_spoilt_decides, past_promise_fits}
 use Rattle.nb_table.specs.Shared.ContentsLemmas.{retain-table_of, same_cores-same_table, table_of_formed, table_of-append}
 use Rattle.nb_table.specs.Shared.SayingLemmas.{spoilt_exactly, table_is}
 use Rattle.nb_table.proofs.Limits.GroupLemmas.{keys_fit_exactly}
@@ -38,7 +38,7 @@ pub remove-table_of : (L : List Core) (k : Key) → maps.remove (table_of L) k �
 remove-table_of L k = remove_retains (table_of L) k ∙ retain-table_of L (λ q. not (same_key k q))
 
 -- on contents and limits
-pub ruleset laws = (conflicts_decides, is_spoilt_decides, remove-table_of, join-comm, join-assoc, join-idem, at_promise_conflicts, past_promise_fits, one_change, one_state, gives_where_all, retain-table_of, same_cores-same_table, table_of_formed, table_of-append, spoilt_exactly, table_is, get-table_of, get-join, join_formed, keys_fit_exactly)
+pub ruleset laws = (is_spoilt_decides, remove-table_of, join-comm, join-assoc, join-idem, at_promise_conflicts, past_promise_fits, one_change, one_state, gives_where_all, retain-table_of, same_cores-same_table, table_of_formed, table_of-append, spoilt_exactly, table_is, get-table_of, get-join, join_formed, keys_fit_exactly)
 
 -- on saved tables
 pub ruleset saved_laws = (read_back, read_back_first, read_saved, read_entries, read_formed, one_table, one_read, saved_example, saved_example_first, short_fits)

@@ -1,5 +1,5 @@
 -- The lemmas that are laws as they stand, and the one of tables without a key.
-use Rattle.std.proofs.Common.{◌≡◌, Bool, true, false, cond, not, List, Option, None, refl, sym, ◌∙◌, ap}
+use Rattle.std.proofs.Common.{◌≡◌, Bool, true, false, cond, not, List, Option, None, sym, ◌∙◌, ap}
 use Rattle.std.specs.Cmp.{both_ways}
 use Rattle.std.specs.FinMap as maps
 use Rattle.nb_datagram.specs.declared.key.Key.{Key}

@@ -31,7 +31,7 @@ class Program:
     def __init__(self, program, top, folder):
         self.top, self.folder = top, folder
         os.mkdir(f'{folder}/bin')
-        for name, path in (('nbt', program), ('nbt-look', f'{top}/tools/nbt-look'), ('nbt-pcap2cap', f'{top}/tools/pcap2cap')):
+        for name, path in (('nbt', program), ('nbt-look', f'{top}/tools/nbt-look'), ('nbt-pcap2cap', f'{top}/tools/nbt-pcap2cap')):
             os.symlink(path, f'{folder}/bin/{name}')
         os.chmod(written(f'{folder}/bin/tshark', TSHARK.replace('REAL', shutil.which('tshark')).encode()), 0o755)
         self.env = {**os.environ, 'PATH': f"{folder}/bin:{os.environ['PATH']}", 'WIRESHARK_CONFIG_DIR': f'{folder}/settings'}

@@ -180,7 +180,7 @@ def program():
     try:
         found = local_program(None)
     except Stopped as why:
-        raise Stopped(3, "nbt isn't there: make build builds it, make install puts it beside this tool") from why
+        raise Stopped(3, "nbt isn't there: the package nbt installs it; from the sources, make build builds it") from why
     if found not in map(os.path.abspath, (BUILT, INSTALLED)):
         trial.judge(found)
     return found

@@ -165,8 +165,8 @@ OF_PORT = {
     (137, 'reserved label'): 'no name stands there: perhaps other traffic',
     (138, 'reserved label'): 'no name stands there: other traffic, or a later piece of a datagram cut by RFC 1002, section 5.3',
     (139, 'reserved label'): 'no name stands there: perhaps other traffic',
-    (138, 'unknown type'): 'the first byte is no type of port 138, as 13 of `138 0 1302000700000000008a82` is: perhaps other traffic',
-    (139, 'unknown type'): 'the first byte is no type of port 139, as 85 of `139 0 85000000` is: perhaps other traffic, or a stream whose start is missing',
+    (138, 'unknown type'): "the first byte is none of port 138's types, such as 13: perhaps other traffic",
+    (139, 'unknown type'): "the first byte is none of port 139's types, such as 85: perhaps other traffic, or a stream whose start is missing",
     (139, 'trailing bytes'): 'bytes follow the two names with which a session request ends: leave it out, its sender is broken or hostile'}
 
 

@@ -4,55 +4,36 @@ import enum
 from nbt_pcap.header import FRAGMENTS, NBSTAT
 
 
-class Act(enum.Enum):
-    """What a packet does with a name, by R, OPCODE, RCODE and type; each has its section of RFC 1002."""
+class Word(enum.Enum):
+    """What a packet says of a name at an address; each has its section of RFC 1002. docs/SUMMARY.md has the table."""
 
-    CLAIMS = 'claims'                    # name registration request 4.2.2, name refresh request 4.2.4, operation 15
-    OVERWRITES = 'overwrites'            # name overwrite request and demand 4.2.3
-    GRANTS = 'grants'                    # positive name registration response 4.2.5
-    REFUSES = 'refuses'                  # negative name registration response 4.2.6
-    CHALLENGES = 'challenges'            # end-node challenge registration response 4.2.7
-    DEMANDS = 'demands'                  # name conflict demand 4.2.8, or a negative response with CFT_ERR
-    RELEASES = 'releases'                # name release request and demand 4.2.9
-    RELEASED = 'released'                # positive name release response 4.2.10
-    KEEPS = 'keeps'                      # negative name release response 4.2.11
-    ASKS = 'asks'                        # name query request 4.2.12
-    ANSWERS = 'answers'                  # positive name query response 4.2.13, redirect 4.2.15, node status response 4.2.18
-    FINDS_NONE = 'finds none'            # negative name query response 4.2.14
-    WAITS = 'waits'                      # WACK response 4.2.16
-    ASKS_STATUS = 'asks status'          # node status request 4.2.17
-    ASKS_SOMETHING = 'asks something'    # name query request 4.2.12 or node status request 4.2.17, of which no type stands
-    OTHER = 'other'                      # another operation
-
-
-class Front(enum.Enum):
-    """How much of a packet stands."""
-
-    WHOLE = 'whole'
-    CUT = 'cut'
-    MALFORMED = 'malformed'
+    # Of the address itself.
+    CLAIMS = 'claims'                             # name registration request 4.2.2, operation 15 too
+    REFRESHES = 'refreshes'                       # name refresh request 4.2.4
+    TAKES = 'takes'                               # name overwrite request and demand 4.2.3
+    GIVES_UP = 'gives up'                         # name release request and demand 4.2.9
+    ANSWERS = 'answers'                           # positive name query response 4.2.13, with its sender's own address
+    LISTS = 'lists it'                            # node status response 4.2.18
+    LISTS_CONFLICT = 'lists it in conflict'       # the same, with CNF
+    LISTS_INACTIVE = 'lists it inactive'          # the same, without ACT
+    # Of others.
+    GRANTED = 'granted'                           # positive name registration response 4.2.5
+    TO_ASK = 'to ask the holder'                  # end-node challenge registration response 4.2.7
+    TOLD = 'told of a conflict'                   # name conflict demand 4.2.8, or a negative response with CFT_ERR
+    REFUSED = 'refused'                           # negative name registration response 4.2.6
+    TO_WAIT = 'to wait'                           # WACK response 4.2.16
+    RELEASED = 'released'                         # positive name release response 4.2.10
+    NOT_RELEASED = 'not released'                 # negative name release response 4.2.11
+    SAID = 'said to have it'                      # positive name query response 4.2.13, with another address
 
 
-class Standing(enum.Enum):
-    """What became of a name at an address."""
+class Found(enum.Enum):
+    """What came of a request that found nothing, beside the words of a negative response; of two in one frame the later one counts."""
 
-    CLAIMS = 'claims'
-    HOLDS = 'holds'
-    SAID = 'is said to be'
-    REFUSED = 'refused'
-    RELEASED = 'released'
-    LOST = 'lost'
-    EXPIRED = 'expired'
-
-
-class Answer(enum.Enum):
-    """What answered a request: the later ones say more. Of 'not known' something came of which no name stands."""
-
-    NEVER = 'never'
-    UNKNOWN = 'not known'
-    CUT = 'cut'
-    MALFORMED = 'malformed'
-    WHOLE = 'whole'
+    NOTHING = ''
+    LATE = 'late'
+    OTHER = 'by'
+    LATER = 'later'
 
 
 # The kinds of packets by the port of their packets, with a word on each.
@@ -93,16 +74,21 @@ SUFFIXES = {'00': ('workstation', 'domain'), '01': ('messenger', 'master browser
             '1d': ('master browser', ''), '1e': ('', 'browser elections'), '1f': ('NetDDE', ''), '20': ('file server', ''),
             '21': ('remote access client', ''), 'be': ('network monitor', ''), 'bf': ('network monitor application', '')}
 # The tables, by the words that choose them: their titles and columns.
+OF_ROW = ('group', 'says', 'frame', 'is_told', 'by', 'told_frame', 'time', 'first', 'claims', 'refusals', 'lifetime', 'kind')
 TABLES = {
-    'names': ('names', ('name', 'kind', 'address', 'group', 'how', 'since', 'until', 'lifetime', 'conflicts', 'refusals')),
-    'conflicts': ('conflicts', ('name', 'holder', 'refused', 'by', 'frame')),
-    'stations': ('stations', ('address', 'mac', 'packets', 'names', 'refused', 'status', 'unit')),
-    'queries': ('queries without an answer', ('name', 'kind', 'by', 'asked', 'times', 'frames', 'since', 'answered')),
+    'names': ('names', ('name', 'address', *OF_ROW)),
+    'several': ('several', ('name', 'address', 'mac', *OF_ROW)),
+    'refusals': ('refusals', ('name', 'address', 'by', 'reason', 'times', 'first', 'last', 'time')),
+    'queries': ('queries that found nothing', ('name', 'type', 'by', 'asked', 'times', 'frames', 'since', 'answered')),
     'sessions': ('sessions', ('calling', 'called', 'from', 'to', 'calls', 'accepted', 'refused', 'sent', 'received')),
+    'stations': ('stations', ('address', 'macs', 'packets', 'names', 'refused', 'status', 'unit')),
     'datagrams': ('datagrams', ('source', 'destination', 'kind', 'whole', 'incomplete', 'spoilt', 'cut')),
     'failed': ('failed datagrams', ('key', 'state', 'source', 'destination', 'bytes_known', 'size', 'missing', 'frames')),
     'malformed': ('malformed', ('reason', 'packets', 'frame', 'payload_byte')),
     'left-out': ('left out', ('reason', 'frames'))}
+# What a table has over a column whose key is another one, and the columns that a narrow terminal lets go, the last one first.
+HEADS = {'told_frame': 'frame'}
+DROPPED = ('time', 'first', 'claims', 'refusals', 'lifetime', 'kind')
 # The start of 1970, which stands for the time of a frame without one, and a time after all others.
 EPOCH, FOREVER = 0, 2**64
 # How long a station that broadcasts a claim waits for objections: BCAST_REQ_RETRY_TIMEOUT, RFC 1002 section 6.

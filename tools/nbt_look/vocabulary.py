@@ -4,6 +4,14 @@ import enum
 from nbt_pcap.header import FRAGMENTS, NBSTAT
 
 
+class Front(enum.Enum):
+    """How much of a packet stands."""
+
+    WHOLE = 'whole'
+    CUT = 'cut'
+    MALFORMED = 'malformed'
+
+
 class Word(enum.Enum):
     """What a packet says of a name at an address; each has its section of RFC 1002. docs/SUMMARY.md has the table."""
 
@@ -28,9 +36,8 @@ class Word(enum.Enum):
 
 
 class Found(enum.Enum):
-    """What came of a request that found nothing, beside the words of a negative response; of two in one frame the later one counts."""
+    """What came of a request that found nothing, beside the words of a negative response."""
 
-    NOTHING = ''
     LATE = 'late'
     OTHER = 'by'
     LATER = 'later'
@@ -42,7 +49,7 @@ KINDS_OF = {
         'query': 'asks for a name, and what is answered', 'status': 'asks what names a station has, and what is answered',
         'registration': 'claims a name, and what is answered', 'refresh': 'claims a name again, and what is answered',
         'release': 'gives a name up, and what is answered', 'wack': 'asks to wait', 'response': 'any answer',
-        'conflict': 'claims a name that another station has, is refused one for that, or has to give one up'},
+        'conflict': 'refuses a name that another station has, or says that one is in conflict'},
     'port 138': {
         'datagram': 'unique, group or broadcast', 'unique': 'a datagram to one station', 'group': 'a datagram to a group',
         'broadcast': 'a datagram to all', 'fragment': 'a piece of a datagram', 'error': 'a datagram is not taken',
@@ -60,14 +67,10 @@ PIECES = tuple(FRAGMENTS.values())
 SESSION_RESPONSES = ('positive', 'negative', 'retarget')
 # The sections of a packet of port 137.
 SECTIONS = ('questions', 'answers', 'authorities', 'additional')
-# RR_TYPE of node statuses, as objects of JSON have it; the operation by which a station claims a name for several addresses of its own.
-STATUS_TYPE = f'{NBSTAT:04x}'
+# RR_TYPE NBSTAT, NB and NS (RFC 1002 section 4.2.1.3), as objects of JSON have them; the operation by which a station claims a name for several
+# addresses of its own.
+STATUS_TYPE, ADDRESS_TYPE, SERVER_TYPE = f'{NBSTAT:04x}', '0020', '0002'
 MULTIHOMED = 15
-# What a response says of a name that another station has: RFC 1002 section 4.2.6.
-TAKEN = ('ACT_ERR', 'CFT_ERR')
-# An address that is nobody's, and a unit that is none.
-NOBODYS = '0.0.0.0'
-NO_UNIT = '000000000000'
 # What the last byte of a name says, where it is unique and where it is a group's.
 SUFFIXES = {'00': ('workstation', 'domain'), '01': ('messenger', 'master browser'), '03': ('messenger', 'messenger'),
             '06': ('remote access server', ''), '1b': ('domain master browser', ''), '1c': ('', 'domain controllers'),
@@ -89,26 +92,16 @@ TABLES = {
 # What a table has over a column whose key is another one, and the columns that a narrow terminal lets go, the last one first.
 HEADS = {'told_frame': 'frame'}
 DROPPED = ('time', 'first', 'claims', 'refusals', 'lifetime', 'kind')
-# The start of 1970, which stands for the time of a frame without one, and a time after all others.
-EPOCH, FOREVER = 0, 2**64
-# How long a station that broadcasts a claim waits for objections: BCAST_REQ_RETRY_TIMEOUT, RFC 1002 section 6.
-OBJECTING = 250_000_000
+# The start of 1970, which stands for the time of a frame without one.
+EPOCH = 0
 # How long after its latest repeat a request may be answered: twice UCAST_REQ_RETRY_TIMEOUT, our choice.
 ANSWERING = 10_000_000_000
-IN_NANOSECONDS = ('EPOCH', 'FOREVER', 'OBJECTING', 'ANSWERING')
-# How many names, claims, stations, pairs of callers and so on are kept at most; the rest is counted.
-MOST_ENTRIES = 16_384
-# How many tenures of a name are looked at for conflicts, and how many pairs of addresses that claim one name are kept.
-MOST_OF_NAME = 64
-MOST_PAIRS = 4_096
-# How many names of a station are kept.
+IN_NANOSECONDS = ('EPOCH', 'ANSWERING')
+# How many names are kept, rows of each table, and requests; the rest is counted.
+MOST_ENTRIES = 65_536
+# How many names of a node status are kept, and how many frames of a row.
 MOST_OF_STATION = 64
-# How many identifiers wait, and how many requests of one; the one that came first is over then. How many frames of one are kept.
-MOST_WAITING = 4_096
-MOST_OF_ONE = 256
 MOST_FRAMES = 16
-# Of how many frames that can't be read at all the times are kept, for who sent them to whom.
-MOST_UNREAD = 64
 # How many streams are known; the one that was silent longest is let go.
 MOST_STREAMS = 16_384
 # How many bytes of pieces are held of datagrams that aren't whole, to say what they lack.

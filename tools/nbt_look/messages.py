@@ -11,48 +11,34 @@ OPCODE, FIRST_OF_OPCODE, RELEASE = 0x7800, 0x0800, 6
 
 @dataclass(frozen=True)
 class Message:
-    """A packet of port 137 of which the header stands. `name` is None where none stands, and `at` is in nanoseconds."""
+    """A packet of port 137 of which the header stands. `name` is None where none stands, and `at`, in nanoseconds, of a frame without a time;
+    `number` is NAME_TRN_ID, the identifier that a response has of its request, and `code` the RCODE."""
 
-    item: object
     shown: dict
     name: str
     front: Front
+    frame: int
+    at: int
+    source: str
+    target: str
+    source_mac: str
+    target_mac: str
+    number: int
+    code: str
 
     @property
-    def at(self):
-        return self.item.frame.at or EPOCH
-
-    @property
-    def frame(self):
-        return self.item.frame.number
-
-    @property
-    def source(self):
-        return self.item.source
-
-    @property
-    def target(self):
-        return self.item.target
-
-    @property
-    def number(self):
-        """NAME_TRN_ID: the identifier that a response has of its request."""
-        return self.shown['id']
-
-    @property
-    def code(self):
-        return self.shown['rcode']
+    def moment(self):
+        return self.at or EPOCH
 
     @property
     def is_to_group(self):
         """Whether it goes to a group address: by the MAC of who receives it, or else by the bit B of NM_FLAGS."""
-        mac = self.item.frame.target_mac
-        return bool(int(mac[:2], 16) & 1) if mac else 'B' in self.shown['flags']
+        return bool(int(self.target_mac[:2], 16) & 1) if self.target_mac else 'B' in self.shown['flags']
 
     @property
     def is_named(self):
         """Whether it is about a name, which the wildcard isn't."""
-        return self.name is not None and not self.name.startswith(WILDCARD)
+        return not self.name.startswith(WILDCARD)
 
     @property
     def lifetime(self):
@@ -80,4 +66,6 @@ def message_of(item, shown):
     if 'op' not in shown:
         return None
     front = Front.CUT if 'cut' in shown else Front.MALFORMED if 'refused' in shown else Front.WHOLE
-    return Message(item, shown, subject(shown), front)
+    frame = item.frame
+    return Message(shown, subject(shown), front, frame.number, frame.at, item.source, item.target, frame.source_mac, frame.target_mac, shown['id'],
+                   shown['rcode'])

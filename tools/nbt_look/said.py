@@ -93,8 +93,8 @@ class Said:
     def sent(self, name, message):
         """Keeps the MAC of who sends a frame about a name at its own address."""
         row = self.room.entries.get((name, message.source))
-        if row and message.item.frame.source_mac:
-            row.mac = message.item.frame.source_mac
+        if row and message.source_mac:
+            row.mac = message.source_mac
 
     def row(self, name, address, message):
         """The row of a name at an address; None where there is no room for it."""
@@ -102,7 +102,7 @@ class Said:
 
     def half(self, word, message):
         text = with_code(word, message.code) + (', malformed' if message.front is Front.MALFORMED else '')
-        return Half(word, text, message.source, message.frame, message.item.frame.at, self.packets)
+        return Half(word, text, message.source, message.frame, message.at, self.packets)
 
     # ---- What an address says itself.
 

@@ -19,11 +19,8 @@ class Session:
     caller: tuple
     callee: tuple
     sequence: str = None             # of the SYN that opened it; None where none stands
-    is_wanted: bool = True           # whether what becomes of its connection counts
-    is_silent: bool = False          # nothing but SYNs has come
-    is_refused: bool = False         # its connection is
+    why: str = None                  # why it failed, if nothing more comes
     is_begun: bool = False           # a packet of it has come
-    is_asked: bool = False           # a session request waits for a response
     is_answered: bool = False        # a response to a session request has come
     is_accepted: bool = False
     calling: str = None
@@ -45,20 +42,19 @@ class Streams:
         known = self.sessions.get(key)
         if item.flags & SYN:
             self.synchronized(key, known, item, (here, there), is_wanted)
-        elif known is not None and known.is_silent:
-            known.is_silent = False
-            known.is_refused = bool(item.flags & RST) and here == known.callee
+        elif known is not None and known.why == NO_ANSWER:
+            known.why = REFUSED if item.flags & RST and here == known.callee else None
 
     def synchronized(self, key, known, item, sides, is_wanted):
         """Takes a segment with SYN. One of another number than the SYN before it, or after packets, begins another session."""
         is_first = not item.flags & ACK
         if known is None or (is_first and known.sequence != item.sequence and (known.is_begun or known.sequence != OF_ANSWER)):
             caller, callee = sides if is_first else (sides[1], sides[0])
-            self.keep(key, Session(caller, callee, item.sequence if is_first else OF_ANSWER, is_wanted, is_first))
+            self.keep(key, Session(caller, callee, item.sequence if is_first else OF_ANSWER, NO_ANSWER if is_first and is_wanted else None))
         elif is_first:
             known.sequence = item.sequence
-        else:
-            known.is_silent = False
+        elif known.why == NO_ANSWER:
+            known.why = None
 
     def take(self, item, shown):
         """The session of a packet, and whether its callee sent it."""
@@ -68,7 +64,7 @@ class Streams:
         if session is None or (is_request and session.sequence is None and here != session.caller):
             session = Session(*self.sides(here, there, is_request))
         self.keep(key, session)
-        session.is_begun, session.is_silent = True, False
+        session.is_begun = True
         return session, here == session.callee and here != session.caller
 
     def sides(self, here, there, is_request):
@@ -106,13 +102,6 @@ def key_of(item):
     if item.stream is not None:
         return item.stream
     return tuple(sorted([(item.source, item.source_port), (item.target, item.target_port)]))
-
-
-def why_failed(session):
-    """Why a session failed of which nothing more comes; None where it didn't, or a response says it."""
-    if session.is_refused or session.is_silent:
-        return (REFUSED if session.is_refused else NO_ANSWER) if session.is_wanted else None
-    return UNANSWERED if session.is_asked else None
 
 
 @dataclass
@@ -160,14 +149,14 @@ class Sessions:
         """A session request. One before it that has no response gets none any more."""
         self.ended(self.room, session)
         session.calling, session.called = shown['calling'], shown['called']
-        session.is_asked, session.is_answered, session.is_accepted = True, False, False
+        session.why, session.is_answered, session.is_accepted = UNANSWERED, False, False
 
     def count(self, calls, session, shown, is_back):
         kind = shown['kind']
         if kind == 'request':
             calls.calls += 1
         elif kind in SESSION_RESPONSES:
-            session.is_asked, session.is_answered = False, True
+            session.why, session.is_answered = None, True
         if kind == 'positive' or (kind == 'message' and is_back and not session.is_answered):
             self.accept(calls, session)
         elif kind == 'negative':
@@ -181,16 +170,15 @@ class Sessions:
     def accept(self, calls, session):
         """A session is accepted, by a positive response or by data of the called end where the capture has no response."""
         calls.accepted += not session.is_accepted
-        session.is_asked, session.is_accepted = False, True
+        session.why, session.is_accepted = None, True
         if session.calling is not None:
             self.named(session.caller[0], session.calling)
 
     def ended(self, room, session):
         """Counts a session of which nothing more comes, if it failed."""
-        why = why_failed(session)
-        calls = self.of(room, session) if why else None
+        calls = self.of(room, session) if session.why else None
         if calls:
-            calls.refuse(why)
+            calls.refuse(session.why)
 
     def until_now(self):
         """All that is counted, with the sessions that go on as they stand."""

@@ -36,7 +36,7 @@ test('a frame of each byte order and unit of time has its payload and its moment
             assert.equal(seen.mark.time, 7_000_000_000n + (nanoseconds ? 5n : 5_000n));
             assert.equal(seen.mark.source, '10.0.0.5:137');
             assert.equal(seen.mark.destination, '10.0.0.9:137');
-            assert.equal(seen.mac, '02:00:00:00:00:09');
+            assert.deepEqual([seen.mac, seen.target], ['02:00:00:00:00:09', '01:02:03:04:05:06']);
             assert.equal(hex(seen.bytes), hex(QUERY));
         }
     }

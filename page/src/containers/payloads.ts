@@ -18,19 +18,15 @@ const MOST_STREAMS = 262_144;
 /** Why a frame has no packet that nbt-look would find either. */
 const NOTHING = ['no IP', 'cut'];
 
-/** A payload: what one packet of these ports has, and the frame that completes it. */
-export interface Payload {
-    kind: 'payload'; port: 137 | 138 | 139; mark: Mark;
-    mac: string | null; // that of who sent the frame
-    vlan: number | null;
-    bytes: Uint8Array; // a part of what is held of the file
-}
+/** The hardware addresses from which and, of Ethernet, to which a frame goes. */
+export type Below = { mac: string | null, target: string | null, vlan: number | null };
+/** A payload, a part of what is held of the file: what one packet of these ports has, and the frame that completes it. */
+export type Payload = Below & { kind: 'payload', port: 137 | 138 | 139, mark: Mark, bytes: Uint8Array };
 /** That a connection of port 139 is opened, by an end: with a SYN, or else by the SYN that an answer acknowledges. */
 export type Opened = { kind: 'opened', caller: string, callee: string, sequence: number, isFirst: boolean };
 /** What the file has of a packet of UDP that the snap length cut. */
-export type Cut = { kind: 'cut', port: 137 | 138, mark: Mark, mac: string | null, bytes: Uint8Array };
+export type Cut = Below & { kind: 'cut', port: 137 | 138, mark: Mark, bytes: Uint8Array };
 export type Seen = Payload | Opened | Cut | Unread | LeftOut | Comment;
-export type Below = { mac: string | null, vlan: number | null };
 
 /** The frames of a file; null of one that is neither pcap nor pcapng. */
 export function framesOf(file: Slices) {
@@ -109,7 +105,7 @@ export class PayloadReader {
         if (size < 0 || payload.length < size) {
             const reason = payload.length < size && this.report.cut === CUT ? CUT : BAD_LENGTH;
             const isFront = reason === CUT && payload.length > 0;
-            if (isFront) this.give({ kind: 'cut', port: port as 137 | 138, mark: this.report.mark, mac: below.mac, bytes: payload });
+            if (isFront) this.give({ kind: 'cut', port: port as 137 | 138, mark: this.report.mark, bytes: payload, ...below });
             const there = `its UDP length is ${size + UDP_HEADER}, and the file has ${payload.length} bytes of its payload`;
             return this.report.leave_out(reason, there);
         }
@@ -155,7 +151,7 @@ export class PayloadReader {
     streamCount = 0;
 
     payload(port: 137 | 138 | 139, below: Below, bytes: Uint8Array) {
-        this.give({ kind: 'payload', port, mark: this.report.mark, mac: below.mac, vlan: below.vlan, bytes });
+        this.give({ kind: 'payload', port, mark: this.report.mark, bytes, ...below });
     }
 
     withoutPacket(why: WhyNoPacket) {

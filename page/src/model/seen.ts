@@ -7,7 +7,7 @@ import { UnreadFrames } from './unread.js';
 
 /** An item, as the tools have it: what stands in a frame, of which service, and who sent it to whom. Times are nanoseconds since 1970. */
 export type Ends = { source: string, source_port: string, target: string, target_port: string };
-export type Item = Ends & { frame: { number: number, at: bigint | null, source_mac: string | null }, service: number, stream: null };
+export type Item = Ends & { frame: { number: number, at: bigint | null, source_mac: string | null, target_mac: string | null }, service: number, stream: null };
 
 export class Seen {
     packets = 0;

@@ -45,10 +45,11 @@ export class Tap {
         else this.leftOut(item);
     }
 
-    front({ port, mark, mac, bytes }: Cut) {
+    front(item: Cut) {
+        const { port, mark, bytes } = item;
         this.frontOf = mark.frame;
         const told = { ...this.standing(port, bytes), cut: true };
-        this.seen.summed.take(itemOf(mark, port, mac), told);
+        this.seen.summed.take(itemOf(item), told);
         const { source, destination, kind } = told;
         if (kind && source !== undefined && destination !== undefined && this.cut.length < MOST_CUT) this.cut.push([source, destination, kind]);
     }
@@ -63,14 +64,15 @@ export class Tap {
         this.seen.summed.sessions.opened({ ...endsOf(caller, callee), stream: null, sequence, is_first: isFirst });
     }
 
-    payload({ port, mark, mac, vlan, bytes }: Payload) {
+    payload(item: Payload) {
+        const { port, mark, bytes } = item;
         const text = this.library.json(port, bytes);
         const said = this.library.brief(port, bytes);
         const told: Told = JSON.parse(text);
         const standing = told.refused === undefined ? told : { ...this.standing(port, bytes), ...told };
         standing.brief = said;
-        const isConflict = this.seen.take(standing, itemOf(mark, port, mac));
-        this.packets.add(mark, { port, mac, vlan, bytes });
+        const isConflict = this.seen.take(standing, itemOf(item));
+        this.packets.add(mark, item);
         const kinds = kindsOf(port, told);
         if (isConflict && !kinds.includes('conflict')) kinds.push('conflict');
         this.row(mark, port, kinds.join(' '), told.refused === undefined ? '' : withoutPlace(told.refused), said);
@@ -107,8 +109,8 @@ export class Tap {
     }
 }
 
-function itemOf({ frame, time, source, destination }: Mark, port: number, mac: string | null): Item {
-    return { ...endsOf(source, destination), frame: { number: frame, at: time, source_mac: mac }, service: port, stream: null };
+function itemOf({ mark: { frame, time, source, destination }, port, mac, target }: Payload | Cut): Item {
+    return { ...endsOf(source, destination), frame: { number: frame, at: time, source_mac: mac, target_mac: target }, service: port, stream: null };
 }
 
 function endsOf(source: string, target: string): Ends {

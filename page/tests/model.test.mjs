@@ -15,7 +15,6 @@ import { momentOf, since, utc } from '../src/model/times.js';
 import { MOST_LINE } from '../src/made/vocabulary.js';
 import { Advice } from '../src/view/advice.js';
 import { Filter } from '../src/view/filter.js';
-import { outcome, summary } from '../src/view/conflicts.js';
 import { known } from '../src/view/keys.js';
 import { quoted } from '../src/view/shell.js';
 import { conclusion, sidesOf } from '../src/view/sides.js';
@@ -123,18 +122,6 @@ test('the capture of packets: ticks for each second, and in a pause those that d
     assert.deepEqual(lines, ['# frame 1 1970-01-01T00:01:40.000000Z 10.0.0.5:138 > 10.0.0.9:138', '138 0 17', '# frame 2 is left out: why',
         'tick 1000', 'tick 2000', 'tick 3000', 'tick 10000', '# frame 3 1970-01-01T00:01:50.250000Z 10.0.0.5:138 > 10.0.0.9:138', '138 10250 17']);
     assert.equal(commentOf('# a \\ "b" \x01\xff'), '# a \\ "b" \\01\\ff');
-});
-
-test('how conflicts ended, in words', () => {
-    for (const [holder, refused, by, words] of [
-        [['10.0.0.5', '10.0.0.6'], null, null, '10.0.0.5 and 10.0.0.6 claim it, and nobody was refused it.'],
-        [['10.0.0.5'], '10.0.0.6', '10.0.0.1', '10.0.0.5 holds it; 10.0.0.6 was refused it by 10.0.0.1.'],
-        [[], '10.0.0.6', '10.0.0.1', "10.0.0.1 refused it to 10.0.0.6; who holds it isn't in the capture."],
-        [[], null, '10.0.0.1', "10.0.0.1 says that it is in conflict; who holds it isn't in the capture."],
-        [['10.0.0.1', '10.0.0.2'], '10.0.0.3', '10.0.0.1', '10.0.0.1 and 10.0.0.2 hold it; 10.0.0.3 was refused it by 10.0.0.1.'],
-    ]) assert.equal(outcome({ name: 'FRED<20>', holder, refused, by, frame: 4 }), `FRED<20>: ${words}`);
-    assert.deepEqual([[], ['a'], ['a', 'b', 'a']].map((names) => summary(names.map((name) => ({ name })))),
-        ['No name is in conflict.', 'One name is in conflict.', '2 names are in conflict.']);
 });
 
 test('the keys of a list, and what is known of them', () => {

@@ -1,7 +1,7 @@
 /** What is known of one file. */
 import type { Nbt } from '../../../bindings/javascript/nbt.mjs';
 import { partsOf, shown } from '../containers/ends.js';
-import type { Cut, Opened, Payload, Seen as Given } from '../containers/payloads.js';
+import type { Cut, Payload, Seen as Given, Sent } from '../containers/payloads.js';
 import type { LeftOut, Mark } from '../containers/report.js';
 import { made, written } from '../model/capture.js';
 import { Seen, type Ends, type Item } from '../model/seen.js';
@@ -39,7 +39,7 @@ export class Tap {
     take(item: Given) {
         if (item.kind === 'comment') this.packets.comment(item.text);
         else if (item.kind === 'payload') this.payload(item);
-        else if (item.kind === 'opened') this.opened(item);
+        else if (item.kind === 'segment') this.segment(item);
         else if (item.kind === 'cut') this.front(item);
         else if (item.kind === 'unread') this.seen.unread.take(item);
         else this.leftOut(item);
@@ -60,8 +60,8 @@ export class Tap {
         return port === 137 ? serviceFront(this.library, bytes) : datagramFront(this.library, bytes);
     }
 
-    opened({ caller, callee, sequence, isFirst }: Opened) {
-        this.seen.summed.sessions.opened({ ...endsOf(caller, callee), stream: null, sequence, is_first: isFirst });
+    segment({ source, target, sequence, flags }: Sent) {
+        this.seen.summed.sessions.segment({ ...endsOf(source, target), stream: null, sequence, flags });
     }
 
     payload(item: Payload) {
@@ -71,15 +71,13 @@ export class Tap {
         const told: Told = JSON.parse(text);
         const standing = told.refused === undefined ? told : { ...this.standing(port, bytes), ...told };
         standing.brief = said;
-        const isConflict = this.seen.take(standing, itemOf(item));
+        this.seen.take(standing, itemOf(item));
         this.packets.add(mark, item);
-        const kinds = kindsOf(port, told);
-        if (isConflict && !kinds.includes('conflict')) kinds.push('conflict');
-        this.row(mark, port, kinds.join(' '), told.refused === undefined ? '' : withoutPlace(told.refused), said);
+        this.row(mark, port, kindsOf(port, told).join(' '), told.refused === undefined ? '' : withoutPlace(told.refused), said);
     }
 
     leftOut({ mark, why }: LeftOut) {
-        this.seen.leave(why, mark.frame === this.frontOf ? null : endsOf(mark.source, mark.destination), mark.time);
+        this.seen.leave(why, mark.frame === this.frontOf ? null : endsOf(mark.source, mark.destination));
         this.packets.add(mark, { port: LEFT_OUT, mac: null, vlan: null, bytes: new Uint8Array(0) });
         const sizes = mark.captured < mark.size ? `, ${mark.captured} of ${mark.size} bytes` : '';
         this.row(mark, LEFT_OUT, 'left-out', why, `left out: ${why}${sizes}`);
@@ -101,9 +99,9 @@ export class Tap {
     counts() {
         const { seen } = this;
         const left = Array.from(seen.leftOut.values()).reduce((sum, each) => sum + each, 0);
-        const { of_name: ofName, conflicts } = seen.summed.claims;
+        const { kept, refusals } = seen.summed;
         return {
-            frames: this.frames, packets: seen.packets, refused: seen.refusedPackets, leftOut: left, names: ofName.entries.size, conflicts: conflicts.all().length,
+            frames: this.frames, packets: seen.packets, refused: seen.refusedPackets, leftOut: left, names: kept.names.size, refusals: refusals.room.entries.size,
             unread: seen.unread.counts(),
         };
     }

@@ -25,6 +25,7 @@ export class Seen {
         this.packets += 1;
         this.refusedPackets += Number(told.refused !== undefined);
         if (told.refused === undefined && told.key !== undefined && PIECES.includes(told.kind ?? '')) this.firsts.get(told.key, () => item.frame.number);
+        this.summed.faults.take(item, told);
         this.summed.take(item, told);
     }
 

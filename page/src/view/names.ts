@@ -7,7 +7,8 @@ import { MARK, TABLES, headOf, shownAs } from './tables.js';
 const FILTERS = ['name', 'calling', 'called', 'address', 'from', 'to', 'by', 'asked'];
 const FRAMES = ['frame', 'told_frame', 'first', 'last'];
 const FRAME = /frame (\d+)/;
-const MARKED = { names: 'The latest word isn\'t that the address has the name', several: 'Several stations say that they have the name' };
+/** What a mark before a row says, by the table. */
+const MARKED = { names: 'The latest word isn\'t that the address has the name', several: 'Stations with several MACs say that they have the name' };
 
 export class NamesView {
     root = byId('view-names', HTMLElement);
@@ -39,17 +40,18 @@ export class NamesView {
         const refused = new Set(tables.refusals.map(({ name }) => name)).size;
         const lead = refused ? `Of ${counted(refused, 'name')} there are refusals.` : 'Of no name there are refusals.';
         this.root.replaceChildren(element('p', { class: 'lead' }, lead), ...TABLES.flatMap(({ key, title, columns }) => [
-            ...(tables[key]?.length ? [this.table(key, title, columns, tables[key])] : []),
+            ...(tables[key]?.length ? [this.table(title, columns, tables[key])] : []),
             ...(notKept[key] ? [quiet(`and ${counted(notKept[key], 'packet')} of more than are kept`)] : []),
         ]), ...notes.map(quiet));
     }
 
-    table(key: string, title: string, columns: string[], rows: any[]) {
-        const marks = Reflect.get(MARKED, key);
+    table(title: string, columns: string[], rows: any[]) {
         const head = columns.map((each) => (headOf(each) === 'frame' ? this.app.unit : headOf(each)));
-        const cells = rows.map((row) => columns.map((column) => this.cell(title, row, column)));
-        if (marks) cells.forEach((each, at) => each.unshift(rows[at].marked ? element('b', { title: marks }, MARK) : ''));
-        return table(title, marks ? [MARK, ...head] : head, cells, (at) => (key === 'malformed' ? 'bad' : rows[at].marked ? 'marked' : ''));
+        const cells = rows.map((row) => columns.map((column) => {
+            const cell = this.cell(title, row, column);
+            return row.marked && column === 'name' ? element('span', {}, element('b', { class: 'mark', title: Reflect.get(MARKED, title) }, MARK), cell) : cell;
+        }));
+        return table(title, head, cells, () => (title === 'malformed' ? 'bad' : ''));
     }
 
     cell(title: string, row: any, column: string): Node | string {

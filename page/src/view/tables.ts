@@ -2,8 +2,8 @@
 import { TEXTS, cell } from '../made/shown.js';
 import { HEADS, TABLES as ALIKE } from '../made/vocabulary.js';
 
-/** Before a row stands this, where there is something to look at. */
-export const MARK = '!';
+/** What stands before a row that is marked. */
+export const MARK = '! ';
 const UNREAD = ['not read here', ['link_type', 'why', 'frames', 'frame']];
 /** Each table by its key, with its title and columns: those of nbt-look, in their order, then what that alone reads. */
 export const TABLES = Object.entries({ ...ALIKE, unread: UNREAD }).map(([key, [title, columns]]) => ({ key, title: String(title), columns: [...columns] }));

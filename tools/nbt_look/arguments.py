@@ -7,8 +7,8 @@ import os
 from nbt_pcap import arguments
 from nbt_pcap.process import NAME, Stopped
 
-from .filters import KIND_SAME, advice
-from .vocabulary import KINDS, TABLES
+from .filters import advice
+from .vocabulary import KIND_SAME, KINDS, TABLES
 
 USAGE = 'usage: %s FILE.., or -, --live or -i INTERFACE in place of FILE; --help says more' % NAME
 SUMMARY = '--summary='

@@ -61,8 +61,6 @@ def names_in(shown):
                 yield name['name']
 
 
-# Another word for a kind.
-KIND_SAME = {'conflicts': 'conflict'}
 # Words that one would guess, by the kind that is meant.
 GUESSES = {
     'query': 'lookup ask asks', 'status': 'nbstat node-status nodestatus', 'registration': 'claim overwrite multihomed register',

@@ -60,7 +60,8 @@ KINDS_OF = {
     'each port': {
         'positive': 'an answer that grants, finds or accepts', 'negative': 'an answer that refuses, or finds nothing',
         'malformed': 'nbt refuses to read it', 'left-out': 'cut, or not read for another reason'}}
-# The words for kinds of packets.
+# Another word for a kind, and the words for kinds of packets.
+KIND_SAME = {'conflicts': 'conflict'}
 KINDS = tuple(kind for kinds in KINDS_OF.values() for kind in kinds)
 # The kinds of packets with a piece of a datagram, or with a whole one; and what answers a call.
 PIECES = tuple(FRAGMENTS.values())

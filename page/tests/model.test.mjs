@@ -161,12 +161,13 @@ test('the address keeps its place', () => {
 });
 
 test('words of the filter: kinds, ports, and parts of what is said', () => {
-    const texts = ['', '10.0.0.5', 'query response', 'refused'];
+    const texts = ['', '10.0.0.5', 'query response conflict', 'refused'];
     const rows = {
         texts, said: ['answers: FRED<20> is at 10.0.0.9', 'refused: truncated, at byte 2'], port: { at: () => 137 },
         columns: { kinds: { at: (row) => row + 2 }, source: { at: () => 1 }, destination: { at: () => 0 } }, text: () => '',
     };
     const wanted = (words) => [0, 1].filter((row) => new Filter({ words, kind: '', sender: '', reason: '' }).wants(rows, row));
+    assert.deepEqual(['Query', 'conflicts', 'conflict', 'conflicted'].map(wanted), [[0], [0], [0], []]);
     assert.deepEqual(['10.0.0.9', '10.0.0.', '0.0.5', '10.0.0.90', '0.0.0.9'].map(wanted), [[0], [0, 1], [0, 1], [], []]);
     assert.deepEqual([wanted(''), wanted('response'), wanted('fred<20>'), wanted('10.0.0.5 refused'), wanted('138'), wanted('a.c')],
         [[0, 1], [0], [0], [1], [], []]);

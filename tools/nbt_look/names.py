@@ -19,7 +19,7 @@ def object_of(row, is_marked, said, times):
     """A row as an object of JSON; a half of which nothing was said has nothing."""
     own, others, at = row.own, row.others, row.later().at
     lifetime, lifetime_of = (row.claimed, 'claimed') if row.granted is None else (row.granted, 'granted')
-    return {'marked': is_marked, 'name': row.name, 'address': row.address or None, 'mac': row.mac or None, 'group': row.group,
+    return {'marked': is_marked, 'name': row.name, 'address': row.address or None, 'mac': said.mac(row), 'group': row.group,
             'says': own and own.text, 'from': own.by if own and own.by and own.by != row.address else None, 'frame': own and own.frame,
             'is_told': others and others.text, 'by': (others and others.by) or None, 'told_frame': others and others.frame,
             'time': None if at is None else times(at), 'first': row.first, 'claims': row.claims, 'refusals': row.refusals,
@@ -59,7 +59,7 @@ class Several:
                 of_name.setdefault(row.name, []).append(row)
         for rows in of_name.values():
             if len(rows) > 1 and not all(row.group for row in rows):
-                macs = {row.mac: True for row in rows if row.mac}
+                macs = {self.said.mac(row): True for row in rows if self.said.mac(row)}
                 found.extend([object_of(row, len(macs) > 1, self.said, times) for row in rows])
         return sorted(found, key=lambda row: (not row['marked'], row['name'], row['address'] or ''))
 

@@ -4,7 +4,7 @@ from dataclasses import dataclass, field
 from .parts import is_response, type_of
 from .rooms import Room
 from .times import since
-from .vocabulary import ADDRESS_TYPE, ANSWERING, EPOCH, MOST_FRAMES, SERVER_TYPE, STATUS_TYPE, TABLES, Found, Front
+from .vocabulary import ADDRESS_TYPE, ANSWERING, EPOCH, MOST_FRAMES, STATUS_TYPE, TABLES, Found, Front
 
 KINDS = {ADDRESS_TYPE: 'query', STATUS_TYPE: 'status'}
 # The types of what a positive response has, where one stands.
@@ -34,7 +34,8 @@ class Request:
     latest: int = EPOCH              # when the latest repeat came
     times: int = 0
     frames: list = field(default_factory=list)
-    is_answered: bool = False
+    has_own: bool = False            # a response belongs to it
+    is_answered: bool = False        # and is a positive one
     reply: Reply = None
 
     def repeat(self, message):
@@ -70,7 +71,7 @@ class Queries:
         """Takes a request, or a repeat of one."""
         waiting, key = self.latest.get((message.name, message.number, message.source), {}), (message.name, kind, message.source, message.target)
         found = waiting.get(key)
-        if found is None or found.is_answered or not found.is_fresh(message.moment):
+        if found is None or found.has_own or not found.is_fresh(message.moment):
             found = self.kept.entry(self.room, message.name, self.packets, lambda: Request(key, message.is_to_group, self.packets, message.at))
             if found:
                 self.latest.setdefault((message.name, message.number, message.source), {})[key] = found
@@ -84,21 +85,24 @@ class Queries:
         fitting = [each for each in waiting.values() if kind not in KINDS or each.key[1] in (kind, None)]
         fresh = [each for each in fitting if each.is_fresh(message.moment)]
         own = [each for each in fresh if each.key[3] == message.source] or [each for each in fresh if each.is_to_group]
-        for each in own or fitting:
-            what = None if each.is_answered else self.what(each, message, kind, bool(own))
-            if what is not None:
-                each.is_answered = what == Found.LATER.value
-                each.reply = Reply(what, message.source, message.frame, self.packets, message.moment - each.latest)
+        for each in own:
+            self.belong(each, message, kind)
+        for each in fitting if not own else ():
+            what = Found.OTHER if each.is_fresh(message.moment) else Found.LATE
+            self.reply(each, what.value, message)
 
-    def what(self, request, message, kind, is_own):
-        """What a response says to a request; None where that is nothing."""
-        if message.code != 'ok':
-            return str(message.code)
-        if kind not in POSITIVE:
-            return 'redirected' if kind == SERVER_TYPE else None
-        if is_own:
-            return Found.LATER.value
-        return Found.LATE.value if request.is_to_group or request.key[3] == message.source else Found.OTHER.value
+    def belong(self, request, message, kind):
+        """A response that belongs to a request answers it, or says why nothing was found."""
+        request.has_own = True
+        if message.code == 'ok' and kind in POSITIVE:
+            request.is_answered = True
+            self.reply(request, Found.LATER.value, message)
+        else:
+            self.reply(request, 'redirected' if message.code == 'ok' else str(message.code), message)
+
+    def reply(self, request, what, message):
+        if what == Found.LATER.value or not request.is_answered:
+            request.reply = Reply(what, message.source, message.frame, self.packets, message.moment - request.latest)
 
     def rows(self, times):
         requests = {}
@@ -117,7 +121,7 @@ class Queries:
                 'frames': sorted([frame for each in failed for frame in each.frames])[:MOST_FRAMES],
                 'since': None if failed[0].since is None else times(failed[0].since), 'answered': reply and reply.frame,
                 'answer': reply and reply.what, 'answered_by': (reply and reply.by) or None,
-                'after': since(reply.after) if reply and reply.what == Found.LATE.value else None, 'not_all_kept': self.kept.lacks(name)}
+                'after': since(reply.after)[:-3] if reply and reply.what == Found.LATE.value else None, 'not_all_kept': self.kept.lacks(name)}
 
     def others(self):
         return self.room.others

@@ -35,7 +35,6 @@ class Row:
     claimed: int = None
     claim: tuple = None
     release: tuple = None
-    mac: str = ''                    # of the latest frame about the name that this address sent
 
     def later(self):
         """The half that is the later one."""
@@ -74,7 +73,7 @@ class Said:
 
     def __init__(self, kept, refusals):
         self.kept, self.refusals = kept, refusals
-        self.room = Room()
+        self.room, self.macs = Room(), Room()      # by name and address: rows, and the MACs of the latest frames from there about the name
         self.claims, self.releases = Latest(), Latest()
         self.packets = 0
         self.cut = 0                 # answers that are cut before the address that they are about
@@ -84,17 +83,19 @@ class Said:
         word = word_of(message.shown)
         if word is Word.LISTS:
             self.listed(message)
-        elif message.is_named and word is Word.ANSWERS:
-            self.answered(message)
         elif message.is_named and word is not None:
-            self.requested(message, word) if word in OWN else self.responded(message, word)
-        self.sent(message.name, message)
+            self.sent(message.name, message)
+            take = self.answered if word is Word.ANSWERS else self.requested if word in OWN else self.responded
+            take(message, word)
 
     def sent(self, name, message):
-        """Keeps the MAC of who sends a frame about a name at its own address."""
-        row = self.room.entries.get((name, message.source))
-        if row and message.source_mac:
-            row.mac = message.source_mac
+        """Keeps the MAC of who sends a frame that says something of a name."""
+        found = self.kept.entry(self.macs, name, (name, message.source), lambda: [None]) if message.source_mac else None
+        if found:
+            found[0] = message.source_mac
+
+    def mac(self, row):
+        return self.macs.entries.get((row.name, row.address), [None])[0]
 
     def row(self, name, address, message):
         """The row of a name at an address; None where there is no room for it."""
@@ -122,14 +123,14 @@ class Said:
             else:
                 row.release = self.releases.put(row, row.release, key, self.packets)
 
-    def answered(self, message):
+    def answered(self, message, word):
         """A positive answer to a query says it of its sender's own address, and of others."""
         groups = message.groups()
         self.cut += not groups and message.front is Front.CUT
         for address, group in groups.items():
             row = self.row(message.name, address, message)
             if row and address == message.source:
-                row.own, row.group = self.half(Word.ANSWERS, message), group
+                row.own, row.group = self.half(word, message), group
             elif row:
                 row.others, row.group = self.half(Word.SAID, message), group
 

@@ -68,9 +68,8 @@ PIECES = tuple(FRAGMENTS.values())
 SESSION_RESPONSES = ('positive', 'negative', 'retarget')
 # The sections of a packet of port 137.
 SECTIONS = ('questions', 'answers', 'authorities', 'additional')
-# RR_TYPE NBSTAT, NB and NS (RFC 1002 section 4.2.1.3), as objects of JSON have them; the operation by which a station claims a name for several
-# addresses of its own.
-STATUS_TYPE, ADDRESS_TYPE, SERVER_TYPE = f'{NBSTAT:04x}', '0020', '0002'
+# RR_TYPE NBSTAT and NB, as objects of JSON have them; the operation by which a station claims a name for several addresses of its own.
+STATUS_TYPE, ADDRESS_TYPE = f'{NBSTAT:04x}', '0020'
 MULTIHOMED = 15
 # What the last byte of a name says, where it is unique and where it is a group's.
 SUFFIXES = {'00': ('workstation', 'domain'), '01': ('messenger', 'master browser'), '03': ('messenger', 'messenger'),

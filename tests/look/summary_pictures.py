@@ -43,7 +43,9 @@ def words_of(drawn):
 def recorded():
     """A console that has the summary."""
     terminal = [TOP / 'tests/lib/terminal.py', f'--columns={WIDTH}']
-    shown = subprocess.check_output([*terminal, *COMMAND], cwd=TOP, text=True, env={**os.environ, 'TERM': 'xterm', 'PATH': f'{TOP}/tools:{os.environ["PATH"]}'})
+    environment = {**os.environ, 'TERM': 'xterm', 'PATH': f'{TOP}/tools:{os.environ["PATH"]}'}
+    shown = subprocess.check_output([*terminal, *COMMAND], cwd=TOP, env=environment)
+    shown = re.sub(r'[^\n]*\r(?!\n)', '', shown.decode()).replace('\r', '')       # progress, and a terminal's ends of lines
     console = Console(record=True, width=WIDTH, file=io.StringIO(), force_terminal=True)
     console.print(Text.from_ansi(shown), soft_wrap=True)
     return console

@@ -6,7 +6,7 @@ from nbt_pcap.rows import is_joined, last
 
 from .fragments import FIELDS as FRAGMENT_FIELDS
 from .fragments import Unfinished
-from .items import Cut, Frame, LeftOut, Opened, Packet
+from .items import Cut, Frame, LeftOut, Packet, Segment
 from .screen import safe
 from .tally import PACKET, STATISTIC, Others, Without
 
@@ -17,7 +17,6 @@ TAGS = slice(2, 6)               # the fields with tags of VLANs, the outer ones
 # What tshark calls an interface without a name.
 NO_NAME = 'unknown'
 STATISTICS = (STATISTIC,)
-SYN, ACK = 0x02, 0x10
 
 
 class Noted(Report):
@@ -102,12 +101,11 @@ class Frames(Reader):
         return self.named[1]
 
     def segment(self, row, packet):
-        """A segment with a SYN says who opens the connection: its sender, or where it has an ACK too its target."""
-        flags = int(packet.flags or '0', 16)
-        if flags & SYN and packet.target:
-            sides = (packet.host.source.strip('[]'), packet.source), (packet.host.target.strip('[]'), packet.target)
-            (source, port), (target, to) = sides if not flags & ACK else sides[::-1]
-            self.items.append(Opened(self.report.mark, source, port, target, to, packet.stream, packet.sequence, not flags & ACK))
+        """A segment is an item before the packets that it completes."""
+        if packet.flags and packet.target:
+            host = packet.host
+            self.items.append(Segment(self.report.mark, host.source.strip('[]'), packet.source, host.target.strip('[]'), packet.target, packet.stream,
+                                      packet.sequence, int(packet.flags, 16)))
         super().segment(row, packet)
 
     def payload(self, row, service, digits, packet):

@@ -34,16 +34,11 @@ def records_of(shown):
     return [*shown['answers'], *shown['authorities'], *shown['additional']]
 
 
-def entries(shown):
-    """The entries of all NB records."""
-    return [each for record in records_of(shown) for each in record.get('entries', ())]
-
-
 def group_of(entry):
     """Whether an entry, or a name of a node status, is a group's: the bit G of NB_FLAGS and NAME_FLAGS."""
     return bool(int(entry['flags'], 16) & G)
 
 
-def names_of(shown):
+def listed(shown):
     """The names of node statuses."""
     return [each for record in records_of(shown) for each in record.get('names', ())]

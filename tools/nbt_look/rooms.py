@@ -1,4 +1,5 @@
-"""Entries of which only so many are kept."""
+"""What is kept of a capture, with bounds."""
+from .counts import counted
 from .vocabulary import MOST_ENTRIES
 
 
@@ -19,3 +20,44 @@ class Room:
                 return None
             found = self.entries[key] = make()
         return found
+
+
+class Kept:
+    """The names that are kept: each from its first packet on, or never."""
+
+    def __init__(self, most=MOST_ENTRIES):
+        self.most = most
+        self.names = {}              # whether something of a name found no room
+        self.others = {}             # names that aren't kept, one more than the bound at most
+
+    def has(self, name):
+        """Whether a name is kept that a packet has."""
+        if name in self.names:
+            return True
+        if len(self.names) < self.most:
+            self.names[name] = False
+            return True
+        if len(self.others) <= self.most:
+            self.others[name] = True
+        return False
+
+    def entry(self, room, name, key, make):
+        """The entry of a key that belongs to a name; None where the name isn't kept, or where there is no room, which its rows say then."""
+        found = room.get(key, make) if self.has(name) else None
+        if found is None:
+            self.lose(name)
+        return found
+
+    def lose(self, name):
+        """Takes that something of a name found no room."""
+        if name in self.names:
+            self.names[name] = True
+
+    def lacks(self, name):
+        """Whether not all of a name is kept."""
+        return self.names.get(name, False)
+
+    def others_text(self):
+        """How many names aren't kept, in words."""
+        count = len(self.others)
+        return f'more than {self.most} names' if count > self.most else counted(count, 'name')

@@ -7,6 +7,7 @@ import textwrap
 from nbt_pcap.process import write_all
 
 from .shown import cell
+from .vocabulary import DROPPED, HEADS
 
 try:
     from rich.color import ColorSystem
@@ -36,8 +37,8 @@ class Sink:
     def __init__(self, screen, times):
         self.screen, self.times = screen, times
 
-    def opened(self, item):
-        """Nothing is said of a connection that is opened."""
+    def segment(self, item, is_wanted):
+        """Nothing is said of segments of TCP."""
 
     def finish(self, tally, left_out):
         """All is printed."""
@@ -75,28 +76,30 @@ class Screen:
         """Rows of the same keys, under their names; `texts` makes the text of a value, with its row, where it isn't the usual one."""
         self.line(title, 'head')
         for number, lines in enumerate(rows_of(rows, head, texts, self.width)):
-            for each in lines:
-                self.line(each, 'head' if number == 0 else None)
+            for at, each in enumerate(lines):
+                is_marked = number and not at and rows[number - 1].get('marked')
+                self.line(MARK + each[len(MARK):] if is_marked else each, 'head' if number == 0 else None)
 
 
-BETWEEN = '  '
+BETWEEN, MARK = '  ', '! '
 
 
 def rows_of(rows, head, texts, width):
     """The lines of each row, of which the first is the head. `width` is how long a line may be, None where nothing bounds it."""
-    named = [key.replace('_', ' ') for key in head]
-    cells = [named] + [[texts.get(key, cell)(row[key], row) for key in head] for row in rows]
+    cells = [[HEADS.get(key, key.replace('_', ' ')) for key in head]] + [[texts.get(key, cell)(row[key], row) for key in head] for row in rows]
     widths = [max(map(len, column)) for column in zip(*cells)]
-    if width and sum(len(BETWEEN) + each for each in widths) > width:
-        yield from folded(rows, named, head, texts, width)
-        return
+    while width and sum(len(BETWEEN) + each for each in widths) > width:
+        if head[-1] not in DROPPED:
+            yield from folded(rows, cells[0], head, texts, width)
+            return
+        head, cells, widths = head[:-1], [row[:-1] for row in cells], widths[:-1]
     for row in cells:
         yield [beside(row, widths)]
 
 
 def folded(rows, named, head, texts, width):
     """The lines of each row, where cells have several."""
-    cells = [[[each] for each in named]]
+    cells = [[[each] for each in named[:len(head)]]]
     cells += [[lines_of(row[key]) if key not in texts else [texts[key](row[key], row)] for key in head] for row in rows]
     fold(cells, width)
     widths = widths_of(cells)

@@ -44,14 +44,13 @@ class Summary(Sink):
         self.seen.take(item, shown)
         self.replay.take(item, shown)
 
-    def opened(self, item):
-        self.seen.sessions.opened(item)
+    def segment(self, item, is_wanted):
+        self.seen.sessions.segment(item, is_wanted)
 
     def left_out(self, item):
-        self.seen.left_out(item.frame, item.frame.at)
+        self.seen.left_out(item.frame, item.reason)
 
     def finish(self, tally, left_out):
-        self.seen.claims.finish()
         self.replay.finish()
         self.missed.counts = {reason: count for reason, count in left_out.items() if count}
         parts = [part for part in self.parts if part.title in self.chosen or not self.chosen]
@@ -60,7 +59,9 @@ class Summary(Sink):
             return
         for part in parts:
             self.show(part)
-        if self.chosen:
+        for each in self.seen.notes():
+            self.screen.line(each)
+        if self.chosen and not self.screen.lines[-1]:
             self.screen.lines.pop()      # the empty line after the last table
 
     def show(self, part):
@@ -79,5 +80,6 @@ class Summary(Sink):
         """One object of JSON, with the rows of each part, and where all parts are there with the counts."""
         found = {part.title.replace(' ', '_'): part.counts if part is self.missed else part.rows(self.times.utc) for part in parts}
         found['not_kept'] = {part.title.replace(' ', '_'): part.others() for part in parts if part.others()}
+        found['notes'] = self.seen.notes()
         counts = {'packets': tally.packets, 'frames': tally.frames, 'frames_without_a_packet': tally.without}
         return json.dumps(found if self.chosen else {**found, **counts})

@@ -74,7 +74,7 @@ def function_at(crate, file, old, _):
     """The name of the function in which a line stands, if it stands in one."""
     text = (ROOT / 'crates' / crate / file).read_text(encoding='utf-8')
     front = text[:text.find(old)] + old
-    names = re.findall(r'^ *(?:pub(?:\(\w+\))? )?(?:const )?(?:unsafe )?(?:extern "C" )?fn (\w+)', front, re.MULTILINE)
+    names = re.findall(r'^ *(?:pub(?:\(\w+\))? )?(?:const |final |unsafe )?(?:extern "C" )?fn (\w+)', front, re.MULTILINE)
     return names[-1] if names else None
 
 

@@ -4,7 +4,8 @@ from dataclasses import dataclass
 from .parts import group_of, records_of, subject
 from .vocabulary import EPOCH, Front
 
-WILDCARD = '*<00>'
+# The front of the wildcard, padded with zero bytes or with spaces.
+WILDCARD = ('*\\00', '*<00>')
 # OPCODE in the flag word, as the RDATA of a WACK has it, and that of a release: RFC 1002 section 4.2.1.1.
 OPCODE, FIRST_OF_OPCODE, RELEASE = 0x7800, 0x0800, 6
 
@@ -38,7 +39,7 @@ class Message:
     @property
     def is_named(self):
         """Whether it is about a name, which the wildcard isn't."""
-        return not self.name.startswith(WILDCARD)
+        return not is_wildcard(self.name)
 
     @property
     def lifetime(self):
@@ -59,6 +60,10 @@ class Message:
     def groups(self):
         """The addresses in these records, each with whether the name is a group's there."""
         return {each['address']: group_of(each) for record in self.own_records() for each in record['entries']}
+
+
+def is_wildcard(name):
+    return any(name.startswith(each) for each in WILDCARD)
 
 
 def message_of(item, shown):

@@ -18,13 +18,12 @@ def is_marked(row):
 def object_of(row, is_marked, said, times):
     """A row as an object of JSON; a half of which nothing was said has nothing."""
     own, others, at = row.own, row.others, row.later().at
-    lifetime, lifetime_of = (row.claimed, 'claimed') if row.granted is None else (row.granted, 'granted')
     return {'marked': is_marked, 'name': row.name, 'address': row.address or None, 'mac': said.mac(row), 'group': row.group,
             'says': own and own.text, 'from': own.by if own and own.by and own.by != row.address else None, 'frame': own and own.frame,
             'is_told': others and others.text, 'by': (others and others.by) or None, 'told_frame': others and others.frame,
             'time': None if at is None else times(at), 'first': row.first, 'claims': row.claims, 'refusals': row.refusals,
-            'is_refused': others is not None and others.word in REFUSING, 'lifetime': lifetime,
-            'lifetime_of': None if lifetime is None else lifetime_of, 'kind': kind_of(row.name, row.group) or None,
+            'is_refused': others is not None and others.word in REFUSING, 'lifetime': row.lifetime,
+            'lifetime_of': row.lifetime_of, 'kind': kind_of(row.name, row.group) or None,
             'not_all_kept': said.kept.lacks(row.name)}
 
 

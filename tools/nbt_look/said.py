@@ -1,10 +1,13 @@
 """What was said of each name at each address, by whom and in which frame. docs/SUMMARY.md has the definitions."""
 from dataclasses import dataclass
 
+from .messages import is_wildcard
 from .parts import group_of, records_of
 from .rooms import Room
 from .vocabulary import Front, Word
 from .words import CLAIMING, OF_RELEASES, OWN, REFUSING, STANDING, listed_word, with_code, word_of
+
+CLAIM, GRANT = 'claimed', 'granted'
 
 
 @dataclass
@@ -31,8 +34,8 @@ class Row:
     others: Half = None
     claims: int = 0
     refusals: int = 0
-    granted: int = None              # the TTL of the latest grant, and of the latest claim, in seconds
-    claimed: int = None
+    lifetime: int = None             # the TTL of the latest grant, else of the latest claim, in seconds, and which of them said it
+    lifetime_of: str = None
     claim: tuple = None
     release: tuple = None
 
@@ -44,6 +47,12 @@ class Row:
 
     def is_standing(self):
         return self.later().word in STANDING
+
+    def renew(self, lifetime_of, lifetime):
+        """Takes the TTL of a claim, which counts until a grant comes, or of a grant; None where it is cut."""
+        is_first = self.lifetime_of != lifetime_of
+        if (is_first or lifetime is not None) and (lifetime_of == GRANT or self.lifetime_of != GRANT):
+            self.lifetime, self.lifetime_of = lifetime, lifetime_of
 
 
 class Latest:
@@ -118,7 +127,7 @@ class Said:
             row.group = groups.get(address, row.group)
             if word in CLAIMING:
                 row.claims += 1
-                row.claimed = message.lifetime if groups else row.claimed
+                row.renew(CLAIM, message.lifetime)
                 row.claim = self.claims.put(row, row.claim, key, self.packets)
             else:
                 row.release = self.releases.put(row, row.release, key, self.packets)
@@ -141,7 +150,7 @@ class Said:
         for record in records:
             scope = record['name'].partition('>')[2]
             for each in record['names']:
-                row = self.row(each['name'] + scope, message.source, message)
+                row = None if is_wildcard(each['name']) else self.row(each['name'] + scope, message.source, message)
                 if row:
                     row.own, row.group = self.half(listed_word(each['set']), message), group_of(each)
                     self.refused(row, row.own, message)
@@ -164,7 +173,7 @@ class Said:
             row.others = self.half(word, message)
             if word is Word.GRANTED:
                 row.group = groups.get(row.address, row.group)
-                row.granted = message.lifetime if groups else row.granted
+                row.renew(GRANT, message.lifetime)
             self.refused(row, row.others, message)
 
     def refused(self, row, half, message):

@@ -121,8 +121,6 @@ class Expressions:
             if isinstance(left, ast.Constant) or isinstance(right, ast.Constant):
                 return f"({one} {'===' if isinstance(op, ast.Eq) else '!=='} {other})"
             return '!' * isinstance(op, ast.NotEq) + self.helper('same', one, other)
-        if isinstance(left, ast.Tuple):
-            one, other = self.helper('order', one, other), '0'
         return f'({one} {ORDER[type(op)]} {other})'
 
     def of_ifexp(self, node):

@@ -2,15 +2,14 @@
 from nbt_pcap.reasons import CUT
 
 from .counts import counted
-from .messages import message_of
-from .names import Names, Several
+from .names import Names, Refusals, Several
 from .queries import Queries
-from .refusals import Refusals
 from .rooms import Kept
 from .said import Said
 from .sessions import Sessions
 from .stations import Stations
 from .vocabulary import TABLES
+from .words import message_of
 
 
 class Faults:

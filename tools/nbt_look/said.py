@@ -33,7 +33,7 @@ class Row:
     others: Half = None
     claims: int = 0
     refusals: int = 0
-    lifetimes: dict = field(default_factory=dict)    # TTLs by what said them, in seconds; None where that is cut
+    lifetimes: dict = field(default_factory=dict)    # the latest TTLs by what said them, in seconds
     requests: dict = field(default_factory=dict)     # the keys of the latest claim, and of the latest release
 
     def later(self):
@@ -50,7 +50,8 @@ class Row:
         return GRANT if GRANT in self.lifetimes else CLAIM
 
     def renew(self, kind, lifetime):
-        self.lifetimes[kind] = self.lifetimes.get(kind) if lifetime is None else lifetime
+        if lifetime is not None:
+            self.lifetimes[kind] = lifetime
 
 
 class Said:

@@ -62,7 +62,7 @@ class PacketCases:
         """Where no row fits it is said what the box takes; a filter of Wireshark leads to words; conflicts are found by that word."""
         self.opened('life.pcap')
         frames = lambda: [row[0] for row in self.browser.rows()]
-        for words in ('conflict', 'Conflict'):
+        for words in ('conflict', 'Conflicts'):
             self.browser.filter(words)
             self.browser.wait(lambda: len(frames()) == 3)
             equal(frames(), ['2', '3', '22'], f'the packets of {words}')

@@ -9,12 +9,12 @@ class ViewCases:
     """A part of Cases."""
 
     def names(self):
-        """The tables are those of nbt-look --summary."""
+        """The tables are those of nbt-look --summary, with its marks and notes."""
         for name in ('office.pcap', 'life.pcap', 'samba.pcap'):
             self.opened(name)
             # Those of datagrams come later.
             self.browser.view('names', lambda: self.browser.tables() and self.browser.id('view-names').get_attribute('aria-busy') is None)
-            shown, wanted = self.browser.tables(), self.program.summary(name)
+            shown, wanted = {title: [set(head), *rows] for title, (head, *rows) in self.browser.tables().items()}, self.program.summary(name)
             for title in shown | wanted:
                 equal(shown.get(title), wanted.get(title), f'{name}, {title}')
         self.losers()

@@ -36,6 +36,16 @@ def odd():
     return random_pcap.pcap_of(random.Random('page-0'), ())
 
 
+def backwards(data):
+    """A capture with its frames in the reverse order."""
+    records, at = [], len(PCAP)
+    while at < len(data):
+        end = at + 16 + struct.unpack_from('<L', data, at + 8)[0]
+        records.insert(0, data[at:end])
+        at = end
+    return data[:len(PCAP)] + b''.join(records)
+
+
 def markup(program):
     """Packets whose names and comments would be elements, if they were read as HTML."""
     sent = program.build('group', '10.0.0.5:138/0001', r'\3cimg\20src=x\3e<00>', 'FRED<20>', '3c696d67207372633d783e', '20')

@@ -30,14 +30,11 @@ class Names:
     title, head = TABLES['names']
 
     def __init__(self, said):
-        self.said = said
+        self.said, self.room = said, said.room
 
     def rows(self, times):
-        found = sorted(self.said.room.entries.values(), key=lambda row: (row.name, row.address))
+        found = sorted(self.room.entries.values(), key=lambda row: (row.name, row.address))
         return [object_of(row, not row.is_standing() and row.later().word is not Word.SAID, self.said, times) for row in found]
-
-    def others(self):
-        return self.said.room.others
 
 
 class Several:
@@ -46,7 +43,7 @@ class Several:
     title, head = TABLES['several']
 
     def __init__(self, said):
-        self.said = said
+        self.said, self.room = said, Room()
 
     def rows(self, times):
         of_name, found = {}, []
@@ -58,9 +55,6 @@ class Several:
                 macs = {self.said.mac(row): True for row in rows if self.said.mac(row)}
                 found.extend([object_of(row, len(macs) > 1, self.said, times) for row in rows])
         return sorted(found, key=lambda row: (not row['marked'], row['name'], row['address'] or ''))
-
-    def others(self):
-        return 0
 
 
 @dataclass
@@ -97,6 +91,3 @@ class Refusals:
     def row(self, key, each, time):
         row = dict(zip(self.head, (*[part or None for part in key], each.times, each.first, each.last, time)))
         return {**row, 'not_all_kept': self.kept.lacks(key[0])}
-
-    def others(self):
-        return self.room.others

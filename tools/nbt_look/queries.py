@@ -4,7 +4,7 @@ from dataclasses import dataclass, field
 from .parts import is_response, type_of
 from .rooms import Room
 from .times import since
-from .vocabulary import ADDRESS_TYPE, ANSWERING, EPOCH, MOST_FRAMES, STATUS_TYPE, TABLES, Found, Front
+from .vocabulary import ADDRESS_TYPE, ANSWERING, EPOCH, LATE, LATER, MOST_FRAMES, OTHER, STATUS_TYPE, TABLES, Front
 
 KINDS = {ADDRESS_TYPE: 'query', STATUS_TYPE: 'status'}
 # The types of what a positive response has, where one stands.
@@ -80,21 +80,20 @@ class Queries:
         for each in own:
             self.belong(each, message, kind)
         for each in fitting if not own else ():
-            what = Found.OTHER if each.is_fresh(message.moment) else Found.LATE
-            self.reply(each, what.value, message)
+            self.reply(each, OTHER if each.is_fresh(message.moment) else LATE, message)
 
     def belong(self, request, message, kind):
         """A response that belongs to a request answers it, or says why nothing was found."""
         request.has_own = True
         if message.code == 'ok' and kind in POSITIVE:
             request.is_answered = True
-            self.reply(request, Found.LATER.value, message)
+            self.reply(request, LATER, message)
         else:
             self.reply(request, 'redirected' if message.code == 'ok' else str(message.code), message)
 
     def reply(self, request, what, message):
-        if what == Found.LATER.value or not request.is_answered:
-            after = since(message.moment - request.latest)[:-3] if what == Found.LATE.value else None
+        if what == LATER or not request.is_answered:
+            after = since(message.moment - request.latest)[:-3] if what == LATE else None
             request.reply = {'answered': message.frame, 'answer': what, 'answered_by': message.source or None, 'after': after}
             request.replied = self.packets
 
@@ -114,6 +113,3 @@ class Queries:
         return {'name': name, 'type': KINDS.get(kind, kind), 'by': by or None, 'asked': asked or None, 'times': sum(each.times for each in failed),
                 'frames': sorted([frame for each in failed for frame in each.frames])[:MOST_FRAMES],
                 'since': None if failed[0].since is None else times(failed[0].since), **reply, 'not_all_kept': self.kept.lacks(name)}
-
-    def others(self):
-        return self.room.others

@@ -159,9 +159,6 @@ class Sessions:
                  for key, each in self.room.entries.items() if each.packets or each.failed()]
         return sorted(found, key=lambda row: [not row['refused'], *[row[key] or '' for key in self.head[:4]]])
 
-    def others(self):
-        return self.room.others
-
 
 def is_another(known, item, is_first):
     """Whether a SYN begins another session than the one that is known of its ends: with another number than the SYN before it, or after packets."""

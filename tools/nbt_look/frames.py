@@ -49,6 +49,7 @@ class Frames(Reader):
 
     def __init__(self, options, times):
         self.items = []
+        self.needs_segments = options.summary or bool(options.names)
         super().__init__(options, None, Noted(self.items))
         self.times = times
         self.protocols = ''          # those of the first frame
@@ -101,8 +102,8 @@ class Frames(Reader):
         return self.named[1]
 
     def segment(self, row, packet):
-        """A segment is an item before the packets that it completes."""
-        if packet.flags and packet.target:
+        """A segment is an item before the packets that it completes, where somebody looks at it."""
+        if self.needs_segments and packet.flags and packet.target:
             host = packet.host
             self.items.append(Segment(self.report.mark, host.source.strip('[]'), packet.source, host.target.strip('[]'), packet.target, packet.stream,
                                       packet.sequence, int(packet.flags, 16)))

@@ -69,13 +69,14 @@ class Said:
         word = word_of(message.shown)
         if word is Word.LISTS:
             self.listed(message)
-        elif word is not None and not is_wildcard(message.name):
+        elif word is not None:
             take = self.answered if word is Word.ANSWERS else self.requested if word in OWN else self.responded
             take(message, word)
             self.sent(message.name, message)
 
     def sent(self, name, message):
-        found = self.kept.entry(self.macs, name, (name, message.source), lambda: [None]) if message.source_mac else None
+        is_kept = message.source_mac and not is_wildcard(name)
+        found = self.kept.entry(self.macs, name, (name, message.source), lambda: [None]) if is_kept else None
         if found:
             found[0] = message.source_mac
 
@@ -83,8 +84,8 @@ class Said:
         return self.macs.entries.get((row.name, row.address), [None])[0]
 
     def row(self, name, address, message):
-        """The row of a name at an address; None where there is no room for it."""
-        return self.kept.entry(self.room, name, (name, address), lambda: Row(name, address, message.frame))
+        """The row of a name at an address; None where there is no room for it, and of the wildcard."""
+        return None if is_wildcard(name) else self.kept.entry(self.room, name, (name, address), lambda: Row(name, address, message.frame))
 
     def say(self, row, word, message):
         """Takes a word about a row."""
@@ -135,7 +136,7 @@ class Said:
         for record in records:
             scope = record['name'].partition('>')[2]
             for each in record['names']:
-                row = None if is_wildcard(each['name']) else self.row(each['name'] + scope, message.source, message)
+                row = self.row(each['name'] + scope, message.source, message)
                 if row:
                     self.say(row, listed_word(each['set']), message)
                     self.sent(row.name, message)

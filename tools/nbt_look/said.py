@@ -72,13 +72,6 @@ class Said:
         elif word is not None:
             take = self.answered if word is Word.ANSWERS else self.requested if word in OWN else self.responded
             take(message, word)
-            self.sent(message.name, message)
-
-    def sent(self, name, message):
-        is_kept = message.source_mac and not is_wildcard(name)
-        found = self.kept.entry(self.macs, name, (name, message.source), lambda: [None]) if is_kept else None
-        if found:
-            found[0] = message.source_mac
 
     def mac(self, row):
         return self.macs.entries.get((row.name, row.address), [None])[0]
@@ -95,6 +88,9 @@ class Said:
         if word in REFUSING:
             row.refusals += 1
             self.refusals.take(row, half, message)
+        sent = self.kept.entry(self.macs, row.name, (row.name, message.source), lambda: [None]) if message.source_mac else None
+        if sent:
+            sent[0] = message.source_mac
 
     def requested(self, message, word):
         """A claim or a release is about each address in its record; where none stands, about its sender."""
@@ -139,7 +135,6 @@ class Said:
                 row = self.row(each['name'] + scope, message.source, message)
                 if row:
                     self.say(row, listed_word(each['set']), message)
-                    self.sent(row.name, message)
                     row.group = group_of(each)
 
     def responded(self, message, word):

@@ -1,6 +1,6 @@
 """How values of tables are shown, where the value itself isn't that."""
 from .counts import counted, run_text
-from .vocabulary import Found
+from .vocabulary import LATE, LATER, OTHER
 
 
 def name_text(name, row):
@@ -27,11 +27,11 @@ def answered_text(frame, row):
     what = row['answer']
     if what is None:
         return '-'
-    if what == Found.LATER.value:
+    if what == LATER:
         return f'later, frame {frame}'
-    if what == Found.LATE.value:
+    if what == LATE:
         return 'late, frame %d, %s s' % (frame, row['after'])
-    return '%sby %s, frame %d' % ('' if what == Found.OTHER.value else what + ' ', cell(row['answered_by']), frame)
+    return '%sby %s, frame %d' % ('' if what == OTHER else what + ' ', cell(row['answered_by']), frame)
 
 
 def cell(value, _row=None):

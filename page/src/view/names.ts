@@ -47,11 +47,11 @@ export class NamesView {
 
     table(title: string, columns: string[], rows: any[]) {
         const head = columns.map((each) => (headOf(each) === 'frame' ? this.app.unit : headOf(each)));
-        const cells = rows.map((row) => columns.map((column) => {
+        const cells = (row: any) => columns.map((column) => {
             const cell = this.cell(title, row, column);
             return row.marked && column === 'name' ? element('span', {}, element('b', { class: 'mark', title: Reflect.get(MARKED, title) }, MARK), cell) : cell;
-        }));
-        return table(title, head, cells, () => (title === 'malformed' ? 'bad' : ''));
+        });
+        return table(title, head, rows, cells, () => (title === 'malformed' ? 'bad' : ''));
     }
 
     cell(title: string, row: any, column: string): Node | string {

@@ -213,8 +213,11 @@ def checks(crate):
 
 
 def run(own):
-    """Runs the checks of a crate, one after the other."""
+    """Runs the checks of a crate, one after the other, over what a check of the crate itself kept, where it did."""
     with tempfile.TemporaryDirectory(prefix='wrong-bodies-') as kept:
+        before = ROOT / 'crates' / own[0].crate / 'out' / 'incremental'
+        if before.is_dir():
+            shutil.copytree(before, kept, dirs_exist_ok=True)
         for check in own:
             check.run(['--incremental', kept])
 

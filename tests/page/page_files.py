@@ -37,13 +37,14 @@ def odd():
 
 
 def backwards(data):
-    """A capture with its frames in the reverse order."""
+    """The packets of a capture of raw IP in the reverse order, in frames as Linux cooks them."""
     records, at = [], len(PCAP)
     while at < len(data):
-        end = at + 16 + struct.unpack_from('<L', data, at + 8)[0]
-        records.insert(0, data[at:end])
-        at = end
-    return data[:len(PCAP)] + b''.join(records)
+        packet = data[at + 16:][:struct.unpack_from('<L', data, at + 8)[0]]
+        frame = struct.pack('>HHH6s2xH', 0, 1, 6, bytes((2, 0, 0, 0, 0, packet[15])), 0x800) + packet
+        records.insert(0, data[at:at + 8] + struct.pack('<LL', len(frame), len(frame)) + frame)
+        at += 16 + len(packet)
+    return pcap_header(113) + b''.join(records)
 
 
 def markup(program):

@@ -44,14 +44,15 @@ export function table<T>(title: string, head: string[], rows: T[], cells: (row: 
             body.append(element('tr', { class: kind(row) || null }, ...cells(row).map((cell, place) => element('td', { 'data-column': head[place] }, cell))));
         }
         more.hidden = count >= rows.length;
+        more.textContent = `Show ${number(Math.min(MORE_ROWS, rows.length - count))} more of ${number(rows.length)} rows`;
     };
-    more.textContent = `Show all ${rows.length} rows`;
-    more.addEventListener('click', () => show(rows.length));
+    more.addEventListener('click', () => show(body.rows.length + MORE_ROWS));
     show(MOST_ROWS);
     return element('section', {}, scroller, more);
 }
 
-const MOST_ROWS = 400;
+/** How many rows are made at first, and at each click. */
+const [MOST_ROWS, MORE_ROWS] = [400, 4_000];
 
 /** A number with a space between thousands, and the word after it. */
 export function counted(count: number, one: string, many: string = `${one}s`) {

@@ -1,10 +1,10 @@
 """Queries and node status requests that found nothing: RFC 1002 sections 4.2.12 to 4.2.18. docs/SUMMARY.md has the definitions."""
 from dataclasses import dataclass, field
 
-from .parts import is_response, type_of
 from .rooms import Room
 from .times import since
 from .vocabulary import ADDRESS_TYPE, ANSWERING, EPOCH, LATE, LATER, MOST_FRAMES, OTHER, STATUS_TYPE, TABLES, Front
+from .words import is_response, type_of
 
 KINDS = {ADDRESS_TYPE: 'query', STATUS_TYPE: 'status'}
 # The types of what a positive response has, where one stands.

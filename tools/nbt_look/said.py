@@ -1,10 +1,9 @@
 """What was said of each name at each address, by whom and in which frame. docs/SUMMARY.md has the definitions."""
 from dataclasses import dataclass, field
 
-from .parts import group_of, records_of
 from .rooms import Room
 from .vocabulary import Front, Word
-from .words import CLAIMING, CODED, OWN, REFUSING, STANDING, is_wildcard, listed_word, word_of
+from .words import CLAIMING, CODED, OWN, REFUSING, STANDING, group_of, is_wildcard, listed_word, statuses_of, word_of
 
 CLAIM, RELEASE, GRANT = 'claimed', 'released', 'granted'
 
@@ -127,7 +126,7 @@ class Said:
 
     def listed(self, message):
         """A node status lists the names of its sender, which have the scope of its own name."""
-        records = [each for each in records_of(message.shown) if each.get('names')]
+        records = statuses_of(message.shown)
         self.cut += not records and message.front is Front.CUT
         for record in records:
             scope = record['name'].partition('>')[2]

@@ -7,8 +7,6 @@ from .vocabulary import MOST_STREAMS, SESSION_RESPONSES, TABLES
 # Flags of TCP.
 SYN, RST, ACK = 0x02, 0x04, 0x10
 NOBODY = ('', '')
-# In the place of the number of a SYN, where only the SYN with ACK stands that answers it.
-OF_ANSWER = ''
 REFUSED, NO_ANSWER, UNANSWERED = 'connection refused (RST)', 'no answer', 'request unanswered'
 
 
@@ -69,15 +67,16 @@ class Sessions:
     # ---- Connections.
 
     def segment(self, item, is_wanted=True):
-        """Takes a segment of TCP, before the packets that it completes; whether it counts that its connection fails."""
+        """Takes a segment of TCP, before the packets that it completes; whether it counts that its connection fails. A SYN of another number than
+        the one before it, or after packets, begins another session."""
         key, here, there = key_of(item), (item.source, item.source_port), (item.target, item.target_port)
         known, is_first = self.streams.get(key), item.flags & (SYN | ACK) == SYN
-        if item.flags & SYN and is_another(known, item, is_first):
-            caller, callee = (here, there) if is_first else (there, here)
-            known = self.keep(key, Session(caller, callee, item.sequence if is_first else OF_ANSWER))
-            if is_first and is_wanted:
-                known.fail(NO_ANSWER, self.of(known))
-        elif is_first:
+        if is_first and (known is None or (known.sequence != item.sequence and (known.is_begun or known.sequence is not None))):
+            known = self.keep(key, Session(here, there))
+            known.fail(NO_ANSWER, self.of(known) if is_wanted else None)
+        elif item.flags & SYN and known is None:
+            self.keep(key, Session(there, here))
+        if is_first:
             known.sequence = item.sequence
         elif known and known.why == NO_ANSWER:
             known.fail(REFUSED if item.flags & RST and here == known.callee else None, known.calls)
@@ -158,11 +157,6 @@ class Sessions:
         found = [dict(zip(self.head, (*key, each.calls, each.accepted, each.failed(), each.sent, each.received)))
                  for key, each in self.room.entries.items() if each.packets or each.failed()]
         return sorted(found, key=lambda row: [not row['refused'], *[row[key] or '' for key in self.head[:4]]])
-
-
-def is_another(known, item, is_first):
-    """Whether a SYN begins another session than the one that is known of its ends: with another number than the SYN before it, or after packets."""
-    return known is None or (is_first and known.sequence != item.sequence and (known.is_begun or known.sequence != OF_ANSWER))
 
 
 def key_of(item):

@@ -1,9 +1,9 @@
 """The stations: who sends packets, from which MACs, and by which names."""
 from dataclasses import dataclass, field
 
-from .parts import is_response, records_of
 from .rooms import Room
 from .vocabulary import MOST_OF_STATION, TABLES, Word
+from .words import is_response, statuses_of
 
 
 @dataclass
@@ -32,10 +32,9 @@ class Stations:
             sender.packets += 1
             if item.frame.source_mac:
                 sender.macs[item.frame.source_mac] = True
-        for record in records_of(shown) if sender and 'answers' in shown and is_response(shown) else ():
-            if record.get('names'):
-                sender.status = [each['name'] for each in record['names'][:MOST_OF_STATION]]
-                sender.unit = record.get('unit')
+        for record in statuses_of(shown) if sender and 'answers' in shown and is_response(shown) else ():
+            sender.status = [each['name'] for each in record['names'][:MOST_OF_STATION]]
+            sender.unit = record.get('unit')
         if 'source' in shown and 'key' in shown:
             self.named(shown['key'].partition(':')[0], shown['source'])
 

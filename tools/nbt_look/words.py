@@ -1,8 +1,9 @@
 """A packet of port 137, and what it says of names: RFC 1002 sections 4.2.2 to 4.2.18. docs/SUMMARY.md has the words."""
 from dataclasses import dataclass
 
-from .parts import group_of, is_response, records_of, subject, type_of
-from .vocabulary import ADDRESS_TYPE, EPOCH, MULTIHOMED, STATUS_TYPE, Front, Word
+from nbt_pcap.header import G
+
+from .vocabulary import ADDRESS_TYPE, EPOCH, MULTIHOMED, SECTIONS, STATUS_TYPE, Front, Word
 
 CLAIMING = (Word.CLAIMS, Word.REFRESHES, Word.TAKES)
 # What an address says of itself; others say the rest.
@@ -18,6 +19,40 @@ ANSWERS = {ADDRESS_TYPE: Word.ANSWERS, STATUS_TYPE: Word.LISTS, None: Word.ANSWE
 WILDCARD = ('*\\00', '*<00>')
 # OPCODE in the flag word, which the RDATA of a WACK has, and that of a release: RFC 1002 section 4.2.1.1.
 OPCODE, RELEASE = 0x7800, 0x3000
+
+
+# ---- The parts of a packet, by its object of JSON.
+
+def is_response(shown):
+    """The bit R."""
+    return shown['word'][0] >= '8'
+
+
+def first_of(shown):
+    """The first question, or else the first record; of a front perhaps its name and type alone. None where none stands."""
+    for section in SECTIONS:
+        if shown[section]:
+            return shown[section][0]
+    return shown.get('about')
+
+
+def type_of(shown):
+    first = first_of(shown)
+    return first and first.get('type')
+
+
+def records_of(shown):
+    return [*shown['answers'], *shown['authorities'], *shown['additional']]
+
+
+def statuses_of(shown):
+    """Its node statuses, as records with names."""
+    return [each for each in records_of(shown) if each.get('names')]
+
+
+def group_of(entry):
+    """Whether an entry, or a name of a node status, is a group's: the bit G of NB_FLAGS and NAME_FLAGS."""
+    return bool(int(entry['flags'], 16) & G)
 
 
 @dataclass(frozen=True)
@@ -71,8 +106,8 @@ def message_of(item, shown):
     """A packet, by its object of JSON; None where it is of another port, or its header doesn't stand."""
     if 'op' not in shown:
         return None
-    front, frame = Front.CUT if 'cut' in shown else Front.MALFORMED if 'refused' in shown else Front.WHOLE, item.frame
-    return Message(shown, subject(shown), front, frame.number, frame.at, item.source, item.target, frame.source_mac, frame.target_mac, shown['id'],
+    front, frame, first = Front.CUT if 'cut' in shown else Front.MALFORMED if 'refused' in shown else Front.WHOLE, item.frame, first_of(shown)
+    return Message(shown, first and first['name'], front, frame.number, frame.at, item.source, item.target, frame.source_mac, frame.target_mac, shown['id'],
                    shown['rcode'])
 
 
@@ -80,6 +115,8 @@ def is_wildcard(name):
     """The wildcard is no name, whoever says something of it."""
     return any(name.startswith(each) for each in WILDCARD)
 
+
+# ---- Its word.
 
 def word_of(shown):
     """The word of a packet, None where it has none; that of an answer to a query is the one for its sender's own address."""

@@ -1,5 +1,5 @@
 """What is kept of a capture, with bounds."""
-from .counts import counted
+from .shown import counted
 from .vocabulary import MOST_ENTRIES
 
 

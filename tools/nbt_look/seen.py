@@ -1,12 +1,12 @@
 """What is made of the packets of a capture, one after another, for all tables but those of datagrams."""
 from nbt_pcap.reasons import CUT
 
-from .counts import counted
 from .names import Names, Refusals, Several
 from .queries import Queries
 from .rooms import Kept, Room
 from .said import Said
 from .sessions import Sessions
+from .shown import counted
 from .stations import Stations
 from .vocabulary import TABLES
 from .words import message_of

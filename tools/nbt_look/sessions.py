@@ -64,8 +64,6 @@ class Sessions:
         self.room = Room()
         self.streams = {}
 
-    # ---- Connections.
-
     def segment(self, item, is_wanted=True):
         """Takes a segment of TCP, before the packets that it completes; whether it counts that its connection fails. A SYN of another number than
         the one before it, or after packets, begins another session."""
@@ -88,8 +86,6 @@ class Sessions:
         if len(self.streams) > MOST_STREAMS:
             self.streams.pop(next(iter(self.streams)))
         return session
-
-    # ---- Packets.
 
     def take(self, item, shown):
         if item.service != 139 or 'kind' not in shown or 'refused' in shown:
@@ -149,8 +145,6 @@ class Sessions:
         self.take(item, shown)
         session = self.streams.get(key_of(item)) if item.service == 139 else None
         return [each for each in (session.calling, session.called) if each] if session else []
-
-    # ---- The table.
 
     def rows(self, _times):
         """Those first of which one failed."""

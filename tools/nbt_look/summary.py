@@ -1,14 +1,12 @@
-"""The summary of a capture: what is known of names, stations, queries, sessions and datagrams, and what is malformed. docs/SUMMARY.md says what
-makes a row of each table."""
+"""The summary of a capture: its tables, whose rows docs/SUMMARY.md defines, and the notes below them."""
 import json
 
-from .counts import counted
 from .datagrams import Datagrams
 from .replaying import Replay, listing
 from .rooms import Room
 from .screen import Sink
 from .seen import Seen
-from .shown import TEXTS
+from .shown import TEXTS, counted
 from .vocabulary import TABLES
 
 

@@ -4,11 +4,11 @@ import subprocess
 
 from nbt_pcap.process import say
 
-from .counts import counted, left_out_words
 from .listing import ends
 from .objects import ENCODE, Objects
 from .places import is_in_name, place_of
 from .screen import Sink
+from .shown import counted, left_out_words
 
 ROW = 16
 

@@ -83,7 +83,7 @@ long() {
     # On a terminal the progress comes, at most twice a second, and goes; not with --quiet.
     local each="$tools/nbt-pcap2cap" began=$SECONDS took='' reads='nbt reads them with --input-limit 18446744073709551615'
     ended "$here/lib/terminal.py" "$room/output" "$each" "$files/long.pcap" >"$room/shown" && took=$((SECONDS - began)) &&
-        grep -qE $'^\rpcap2cap: [0-9]* of [0-9]* bytes *\r.* *\rpcap2cap: more than 16777216 bytes are written now: '"$reads"$'\r$' \
+        grep -qE $'^\rnbt-pcap2cap: [0-9]* of [0-9]* bytes *\r.* *\rnbt-pcap2cap: more than 16777216 bytes are written now: '"$reads"$'\r$' \
             <<<"$(head -n 1 "$room/shown")" &&
         grep -qE $'(^| \r)500 frames, 500 of these ports, 0 left out\r$' <<<"$(tail -n 1 "$room/shown")"
     count $? 'nbt-pcap2cap on a terminal'

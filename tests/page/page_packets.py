@@ -64,8 +64,8 @@ class PacketCases:
         frames = lambda: [row[0] for row in self.browser.rows()]
         for words in ('conflict', 'Conflicts'):
             self.browser.filter(words)
-            self.browser.wait(lambda: len(frames()) == 3)
-            equal(frames(), ['2', '3', '22'], f'the packets of {words}')
+            self.browser.wait(lambda: len(frames()) == 2)
+            equal(frames(), ['3', '22'], f'the packets of {words}')
             check(not self.browser.id('hint').is_displayed(), f'no hint at {words}')
         self.browser.filter('nobody has this')
         equal(self.browser.text('hint').split(' words', 1)[0], 'No row fits “nobody has this”. The box takes', 'no row fits')

@@ -14,8 +14,8 @@ from .page import page_file
 INDENT = '    '
 # By the folder below tools, the modules; what they import of others stands in page/src/model.
 MODULES = {'nbt_pcap': ('direction', 'reasons', 'session', 'streams', 'ticks'),
-           'nbt_look': ('rooms', 'parts', 'words', 'messages', 'said', 'names', 'refusals', 'queries', 'stations', 'sessions', 'kinds', 'places', 'pieces',
-                        'datagrams', 'seen', 'shown', 'counts')}
+           'nbt_look': ('rooms', 'words', 'said', 'names', 'queries', 'stations', 'sessions', 'kinds', 'places', 'pieces', 'datagrams', 'seen',
+                        'shown')}
 PLACE = 'page/src/made'
 KNOWN = {'vocabulary', *(name for names in MODULES.values() for name in names)}
 

@@ -123,8 +123,8 @@ def tables_in(text):
     for each in found:
         if each not in TABLES:
             near = difflib.get_close_matches(each, TABLES, 1)
-            why = 'perhaps %s' % near[0] if near else 'they are %s' % ', '.join(TABLES)
-            raise Stopped(2, 'argument --summary: %s is no table%s %s; --help says more' % (each or 'nothing', ':' if near else ';', why))
+            why = ': perhaps %s' % near[0] if near else '; they are ' + ', '.join(TABLES)
+            raise Stopped(2, 'argument --summary: %s is no table%s; --help says more' % (each or 'nothing', why))
     return [TABLES[each][0] for each in found]
 
 

@@ -12,20 +12,20 @@ class Filter:
         self.names = {each.casefold() for each in options.names}
         self.hosts, self.ports, self.kinds = set(options.hosts), set(options.only_ports), set(options.kinds)
         self.is_all = not (self.names or self.hosts or self.ports or self.kinds)
-        self.streams = None
+        self.sessions = None
         if self.names:
-            from .sessions import Streams
-            self.streams = Streams(options.session_ports)
+            from .sessions import Sessions
+            self.sessions = Sessions(options.session_ports, lambda address, name: None)
 
     def wants_segment(self, item):
         """Whether a segment of TCP is wanted, which has no name and no kind but that of its port."""
-        if self.streams:
-            self.streams.segment(item, False)
+        if self.sessions:
+            self.sessions.segment(item, False)
         return not self.names and (not self.kinds or 'session' in self.kinds) and self.is_between(item, 139)
 
     def wants(self, item, shown):
         """Whether an item is wanted, by the object of a packet; None stands for what is left out. Takes each item in turn."""
-        called = self.streams.called(item, shown) if self.streams and isinstance(item, Packet) else ()
+        called = self.sessions.called(item, shown) if self.sessions and isinstance(item, Packet) else ()
         service = getattr(item, 'service', None)
         if not self.is_between(item.frame if isinstance(item, LeftOut) else item, service):
             return False

@@ -1,9 +1,8 @@
 """The kinds of packets."""
 from nbt_pcap.header import MORE
 
-from .parts import is_response, listed
 from .vocabulary import MULTIHOMED, PIECES, STATUS_TYPE
-from .words import REGISTERING
+from .words import REGISTERING, is_response, statuses_of
 
 
 def kinds_of(port, shown):
@@ -37,7 +36,7 @@ def service_kinds(shown):
     kinds = ['status' if asks_status else str(operation)]
     if not is_response(shown):
         return kinds
-    is_of_conflict = is_taken(shown['op'], shown['rcode']) or any('CNF' in each['set'] for each in listed(shown))
+    is_of_conflict = is_taken(shown['op'], shown['rcode']) or any('CNF' in each['set'] for record in statuses_of(shown) for each in record['names'])
     return [*kinds, 'response', *kinds_of_response(shown['op'], shown['rcode']), *(['conflict'] if is_of_conflict else [])]
 
 

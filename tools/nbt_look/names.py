@@ -1,4 +1,7 @@
-"""The tables of what was said of names: of each at each address, and of those that several say that they have."""
+"""The tables of what was said of names: of each at each address, of those that several say that they have, and of refusals."""
+from dataclasses import dataclass
+
+from .rooms import Room
 from .vocabulary import SUFFIXES, TABLES, Word
 from .words import REFUSING
 
@@ -10,38 +13,28 @@ def kind_of(name, group):
     return (None if group is None else shared if group else unique) or digits
 
 
-def is_marked(row):
-    """Whether the later half of a row doesn't say that its address has the name."""
-    return not row.is_standing() and row.later().word is not Word.SAID
-
-
 def object_of(row, is_marked, said, times):
     """A row as an object of JSON; a half of which nothing was said has nothing."""
     own, others, at = row.own, row.others, row.later().at
-    lifetime, lifetime_of = (row.claimed, 'claimed') if row.granted is None else (row.granted, 'granted')
     return {'marked': is_marked, 'name': row.name, 'address': row.address or None, 'mac': said.mac(row), 'group': row.group,
             'says': own and own.text, 'from': own.by if own and own.by and own.by != row.address else None, 'frame': own and own.frame,
             'is_told': others and others.text, 'by': (others and others.by) or None, 'told_frame': others and others.frame,
             'time': None if at is None else times(at), 'first': row.first, 'claims': row.claims, 'refusals': row.refusals,
-            'is_refused': others is not None and others.word in REFUSING, 'lifetime': lifetime,
-            'lifetime_of': None if lifetime is None else lifetime_of, 'kind': kind_of(row.name, row.group) or None,
-            'not_all_kept': said.kept.lacks(row.name)}
+            'is_refused': others is not None and others.word in REFUSING, 'lifetime': row.lifetimes.get(row.lifetime_of()),
+            'lifetime_of': row.lifetime_of(), 'kind': kind_of(row.name, row.group) or None, 'not_all_kept': said.kept.lacks(row.name)}
 
 
 class Names:
-    """The rows of names."""
+    """The rows of names: marked are those of which the later half doesn't say that its address has the name."""
 
     title, head = TABLES['names']
 
     def __init__(self, said):
-        self.said = said
+        self.said, self.room = said, said.room
 
     def rows(self, times):
-        found = sorted(self.said.room.entries.values(), key=lambda row: (row.name, row.address))
-        return [object_of(each, is_marked(each), self.said, times) for each in found]
-
-    def others(self):
-        return self.said.room.others
+        found = sorted(self.room.entries.values(), key=lambda row: (row.name, row.address))
+        return [object_of(row, not row.is_standing() and row.later().word is not Word.SAID, self.said, times) for row in found]
 
 
 class Several:
@@ -50,7 +43,7 @@ class Several:
     title, head = TABLES['several']
 
     def __init__(self, said):
-        self.said = said
+        self.said, self.room = said, Room()
 
     def rows(self, times):
         of_name, found = {}, []
@@ -63,5 +56,38 @@ class Several:
                 found.extend([object_of(row, len(macs) > 1, self.said, times) for row in rows])
         return sorted(found, key=lambda row: (not row['marked'], row['name'], row['address'] or ''))
 
-    def others(self):
-        return 0
+
+@dataclass
+class Refusal:
+    """How often a sender refused a name at an address for one reason: the word of it, the first and the last frame, and the last time."""
+
+    word: Word
+    first: int
+    times: int = 0
+    last: int = 0
+    at: int = None
+
+
+class Refusals:
+    """The refusals by name, address, sender and reason."""
+
+    title, head = TABLES['refusals']
+
+    def __init__(self, kept):
+        self.kept = kept
+        self.room = Room()
+
+    def take(self, row, half, message):
+        """Takes a word that refuses a row its name."""
+        found = self.kept.entry(self.room, row.name, (row.name, row.address, half.by, half.text), lambda: Refusal(half.word, message.frame))
+        if found:
+            found.times += 1
+            found.last, found.at = half.frame, half.at
+
+    def rows(self, times):
+        found = sorted(self.room.entries.items(), key=lambda pair: pair[0])
+        return [self.row(key, each, None if each.at is None else times(each.at)) for key, each in found]
+
+    def row(self, key, each, time):
+        row = dict(zip(self.head, (*[part or None for part in key], each.times, each.first, each.last, time)))
+        return {**row, 'not_all_kept': self.kept.lacks(key[0])}

@@ -1,25 +1,16 @@
 """Queries and node status requests that found nothing: RFC 1002 sections 4.2.12 to 4.2.18. docs/SUMMARY.md has the definitions."""
 from dataclasses import dataclass, field
 
-from .parts import is_response, type_of
 from .rooms import Room
 from .times import since
-from .vocabulary import ADDRESS_TYPE, ANSWERING, EPOCH, MOST_FRAMES, STATUS_TYPE, TABLES, Found, Front
+from .vocabulary import ADDRESS_TYPE, ANSWERING, EPOCH, LATE, LATER, MOST_FRAMES, OTHER, STATUS_TYPE, TABLES, Front
+from .words import is_response, type_of
 
 KINDS = {ADDRESS_TYPE: 'query', STATUS_TYPE: 'status'}
 # The types of what a positive response has, where one stands.
 POSITIVE = (ADDRESS_TYPE, STATUS_TYPE, None)
-
-
-@dataclass
-class Reply:
-    """What came of a request: in words, or what is Found; by whom, in which frame, which packet of all, how long after the latest repeat."""
-
-    what: str
-    by: str
-    frame: int
-    order: int
-    after: int
+# What a row has of the response that came last.
+NOTHING = {'answered': None, 'answer': None, 'answered_by': None, 'after': None}
 
 
 @dataclass
@@ -36,7 +27,8 @@ class Request:
     frames: list = field(default_factory=list)
     has_own: bool = False            # a response belongs to it
     is_answered: bool = False        # and is a positive one
-    reply: Reply = None
+    reply: dict = None               # what came last, and which packet of all that is
+    replied: int = 0
 
     def repeat(self, message):
         self.times += 1
@@ -88,21 +80,22 @@ class Queries:
         for each in own:
             self.belong(each, message, kind)
         for each in fitting if not own else ():
-            what = Found.OTHER if each.is_fresh(message.moment) else Found.LATE
-            self.reply(each, what.value, message)
+            self.reply(each, OTHER if each.is_fresh(message.moment) else LATE, message)
 
     def belong(self, request, message, kind):
         """A response that belongs to a request answers it, or says why nothing was found."""
         request.has_own = True
         if message.code == 'ok' and kind in POSITIVE:
             request.is_answered = True
-            self.reply(request, Found.LATER.value, message)
+            self.reply(request, LATER, message)
         else:
             self.reply(request, 'redirected' if message.code == 'ok' else str(message.code), message)
 
     def reply(self, request, what, message):
-        if what == Found.LATER.value or not request.is_answered:
-            request.reply = Reply(what, message.source, message.frame, self.packets, message.moment - request.latest)
+        if what == LATER or not request.is_answered:
+            after = since(message.moment - request.latest)[:-3] if what == LATE else None
+            request.reply = {'answered': message.frame, 'answer': what, 'answered_by': message.source or None, 'after': after}
+            request.replied = self.packets
 
     def rows(self, times):
         requests = {}
@@ -115,13 +108,8 @@ class Queries:
         """A row as an object of JSON. What came last is the latest reply, that to a later request which was answered too."""
         name, kind, by, asked = key
         failed = [each for each in requests if not each.is_answered]
-        replies = [each.reply for each in requests if each.reply and (not each.is_answered or each.order > failed[0].order)]
-        reply = sorted(replies, key=lambda each: each.order)[-1] if replies else None
+        replied = [each for each in requests if each.reply and (not each.is_answered or each.order > failed[0].order)]
+        reply = sorted(replied, key=lambda each: each.replied)[-1].reply if replied else NOTHING
         return {'name': name, 'type': KINDS.get(kind, kind), 'by': by or None, 'asked': asked or None, 'times': sum(each.times for each in failed),
                 'frames': sorted([frame for each in failed for frame in each.frames])[:MOST_FRAMES],
-                'since': None if failed[0].since is None else times(failed[0].since), 'answered': reply and reply.frame,
-                'answer': reply and reply.what, 'answered_by': (reply and reply.by) or None,
-                'after': since(reply.after)[:-3] if reply and reply.what == Found.LATE.value else None, 'not_all_kept': self.kept.lacks(name)}
-
-    def others(self):
-        return self.room.others
+                'since': None if failed[0].since is None else times(failed[0].since), **reply, 'not_all_kept': self.kept.lacks(name)}

@@ -1,5 +1,5 @@
 """What is kept of a capture, with bounds."""
-from .counts import counted
+from .shown import counted
 from .vocabulary import MOST_ENTRIES
 
 
@@ -30,28 +30,18 @@ class Kept:
         self.names = {}              # whether something of a name found no room
         self.others = {}             # names that aren't kept, one more than the bound at most
 
-    def has(self, name):
-        """Whether a name is kept that a packet has."""
-        if name in self.names:
-            return True
-        if len(self.names) < self.most:
-            self.names[name] = False
-            return True
-        if len(self.others) <= self.most:
-            self.others[name] = True
-        return False
-
     def entry(self, room, name, key, make):
         """The entry of a key that belongs to a name; None where the name isn't kept, or where there is no room, which its rows say then."""
-        found = room.get(key, make) if self.has(name) else None
+        if name not in self.names and len(self.names) < self.most:
+            self.names[name] = False
+        if name not in self.names:
+            if len(self.others) <= self.most:
+                self.others[name] = True
+            return None
+        found = room.get(key, make)
         if found is None:
-            self.lose(name)
-        return found
-
-    def lose(self, name):
-        """Takes that something of a name found no room."""
-        if name in self.names:
             self.names[name] = True
+        return found
 
     def lacks(self, name):
         """Whether not all of a name is kept."""

@@ -1,10 +1,11 @@
 """What was said of each name at each address, by whom and in which frame. docs/SUMMARY.md has the definitions."""
-from dataclasses import dataclass
+from dataclasses import dataclass, field
 
-from .parts import group_of, records_of
 from .rooms import Room
 from .vocabulary import Front, Word
-from .words import CLAIMING, OF_RELEASES, OWN, REFUSING, STANDING, listed_word, with_code, word_of
+from .words import CLAIMING, CODED, OWN, REFUSING, STANDING, group_of, is_wildcard, listed_word, statuses_of, word_of
+
+CLAIM, RELEASE, GRANT = 'claimed', 'released', 'granted'
 
 
 @dataclass
@@ -21,7 +22,7 @@ class Half:
 
 @dataclass
 class Row:
-    """A name at an address. `claim` and `release` are the keys of the latest packets of these kinds, and which of all packets they are."""
+    """A name at an address."""
 
     name: str
     address: str
@@ -31,10 +32,8 @@ class Row:
     others: Half = None
     claims: int = 0
     refusals: int = 0
-    granted: int = None              # the TTL of the latest grant, and of the latest claim, in seconds
-    claimed: int = None
-    claim: tuple = None
-    release: tuple = None
+    lifetimes: dict = field(default_factory=dict)    # the latest TTLs by what said them, in seconds
+    requests: dict = field(default_factory=dict)     # the keys of the latest claim, and of the latest release
 
     def later(self):
         """The half that is the later one."""
@@ -45,27 +44,13 @@ class Row:
     def is_standing(self):
         return self.later().word in STANDING
 
+    def lifetime_of(self):
+        """Whose TTL counts: a grant's, where there is one."""
+        return GRANT if GRANT in self.lifetimes else CLAIM
 
-class Latest:
-    """Rows by the latest claim that is about each, or the latest release: its name, its identifier, and who sent it."""
-
-    def __init__(self):
-        self.rows = {}
-
-    def put(self, row, before, key, order):
-        """Takes the latest such packet about a row; `before` is what this answered for the one before it."""
-        if before:
-            self.rows[before[0]].pop(row.address)
-            if not self.rows[before[0]]:
-                self.rows.pop(before[0])
-        self.rows.setdefault(key, {})[row.address] = [row, order]
-        return key, order
-
-    def of(self, key):
-        """The rows that the latest packet of a key is about."""
-        found = list(self.rows.get(key, {}).values())
-        latest = max([order for _, order in found]) if found else 0
-        return [row for row, order in found if order == latest]
+    def renew(self, kind, lifetime):
+        if lifetime is not None:
+            self.lifetimes[kind] = lifetime
 
 
 class Said:
@@ -73,8 +58,8 @@ class Said:
 
     def __init__(self, kept, refusals):
         self.kept, self.refusals = kept, refusals
-        self.room, self.macs = Room(), Room()      # by name and address: rows, and the MACs of the latest frames from there about the name
-        self.claims, self.releases = Latest(), Latest()
+        self.room, self.macs = Room(), Room()        # by name and address: rows, and MACs of the latest frames from there that say something
+        self.requests = {}           # by key: which addresses the latest claim or release of each is about, and which packet of all it is
         self.packets = 0
         self.cut = 0                 # answers that are cut before the address that they are about
 
@@ -83,45 +68,51 @@ class Said:
         word = word_of(message.shown)
         if word is Word.LISTS:
             self.listed(message)
-        elif message.is_named and word is not None:
-            self.sent(message.name, message)
+        elif word is not None:
             take = self.answered if word is Word.ANSWERS else self.requested if word in OWN else self.responded
             take(message, word)
-
-    def sent(self, name, message):
-        """Keeps the MAC of who sends a frame that says something of a name."""
-        found = self.kept.entry(self.macs, name, (name, message.source), lambda: [None]) if message.source_mac else None
-        if found:
-            found[0] = message.source_mac
 
     def mac(self, row):
         return self.macs.entries.get((row.name, row.address), [None])[0]
 
     def row(self, name, address, message):
-        """The row of a name at an address; None where there is no room for it."""
-        return self.kept.entry(self.room, name, (name, address), lambda: Row(name, address, message.frame))
+        """The row of a name at an address; None where there is no room for it, and of the wildcard."""
+        return None if is_wildcard(name) else self.kept.entry(self.room, name, (name, address), lambda: Row(name, address, message.frame))
 
-    def half(self, word, message):
-        text = with_code(word, message.code) + (', malformed' if message.front is Front.MALFORMED else '')
-        return Half(word, text, message.source, message.frame, message.at, self.packets)
-
-    # ---- What an address says itself.
+    def say(self, row, word, message):
+        """Takes a word about a row."""
+        text = ('%s %s' % (word.value, message.code) if word in CODED else word.value) + (', malformed' if message.front is Front.MALFORMED else '')
+        half = Half(word, text, message.source, message.frame, message.at, self.packets)
+        row.own, row.others = (half, row.others) if word in OWN else (row.own, half)
+        if word in REFUSING:
+            row.refusals += 1
+            self.refusals.take(row, half, message)
+        sent = self.kept.entry(self.macs, row.name, (row.name, message.source), lambda: [None]) if message.source_mac else None
+        if sent:
+            sent[0] = message.source_mac
 
     def requested(self, message, word):
         """A claim or a release is about each address in its record; where none stands, about its sender."""
-        groups, key = message.groups(), (message.name, message.number, message.source)
+        groups, kind = message.groups(), CLAIM if word in CLAIMING else RELEASE
         for address in list(groups) or [message.source]:
             row = self.row(message.name, address, message)
-            if not row:
-                continue
-            row.own = self.half(word, message)
-            row.group = groups.get(address, row.group)
-            if word in CLAIMING:
-                row.claims += 1
-                row.claimed = message.lifetime if groups else row.claimed
-                row.claim = self.claims.put(row, row.claim, key, self.packets)
-            else:
-                row.release = self.releases.put(row, row.release, key, self.packets)
+            if row:
+                self.say(row, word, message)
+                row.group = groups.get(address, row.group)
+                self.request(row, kind, (message.name, kind, message.number, message.source))
+                if kind == CLAIM:
+                    row.claims += 1
+                    row.renew(CLAIM, message.lifetime)
+
+    def request(self, row, kind, key):
+        """Keeps the latest claim or release about a row in the place of the one before it."""
+        before = row.requests.get(kind)
+        if before is not None:
+            self.requests[before].pop(row.address)
+            if not self.requests[before]:
+                self.requests.pop(before)
+        row.requests[kind] = key
+        self.requests.setdefault(key, {})[row.address] = self.packets
 
     def answered(self, message, word):
         """A positive answer to a query says it of its sender's own address, and of others."""
@@ -129,45 +120,38 @@ class Said:
         self.cut += not groups and message.front is Front.CUT
         for address, group in groups.items():
             row = self.row(message.name, address, message)
-            if row and address == message.source:
-                row.own, row.group = self.half(word, message), group
-            elif row:
-                row.others, row.group = self.half(Word.SAID, message), group
+            if row:
+                self.say(row, word if address == message.source else Word.SAID, message)
+                row.group = group
 
     def listed(self, message):
         """A node status lists the names of its sender, which have the scope of its own name."""
-        records = [each for each in records_of(message.shown) if each.get('names')]
+        records = statuses_of(message.shown)
         self.cut += not records and message.front is Front.CUT
         for record in records:
             scope = record['name'].partition('>')[2]
             for each in record['names']:
                 row = self.row(each['name'] + scope, message.source, message)
                 if row:
-                    row.own, row.group = self.half(listed_word(each['set']), message), group_of(each)
-                    self.refused(row, row.own, message)
-                    self.sent(row.name, message)
-
-    # ---- What others say.
+                    self.say(row, listed_word(each['set']), message)
+                    row.group = group_of(each)
 
     def responded(self, message, word):
         """A response is about the addresses of the claim or release that it answers; where there is none, about those in its record, or else
         about where it goes."""
-        is_of_release = word in OF_RELEASES or (word is Word.TO_WAIT and message.is_of_release)
-        key, groups = (message.name, message.number, message.target), message.groups()
-        rows = (self.releases if is_of_release else self.claims).of(key)
+        groups, rows = message.groups(), self.asked_for(message, RELEASE if message.is_of_release(word) else CLAIM)
         if not rows:
             addresses = list(groups) if message.code == 'ok' and word is not Word.TO_WAIT else [message.target]
             self.cut += not addresses and message.front is Front.CUT
-            found = [self.row(message.name, each, message) for each in addresses]
-            rows = [each for each in found if each]
-        for row in rows:
-            row.others = self.half(word, message)
+            rows = [self.row(message.name, each, message) for each in addresses]
+        for row in [each for each in rows if each]:
+            self.say(row, word, message)
             if word is Word.GRANTED:
                 row.group = groups.get(row.address, row.group)
-                row.granted = message.lifetime if groups else row.granted
-            self.refused(row, row.others, message)
+                row.renew(GRANT, message.lifetime)
 
-    def refused(self, row, half, message):
-        if half.word in REFUSING:
-            row.refusals += 1
-            self.refusals.take(row, half, message)
+    def asked_for(self, message, kind):
+        """The rows whose latest request of a kind a response answers: of these, those of the latest such packet."""
+        found = self.requests.get((message.name, kind, message.number, message.target), {})
+        latest = max(found.values()) if found else 0
+        return [self.room.entries[message.name, address] for address, order in found.items() if order == latest]

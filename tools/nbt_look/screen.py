@@ -86,22 +86,13 @@ BETWEEN, MARK = '  ', '! '
 
 def rows_of(rows, head, texts, width):
     """The lines of each row, of which the first is the head. `width` is how long a line may be, None where nothing bounds it."""
-    cells = [[HEADS.get(key, key.replace('_', ' ')) for key in head]] + [[texts.get(key, cell)(row[key], row) for key in head] for row in rows]
-    widths = [max(map(len, column)) for column in zip(*cells)]
-    while width and sum(len(BETWEEN) + each for each in widths) > width:
-        if head[-1] not in DROPPED:
-            yield from folded(rows, cells[0], head, texts, width)
-            return
-        head, cells, widths = head[:-1], [row[:-1] for row in cells], widths[:-1]
-    for row in cells:
-        yield [beside(row, widths)]
-
-
-def folded(rows, named, head, texts, width):
-    """The lines of each row, where cells have several."""
-    cells = [[[each] for each in named[:len(head)]]]
-    cells += [[lines_of(row[key]) if key not in texts else [texts[key](row[key], row)] for key in head] for row in rows]
-    fold(cells, width)
+    names = [[[HEADS.get(key, key.replace('_', ' '))] for key in head]]
+    cells = names + [[[texts.get(key, cell)(row[key], row)] for key in head] for row in rows]
+    while width and size_of(cells) > width and head[-1] in DROPPED:
+        head, cells = head[:-1], [row[:-1] for row in cells]
+    if width and size_of(cells) > width:
+        cells[1:] = [[line if key in texts else lines_of(row[key]) for key, line in zip(head, lines)] for row, lines in zip(rows, cells[1:])]
+        fold(cells, width)
     widths = widths_of(cells)
     for row in cells:
         yield [beside(line, widths) for line in itertools.zip_longest(*row, fillvalue='')]

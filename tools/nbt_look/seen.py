@@ -1,16 +1,15 @@
 """What is made of the packets of a capture, one after another, for all tables but those of datagrams."""
 from nbt_pcap.reasons import CUT
 
-from .counts import counted
-from .messages import message_of
-from .names import Names, Several
+from .names import Names, Refusals, Several
 from .queries import Queries
-from .refusals import Refusals
-from .rooms import Kept
+from .rooms import Kept, Room
 from .said import Said
 from .sessions import Sessions
+from .shown import counted
 from .stations import Stations
 from .vocabulary import TABLES
+from .words import message_of
 
 
 class Faults:
@@ -19,18 +18,15 @@ class Faults:
     title, head = TABLES['malformed']
 
     def __init__(self):
-        self.reasons = {}
+        self.room = Room()
 
     def take(self, item, shown):
-        if 'refused' in shown:
-            found = self.reasons.setdefault(without_place(shown['refused']), [0, item.frame.number, shown.get('at')])
+        found = self.room.get(without_place(shown['refused']), lambda: [0, item.frame.number, shown.get('at')]) if 'refused' in shown else None
+        if found:
             found[0] += 1
 
     def rows(self, _times):
-        return [dict(zip(self.head, (reason, *each))) for reason, each in sorted(self.reasons.items(), key=lambda pair: pair[0])]
-
-    def others(self):
-        return 0
+        return [dict(zip(self.head, (reason, *each))) for reason, each in sorted(self.room.entries.items(), key=lambda pair: pair[0])]
 
 
 class Seen:

@@ -1,6 +1,25 @@
-"""How values of tables are shown, where the value itself isn't that."""
-from .counts import counted, run_text
-from .vocabulary import Found
+"""Counts in words, and how values of tables are shown, where the value itself isn't that."""
+from nbt_pcap.reasons import GAP
+
+from .vocabulary import LATE, LATER, OTHER
+
+
+def counted(count, what):
+    """So many of something: 1 packet, 2 packets."""
+    return '%d %s' % (count, what if count == 1 else what + 's')
+
+
+def run_text(run):
+    """A run of bytes, in words: 8 bytes from byte 16 on."""
+    return '%s from byte %d on' % ('all' if run['bytes'] is None else counted(run['bytes'], 'byte'), run['from'])
+
+
+def left_out_words(item):
+    """Why something is left out, with what is missing: of a gap in TCP how many bytes, of fragments of IP which."""
+    if item.reason == GAP and item.missing:
+        return '%s, %s' % (GAP, counted(item.missing[0]['bytes'], 'byte'))
+    missing = ', '.join([run_text(each) for each in item.missing])
+    return item.reason + ': ' + missing if missing else item.reason
 
 
 def name_text(name, row):
@@ -27,11 +46,11 @@ def answered_text(frame, row):
     what = row['answer']
     if what is None:
         return '-'
-    if what == Found.LATER.value:
+    if what == LATER:
         return f'later, frame {frame}'
-    if what == Found.LATE.value:
+    if what == LATE:
         return 'late, frame %d, %s s' % (frame, row['after'])
-    return '%sby %s, frame %d' % ('' if what == Found.OTHER.value else what + ' ', cell(row['answered_by']), frame)
+    return '%sby %s, frame %d' % ('' if what == OTHER else what + ' ', cell(row['answered_by']), frame)
 
 
 def cell(value, _row=None):

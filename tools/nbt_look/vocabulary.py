@@ -35,14 +35,8 @@ class Word(enum.Enum):
     SAID = 'said to have it'                      # positive name query response 4.2.13, with another address
 
 
-class Found(enum.Enum):
-    """What came of a request that found nothing, beside the words of a negative response."""
-
-    LATE = 'late'
-    OTHER = 'by'
-    LATER = 'later'
-
-
+# What came of a request that found nothing, beside the words of a negative response: a late one, one by another station, one to a later request.
+LATE, OTHER, LATER = 'late', 'by', 'later'
 # The kinds of packets by the port of their packets, with a word on each.
 KINDS_OF = {
     'port 137': {

@@ -23,14 +23,16 @@ pub fn asked<'a>(
     words: &[String],
 ) -> Result<Option<&'a Refusal>, NoMemory>
     ensures asks { IfOk result (λ found. OnSome found (AsksRefusal (map string_bytes words.now))) }
-    ensures known { IfOk result (λ found. IfSome found (λ refusal. Contains refusals.now refusal.now)) }
+    ensures known { IfOk result
+        (λ found. IfSome found (λ refusal. Contains refusals.now refusal.now)) }
     ensures unknown { (program text : List ℕ) (rest : List (List ℕ))
         → map string_bytes words.now ≡ program ∷ codes "help" ∷ text ∷ rest
         → IfOk result (λ found. IfNone found (HasNone (spaced (text ∷ rest)) refusals.now)) }
     ensures same { (program text : List ℕ) (rest : List (List ℕ))
         → map string_bytes words.now ≡ program ∷ codes "help" ∷ text ∷ rest
         → HasNone (spaced (text ∷ rest)) refusals.now
-        ⊎ IfOk result (λ found. IfSome found (λ refusal. refusal.now.words.now ≡ spaced (text ∷ rest))) }
+        ⊎ IfOk result (λ found. IfSome found
+        (λ refusal. refusal.now.words.now ≡ spaced (text ∷ rest))) }
     ensures err { OnErr result (AsksRefusal (map string_bytes words.now)) }
 {
     match words {
@@ -52,7 +54,8 @@ fn refusal_in_any_case<'a>(
     refusals: &'a [Refusal],
     text: &str,
 ) -> Result<Option<&'a Refusal>, NoMemory>
-    ensures known { IfOk result (λ found. IfSome found (λ refusal. Contains refusals.now refusal.now)) }
+    ensures known { IfOk result
+        (λ found. IfSome found (λ refusal. Contains refusals.now refusal.now)) }
     ensures unknown { IfOk result (λ found. IfNone found (HasNone text.now refusals.now)) }
     ensures same { HasNone text.now refusals.now
         ⊎ IfOk result (λ found. IfSome found (λ refusal. refusal.now.words.now ≡ text.now)) }

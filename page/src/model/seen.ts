@@ -36,7 +36,7 @@ export class Seen {
     }
 
     /** What is made of each part of the summary, by the words that choose its table. */
-    ofParts(make: (part: { rows: Function, others: Function }) => unknown) {
+    ofParts(make: (part: { rows: Function, room: Room }) => unknown) {
         const [names, several, refusals, queries, sessions, stations] = this.summed.parts.map(make);
         return { names, several, refusals, queries, sessions, stations, malformed: make(this.summed.faults) };
     }
@@ -50,6 +50,6 @@ export class Seen {
 
     /** Of each table how many packets were more than are kept. */
     notKept() {
-        return { ...this.ofParts((part) => part.others()), unread: this.unread.room.others };
+        return { ...this.ofParts((part) => part.room.others), unread: this.unread.room.others };
     }
 }

@@ -3,7 +3,7 @@ import type { App } from './app.js';
 import { byId, counted, element, table } from './dom.js';
 import { MARK, TABLES, headOf, shownAs } from './tables.js';
 
-/** Columns of which a value leads to the packets with it; those of frames; and those whose words have a frame. */
+/** Columns of which a value leads to the packets with it; those of frames; and a frame in words. */
 const FILTERS = ['name', 'calling', 'called', 'address', 'from', 'to', 'by', 'asked'];
 const FRAMES = ['frame', 'told_frame', 'first', 'last'];
 const FRAME = /frame (\d+)/;
@@ -38,7 +38,7 @@ export class NamesView {
     draw({ tables, notKept, notes }: { tables: Record<string, any[]>, notKept: Record<string, number>, notes: string[] }) {
         const quiet = (text: string) => element('p', { class: 'quiet' }, text);
         const refused = new Set(tables.refusals.map(({ name }) => name)).size;
-        const lead = refused ? `Of ${counted(refused, 'name')} there are refusals.` : 'Of no name there are refusals.';
+        const lead = refused ? `There are refusals of ${counted(refused, 'name')}.` : 'There are no refusals.';
         this.root.replaceChildren(element('p', { class: 'lead' }, lead), ...TABLES.flatMap(({ key, title, columns }) => [
             ...(tables[key]?.length ? [this.table(title, columns, tables[key])] : []),
             ...(notKept[key] ? [quiet(`and ${counted(notKept[key], 'packet')} of more than are kept`)] : []),
@@ -47,11 +47,11 @@ export class NamesView {
 
     table(title: string, columns: string[], rows: any[]) {
         const head = columns.map((each) => (headOf(each) === 'frame' ? this.app.unit : headOf(each)));
-        const cells = rows.map((row) => columns.map((column) => {
+        const cells = (row: any) => columns.map((column) => {
             const cell = this.cell(title, row, column);
             return row.marked && column === 'name' ? element('span', {}, element('b', { class: 'mark', title: Reflect.get(MARKED, title) }, MARK), cell) : cell;
-        }));
-        return table(title, head, cells, () => (title === 'malformed' ? 'bad' : ''));
+        });
+        return table(title, head, rows, cells, () => (title === 'malformed' ? 'bad' : ''));
     }
 
     cell(title: string, row: any, column: string): Node | string {

@@ -82,7 +82,7 @@ const answers = {
 
     async datagrams({ tap }: { tap: number }) {
         const datagrams = await datagramsOf(tapOf(tap));
-        return { tables: { datagrams: datagrams.rows(), failed: datagrams.failed.rows() }, notKept: { datagrams: datagrams.others(), failed: datagrams.failed.others() } };
+        return { tables: { datagrams: datagrams.rows(), failed: datagrams.failed.rows() }, notKept: { datagrams: datagrams.room.others, failed: datagrams.failed.room.others } };
     },
 
     async listed({ tap }: { tap: number }) {

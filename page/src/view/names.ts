@@ -38,7 +38,7 @@ export class NamesView {
     draw({ tables, notKept, notes }: { tables: Record<string, any[]>, notKept: Record<string, number>, notes: string[] }) {
         const quiet = (text: string) => element('p', { class: 'quiet' }, text);
         const refused = new Set(tables.refusals.map(({ name }) => name)).size;
-        const lead = refused ? `Of ${counted(refused, 'name')} there are refusals.` : 'Of no name there are refusals.';
+        const lead = refused ? `There are refusals of ${counted(refused, 'name')}.` : 'There are no refusals.';
         this.root.replaceChildren(element('p', { class: 'lead' }, lead), ...TABLES.flatMap(({ key, title, columns }) => [
             ...(tables[key]?.length ? [this.table(title, columns, tables[key])] : []),
             ...(notKept[key] ? [quiet(`and ${counted(notKept[key], 'packet')} of more than are kept`)] : []),

@@ -3,7 +3,7 @@ import type { App } from './app.js';
 import { byId, counted, element, table } from './dom.js';
 import { MARK, TABLES, headOf, shownAs } from './tables.js';
 
-/** Columns of which a value leads to the packets with it; those of frames; and those whose words have a frame. */
+/** Columns of which a value leads to the packets with it; those of frames; and a frame in words. */
 const FILTERS = ['name', 'calling', 'called', 'address', 'from', 'to', 'by', 'asked'];
 const FRAMES = ['frame', 'told_frame', 'first', 'last'];
 const FRAME = /frame (\d+)/;

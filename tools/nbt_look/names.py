@@ -1,6 +1,4 @@
 """The tables of what was said of names: of each at each address, of those that several say that they have, and of refusals."""
-from dataclasses import dataclass
-
 from .rooms import Room
 from .vocabulary import SUFFIXES, TABLES, Word
 from .words import REFUSING
@@ -25,51 +23,37 @@ def object_of(row, is_marked, said, times):
 
 
 class Names:
-    """The rows of names: marked are those of which the later half doesn't say that its address has the name."""
+    """A table of rows of names: `chosen` answers those of all that was said, each with whether it is marked."""
 
-    title, head = TABLES['names']
-
-    def __init__(self, said):
-        self.said, self.room = said, said.room
-
-    def rows(self, times):
-        found = sorted(self.room.entries.values(), key=lambda row: (row.name, row.address))
-        return [object_of(row, not row.is_standing() and row.later().word is not Word.SAID, self.said, times) for row in found]
-
-
-class Several:
-    """The rows of names that several addresses have by their later halves, not all of them as a group."""
-
-    title, head = TABLES['several']
-
-    def __init__(self, said):
-        self.said, self.room = said, Room()
+    def __init__(self, table, said, chosen):
+        self.title, self.head = TABLES[table]
+        self.said, self.room, self.chosen = said, said.room, chosen
 
     def rows(self, times):
-        of_name, found = {}, []
-        for row in self.said.room.entries.values():
-            if row.is_standing():
-                of_name.setdefault(row.name, []).append(row)
-        for rows in of_name.values():
-            if len(rows) > 1 and not all(row.group for row in rows):
-                macs = {self.said.mac(row): True for row in rows if self.said.mac(row)}
-                found.extend([object_of(row, len(macs) > 1, self.said, times) for row in rows])
-        return sorted(found, key=lambda row: (not row['marked'], row['name'], row['address'] or ''))
+        return [object_of(row, is_marked, self.said, times) for row, is_marked in self.chosen(self.said)]
 
 
-@dataclass
-class Refusal:
-    """How often a sender refused a name at an address for one reason: the word of it, the first and the last frame, and the last time."""
+def all_rows(said):
+    """All rows; marked are those of which the later half doesn't say that its address has the name."""
+    found = sorted(said.room.entries.values(), key=lambda row: (row.name, row.address))
+    return [(row, not row.is_standing() and row.later().word is not Word.SAID) for row in found]
 
-    word: Word
-    first: int
-    times: int = 0
-    last: int = 0
-    at: int = None
+
+def several(said):
+    """The rows of names that several addresses have by their later halves, not all of them as a group; marked are those with several MACs."""
+    of_name, found = {}, []
+    for row in said.room.entries.values():
+        if row.is_standing():
+            of_name.setdefault(row.name, []).append(row)
+    for rows in of_name.values():
+        if len(rows) > 1 and not all(row.group for row in rows):
+            macs = {said.mac(row): True for row in rows if said.mac(row)}
+            found.extend([(row, len(macs) > 1) for row in rows])
+    return sorted(found, key=lambda pair: (not pair[1], pair[0].name, pair[0].address))
 
 
 class Refusals:
-    """The refusals by name, address, sender and reason."""
+    """The refusals by name, address, sender and reason: of each the word, how many, the first and the last frame, and the last time."""
 
     title, head = TABLES['refusals']
 
@@ -77,17 +61,17 @@ class Refusals:
         self.kept = kept
         self.room = Room()
 
-    def take(self, row, half, message):
+    def take(self, row, half):
         """Takes a word that refuses a row its name."""
-        found = self.kept.entry(self.room, row.name, (row.name, row.address, half.by, half.text), lambda: Refusal(half.word, message.frame))
+        found = self.kept.entry(self.room, row.name, (row.name, row.address, half.by, half.text), lambda: [half.word, 0, half.frame, None, None])
         if found:
-            found.times += 1
-            found.last, found.at = half.frame, half.at
+            found[1] += 1
+            found[3], found[4] = half.frame, half.at
 
     def rows(self, times):
         found = sorted(self.room.entries.items(), key=lambda pair: pair[0])
-        return [self.row(key, each, None if each.at is None else times(each.at)) for key, each in found]
+        return [self.row(key, *each, times) for key, each in found]
 
-    def row(self, key, each, time):
-        row = dict(zip(self.head, (*[part or None for part in key], each.times, each.first, each.last, time)))
+    def row(self, key, _word, count, first, last, at, times):
+        row = dict(zip(self.head, (*[part or None for part in key], count, first, last, None if at is None else times(at))))
         return {**row, 'not_all_kept': self.kept.lacks(key[0])}

@@ -3,7 +3,7 @@ from dataclasses import dataclass, field
 
 from .rooms import Room
 from .times import since
-from .vocabulary import ADDRESS_TYPE, ANSWERING, EPOCH, LATE, LATER, MOST_FRAMES, OTHER, STATUS_TYPE, TABLES, Front
+from .vocabulary import ADDRESS_TYPE, ANSWERING, EPOCH, LATE, LATER, MALFORMED, MOST_FRAMES, OTHER, STATUS_TYPE, TABLES
 from .words import is_response, type_of
 
 KINDS = {ADDRESS_TYPE: 'query', STATUS_TYPE: 'status'}
@@ -56,7 +56,7 @@ class Queries:
         self.packets += 1
         if message.shown['op'] == 'query' and not is_response(message.shown):
             self.ask(message, type_of(message.shown))
-        elif message.shown['op'] == 'query' and message.front is not Front.MALFORMED:
+        elif message.shown['op'] == 'query' and message.front != MALFORMED:
             self.respond(message, type_of(message.shown))
 
     def ask(self, message, kind):

@@ -1,5 +1,4 @@
 """What is kept of a capture, with bounds."""
-from .shown import counted
 from .vocabulary import MOST_ENTRIES
 
 
@@ -46,8 +45,3 @@ class Kept:
     def lacks(self, name):
         """Whether not all of a name is kept."""
         return self.names.get(name, False)
-
-    def others_text(self):
-        """How many names aren't kept, in words."""
-        count = len(self.others)
-        return f'more than {self.most} names' if count > self.most else counted(count, 'name')

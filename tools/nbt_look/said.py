@@ -2,7 +2,7 @@
 from dataclasses import dataclass, field
 
 from .rooms import Room
-from .vocabulary import Front, Word
+from .vocabulary import CUT, MALFORMED, Word
 from .words import CLAIMING, CODED, OWN, REFUSING, STANDING, group_of, is_wildcard, listed_word, statuses_of, word_of
 
 CLAIM, RELEASE, GRANT = 'claimed', 'released', 'granted'
@@ -81,12 +81,12 @@ class Said:
 
     def say(self, row, word, message):
         """Takes a word about a row."""
-        text = ('%s %s' % (word.value, message.code) if word in CODED else word.value) + (', malformed' if message.front is Front.MALFORMED else '')
+        text = ('%s %s' % (word.value, message.code) if word in CODED else word.value) + (', malformed' if message.front == MALFORMED else '')
         half = Half(word, text, message.source, message.frame, message.at, self.packets)
         row.own, row.others = (half, row.others) if word in OWN else (row.own, half)
         if word in REFUSING:
             row.refusals += 1
-            self.refusals.take(row, half, message)
+            self.refusals.take(row, half)
         sent = self.kept.entry(self.macs, row.name, (row.name, message.source), lambda: [None]) if message.source_mac else None
         if sent:
             sent[0] = message.source_mac
@@ -117,7 +117,7 @@ class Said:
     def answered(self, message, word):
         """A positive answer to a query says it of its sender's own address, and of others."""
         groups = message.groups()
-        self.cut += not groups and message.front is Front.CUT
+        self.cut += not groups and message.front == CUT
         for address, group in groups.items():
             row = self.row(message.name, address, message)
             if row:
@@ -127,7 +127,7 @@ class Said:
     def listed(self, message):
         """A node status lists the names of its sender, which have the scope of its own name."""
         records = statuses_of(message.shown)
-        self.cut += not records and message.front is Front.CUT
+        self.cut += not records and message.front == CUT
         for record in records:
             scope = record['name'].partition('>')[2]
             for each in record['names']:
@@ -142,7 +142,7 @@ class Said:
         groups, rows = message.groups(), self.asked_for(message, RELEASE if message.is_of_release(word) else CLAIM)
         if not rows:
             addresses = list(groups) if message.code == 'ok' and word is not Word.TO_WAIT else [message.target]
-            self.cut += not addresses and message.front is Front.CUT
+            self.cut += not addresses and message.front == CUT
             rows = [self.row(message.name, each, message) for each in addresses]
         for row in [each for each in rows if each]:
             self.say(row, word, message)

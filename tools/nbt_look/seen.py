@@ -1,7 +1,7 @@
 """What is made of the packets of a capture, one after another, for all tables but those of datagrams."""
 from nbt_pcap.reasons import CUT
 
-from .names import Names, Refusals, Several
+from .names import Names, Refusals, all_rows, several
 from .queries import Queries
 from .rooms import Kept, Room
 from .said import Said
@@ -38,7 +38,7 @@ class Seen:
         self.said, self.queries = Said(self.kept, self.refusals), Queries(self.kept)
         self.stations = Stations(self.said, self.refusals)
         self.sessions = Sessions(session_ports, lambda address, name: self.stations.named(address, name))
-        self.parts = [Names(self.said), Several(self.said), self.refusals, self.queries, self.sessions, self.stations]
+        self.parts = [Names('names', self.said, all_rows), Names('several', self.said, several), self.refusals, self.queries, self.sessions, self.stations]
         self.before = self.earlier = None        # the time of the latest packet, and the first frame that is earlier than one before it
         self.nameless = 0
 
@@ -67,10 +67,11 @@ class Seen:
 
     def notes(self):
         """What is said below the tables."""
+        others, most = len(self.kept.others), self.kept.most
         texts = [(self.said.cut, 'cut before its address: ' + counted(self.said.cut, 'answer')),
                  (self.nameless, 'cut before its name: ' + counted(self.nameless, 'packet')),
                  (self.earlier, f'frame {self.earlier} is earlier than the one before'),
-                 (len(self.kept.others), 'not kept: ' + self.kept.others_text())]
+                 (others, 'not kept: ' + (f'more than {most} names' if others > most else counted(others, 'name')))]
         return [text for count, text in texts if count]
 
 

@@ -45,7 +45,7 @@ class Stations:
 
     def rows(self, _times):
         names = by_address([*[(row.address, row.name) for row in self.said.room.entries.values() if row.is_standing()], *self.used.entries])
-        refused = by_address([(key[1], key[0]) for key, each in self.refusals.room.entries.items() if each.word is not Word.NOT_RELEASED])
+        refused = by_address([(key[1], key[0]) for key, each in self.refusals.room.entries.items() if each[0] is not Word.NOT_RELEASED])
         return [dict(zip(self.head, (address or None, list(each.macs), each.packets, names.get(address, []), refused.get(address, []), each.status, each.unit)))
                 for address, each in sorted(self.room.entries.items(), key=lambda pair: pair[0])]
 

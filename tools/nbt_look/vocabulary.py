@@ -4,18 +4,9 @@ import enum
 from nbt_pcap.header import FRAGMENTS, NBSTAT
 
 
-class Front(enum.Enum):
-    """How much of a packet stands."""
-
-    WHOLE = 'whole'
-    CUT = 'cut'
-    MALFORMED = 'malformed'
-
-
 class Word(enum.Enum):
     """What a packet says of a name at an address; each has its section of RFC 1002. docs/SUMMARY.md has the table."""
 
-    # Of the address itself.
     CLAIMS = 'claims'                             # name registration request 4.2.2, operation 15 too
     REFRESHES = 'refreshes'                       # name refresh request 4.2.4
     TAKES = 'takes'                               # name overwrite request and demand 4.2.3
@@ -24,7 +15,6 @@ class Word(enum.Enum):
     LISTS = 'lists it'                            # node status response 4.2.18
     LISTS_CONFLICT = 'lists it in conflict'       # the same, with CNF
     LISTS_INACTIVE = 'lists it inactive'          # the same, without ACT
-    # Of others.
     GRANTED = 'granted'                           # positive name registration response 4.2.5
     TO_ASK = 'to ask the holder'                  # end-node challenge registration response 4.2.7
     TOLD = 'told of a conflict'                   # name conflict demand 4.2.8, or a negative response with CFT_ERR
@@ -35,6 +25,8 @@ class Word(enum.Enum):
     SAID = 'said to have it'                      # positive name query response 4.2.13, with another address
 
 
+# How much of a packet stands, where that isn't all.
+CUT, MALFORMED = 'cut', 'malformed'
 # What came of a request that found nothing, beside the words of a negative response: a late one, one by another station, one to a later request.
 LATE, OTHER, LATER = 'late', 'by', 'later'
 # The kinds of packets by the port of their packets, with a word on each.

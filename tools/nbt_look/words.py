@@ -3,7 +3,7 @@ from dataclasses import dataclass
 
 from nbt_pcap.header import G
 
-from .vocabulary import ADDRESS_TYPE, EPOCH, MULTIHOMED, SECTIONS, STATUS_TYPE, Front, Word
+from .vocabulary import ADDRESS_TYPE, CUT, EPOCH, MALFORMED, MULTIHOMED, SECTIONS, STATUS_TYPE, Word
 
 CLAIMING = (Word.CLAIMS, Word.REFRESHES, Word.TAKES)
 # What an address says of itself; others say the rest.
@@ -20,8 +20,6 @@ WILDCARD = ('*\\00', '*<00>')
 # OPCODE in the flag word, which the RDATA of a WACK has, and that of a release: RFC 1002 section 4.2.1.1.
 OPCODE, RELEASE = 0x7800, 0x3000
 
-
-# ---- The parts of a packet, by its object of JSON.
 
 def is_response(shown):
     """The bit R."""
@@ -58,11 +56,11 @@ def group_of(entry):
 @dataclass(frozen=True)
 class Message:
     """A packet of port 137 of which the header stands. `name` is None where none stands, and `at`, in nanoseconds, of a frame without a time;
-    `number` is NAME_TRN_ID, the identifier that a response has of its request, and `code` the RCODE."""
+    `front` says how much stands, `number` is NAME_TRN_ID, the identifier that a response has of its request, and `code` the RCODE."""
 
     shown: dict
     name: str
-    front: Front
+    front: str
     frame: int
     at: int
     source: str
@@ -106,7 +104,7 @@ def message_of(item, shown):
     """A packet, by its object of JSON; None where it is of another port, or its header doesn't stand."""
     if 'op' not in shown:
         return None
-    front, frame, first = Front.CUT if 'cut' in shown else Front.MALFORMED if 'refused' in shown else Front.WHOLE, item.frame, first_of(shown)
+    front, frame, first = CUT if CUT in shown else MALFORMED if 'refused' in shown else '', item.frame, first_of(shown)
     return Message(shown, first and first['name'], front, frame.number, frame.at, item.source, item.target, frame.source_mac, frame.target_mac, shown['id'],
                    shown['rcode'])
 
@@ -115,8 +113,6 @@ def is_wildcard(name):
     """The wildcard is no name, whoever says something of it."""
     return any(name.startswith(each) for each in WILDCARD)
 
-
-# ---- Its word.
 
 def word_of(shown):
     """The word of a packet, None where it has none; that of an answer to a query is the one for its sender's own address."""

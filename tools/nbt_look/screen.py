@@ -76,9 +76,9 @@ class Screen:
         """Rows of the same keys, under their names; `texts` makes the text of a value, with its row, where it isn't the usual one."""
         self.line(title, 'head')
         for number, lines in enumerate(rows_of(rows, head, texts, self.width)):
+            is_marked = number and rows[number - 1].get('marked')
             for at, each in enumerate(lines):
-                is_marked = number and not at and rows[number - 1].get('marked')
-                self.line(MARK + each[len(MARK):] if is_marked else each, 'head' if number == 0 else None)
+                self.line(MARK + each[len(MARK):] if is_marked and not at else each, 'refused' if is_marked else None if number else 'head')
 
 
 BETWEEN, MARK = '  ', '! '

@@ -26,7 +26,7 @@ class ViewCases:
     def marks(self):
         """What stands before a row stands out, and says what it is for; frames lead to their packets; refusals are counted."""
         equal(self.browser.text('to-names'), 'Names 3', 'how many rows of refusals there are')
-        equal(self.browser.texts('#view-names .lead'), ['Of 3 names there are refusals.'], 'of how many names there are refusals')
+        equal(self.browser.texts('#view-names .lead'), ['There are refusals of 3 names.'], 'of how many names there are refusals')
         marks = self.browser.run('return Array.from(document.querySelectorAll("#view-names .mark"), (each) =>'
                                  '[each.parentNode.textContent, each.title, getComputedStyle(each).color !== getComputedStyle(document.body).color])')
         title = "The latest word isn't that the address has the name"

@@ -3,7 +3,7 @@ import type { App } from './app.js';
 import { byId, counted, element, table } from './dom.js';
 import { MARK, TABLES, headOf, shownAs } from './tables.js';
 
-/** Columns of which a value leads to the packets with it; those of frames; and those whose words have a frame. */
+/** Columns of which a value leads to the packets with it; those of frames; and a frame in words. */
 const FILTERS = ['name', 'calling', 'called', 'address', 'from', 'to', 'by', 'asked'];
 const FRAMES = ['frame', 'told_frame', 'first', 'last'];
 const FRAME = /frame (\d+)/;
@@ -38,7 +38,7 @@ export class NamesView {
     draw({ tables, notKept, notes }: { tables: Record<string, any[]>, notKept: Record<string, number>, notes: string[] }) {
         const quiet = (text: string) => element('p', { class: 'quiet' }, text);
         const refused = new Set(tables.refusals.map(({ name }) => name)).size;
-        const lead = refused ? `Of ${counted(refused, 'name')} there are refusals.` : 'Of no name there are refusals.';
+        const lead = refused ? `There are refusals of ${counted(refused, 'name')}.` : 'There are no refusals.';
         this.root.replaceChildren(element('p', { class: 'lead' }, lead), ...TABLES.flatMap(({ key, title, columns }) => [
             ...(tables[key]?.length ? [this.table(title, columns, tables[key])] : []),
             ...(notKept[key] ? [quiet(`and ${counted(notKept[key], 'packet')} of more than are kept`)] : []),

@@ -36,7 +36,7 @@ PROTOCOL, PAYLOAD, HEADER = 23, 42, (43, 44, 44, 45, 45)
 # The ports of TCP, and that of the service.
 PORTS, SESSION = (34, 36), b'\0\x8b'
 # The names of which each packet is known, who sends them, some from a second address, and where to.
-KNOWN, ANY = ('KITE<20>', 'LARK<00>', 'MOTH<1d>'), '*<00>'
+KNOWN, ANY, ANYBODY = ('KITE<20>', 'LARK<00>', 'MOTH<1d>'), '*<00>', first_level(b'*' + bytes(14), 0)
 SENDERS, SERVER = ('10.0.0.5', '10.0.0.6', '10.0.0.7', '10.1.0.5'), '10.0.0.1'
 TARGETS = (SERVER, SERVER, '10.0.0.255', '10.0.0.255', '10.1.0.255', '10.0.0.6')
 # Flag words: of requests, those of queries last; what answers claims, releases and queries, without the operation.
@@ -44,6 +44,7 @@ CLAIMS, QUERIES = (0x2910, 0x2910, 0x2900, 0x2810, 0x2800, 0x7900, 0x7810, 0x400
 ANSWERS = {'claim': (0x580, 0x580, 0x500, 0x586, 0x585, 0x583, 0x587, 0x589), 'release': (0x400, 0x400, 0x406, 0x405),
            'query': (0x500, 0x580, 0x583, 0x585, 0x587)}
 DELAYS = (0, 1_000, 200_000, 2_000_000, 9_999_999, 10_000_000, 10_000_001, 12_345_678)
+TABLES = {'names': (said.names, 13), 'several': (said.several, 14), 'refusals': (said.refusals, 8), 'queries that found nothing': (said.queries, 8)}
 # Where the name, and after it the type, of the first item of a payload ends.
 NAME_END, TYPE_END = 46, 48
 
@@ -61,7 +62,7 @@ class Story:
         word, kind = rng.choice(CLAIMS), NB
         if rng.random() < 0.45:
             word, kind, name = rng.choice(QUERIES), rng.choice((NB, NBSTAT)), rng.choice((name, name, ANY))
-        asked = self.packet(who, target, name, word, kind, self.places(who) if word > 0x1000 else (), rng.randint(1, 3), self.lifetime())
+        asked = self.packet(who, target, name, word, kind, self.places(who) if word > 0x1000 else (), rng.randint(1, 3))
         for _ in range(rng.choice((0, 1, 1, 1, 2, 3))):
             self.sends(asked)
             self.at += rng.choice(DELAYS)
@@ -84,14 +85,12 @@ class Story:
             more, word = {'listed': tuple((each, flags()) for each in rng.sample(KNOWN, rng.randint(0, 3)))}, 0x8400
         elif about == 'query' and (word & 15 or rng.random() < 0.1):
             kind, entries = (NULL if word & 15 else NS), ()
-        self.sends(self.packet(source, target, asked.name, word, kind, entries, number, self.lifetime(), **more))
+        self.sends(self.packet(source, target, asked.name, word, kind, entries, number, **more))
 
-    def packet(self, source, target, name, word, kind, entries, number, ttl, **more):
+    def packet(self, source, target, name, word, kind, entries, number, **more):
         mac = self.rng.choice((source,) * 12 + SENDERS).rpartition('.')[2]
-        return said.Packet(0, 0, source, target, f'02:00:00:00:00:{int(mac):02x}', target.endswith('.255'), number, word, name, kind, ttl, entries, **more)
-
-    def lifetime(self):
-        return self.rng.choice((0, 60, 600, 300_000))
+        return said.Packet(0, 0, source, target, f'02:00:00:00:00:{int(mac):02x}', target.endswith('.255'), number, word, name, kind,
+                           self.rng.choice((0, 60, 600, 300_000)) if entries else None, entries, **more)
 
     def places(self, source):
         """The entries of a record."""
@@ -119,8 +118,8 @@ def payload_of(it):
         data = bytes([len(it.listed)]) + b''.join(listed) + bytes(46)
     elif it.type == NS:
         data = b'\xc0\x0c'
-    name = first_level(text.encode().ljust(15, b'\0') if text == '*' else text, suffix)
-    told = record(it.type, data, it.ttl) if it.response or it.entries else b''
+    name = ANYBODY if text == '*' else first_level(text, suffix)
+    told = record(it.type, data, it.ttl or 0) if it.response or it.entries else b''
     payload = service(it.identifier, it.word, name, None if it.response else it.type, told)
     return payload[:6] + b'\0\0\0\1' + payload[10:] if it.type == NS else payload
 
@@ -136,9 +135,10 @@ def network(seed, captures):
         known.add(packet.at / 1000, *ends, 137, payload, snap=PAYLOAD + size if size < len(payload) else None, mac=bytes([int(packet.mac[-2:], 16)]))
     # A sort that moves no equal ones; of one in a few networks the order isn't that of the times.
     late = rng.choice((0, 0, 0, 0.1))
-    frames = sorted(enumerate(known.frames + others(seed, captures, rng)), key=lambda each: (each[1][0] + (rng.random() < late) * 3_000_000, each[0]))
-    number = {old: new for new, (old, _) in enumerate(frames, 1)}
-    return [each for _, each in frames], sorted((replace(it[0], frame=number[old]) for old, it in enumerate(story.sent)), key=lambda it: it.frame)
+    frames = sorted(enumerate(known.frames + others(seed, captures, rng)), key=lambda each: each[1][0] + (rng.random() < late) * 3_000_000)
+    number, begin = {old: new for new, (old, _) in enumerate(frames, 1)}, frames[0][1][0]
+    packets = [replace(packet, frame=number[old], at=packet.at - begin) for old, (packet, *_) in enumerate(story.sent)]
+    return [each for _, each in frames], sorted(packets, key=lambda each: each.frame)
 
 
 def others(seed, captures, rng):
@@ -196,3 +196,23 @@ def main():
         by_page = [each for at in range(0, count, PART) for each in summary.shown_by_page(program, paths[at:at + PART])]
         by_tool = map(summary.shown_by_tool, paths, summary.rows_of_all([frames for frames, _ in networks], folder))
         return tally((path, difference(path, *tables, known)) for path, (_, known), *tables in zip(paths, networks, by_page, by_tool))
+
+
+def difference(path, page, tool, known):
+    """The tables that the page and the tool don't show alike, and those that aren't what is known; a capture of which something is different is kept."""
+    wrong = [f'{each}: the page {page.get(each)}, nbt-look {tool.get(each)}' for each in sorted((page.keys() | tool.keys()) - {UNREAD})
+             if page.get(each) != tool.get(each)]
+    for title, (table, count) in TABLES.items():
+        wanted, given = sorted(table(known)), sorted(filter(is_known, (tuple(row[at] for at in range(count)) for row in tool.get(title, []))))
+        if given != wanted:
+            wrong.append(f'{title}: {sorted(set(given) - set(wanted))}, not {sorted(set(wanted) - set(given))}')
+    kept = wrong and shutil.copy(path, os.path.join(tempfile.gettempdir(), f'network-{os.path.basename(path)}'))
+    return wrong and f'{kept}: ' + '; '.join(wrong)
+
+
+def is_known(cells):
+    return cells[0].removeprefix('! ') in (*KNOWN, ANY)
+
+
+if __name__ == '__main__':
+    sys.exit(main())

@@ -49,6 +49,7 @@ PACKETS = re.compile(r'([\d.,]+) +(\S+) (> \S+) +(.*)')
 STEPS = re.compile(r' +([<>]) ')
 OPTION = re.compile(r'(cut|mac|patch|front|pick|by)=(\S+) +')
 FLAG_WORD = re.compile('[0-9a-f]{4}')
+COUNTS = re.compile('[0-9]+ frames?')
 SEGMENTS = {'syn': SYN, 'ack': SYN | ACK, 'rst': RST | ACK}
 BETWEEN = ' | '
 TITLES = {'queries': 'queries that found nothing', 'failed': 'failed datagrams', 'left-out': 'left out'}
@@ -165,9 +166,11 @@ def frames_of(case, program):
 
 
 def tables_in(text):
-    """The tables of a summary: of each title the rows."""
-    found = {}
-    for block in text.split('\n\n'):
+    """The tables of a summary, of each title the rows, and the notes."""
+    *blocks, last = text.split('\n\n')
+    notes = [{0: each} for each in last.splitlines() if not COUNTS.match(each)]
+    found = {'note': notes} if notes else {}
+    for block in blocks:
         title, *lines = block.splitlines()
         if lines and lines[0].startswith('  '):
             _, *starts = (match.start() for match in re.finditer(r'(?<=  )\S', lines[0]))

@@ -4,7 +4,7 @@ from collections import namedtuple
 from dataclasses import dataclass
 
 CODES = {1: 'FMT_ERR', 2: 'SRV_ERR', 3: 'NAM_ERR', 4: 'IMP_ERR', 5: 'RFS_ERR', 6: 'ACT_ERR', 7: 'CFT_ERR'}
-NB, NBSTAT = 0x20, 0x21
+NB, NBSTAT, NS = 0x20, 0x21, 2
 QUERY, REGISTRATION, RELEASE, WACK = 0, 5, 6, 7
 CLAIMING = {REGISTRATION: 'claims', 8: 'refreshes', 9: 'refreshes', 15: 'claims'}
 CLAIMS, GIVES_UP = ('claims', 'refreshes', 'takes'), ('gives up',)
@@ -12,7 +12,7 @@ STANDING = (*CLAIMS, 'granted', 'answers', 'lists it')
 OTHERS = ('granted', 'to ask the holder', 'told of a conflict', 'refused', 'to wait', 'released', 'not released', 'said to have it')
 REFUSALS = ('refused', 'told of a conflict', 'lists it in conflict', 'not released')
 GROUP, ACTIVE, CONFLICT = 0x8000, 0x0400, 0x0800
-LONGEST = 10_000_000
+LONGEST, WILDCARD = 10_000_000, '*<00>'
 TYPES, YES = {NB: 'query', NBSTAT: 'status', None: '-'}, {True: 'yes', False: 'no', None: '-'}
 
 # A word of a packet about a name at an address; `code` stands behind some, and `group` is None where it isn't told.
@@ -51,7 +51,7 @@ def words_of(packets):
     said = []
     for each in packets:
         found = [] if each.name is None else told(each, said) if each.response else asked(each)
-        said += [Word(each, *word) for word in found if word[0][:1] != '*']
+        said += [Word(each, *word) for word in found if not word[0].startswith(WILDCARD)]
     return said
 
 
@@ -106,10 +106,11 @@ def of_row(said):
         lambda verb: verb not in OTHERS, OTHERS.__contains__, CLAIMS.__contains__, lambda verb: verb == 'granted'))
     refused = [each for each in said if each.verb in REFUSALS]
     says = [(each.verb + f', from {each.packet.source}' * (each.packet.source != each.address) + marked(each), each.packet.frame) for each in own]
-    told = [(f'{each.verb} {each.code}'.strip() + f', {len(refused)} refusals' * (refused != [] and each.verb not in REFUSALS) + marked(each),
+    told = [(f'{each.verb} {each.code}'.strip() + f', {len(refused)} refusal{"s" * (len(refused) > 1)}' * (refused != [] and each.verb not in REFUSALS) + marked(each),
              each.packet.source, each.packet.frame) for each in others]
     *_, group = [None, *(each.group for each in said if each.group is not None)]
-    *_, lifetime = ['-', *(f'{each.packet.ttl} s, {"granted" if grants else "claimed"}' for each in grants or claims if each.packet.ttl is not None)]
+    *_, lifetime = ['-', *(f'{each.packet.ttl} s, {what}' for verbs, what in ((claims, 'claimed'), (grants, 'granted')) for each in verbs
+                           if each.packet.ttl is not None)]
     *_, says = ['--', *says]
     *_, told = ['---', *told]
     cells = (YES[group], *says, *told, seconds(said[-1].packet.at), said[0].packet.frame, len({each.packet.frame for each in claims}), len(refused), lifetime)
@@ -130,7 +131,7 @@ def several(packets):
     standing = {(each.name, each.address): each.verb in STANDING for each in said}
     for name in {name for name, _ in standing}:
         rows = [row for row in names(packets) if row[0] == name and standing[row[:2]]]
-        macs = [[each.packet.mac for each in said if (each.name, each.packet.source) == row[:2]][-1:] for row in rows]
+        macs = [[each.mac for each in packets if name in (each.name, *dict(each.listed)) and each.source == row[1]][-1:] for row in rows]
         if len(rows) > 1 and any(row[2] != 'yes' for row in rows):
             mark = '! ' * (len({mac for each in macs for mac in each}) > 1)
             found += [(mark + name, row[1], ''.join(mac) or '-', *row[2:]) for row, mac in zip(rows, macs)]
@@ -154,14 +155,14 @@ class Request:
         return packet.at - self.packets[-1].at
 
     def is_found(self):
-        return any(is_positive(each) for each in self.own)
+        return any(is_positive(each) for each, _ in self.own)
 
     def told(self):
         """Of each response that found nothing its frame, and what it was."""
-        for each in self.own:
-            yield each.frame, f'{CODES.get(each.code, each.code) if each.code else "redirected"} by {each.source}, frame {each.frame}'
-        for each, after in self.others:
-            yield each.frame, f'late, frame {each.frame}, {after / 1e6:.3f} s' if after > LONGEST else f'by {each.source}, frame {each.frame}'
+        for each, after in self.own + self.others:
+            what = CODES.get(each.code, str(each.code)) if each.code else 'redirected' if each.type == NS else ''
+            is_late = self.packets[0].to_group or each.source == self.row[3]
+            yield each.frame, f'late, frame {each.frame}, {seconds(after)} s' if is_late and not what else f'{what} by {each.source}, frame {each.frame}'.strip()
 
 
 def is_positive(response):
@@ -174,7 +175,8 @@ def requests_of(packets):
     for each in packets:
         if each.operation == QUERY and each.name is not None and each.response and not each.malformed:
             fitting = [one for one in found if (one.identifier, one.row[0], one.row[2]) == (each.identifier, each.name, each.target)]
-            belongs(each, [one for one in fitting if each.type not in (NB, NBSTAT) or each.type == one.row[1]])
+            latest = {one.row: one for one in fitting if each.type not in (NB, NBSTAT) or one.row[1] in (each.type, None)}
+            belongs(each, latest.values())
         elif each.operation == QUERY and each.name is not None and not each.response:
             one = Request(each)
             same = [other for other in found if (other.identifier, other.row) == (one.identifier, one.row)][-1:]
@@ -189,10 +191,8 @@ def belongs(response, fitting):
     """Hands a response to the requests to which it belongs, else to all that it fits."""
     soon = [one for one in fitting if one.after(response) <= LONGEST]
     own = [one for one in soon if one.row[3] == response.source] or [one for one in soon if one.packets[-1].to_group]
-    for one in own:
-        one.own.append(response)
-    for one in fitting if not own else ():
-        one.others.append((response, one.after(response)))
+    for one in own or fitting:
+        (one.own if own else one.others).append((response, one.after(response)))
 
 
 def queries(packets):
@@ -205,6 +205,6 @@ def of_query(requests):
     """Of the requests of a row how many packets found nothing, their frames, when, and what came."""
     missed, found = ([one for one in requests if one.is_found() == wanted] for wanted in (False, True))
     sent = sorted((each for one in missed for each in one.packets), key=lambda each: each.frame)
-    later = [each.frame for one in found for each in one.own if is_positive(each) and one.packets[0].frame > sent[0].frame]
-    answers = [each for one in missed for each in one.told()] + [(frame, f'later, frame {frame}') for frame in later]
+    later = [next(each.frame for each, _ in one.own if is_positive(each)) for one in found if one.packets[0].frame > sent[0].frame]
+    answers = [each for one in missed for each in one.told()] + [(frame, f'later, frame {frame}') for frame in later[-1:]]
     return str(len(sent)), ', '.join(str(each.frame) for each in sent[:16]), seconds(sent[0].at), max(answers, default=(0, '-'))[1]

@@ -36,7 +36,7 @@ PROTOCOL, PAYLOAD, HEADER = 23, 42, (43, 44, 44, 45, 45)
 # The ports of TCP, and that of the service.
 PORTS, SESSION = (34, 36), b'\0\x8b'
 # The names of which each packet is known, who sends them, some from a second address, and where to.
-KNOWN, ANY, ANYBODY = ('KITE<20>', 'LARK<00>', 'MOTH<1d>'), '*<00>', first_level(b'*' + bytes(14), 0)
+KNOWN, ANY, ANYBODY = ('KITE<20>', 'LARK<00>', 'MOTH<1d>'), '*' + r'\00' * 14 + '<00>', first_level(b'*' + bytes(14), 0)
 SENDERS, SERVER = ('10.0.0.5', '10.0.0.6', '10.0.0.7', '10.1.0.5'), '10.0.0.1'
 TARGETS = (SERVER, SERVER, '10.0.0.255', '10.0.0.255', '10.1.0.255', '10.0.0.6')
 # Flag words: of requests, those of queries last; what answers claims, releases and queries, without the operation.
@@ -109,7 +109,6 @@ class Story:
 
 def payload_of(it):
     """The payload of a packet that is whole."""
-    text, suffix = it.name[:-4], int(it.name[-3:-1], 16)
     data = b''.join(struct.pack('>H', flags) + bytes(map(int, address.split('.'))) for flags, address in it.entries)
     if it.waits_for is not None:
         data = struct.pack('>H', it.waits_for << 11)
@@ -118,7 +117,7 @@ def payload_of(it):
         data = bytes([len(it.listed)]) + b''.join(listed) + bytes(46)
     elif it.type == NS:
         data = b'\xc0\x0c'
-    name = ANYBODY if text == '*' else first_level(text, suffix)
+    name = ANYBODY if it.name == ANY else first_level(it.name[:-4], int(it.name[-3:-1], 16))
     told = record(it.type, data, it.ttl or 0) if it.response or it.entries else b''
     payload = service(it.identifier, it.word, name, None if it.response else it.type, told)
     return payload[:6] + b'\0\0\0\1' + payload[10:] if it.type == NS else payload

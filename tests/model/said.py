@@ -12,7 +12,7 @@ STANDING = (*CLAIMS, 'granted', 'answers', 'lists it')
 OTHERS = ('granted', 'to ask the holder', 'told of a conflict', 'refused', 'to wait', 'released', 'not released', 'said to have it')
 REFUSALS = ('refused', 'told of a conflict', 'lists it in conflict', 'not released')
 GROUP, ACTIVE, CONFLICT = 0x8000, 0x0400, 0x0800
-LONGEST, WILDCARD = 10_000_000, '*<00>'
+LONGEST, WILDCARDS = 10_000_000, ('*<00>', '*' + r'\00' * 14 + '<00>')
 TYPES, YES = {NB: 'query', NBSTAT: 'status', None: '-'}, {True: 'yes', False: 'no', None: '-'}
 
 # A word of a packet about a name at an address; `code` stands behind some, and `group` is None where it isn't told.
@@ -51,7 +51,7 @@ def words_of(packets):
     said = []
     for each in packets:
         found = [] if each.name is None else told(each, said) if each.response else asked(each)
-        said += [Word(each, *word) for word in found if not word[0].startswith(WILDCARD)]
+        said += [Word(each, *word) for word in found if not word[0].startswith(WILDCARDS)]
     return said
 
 
@@ -131,7 +131,7 @@ def several(packets):
     standing = {(each.name, each.address): each.verb in STANDING for each in said}
     for name in {name for name, _ in standing}:
         rows = [row for row in names(packets) if row[0] == name and standing[row[:2]]]
-        macs = [[each.mac for each in packets if name in (each.name, *dict(each.listed)) and each.source == row[1]][-1:] for row in rows]
+        macs = [[each.packet.mac for each in said if (each.name, each.packet.source) == row[:2]][-1:] for row in rows]
         if len(rows) > 1 and any(row[2] != 'yes' for row in rows):
             mark = '! ' * (len({mac for each in macs for mac in each}) > 1)
             found += [(mark + name, row[1], ''.join(mac) or '-', *row[2:]) for row, mac in zip(rows, macs)]
@@ -159,10 +159,10 @@ class Request:
 
     def told(self):
         """Of each response that found nothing its frame, and what it was."""
-        for each, after in self.own + self.others:
-            what = CODES.get(each.code, str(each.code)) if each.code else 'redirected' if each.type == NS else ''
-            is_late = self.packets[0].to_group or each.source == self.row[3]
-            yield each.frame, f'late, frame {each.frame}, {seconds(after)} s' if is_late and not what else f'{what} by {each.source}, frame {each.frame}'.strip()
+        for each, _ in self.own:
+            yield each.frame, f'{CODES.get(each.code, each.code) if each.code else "redirected"} by {each.source}, frame {each.frame}'
+        for each, after in self.others:
+            yield each.frame, f'late, frame {each.frame}, {seconds(after)[:-3]} s' if after > LONGEST else f'by {each.source}, frame {each.frame}'
 
 
 def is_positive(response):
@@ -205,6 +205,6 @@ def of_query(requests):
     """Of the requests of a row how many packets found nothing, their frames, when, and what came."""
     missed, found = ([one for one in requests if one.is_found() == wanted] for wanted in (False, True))
     sent = sorted((each for one in missed for each in one.packets), key=lambda each: each.frame)
-    later = [next(each.frame for each, _ in one.own if is_positive(each)) for one in found if one.packets[0].frame > sent[0].frame]
-    answers = [each for one in missed for each in one.told()] + [(frame, f'later, frame {frame}') for frame in later[-1:]]
+    later = [each.frame for one in found for each, _ in one.own if is_positive(each) and one.packets[0].frame > sent[0].frame]
+    answers = [each for one in missed for each in one.told()] + [(frame, f'later, frame {frame}') for frame in later]
     return str(len(sent)), ', '.join(str(each.frame) for each in sent[:16]), seconds(sent[0].at), max(answers, default=(0, '-'))[1]

@@ -105,20 +105,19 @@ def of_row(said):
     own, others, claims, grants = ([each for each in said if holds(each.verb)] for holds in (
         lambda verb: verb not in OTHERS, OTHERS.__contains__, CLAIMS.__contains__, lambda verb: verb == 'granted'))
     refused = [each for each in said if each.verb in REFUSALS]
-    says = [(each.verb + f', from {each.packet.source}' * (each.packet.source != each.address) + marked(each), each.packet.frame) for each in own]
-    told = [(f'{each.verb} {each.code}'.strip() + f', {len(refused)} refusal{"s" * (len(refused) > 1)}' * (refused != [] and each.verb not in REFUSALS) + marked(each),
-             each.packet.source, each.packet.frame) for each in others]
+    says = [(text_of(each) + f', from {each.packet.source}' * (each.packet.source != each.address), each.packet.frame) for each in own]
+    count = f', {len(refused)} refusal' + 's' * (len(refused) > 1)
+    told = [(text_of(each) + count * (refused != [] and each.verb not in REFUSALS), each.packet.source, each.packet.frame) for each in others]
     *_, group = [None, *(each.group for each in said if each.group is not None)]
-    *_, lifetime = ['-', *(f'{each.packet.ttl} s, {what}' for verbs, what in ((claims, 'claimed'), (grants, 'granted')) for each in verbs
-                           if each.packet.ttl is not None)]
+    *_, lifetime = ['-', *(f'{each.packet.ttl} s, {"granted" if grants else "claimed"}' for each in grants or claims if each.packet.ttl is not None)]
     *_, says = ['--', *says]
     *_, told = ['---', *told]
     cells = (YES[group], *says, *told, seconds(said[-1].packet.at), said[0].packet.frame, len({each.packet.frame for each in claims}), len(refused), lifetime)
     return said[-1].verb, tuple(map(str, cells))
 
 
-def marked(word):
-    return ', malformed' if word.packet.malformed else ''
+def text_of(word):
+    return f'{word.verb} {word.code}'.strip() + ', malformed' * word.packet.malformed
 
 
 def seconds(at):
@@ -139,7 +138,7 @@ def several(packets):
 
 
 def refusals(packets):
-    said = [(each.name, each.address, each.packet.source, f'{each.verb} {each.code}'.strip(), each.packet) for each in words_of(packets) if each.verb in REFUSALS]
+    said = [(each.name, each.address, each.packet.source, text_of(each), each.packet) for each in words_of(packets) if each.verb in REFUSALS]
     rows = {each[:4]: [other[4] for other in said if other[:4] == each[:4]] for each in said}
     return [(*key, str(len(row)), str(row[0].frame), str(row[-1].frame), seconds(row[-1].at)) for key, row in rows.items()]
 

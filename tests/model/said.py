@@ -109,7 +109,8 @@ def of_row(said):
     count = f', {len(refused)} refusal' + 's' * (len(refused) > 1)
     told = [(text_of(each) + count * (refused != [] and each.verb not in REFUSALS), each.packet.source, each.packet.frame) for each in others]
     *_, group = [None, *(each.group for each in said if each.group is not None)]
-    *_, lifetime = ['-', *(f'{each.packet.ttl} s, {"granted" if grants else "claimed"}' for each in grants or claims if each.packet.ttl is not None)]
+    *_, lifetime = ['-', *(f'{each.packet.ttl} s, {what}' for told, what in ((claims, 'claimed'), (grants, 'granted')) for each in told
+                           if each.packet.ttl is not None)]
     *_, says = ['--', *says]
     *_, told = ['---', *told]
     cells = (YES[group], *says, *told, seconds(said[-1].packet.at), said[0].packet.frame, len({each.packet.frame for each in claims}), len(refused), lifetime)

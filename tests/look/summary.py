@@ -18,7 +18,7 @@ single one is sent again. FROM and TO are addresses, with a port where it isn't 
 and before them an option is cut=N, a snap length; mac=DIGITS, the last two of the sender's MAC; patch=AT:HEX, other bytes of the payload,
 from AT on; front=N, so many bytes of the payload alone; by=ADDRESS, another sender; or pick=N,.., at each moment the N-th packet alone. A
 row of a table, which is named as --summary has it, is `TABLE: CELLS | COLUMN=TEXT ..`: the cells of the first columns, two spaces between them,
-a mark before the first one, and those of others; `note: TEXT` stands below the tables. Tables and notes that aren't there must not be shown, but
+a mark before the first one, and those of others; more rows follow behind `; `. `note: TEXT` stands below the tables. Tables and notes that aren't there must not be shown, but
 for what is left out and, unless it is there, stations.
 """
 import functools
@@ -51,7 +51,6 @@ OPTION = re.compile(r'(cut|mac|patch|front|pick|by)=(\S+) +')
 FLAG_WORD = re.compile('[0-9a-f]{4}')
 COUNTS = re.compile('[0-9]+ frames?')
 SEGMENTS = {'syn': SYN, 'ack': SYN | ACK, 'rst': RST | ACK}
-BETWEEN = ' | '
 TITLES = {'queries': 'queries that found nothing', 'failed': 'failed datagrams', 'left-out': 'left out'}
 # What is shown of nearly each capture, or counted elsewhere.
 BESIDES = {'stations', 'left out'}
@@ -72,7 +71,7 @@ def cases():
     found = []
     for path in sorted(glob.glob(f'{HERE}/../summary/*.txt')):
         with open(path, encoding='utf-8') as file:
-            lines = file.read().replace(' |\n', BETWEEN).splitlines()
+            lines = file.read().splitlines()
         for line in lines:
             if line.startswith('== '):
                 found.append(Case(os.path.basename(path), line[3:]))
@@ -80,10 +79,14 @@ def cases():
                 found[-1].packets.append(line)
             elif line and not line.startswith('#'):
                 name, _, text = line.partition(': ')
-                cells, *others = text.split(BETWEEN)
-                row = dict(enumerate(cells.split('  '))) | {column: cell for column, _, cell in (each.rpartition('=') for each in others)}
-                found[-1].tables.setdefault(TITLES.get(name, name), []).append(row)
+                found[-1].tables.setdefault(TITLES.get(name, name), []).extend(map(row_of, text.split('; ')))
     return found
+
+
+def row_of(text):
+    """The cells of a row."""
+    cells, *others = text.split(' | ')
+    return dict(enumerate(cells.split('  '))) | {column: cell for column, _, cell in (each.rpartition('=') for each in others)}
 
 
 class Network(Frames):

@@ -67,16 +67,13 @@ def told(packet, said):
     if packet.operation == QUERY:
         places = [] if packet.code else packet.groups.items()
         found = [(packet.name, address, 'answers' if address == packet.source else 'said to have it', '', group) for address, group in places]
+        lists = lambda flags: 'lists it in conflict' if flags & CONFLICT else 'lists it' if flags & ACTIVE else 'lists it inactive'
         return found + [(name, packet.source, lists(flags), '', bool(flags & GROUP)) for name, flags in packet.listed]
     verb = responds(packet)
     requests = GIVES_UP if RELEASE in (packet.operation, packet.waits_for) else CLAIMS
     about = asked_for(packet, said, requests) or ([packet.target] if packet.code or verb == 'to wait' else packet.groups)
     code = CODES.get(packet.code, str(packet.code)) if verb in ('refused', 'not released') else ''
     return [(packet.name, address, verb, code, packet.groups.get(address) if verb == 'granted' else None) for address in about] if verb else []
-
-
-def lists(flags):
-    return 'lists it in conflict' if flags & CONFLICT else 'lists it' if flags & ACTIVE else 'lists it inactive'
 
 
 def responds(packet):
@@ -109,8 +106,7 @@ def of_row(said):
     count = f', {len(refused)} refusal' + 's' * (len(refused) > 1)
     told = [(text_of(each) + count * (refused != [] and each.verb not in REFUSALS), each.packet.source, each.packet.frame) for each in others]
     *_, group = [None, *(each.group for each in said if each.group is not None)]
-    *_, lifetime = ['-', *(f'{each.packet.ttl} s, {what}' for told, what in ((claims, 'claimed'), (grants, 'granted')) for each in told
-                           if each.packet.ttl is not None)]
+    *_, lifetime = ['-', *(f'{each.packet.ttl} s, {"granted" if each in grants else "claimed"}' for each in claims + grants if each.packet.ttl is not None)]
     *_, says = ['--', *says]
     *_, told = ['---', *told]
     cells = (YES[group], *says, *told, seconds(said[-1].packet.at), said[0].packet.frame, len({each.packet.frame for each in claims}), len(refused), lifetime)

@@ -47,7 +47,8 @@ def recorded():
     """A console that has the summary."""
     with tempfile.NamedTemporaryFile(suffix='.pcap') as capture:
         written(capture.name, look_captures.life())
-        shown = subprocess.check_output([TOP / 'tools/nbt-look', '--summary', '--color', 'always', capture.name], text=True)
+        on_terminal = [TOP / 'tests/lib/terminal.py', f'--columns={WIDTH}', 'sh', '-c', 'exec "$@" 2>/dev/null', '-']
+        shown = subprocess.check_output([*on_terminal, TOP / 'tools/nbt-look', '--summary', '--color', 'always', capture.name], text=True).replace('\r', '')
     console = Console(record=True, width=WIDTH, file=io.StringIO(), force_terminal=True)
     console.print(Text.from_ansi(shown), soft_wrap=True)
     return console

@@ -128,6 +128,10 @@ if_found (Ok None) p = tt
 if_found (Ok (Some a)) p = p
 if_found (Err e) p = tt
 
+pub on_some : {A P : Type 0} (found : Option A) (a : A) → found ≡ Some a → OnSome found P → P
+on_some None a is p = absurd (cc is)
+on_some (Some b) a is p = p
+
 pub on_err : {A E P : Type 0} (r : Result A E) → P → OnErr r P
 on_err (Ok a) p = tt
 on_err (Err e) p = p

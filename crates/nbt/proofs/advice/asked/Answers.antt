@@ -1,4 +1,4 @@
-use Rattle.nbt.proofs.Common.{◌==◌, ◌≤◌, Bool, get_or, length, true, ◌≡◌, ◌⊎◌, ◌∷◌, [], IfSome, List, codes, map, string_bytes, sym, subst, ◌∙◌, ℕ}
+use Rattle.nbt.proofs.Common.{◌==◌, ◌≤◌, Bool, get_or, length, true, ◌≡◌, ◌⊎◌, ◌∷◌, IfSome, List, codes, map, string_bytes, sym, subst, ◌∙◌, ℕ}
 use Rattle.std.specs.Prelude.{IfNone, IfOk}
 use Rattle.std.specs.Cmp.Lexicographic.{bytes_decides, pointwise}
 use Rattle.nbt.specs.Refusals.{AsksRefusal, HasNone, spaced}

@@ -74,7 +74,7 @@ def function_at(crate, file, old, _):
     """The name of the function in which a line stands, if it stands in one."""
     text = (ROOT / 'crates' / crate / file).read_text(encoding='utf-8')
     front = text[:text.find(old)] + old
-    names = re.findall(r'^ *(?:pub(?:\(\w+\))? )?(?:const )?(?:unsafe )?(?:extern "C" )?fn (\w+)', front, re.MULTILINE)
+    names = re.findall(r'^ *(?:pub(?:\(\w+\))? )?(?:const |final |unsafe )?(?:extern "C" )?fn (\w+)', front, re.MULTILINE)
     return names[-1] if names else None
 
 
@@ -213,8 +213,11 @@ def checks(crate):
 
 
 def run(own):
-    """Runs the checks of a crate, one after the other."""
+    """Runs the checks of a crate, one after the other, over what a check of the crate itself kept, where it did."""
     with tempfile.TemporaryDirectory(prefix='wrong-bodies-') as kept:
+        before = ROOT / 'crates' / own[0].crate / 'out' / 'incremental'
+        if before.is_dir():
+            shutil.copytree(before, kept, dirs_exist_ok=True)
         for check in own:
             check.run(['--incremental', kept])
 

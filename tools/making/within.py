@@ -12,7 +12,7 @@ OF_PAGES = {
     'README.md': ((r'(a table has at most )[\d,]+(?= keys)', '{MOST_KEYS:,}'),),
     'docs/ATTACKS.md': ((r'(`--input-limit`; )[\d,]+( of a line, )[\d,]+(?= held)', '{MOST_LINE:,}', '{MOST_HELD:,}'),
                         (r'(`nbt replay --keys )\d+', '{MOST_KEYS}')),
-    'docs/CALLING.md': ((r'(into a room of at most )[\d,]+', '{MOST_HELD:,}'),),
+    'docs/CALLING.md': ((r'(into a room of at most )[\d,]+', '{MOST_HELD:,}'), *((rf'(^- `{it}`: ).*', f'{{{it}}}') for it in ('Operation', 'ResultCode'))),
     'docs/CAPTURES.md': ((r'(nbt save --keys )\d+', '{MOST_KEYS}'),),
     'docs/DECISIONS.md': ((r'(longer than )[\d,]+(?= bytes, or with a line feed inside)', '{MOST_LINE:,}'),),
     'docs/FORMATS.md': ((r'(N of `--keys` is how many keys a table holds, 1 to )[\d,]+(, and )[\d,]+(?= where)', '{MOST_KEYS:,}', '{KEYS:,}'),

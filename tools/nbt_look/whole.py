@@ -4,11 +4,11 @@ import subprocess
 
 from nbt_pcap.process import say
 
-from .counts import counted, left_out_words
 from .listing import ends
 from .objects import ENCODE, Objects
 from .places import is_in_name, place_of
 from .screen import Sink
+from .shown import counted, left_out_words
 
 ROW = 16
 
@@ -58,7 +58,7 @@ class Whole(Sink):
         self.screen.line('frame %d, %s, %s' % (frame.number, self.times.text(frame.at), self.times.utc(frame.at) or '-'), 'head')
         words = ['%s > %s' % addresses, '%d of %d bytes captured' % (frame.captured, frame.size)]
         if frame.source_mac:
-            words.append('MAC %s > %s' % (frame.source_mac, frame.target_mac))
+            words.append('MAC %s > %s' % (frame.source_mac, frame.target_mac or '-'))
         words += ['%s %s' % each for each in (('VLAN', frame.vlans), ('interface', frame.interface_name)) if each[1]]
         self.screen.line(', '.join(words))
 

@@ -152,6 +152,8 @@ enum nbt_status {
 #define NBT_MOST_KEYS 65535
 /* As many bytes of an input as the command `nbt` reads no more of where it isn't told. */
 #define NBT_INPUT 16777216
+/* Where the first question or record of a packet of port 137 stands: behind its header. */
+#define NBT_FIRST_ITEM 12
 /* As many names as no station has more of, and for how many milliseconds it keeps a key. */
 #define NBT_MOST_NAMES 254
 #define NBT_KEPT_FOR 2000
@@ -178,6 +180,34 @@ uint32_t nbt_name_spell(const uint8_t *text, size_t text_length,
  * 20 to 24, NBT_NAME_TRAILING_BYTES, NBT_NO_MEMORY, NBT_NO_ROOM. */
 uint32_t nbt_name_text(const uint8_t *spelling, size_t spelling_length,
                        uint8_t *into, size_t into_length, size_t *used, size_t *at);
+
+/* The next two are names of sixteen bytes, as a node status has them, which have no scope: RFC 1001 section 14.1. They are the header's
+ * own, over the two calls above; the library has no symbol for them. */
+
+/* The text of the name with these bytes; at most 49 bytes.
+ * NBT_NO_MEMORY, NBT_NO_ROOM. */
+static inline uint32_t nbt_node_name_text(const uint8_t name[16], uint8_t *into, size_t into_length, size_t *used) {
+    uint8_t spelling[34] = {32};
+    size_t at;
+    for (at = 0; at < 16; at++) {
+        spelling[2 * at + 1] = (uint8_t)('A' + (name[at] >> 4));
+        spelling[2 * at + 2] = (uint8_t)('A' + (name[at] & 15));
+    }
+    return nbt_name_text(spelling, sizeof spelling, into, into_length, used, &at);
+}
+
+/* The bytes of the name with this text.
+ * NBT_BAD_TEXT, NBT_LONG_TEXT, also where the name has a scope, NBT_NO_MEMORY. */
+static inline uint32_t nbt_node_name_bytes(const uint8_t *text, size_t text_length, uint8_t name[16], size_t *at) {
+    uint8_t spelling[255];
+    size_t used, i;
+    uint32_t status = nbt_name_spell(text, text_length, spelling, sizeof spelling, &used, at);
+    if (status == NBT_DONE && used != 34)
+        status = NBT_LONG_TEXT;
+    for (i = 0; i < 16 && status == NBT_DONE; i++)
+        name[i] = (uint8_t)((spelling[2 * i + 1] - 'A') << 4 | (spelling[2 * i + 2] - 'A'));
+    return status;
+}
 
 /* Packets. ---------------------------------------------------------------------------------------------------------- */
 
@@ -337,7 +367,7 @@ struct nbt_service_header {
     uint16_t answers;     /* ANCOUNT */
     uint16_t authorities; /* NSCOUNT */
     uint16_t additional;  /* ARCOUNT */
-    size_t used;          /* the bytes of the packet; of nbt_service_header those of the header, 12 */
+    size_t used;          /* the bytes of the packet; of nbt_service_header NBT_FIRST_ITEM, those of the header */
 };
 
 /* Reads the header at the front of a payload of port 137. What follows it isn't looked at.
@@ -367,10 +397,10 @@ struct nbt_service_item {
 };
 
 /* Reads the question or the record with this number, counted from 0, that stands at a place of a payload of port 137. The
- * first stands at 12, and each other at `next` of the one before: asked for so, these are those of the packet or, of a
+ * first stands at NBT_FIRST_ITEM, and each other at `next` of the one before: asked for so, these are those of the packet or, of a
  * payload that begins with none, as many as stand whole before the fault of nbt_service_read. So a program that wants all of
  * them needs nbt_service_header alone before: where the packet doesn't stand, the item that doesn't has its fault, and where
- * it does, it reaches to `next` of the last one, or to 12.
+ * it does, it reaches to `next` of the last one, or to NBT_FIRST_ITEM.
  * NBT_TRUNCATED for less than a header, NBT_NO_ITEM, and of what stands there its first fault, as of nbt_service_read. No
  * memory is taken. */
 uint32_t nbt_service_item(const uint8_t *payload, size_t payload_length, uint32_t number, size_t place,
@@ -410,7 +440,7 @@ uint32_t nbt_service_address(uint16_t type, const uint8_t *data, size_t data_len
 /* One of the names of a node, in RDATA of type NBSTAT: RFC 1002 section 4.2.18. */
 struct nbt_service_node {
     uint16_t flags;   /* NAME_FLAGS, of enum nbt_name_flag */
-    uint8_t name[16]; /* the sixteen bytes of the name */
+    uint8_t name[16]; /* the bytes of the name, whose text nbt_node_name_text gives */
 };
 
 /* Reads the name with this number.

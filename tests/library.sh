@@ -38,7 +38,7 @@ files() {
 
 examples() {
     local each run=()
-    grep -ohE '\bnbt_[a-z_]+\b' "$top"/bindings/c/*.c | sort -u | comm -12 - <(calls) | same "$(calls)" 'each call stands in an example'
+    grep -ohE '\bnbt_[a-z_]+\b' "$top"/bindings/c/*.c | sort -u | comm -12 - <(all_of_header) | same "$(all_of_header)" 'each call stands in an example'
     for each in "$top"/bindings/c/*.c; do example "$each" sanitized "$CC" "${sanitized[@]}" "$each" "$built/libnbt.a"; done
     printf '#include <nbt.h>\nint main() { return nbt_status_text(0, nullptr, 0, nullptr) == NBT_DONE; }\n' >"$room/header.cpp"
     c++ -Wall -Wextra -Werror "-I$top/include" -c -o "$room/header.o" "$room/header.cpp" >"$room/log" 2>&1
@@ -175,7 +175,7 @@ values() {
 programs() {
     local each
     for each in office samba; do
-        "$top/tools/pcap2cap" --quiet --bare "$top/examples/$each.pcap" >"$room/$each.txt" 2>"$room/errors"
+        "$top/tools/nbt-pcap2cap" --quiet --bare "$top/examples/$each.pcap" >"$room/$each.txt" 2>"$room/errors"
         count $? "examples/$each.pcap: $(tail -n 1 "$room/errors")"
     done
     $CC "${strict[@]}" -o "$room/claims" "$top/examples/claims.c" "$built/libnbt.a" >"$room/log" 2>&1
@@ -226,7 +226,9 @@ installed() {
     commands 2 "$room/page" | same "$(block text "$page" 2)" 'the command for Python of docs/CALLING.md'
     for each in 2 3 4; do
         block python "$page" $each >"$room/first.py"
-        PYTHONPATH=$room/root/share/nbt/python PYTHONDONTWRITEBYTECODE=1 ended python3 "$room/first.py" 2>&1 \
+        local words=("$room/first.py")
+        [ $each -gt 2 ] || words=("$here/library/gateway.py" "$room/first.py")
+        PYTHONPATH=$room/root/share/nbt/python PYTHONDONTWRITEBYTECODE=1 ended python3 "${words[@]}" 2>&1 \
             | same "$(block text "$page" $((each + 1)))" "program $each in Python of docs/CALLING.md"
     done
     installed_below "$room/it's a place & more"

@@ -1,6 +1,6 @@
 #!/usr/bin/env bash
 # The built program beside Wireshark: what `nbt build` makes, as tshark dissects it, and a network's packets, as `nbt
-# show` has them, by way of tools/cap2pcap and tools/pcap2cap. Usage: tests/wireshark.sh [PROGRAM [PART..]]; its last line is
+# show` has them, by way of tools/nbt-cap2pcap and tools/nbt-pcap2cap. Usage: tests/wireshark.sh [PROGRAM [PART..]]; its last line is
 # 'N passed, M failed, K skipped'. Of its parts those that are named are run. Where tshark isn't installed all of it is left out.
 set -uo pipefail
 . "$(dirname "$0")/lib/counting.sh"
@@ -10,9 +10,9 @@ of_tools "${1:-}"
 # The tools, beside what Python makes of their modules once, and what the samples of tests/wireshark/cases.txt have at hand.
 tools=$room/tools
 mkdir "$tools" "$files/bare"
-cp -r "$here"/../tools/{pcap2cap,cap2pcap,nbt_pcap} "$tools"
+cp -r "$here"/../tools/{nbt-pcap2cap,nbt-cap2pcap,nbt_pcap} "$tools"
 env -u PYTHONDONTWRITEBYTECODE python3 -m compileall -q "$tools/nbt_pcap"
-for each in {,nbt-}{pcap2cap,cap2pcap}; do ln -sf "$tools/${each#nbt-}" "$room/bin/$each"; done
+ln -sf "$tools"/nbt-{pcap2cap,cap2pcap} "$room/bin"
 ln -s "$tools" "$files/tools"
 ln -s "$(command -v cat)" "$(command -v env)" "$(python3 -c 'import sys; print(sys.executable)')" "$files/bare"
 echo '{"a": 1}' >"$files/words"
@@ -21,10 +21,10 @@ echo '{"a": 1}' >"$files/words"
 cases() { counted_by lib/samples.py "$files" "$here/wireshark/cases.txt" "$1"; }
 
 nbt() { ended "$program" "$@"; }
-pcap2cap() { ended "$tools/pcap2cap" "$@"; }
+nbt-pcap2cap() { ended "$tools/nbt-pcap2cap" "$@"; }
 
 # The packets of `nbt build`, in one file, as tshark dissects them: rows of tests/wireshark/dissected.txt have these fields, no empty ones
-# and not the words that it adds to a name's text; of more than 32 bytes the first eight. pcap2cap has the same lines of the file again.
+# and not the words that it adds to a name's text; of more than 32 bytes the first eight. nbt-pcap2cap has the same lines of the file again.
 built() {
     local rows=$here/wireshark/dissected.txt label longest fields wanted found
     label=$(printf 'L%.0s' {1..63}) longest=$label.$label.$label.${label:0:28}
@@ -33,9 +33,9 @@ built() {
         nbss.{type,flags,length,called_name,calling_name,error_code,retarget_ip_address,retarget_port} data.data)
     sed -n 's/^\* \(.*\) => .*/nbt build \1/p' "$rows" | label=$label longest=$longest bash >"$room/lines"
     nbt-cap2pcap <"$room/lines" >"$room/built.pcap"
-    count $? 'cap2pcap: the packets that were built'
+    count $? 'nbt-cap2pcap: the packets that were built'
     nbt-pcap2cap --bare --quiet "$room/built.pcap" | cmp -s - "$room/lines"
-    count $? 'pcap2cap: the packets that were built'
+    count $? 'nbt-pcap2cap: the packets that were built'
     tshark -n -r "$room/built.pcap" -o tcp.reassemble_out_of_order:TRUE -Y 'nbns || nbdgm || nbss' -T fields $fields 2>"$room/errors" |
         sed -E 's/^(\t[^\t]*\t)([^\t])/\1continued\t\2/; s/ \([A-Z][^)]*\)//g; s/\b([0-9a-f]{16})[0-9a-f]{49,}\b/\1../g
             s/\t+/ /g; s/^ | $//g' >"$room/found"
@@ -56,12 +56,12 @@ snapped() {
         editcap -s "${lengths[at]}" "$here/../examples/office.pcap" "$room/snapped.$at"
     done
     mergecap -a -w "$room/snapped.pcap" "$room"/snapped.?
-    pcap2cap --cut --no-ticks --quiet "$room/snapped.pcap" | awk -v cut="$room/cut." '
+    nbt-pcap2cap --cut --no-ticks --quiet "$room/snapped.pcap" | awk -v cut="$room/cut." '
         /^# frame [0-9]+ [0-9]/ { at = int(($3 - 1) / 16) }
         /^13[78]/ { print >(cut at) }'
     for at in "${!lengths[@]}"; do
         awk -v size=$((2 * (lengths[at] - 28))) '/^13[78]/ && size { print $1, $2, substr($3, 1, size) }' "$room/whole" | cmp -s - "$room/cut.$at"
-        count $? "pcap2cap --cut: ${lengths[at]} bytes of each frame"
+        count $? "nbt-pcap2cap --cut: ${lengths[at]} bytes of each frame"
     done
 }
 
@@ -81,18 +81,18 @@ long() {
     cases long
 
     # On a terminal the progress comes, at most twice a second, and goes; not with --quiet.
-    local each="$tools/pcap2cap" began=$SECONDS took='' reads='nbt reads them with --input-limit 18446744073709551615'
+    local each="$tools/nbt-pcap2cap" began=$SECONDS took='' reads='nbt reads them with --input-limit 18446744073709551615'
     ended "$here/lib/terminal.py" "$room/output" "$each" "$files/long.pcap" >"$room/shown" && took=$((SECONDS - began)) &&
-        grep -qE $'^\rpcap2cap: [0-9]* of [0-9]* bytes *\r.* *\rpcap2cap: more than 16777216 bytes are written now: '"$reads"$'\r$' \
+        grep -qE $'^\rnbt-pcap2cap: [0-9]* of [0-9]* bytes *\r.* *\rnbt-pcap2cap: more than 16777216 bytes are written now: '"$reads"$'\r$' \
             <<<"$(head -n 1 "$room/shown")" &&
         grep -qE $'(^| \r)500 frames, 500 of these ports, 0 left out\r$' <<<"$(tail -n 1 "$room/shown")"
-    count $? 'pcap2cap on a terminal'
+    count $? 'nbt-pcap2cap on a terminal'
     [ -n "$took" ] && [ "$(tr '\r' '\n' <"$room/shown" | grep -c ' of [0-9]* bytes')" -le $((2 * took + 3)) ]
-    count $? 'pcap2cap on a terminal: at most twice a second'
+    count $? 'nbt-pcap2cap on a terminal: at most twice a second'
     ended "$here/lib/terminal.py" "$room/output" "$each" --quiet "$here/../examples/office.pcap" >"$room/shown" && [ ! -s "$room/shown" ]
-    count $? 'pcap2cap --quiet on a terminal'
+    count $? 'nbt-pcap2cap --quiet on a terminal'
     ended "$here/lib/terminal.py" "$room/output" sh -c "'$each' '$files/part.pcap' | cat" >"$room/shown" && ! grep -q ' of [0-9]* bytes' "$room/shown"
-    count $? 'pcap2cap on a terminal, into a pipe: no progress among what its reader prints'
+    count $? 'nbt-pcap2cap on a terminal, into a pipe: no progress among what its reader prints'
 }
 
 # A file five times as long, with five times as many streams, takes no more memory: streams that ended are let go. Lines that were kept would
@@ -100,12 +100,12 @@ long() {
 growing() {
     local each small large
     for each in 2000 10000; do "$here/captures/big_pcap.py" $each "$room/$each.pcap"; done
-    small=$(peak pcap2cap "$room/2000.pcap")
-    large=$(peak pcap2cap "$room/10000.pcap")
+    small=$(peak nbt-pcap2cap "$room/2000.pcap")
+    large=$(peak nbt-pcap2cap "$room/10000.pcap")
     nbt show <"$room/output" >"$room/shown" && [ -s "$room/shown" ] && ! grep -q ' refused ' "$room/shown" && ! grep -q 'left' "$room/output"
-    count $? 'pcap2cap: all packets of a long file'
+    count $? 'nbt-pcap2cap: all packets of a long file'
     [ "${small% *}" = 0 ] && [ "${large% *}" = 0 ] && [ "${large#* }" -lt $((${small#* } + 3000)) ]
-    count $? "pcap2cap, peak of memory: $small and $large"
+    count $? "nbt-pcap2cap, peak of memory: $small and $large"
 }
 
 # ---- Packets of the loopback interface.
@@ -125,7 +125,7 @@ thrice() {
 # live TIMES: a packet, a pause, another one, and Ctrl-C; what tshark has to begin and to end is so many times as long.
 live() {
     (sleep $((2 * $1)); printf abc >/dev/udp/127.0.0.1/20137; sleep 4; printf last >/dev/udp/127.0.0.1/138) &
-    timeout --preserve-status -s INT $((5 * $1 + 4)) "$tools/pcap2cap" -i lo --port 137=20137 >"$room/output" 2>"$room/errors"
+    timeout --preserve-status -s INT $((5 * $1 + 4)) "$tools/nbt-pcap2cap" -i lo --port 137=20137 >"$room/output" 2>"$room/errors"
     [ $? -eq 0 ] && [ "$(cat "$room/errors")" = '2 frames, 2 of these ports, 0 left out' ] &&
         sed -E 's/^(# frame [12]) 2[-0-9T:.]+Z 127.0.0.1:[0-9]+/\1/; s/^(138 4)[0-9]+/\1/; 9q' "$room/output" | diff - <(printf '%s\n' \
             '# frame 1 > 127.0.0.1:20137' '137 0 616263' 'tick 1000' 'tick 2000' 'tick 3000' 'tick 4000' '# frame 2 > 127.0.0.1:138' \
@@ -135,7 +135,7 @@ live() {
 # heard TIMES: frames with tags, PPPoE and extension headers, by the capture filter of -i.
 heard() {
     (sleep $((3 * $1)); "$here/captures/live.py" send) &
-    timeout --preserve-status -s INT $((6 * $1)) "$tools/pcap2cap" -i lo --bare --quiet --port 138=20137 2>"$room/errors" |
+    timeout --preserve-status -s INT $((6 * $1)) "$tools/nbt-pcap2cap" -i lo --bare --quiet --port 138=20137 2>"$room/errors" |
         sed -n 's/^138 [0-9]* //p' | diff <("$here/captures/live.py" expected) -
 }
 
@@ -172,19 +172,19 @@ dumped() {
         skip dumped 'tcpdump may not listen to lo here'
     else
         answers "bash -c \"exec tcpdump -i lo --immediate-mode -U -w - udp port 20138 2>'$room/dump' \
-            > >(exec '$tools/pcap2cap' --quiet --port 138=20138 -)\"" show
+            > >(exec '$tools/nbt-pcap2cap' --quiet --port 138=20138 -)\"" show
     fi
 }
 
 waits() {
     cases waits
     if ended dumpcap -i lo -a duration:0 -w "$room/output" 2>"$room/errors"; then
-        thrice 'pcap2cap -i lo' live
-        answers "'$tools/pcap2cap' -i lo --quiet --port 138=20138" "replay 'FRED<20>'"
-        thrice 'pcap2cap -i lo: frames with tags, PPPoE and extension headers' heard
+        thrice 'nbt-pcap2cap -i lo' live
+        answers "'$tools/nbt-pcap2cap' -i lo --quiet --port 138=20138" "replay 'FRED<20>'"
+        thrice 'nbt-pcap2cap -i lo: frames with tags, PPPoE and extension headers' heard
     else
         skipped=$((skipped + 3))
-        echo 'skipped: pcap2cap -i lo, 3 cases (tshark may not listen to lo here)'
+        echo 'skipped: nbt-pcap2cap -i lo, 3 cases (tshark may not listen to lo here)'
     fi
 }
 

@@ -10,8 +10,7 @@ import sys
 
 HERE = os.path.dirname(os.path.abspath(__file__))
 BUILT = os.path.join(HERE, '..', 'crates', 'nbt', 'out', 'nbt')
-TOOLS = {'nbt-look': 'nbt-look', 'nbt-pcap2cap': 'pcap2cap', 'nbt-cap2pcap': 'cap2pcap', 'nbt-parallel': 'nbt-parallel', 'nbt-dask': 'nbt-dask',
-         'nbt-station': 'nbt-station'}
+TOOLS = 'nbt-look', 'nbt-pcap2cap', 'nbt-cap2pcap', 'nbt-parallel', 'nbt-dask', 'nbt-station'
 WRITTEN = 'Completion of nbt and its tools. tools/completions.py wrote it from their help texts.'
 
 COMMAND = re.compile(r'^  ([a-z]+) +(.*)', re.MULTILINE)
@@ -53,7 +52,7 @@ def commands_of(program):
 def tool_options(name):
     """The options of a tool, each with its value, if it takes one."""
     options = {}
-    for option, value in TOOL_OPTION.findall(help_of(os.path.join(HERE, TOOLS[name]))):
+    for option, value in TOOL_OPTION.findall(help_of(os.path.join(HERE, name))):
         options[option] = options.get(option) or value
     options.pop('-h', None)
     options['--help'] = ''

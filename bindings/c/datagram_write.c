@@ -9,15 +9,15 @@ static const uint8_t *bytes(const char *text) { return (const uint8_t *)text; }
 static void show(const uint8_t *packet, size_t length) {
     uint8_t text[512];
     size_t used;
-    if (nbt_show(138, packet, length, text, sizeof text, &used) == NBT_DONE)
+    if (nbt_show(NBT_PORT_DATAGRAMS, packet, length, text, sizeof text, &used) == NBT_DONE)
         fwrite(text, 1, used, stdout);
 }
 
 static void datagram(const char *source, const char *destination, const char *data) {
     uint8_t packets[1024];
     size_t used, at, place = 0, length;
-    if (nbt_datagram_write(0x11, 10, 0x0a000005, 138, bytes(source), strlen(source), bytes(destination), strlen(destination),
-                           bytes(data), strlen(data), 4, packets, sizeof packets, &used, &at) != NBT_DONE)
+    if (nbt_datagram_write(NBT_DATAGRAM_GROUP, 10, 0x0a000005, NBT_PORT_DATAGRAMS, bytes(source), strlen(source),
+                           bytes(destination), strlen(destination), bytes(data), strlen(data), 4, packets, sizeof packets, &used, &at) != NBT_DONE)
         return;
     /* Each packet stands after its length. */
     for (; place < used; place += 2 + length) {
@@ -27,15 +27,17 @@ static void datagram(const char *source, const char *destination, const char *da
 }
 
 int main(void) {
+    const uint8_t *name = bytes("FRED<20>");
+    const uint16_t port = NBT_PORT_DATAGRAMS;
     uint8_t packet[600], type;
     size_t used, at;
     datagram("JOE<00>", "FRED<20>", "hello, FRED");
-    if (nbt_datagram_error(7, 0x0a000009, 138, 0x82, packet, sizeof packet, &used) == NBT_DONE)
+    if (nbt_datagram_error(7, 0x0a000009, port, 0x82, packet, sizeof packet, &used) == NBT_DONE)
         show(packet, used);
-    for (type = 0x14; type <= 0x16; type++)
-        if (nbt_datagram_query(type, 7, 0x0a000005, 138, bytes("FRED<20>"), 8, packet, sizeof packet, &used, &at) == NBT_DONE)
+    for (type = NBT_DATAGRAM_FIND; type <= NBT_DATAGRAM_MISSING; type++)
+        if (nbt_datagram_query(type, 7, 0x0a000005, port, name, 8, packet, sizeof packet, &used, &at) == NBT_DONE)
             show(packet, used);
-    printf("status %u\n", (unsigned)nbt_datagram_query(0x13, 7, 0x0a000005, 138, bytes("FRED<20>"), 8, packet, sizeof packet, &used, &at));
+    printf("status %u\n", (unsigned)nbt_datagram_query(NBT_DATAGRAM_ERROR, 7, 0x0a000005, port, name, 8, packet, sizeof packet, &used, &at));
     return 0;
 }
 /* Prints:

@@ -1,4 +1,4 @@
-/* The spelling of a name, and where a text is no name's; the text of a name, in as much room as it wants. */
+/* The spelling of a name, and where a text is no name's; the text of a name, in as much room as it wants; the sixteen bytes of a name. */
 #include <nbt.h>
 #include <stdio.h>
 #include <stdlib.h>
@@ -30,6 +30,17 @@ static void show(const uint8_t *spelling, size_t length) {
     free(text);
 }
 
+/* The name as it stands in a node status, and its text from there. */
+static void sixteen(const char *text) {
+    uint8_t name[16], again[64];
+    size_t used, at;
+    if (nbt_node_name_bytes((const uint8_t *)text, strlen(text), name, &at) == NBT_DONE
+        && nbt_node_name_text(name, again, sizeof again, &used) == NBT_DONE)
+        printf("%02x %02x .. %02x: %.*s\n", name[0], name[1], name[15], (int)used, (const char *)again);
+    else
+        printf("%s: no sixteen bytes\n", text);
+}
+
 int main(void) {
     static const uint8_t spelling[] = "\x20" "EGFCEFEECACACACACACACACACACACACA" "\7NETBIOS" "\3COM"; /* and a zero byte */
     spell("FRED<20>.NETBIOS.COM");
@@ -37,6 +48,9 @@ int main(void) {
     spell("SIXTEEN-LETTERS-<20>");
     show(spelling, sizeof spelling);
     show(spelling, 40);
+    sixteen("FRED<20>");
+    sixteen("\\01\\02__MSBROWSE__\\02<01>");
+    sixteen("FRED<20>.COM");
     return 0;
 }
 /* Prints:
@@ -45,4 +59,7 @@ int main(void) {
  * SIXTEEN-LETTERS-<20>: status 11
  * FRED<20>.NETBIOS.COM
  * status 20 at 40
+ * 46 52 .. 20: FRED<20>
+ * 01 02 .. 01: \01\02__MSBROWSE__\02<01>
+ * FRED<20>.COM: no sixteen bytes
  */

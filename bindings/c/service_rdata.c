@@ -8,11 +8,11 @@ static void addresses(void) {
     struct nbt_service_address entry;
     size_t at, number;
     uint32_t status;
-    for (number = 0; (status = nbt_service_address(0x20, data, sizeof data, number, &entry, &at)) == NBT_DONE; number++)
+    for (number = 0; (status = nbt_service_address(NBT_TYPE_NB, data, sizeof data, number, &entry, &at)) == NBT_DONE; number++)
         printf("address %08lx, flags %04x\n", (unsigned long)entry.address, entry.flags);
     if (status == NBT_NO_PART)
         printf("%zu of them\n", at);
-    if (nbt_service_address(0x20, data, 11, 0, &entry, &at) == NBT_OTHER_RDATA)
+    if (nbt_service_address(NBT_TYPE_NB, data, 11, 0, &entry, &at) == NBT_OTHER_RDATA)
         printf("no addresses\n");
 }
 
@@ -20,13 +20,15 @@ static void names(void) {
     static const uint8_t data[] = "\2" "FRED            \4\0" "WORKGROUP      \0\x84\0" "\2\0\0\0\0\1";
     struct nbt_service_node node;
     struct nbt_service_unit unit;
-    size_t at, number;
-    for (number = 0; nbt_service_node(0x21, data, sizeof data - 1, number, &node, &at) == NBT_DONE; number++)
-        printf("%.15s %02x, flags %04x\n", (const char *)node.name, node.name[15], node.flags);
-    if (nbt_service_unit(0x21, data, sizeof data - 1, &unit, &at) == NBT_DONE)
+    uint8_t text[64];
+    size_t at, number, used;
+    for (number = 0; nbt_service_node(NBT_TYPE_NBSTAT, data, sizeof data - 1, number, &node, &at) == NBT_DONE; number++)
+        if (nbt_node_name_text(node.name, text, sizeof text, &used) == NBT_DONE)
+            printf("%.*s, flags %04x%s\n", (int)used, (const char *)text, node.flags, node.flags & NBT_FLAG_G ? ", a group" : "");
+    if (nbt_service_unit(NBT_TYPE_NBSTAT, data, sizeof data - 1, &unit, &at) == NBT_DONE)
         printf("unit %02x-%02x-%02x-%02x-%02x-%02x\n", unit.bytes[0], unit.bytes[1], unit.bytes[2], unit.bytes[3], unit.bytes[4],
                unit.bytes[5]);
-    if (nbt_service_unit(0x21, data, sizeof data - 2, &unit, &at) == NBT_TRUNCATED)
+    if (nbt_service_unit(NBT_TYPE_NBSTAT, data, sizeof data - 2, &unit, &at) == NBT_TRUNCATED)
         printf("no unit before %zu\n", at);
 }
 
@@ -50,7 +52,7 @@ static void server(void) {
 static void records(void) {
     struct nbt_service_entry entries[2];
     size_t used, at;
-    if (nbt_service_items(redirect, sizeof redirect - 1, 0, 12, entries, 2, &used, &at) == NBT_DONE)
+    if (nbt_service_items(redirect, sizeof redirect - 1, 0, NBT_FIRST_ITEM, entries, 2, &used, &at) == NBT_DONE)
         printf("%zu record of type %04x, with a server of %u bytes, %zu bytes at %zu\n", used, entries[0].item.type,
                entries[0].server_length, entries[0].item.data_length, entries[0].item.data);
 }
@@ -67,8 +69,8 @@ int main(void) {
  * address 0a000009, flags e000
  * 2 of them
  * no addresses
- * FRED            20, flags 0400
- * WORKGROUP       00, flags 8400
+ * FRED<20>, flags 0400
+ * WORKGROUP<00>, flags 8400, a group
  * unit 02-00-00-00-00-01
  * no unit before 42
  * label ns

@@ -15,7 +15,7 @@ static void header(size_t length) {
     else
         printf("status %u at %zu\n", (unsigned)status, at);
     if (nbt_service_header(registration, length, &header, &at) == NBT_DONE)
-        printf("identifier %04x, opcode %u, %u questions\n", header.identifier, header.word >> 11 & 15, header.questions);
+        printf("identifier %04x, opcode %u, %u questions\n", header.identifier, (header.word & NBT_WORD_OPCODE) >> 11, header.questions);
     else
         printf("a header ends at %zu\n", at);
 }
@@ -23,7 +23,7 @@ static void header(size_t length) {
 static void items(size_t length) {
     struct nbt_service_item item;
     uint8_t text[64];
-    size_t place = 12, at, used;
+    size_t place = NBT_FIRST_ITEM, at, used;
     uint32_t number = 0, status;
     while ((status = nbt_service_item(registration, length, number, place, &item, &at)) == NBT_DONE) {
         if (item.netbios == 1 && nbt_name_text(item.name, item.name_length, text, sizeof text, &used, &at) == NBT_DONE)

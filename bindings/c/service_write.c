@@ -10,7 +10,7 @@ static void show(uint32_t status, const uint8_t *packet, size_t length, size_t a
     size_t shown;
     if (status != NBT_DONE)
         printf("status %u at %zu\n", (unsigned)status, at);
-    else if (nbt_brief(137, packet, length, text, sizeof text, &shown) == NBT_DONE)
+    else if (nbt_brief(NBT_PORT_NAMES, packet, length, text, sizeof text, &shown) == NBT_DONE)
         printf("%02x%02x, %zu bytes: %.*s\n", packet[2], packet[3], length, (int)shown, (const char *)text);
 }
 
@@ -32,10 +32,11 @@ int main(void) {
     static const uint8_t address[] = {0, 0, 10, 0, 0, 6}, server[] = {2, 'N', 'S', 3, 'C', 'O', 'M', 0};
     request(NBT_QUERY, 0, 0);
     request(NBT_REGISTRATION, 300000, 0x0a000005);
-    response(0x8580, 0x0020, 300000, address, sizeof address);
-    response(0x8583, 0x000a, 0, address, 0);
-    response(0x8580, 0x0002, 300000, server, sizeof server);
-    response(0x8580, 0x0002, 300000, server, sizeof server - 1);
+    const uint16_t word = NBT_WORD_R | NBT_WORD_AA | NBT_WORD_RD | NBT_WORD_RA;
+    response(word, NBT_TYPE_NB, 300000, address, sizeof address);
+    response(word | NBT_RCODE_NAM_ERR, NBT_TYPE_NULL, 0, address, 0);
+    response(word, NBT_TYPE_NS, 300000, server, sizeof server);
+    response(word, NBT_TYPE_NS, 300000, server, sizeof server - 1);
     return 0;
 }
 /* Prints:

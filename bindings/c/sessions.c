@@ -71,8 +71,8 @@ int main(void) {
     front(stream + place, length - place);
     front(stream + place, 3);
     front((const uint8_t *)"\x7f\xfe\0\x05", 4);
-    write(0x81);
-    write(0x85);
+    write(NBT_SESSION_REQUEST);
+    write(NBT_SESSION_KEEPALIVE);
     return 0;
 }
 /* Prints:

@@ -22,11 +22,11 @@ int main(void) {
     static const uint8_t query[] = "\0\3\1\x10\0\1\0\0\0\0\0\0" "\x20" "EGFCEFEECACACACACACACACACACACACA" "\0" "\0\x20\0\1";
     static const uint8_t keepalive[] = {0x85, 0, 0, 0};
     static const uint8_t message[] = {0, 0, 0, 2, 'h', 'i', 0x85};
-    show(137, query, sizeof query - 1);
-    show(138, keepalive, sizeof keepalive);
-    show(139, message, sizeof message);
-    object(138, keepalive, sizeof keepalive);
-    object(139, keepalive, sizeof keepalive);
+    show(NBT_PORT_NAMES, query, sizeof query - 1);
+    show(NBT_PORT_DATAGRAMS, keepalive, sizeof keepalive);
+    show(NBT_PORT_SESSIONS, message, sizeof message);
+    object(NBT_PORT_DATAGRAMS, keepalive, sizeof keepalive);
+    object(NBT_PORT_SESSIONS, keepalive, sizeof keepalive);
     return 0;
 }
 /* Prints:

@@ -13,7 +13,8 @@ static uint8_t into[NBT_TAKE_ROOM];
 /* Whether there is a station with these names. */
 static bool create(const char *names, struct nbt_station *station) {
     size_t at = 0;
-    uint32_t status = nbt_station_create(bytes(names), strlen(names), 0x0a000009, 138, NBT_KEYS, UINT32_MAX, &station->at, &at);
+    uint32_t status = nbt_station_create(bytes(names), strlen(names), 0x0a000009, NBT_PORT_DATAGRAMS,
+                                         NBT_KEYS, UINT32_MAX, &station->at, &at);
     if (status != NBT_DONE)
         printf("'%s': status %u at %zu\n", names, (unsigned)status, at);
     return status == NBT_DONE;
@@ -56,16 +57,16 @@ static void look_at_clock(struct nbt_station *station, uint64_t now) {
 static bool listen(struct nbt_station *station) {
     uint8_t packets[512];
     size_t used, at, first;
-    if (nbt_datagram_write(0x10, 7, 0x0a000005, 138, bytes("JOE<00>"), 7, bytes("FRED<20>"), 8, bytes("hello, FRED"), 11, 6,
-                           packets, sizeof packets, &used, &at) != NBT_DONE)
+    if (nbt_datagram_write(NBT_DATAGRAM_UNIQUE, 7, 0x0a000005, NBT_PORT_DATAGRAMS, bytes("JOE<00>"), 7,
+                           bytes("FRED<20>"), 8, bytes("hello, FRED"), 11, 6, packets, sizeof packets, &used, &at) != NBT_DONE)
         return false;
     first = (size_t)packets[0] << 8 | packets[1];
     take(station, packets + 2 + first + 2, used - first - 4);
     know(station);
     take(station, packets + 2, first);
     take(station, packets + 2, first);
-    if (nbt_datagram_write(0x10, 8, 0x0a000005, 138, bytes("JOE<00>"), 7, bytes("ANN<20>"), 7, bytes("hello"), 5, 100,
-                           packets, sizeof packets, &used, &at) != NBT_DONE)
+    if (nbt_datagram_write(NBT_DATAGRAM_UNIQUE, 8, 0x0a000005, NBT_PORT_DATAGRAMS, bytes("JOE<00>"), 7,
+                           bytes("ANN<20>"), 7, bytes("hello"), 5, 100, packets, sizeof packets, &used, &at) != NBT_DONE)
         return false;
     take(station, packets + 2, used - 2);
     take(station, packets + 2, 40);
@@ -99,8 +100,8 @@ static bool join(struct nbt_station *one, struct nbt_station *other) {
     static const size_t rooms[] = {50, 512, 512};
     uint8_t packets[512], table[512], room[512];
     size_t used, at, first, length, i;
-    if (nbt_datagram_write(0x11, 9, 0x0a000005, 138, bytes("JOE<00>"), 7, bytes("FRED<20>"), 8, bytes("hello, FRED"), 11, 6,
-                           packets, sizeof packets, &used, &at) != NBT_DONE)
+    if (nbt_datagram_write(NBT_DATAGRAM_GROUP, 9, 0x0a000005, NBT_PORT_DATAGRAMS, bytes("JOE<00>"), 7,
+                           bytes("FRED<20>"), 8, bytes("hello, FRED"), 11, 6, packets, sizeof packets, &used, &at) != NBT_DONE)
         return false;
     first = (size_t)packets[0] << 8 | packets[1];
     take(one, packets + 2, first);

@@ -2,7 +2,7 @@
  * nbt.d.mts says what each call is given and answers. */
 
 // In the file that is handed out this line is what it names.
-import { CALLS, KEYS, LINES, MOST_KEYS, OUTCOMES, REQUESTS, SECTIONS, SESSION, Status, TAKE_ROOM, TYPE } from './header.mjs';
+import { CALLS, FIRST_ITEM, KEYS, LINES, MOST_KEYS, OUTCOMES, REQUESTS, SECTIONS, SESSION, Status, TAKE_ROOM, TYPE } from './header.mjs';
 
 export { Status };
 const STATUS_NAMES = new Map(Object.entries(Status).map(([name, number]) => [number, name]));
@@ -187,7 +187,7 @@ class Calls {
     service(bytes) {
         this.fill('nbt_service_header', [bytes, FOUND, AT]);
         const [identifier, word, ...counts] = [16, 18, 20, 22, 24, 26].map((at) => this.word(at));
-        const packet = { identifier, word, counts, questions: [], records: [], used: 12, fault: null };
+        const packet = { identifier, word, counts, questions: [], records: [], used: FIRST_ITEM, fault: null };
         const all = counts.reduce((sum, count) => sum + count);
         const room = Math.min(all, MOST_ENTRIES, Math.floor(bytes.length / LEAST_ITEM) + 1) * ENTRY + 8;
         for (let number = 0; number < all && !packet.fault;) {

@@ -68,5 +68,9 @@ export function ipv6(payload, { protocol = 17, headers = [] } = {}) {
     return bytesOf([0x60, 0, 0, 0], number(size, 2), [first, 64], address(5), address(9), ...parts, payload);
 }
 
+export function tcp(flags, { source = 1024, destination = 139, sequence = 0, payload = [] } = {}) {
+    return bytesOf(number(source, 2), number(destination, 2), number(sequence, 4), number(0, 4), [0x50, flags], number(0, 6), payload);
+}
+
 export const udp = (payload, { source = 137, destination = 137, size = payload.length } = {}) =>
     bytesOf(number(source, 2), number(destination, 2), number(size + 8, 2), [0, 0], payload);

@@ -4,7 +4,7 @@ import test from 'node:test';
 import { PayloadReader, framesOf } from '../src/containers/payloads.js';
 import { FRAGMENTS, FRAGMENTS_CUT, FRAGMENTS_MISSING, FRAGMENTS_UNKNOWN } from '../src/made/reasons.js';
 import { slicesOf } from '../src/containers/slices.js';
-import { bytesOf, block, enhanced, ethernet, face, ipv4, ipv6, number, pcap, section, udp } from './building.mjs';
+import { bytesOf, block, enhanced, ethernet, face, ipv4, ipv6, number, pcap, section, tcp, udp } from './building.mjs';
 
 const QUERY = bytesOf([0, 3, 1, 0x10, 0, 1, 0, 0, 0, 0, 0, 0]);
 
@@ -36,7 +36,7 @@ test('a frame of each byte order and unit of time has its payload and its moment
             assert.equal(seen.mark.time, 7_000_000_000n + (nanoseconds ? 5n : 5_000n));
             assert.equal(seen.mark.source, '10.0.0.5:137');
             assert.equal(seen.mark.destination, '10.0.0.9:137');
-            assert.equal(seen.mac, '02:00:00:00:00:09');
+            assert.deepEqual([seen.mac, seen.target], ['02:00:00:00:00:09', '01:02:03:04:05:06']);
             assert.equal(hex(seen.bytes), hex(QUERY));
         }
     }
@@ -89,6 +89,18 @@ test('fragments of IP come together in any order, and one that is missing is lef
     const differing = { bytes: ethernet(ipv4(other.subarray(16, 40), { offset: 16, more: true })) };
     assert.deepEqual(leftOut(pcap([parts[0], parts[1], differing, parts[2]])), [[4, FRAGMENTS]]);
     assert.deepEqual(leftOut(pcap([parts[1]])), [[1, FRAGMENTS_UNKNOWN]]);
+});
+
+test('of a connection its SYNs are given, and what comes after each of them', () => {
+    const [syn, ack, rst] = [2, 16, 4];
+    const sent = (flags, more) => ({ bytes: ethernet(ipv4(tcp(flags, more), { protocol: 6 })) });
+    const back = (flags) => ({ bytes: ethernet(ipv4(tcp(flags, { source: 139, destination: 1024 }), { protocol: 6, source: [10, 0, 0, 9], destination: [10, 0, 0, 5] })) });
+    const given = (...frames) => read(pcap(frames)).seen.flatMap(({ kind, flags, source }) => (kind === 'segment' ? [[flags, source]] : []));
+    const [caller, callee] = ['10.0.0.5:1024', '10.0.0.9:139'];
+    assert.deepEqual(given(sent(syn), sent(syn), back(rst | ack), back(rst | ack)), [[syn, caller], [syn, caller], [rst | ack, callee]]);
+    const data = [1, 5].map((sequence) => sent(ack, { sequence, payload: [0x85, 0, 0, 0] }));
+    assert.deepEqual(given(sent(syn), back(syn | ack), ...data), [[syn, caller], [syn | ack, callee]]);
+    assert.deepEqual(given(...data), [[ack, caller]]);
 });
 
 test('frames of no use are counted by why', () => {

@@ -15,7 +15,6 @@ import { momentOf, since, utc } from '../src/model/times.js';
 import { MOST_LINE } from '../src/made/vocabulary.js';
 import { Advice } from '../src/view/advice.js';
 import { Filter } from '../src/view/filter.js';
-import { outcome, summary } from '../src/view/conflicts.js';
 import { known } from '../src/view/keys.js';
 import { quoted } from '../src/view/shell.js';
 import { conclusion, sidesOf } from '../src/view/sides.js';
@@ -125,18 +124,6 @@ test('the capture of packets: ticks for each second, and in a pause those that d
     assert.equal(commentOf('# a \\ "b" \x01\xff'), '# a \\ "b" \\01\\ff');
 });
 
-test('how conflicts ended, in words', () => {
-    for (const [holder, refused, by, words] of [
-        [['10.0.0.5', '10.0.0.6'], null, null, '10.0.0.5 and 10.0.0.6 claim it, and nobody was refused it.'],
-        [['10.0.0.5'], '10.0.0.6', '10.0.0.1', '10.0.0.5 holds it; 10.0.0.6 was refused it by 10.0.0.1.'],
-        [[], '10.0.0.6', '10.0.0.1', "10.0.0.1 refused it to 10.0.0.6; who holds it isn't in the capture."],
-        [[], null, '10.0.0.1', "10.0.0.1 says that it is in conflict; who holds it isn't in the capture."],
-        [['10.0.0.1', '10.0.0.2'], '10.0.0.3', '10.0.0.1', '10.0.0.1 and 10.0.0.2 hold it; 10.0.0.3 was refused it by 10.0.0.1.'],
-    ]) assert.equal(outcome({ name: 'FRED<20>', holder, refused, by, frame: 4 }), `FRED<20>: ${words}`);
-    assert.deepEqual([[], ['a'], ['a', 'b', 'a']].map((names) => summary(names.map((name) => ({ name })))),
-        ['No name is in conflict.', 'One name is in conflict.', '2 names are in conflict.']);
-});
-
 test('the keys of a list, and what is known of them', () => {
     const whole = keyOf('10.0.0.5:138/0001 whole group JOE<00> FRED<20> 6162');
     assert.deepEqual([whole.state, whole.places, whole.end, known(whole)], ['whole', [[0, 2]], 2, 'all of its 2 bytes']);
@@ -174,12 +161,13 @@ test('the address keeps its place', () => {
 });
 
 test('words of the filter: kinds, ports, and parts of what is said', () => {
-    const texts = ['', '10.0.0.5', 'query response', 'refused'];
+    const texts = ['', '10.0.0.5', 'query response conflict', 'refused'];
     const rows = {
         texts, said: ['answers: FRED<20> is at 10.0.0.9', 'refused: truncated, at byte 2'], port: { at: () => 137 },
         columns: { kinds: { at: (row) => row + 2 }, source: { at: () => 1 }, destination: { at: () => 0 } }, text: () => '',
     };
     const wanted = (words) => [0, 1].filter((row) => new Filter({ words, kind: '', sender: '', reason: '' }).wants(rows, row));
+    assert.deepEqual(['Query', 'conflicts', 'conflict', 'conflicted'].map(wanted), [[0], [0], [0], []]);
     assert.deepEqual(['10.0.0.9', '10.0.0.', '0.0.5', '10.0.0.90', '0.0.0.9'].map(wanted), [[0], [0, 1], [0, 1], [], []]);
     assert.deepEqual([wanted(''), wanted('response'), wanted('fred<20>'), wanted('10.0.0.5 refused'), wanted('138'), wanted('a.c')],
         [[0, 1], [0], [0], [1], [], []]);

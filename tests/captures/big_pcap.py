@@ -1,5 +1,5 @@
 #!/usr/bin/env python3
-"""A pcap file of as many packets as are wanted, for the cost of tools/pcap2cap; always the same for a number.
+"""A pcap file of as many packets as are wanted, for the cost of tools/nbt-pcap2cap; always the same for a number.
 
 Usage: tests/captures/big_pcap.py PACKETS PCAP
 
@@ -7,6 +7,7 @@ Of ten packets some four are name service (UDP 137), three are datagrams (UDP 13
 streams that begin, carry some messages and end, 64 of them at a time. 724,638 packets are 200 MB. The frames are Ethernet,
 1 to 5 ms apart.
 """
+import argparse
 import random
 import sys
 
@@ -19,12 +20,15 @@ LAST_HOST = 250
 
 
 def main():
-    packets, path = int(sys.argv[1]), sys.argv[2]
+    parser = argparse.ArgumentParser()
+    parser.add_argument('packets', metavar='PACKETS', type=int)
+    parser.add_argument('path', metavar='PCAP')
+    given = parser.parse_args()
     rng, network, moment = random.Random('big'), Frames(), 0
     streams = [stream(rng) for _ in range(STREAMS)]
-    with open(path, 'wb') as file:
+    with open(given.path, 'wb') as file:
         file.write(pcap_header())
-        for _ in range(packets):
+        for _ in range(given.packets):
             moment += rng.randrange(1_000, 5_000)
             network.add(moment / 1_000, *packet(rng, streams))
             file.write(pcap_record(*network.frames.pop()))

@@ -1,5 +1,5 @@
 #!/usr/bin/env python3
-"""A pcap file with what a network makes of NetBIOS packets, and what tools/pcap2cap has to print of it.
+"""A pcap file with what a network makes of NetBIOS packets, and what tools/nbt-pcap2cap has to print of it.
 
 Usage: tests/captures/network.py PART PCAP >EXPECTED, where PART is network, of which the summary isn't printed, or one of what networks seldom
 send: tunnels, aggregates, ports_again, fragments or counts

@@ -35,7 +35,8 @@ FILE = re.compile(r'(?<![\w./-])(?:[\w.-]+/)*[\w-]+\.(?:antt|rt|py|sh|md|mjs|mts
 FOLDER = re.compile(r'(?<![\w./*-])(?:crates|docs|tests|tools|bindings|examples|include|man|completions|nb_\w+|nbt)/[\w./-]*\w')
 # What pages name without its being a file here: words for names, and what a command makes.
 ELSEWHERE = {
-    'CALL-what_the_wrong_body_does.edit', 'proofs/SUBJECTLemmas.antt', 'crates/first', 'out/nbt.mjs', 'big.pcap', 'serde_json', 'checked_add',
+    'CALL-what_the_wrong_body_does.edit', 'proofs/SUBJECTLemmas.antt', 'crates/first', 'out/nbt.mjs', 'nbt/header.py', 'header.mjs', 'big.pcap',
+    'serde_json', 'checked_add',
 }
 WITH_NAMES = re.compile(r'\.(?:antt|rt|py|sh|c|h|rs|mjs|mts|txt|edit|1|ts|toml)$|/Makefile$|/tools/[\w-]+$|/archive$|/x86_64$')
 

@@ -11,7 +11,7 @@ LISTED = re.findall(r'^(\w+)\b[^:#\n]*:', (ROOT / 'crates.txt').read_text(encodi
 # `block` is the head of the `impl` that it stands in, or of the trait; `start` its place, and `body` those of its braces.
 Function = collections.namedtuple('Function', 'owner trait name is_public head clauses doc path errors block start body')
 
-QUOTED = re.compile(r'"(?:\\.|[^"\\])*"|\'(?:\\.|[^\'\\])\'')
+QUOTED = re.compile(r'"(?:\\.|[^"\\])*"|\'(?:\\.|[^\'\\])\'', re.DOTALL)
 COMMENT = re.compile(r'//[^\n]*')
 BLOCK = re.compile(r'\b(?:unsafe\s+)?impl\b|\b(?:pub(?:\(\w+\))?\s+)?trait\s+\w+')
 FUNCTION = re.compile(r'\b(?:(pub(?:\(\w+\))?)\s+)?(?:unsafe\s+|extern\s+)*fn\s+(\w+)')

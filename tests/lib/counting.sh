@@ -101,13 +101,10 @@ counted() {
 # counted_by SCRIPT WORD..: those of a script of tests/.
 counted_by() { counted "$here/$1" "${@:2}"; }
 
-# with_tools PROGRAM: $room/bin has the program and the tools that read a pcap, and the one that leads back, by the names that they
-# have once installed. tshark has no user's settings.
+# with_tools PROGRAM: $room/bin has the program and the tools that read a pcap, and the one that leads back. tshark has no user's settings.
 with_tools() {
-    local tool
     mkdir "$room/bin" && ln -s "$(realpath "$1")" "$room/bin/nbt"
-    for tool in pcap2cap cap2pcap; do ln -s "$(realpath "$here/../tools/$tool")" "$room/bin/nbt-$tool"; done
-    ln -s "$(realpath "$here/../tools/nbt-look")" "$room/bin"
+    ln -s "$(realpath "$here/../tools")"/nbt-{look,pcap2cap,cap2pcap} "$room/bin"
     export WIRESHARK_CONFIG_DIR=$room/settings
 }
 

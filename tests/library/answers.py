@@ -65,6 +65,13 @@ def session(packet):
 
 # ---- other calls
 
+def spell(text):
+    """The spelling of a name, whose parts give its text again."""
+    parts, spelling = nbt.split_name(text), nbt.spell(text)
+    assert len(parts.characters) == 15 and nbt.join_name(*parts) == nbt.text(spelling)
+    return spelling
+
+
 def capture_line(text):
     found = nbt.capture_line(text)
     words = {LineKind.BLANK: [], LineKind.TICK: [found.moment], LineKind.PACKET: [found.port, found.moment, digits(found.payload)]}
@@ -128,7 +135,7 @@ CALLS = {
     '138': ('b', said(nbt.Datagram)),
     '139': ('b', said(nbt.SessionPacket, whole=session)),
     'status_text': ('n', STATUS_TEXT),
-    'name_spell': ('t', nbt.spell),
+    'name_spell': ('t', spell),
     'name_text': ('b', nbt.text),
     'show': ('nb', nbt.show),
     'json': ('nb', nbt.json),

@@ -184,6 +184,7 @@ fn response(response: Response<'_>) -> Result<Vec<u8>> {
         Rdata::NodeStatus(found) => of(Answer::NodeStatus(&found.names.collect::<Vec<_>>(), found.unit)),
         Rdata::NameServer(name) => of(Answer::NameServer(&name)),
         Rdata::Other(data) => of(Answer::Other(record.kind(), data)),
+        _ => panic!("a view that this program doesn't know"),
     };
     assert_eq!(again.as_ref(), Ok(&payload));
     again

@@ -101,7 +101,7 @@ static void changed(const struct sample *it, int input) {
 static void no_entries(void) {
     struct bytes it = BYTES("\0\1\0\0\0\1\0\0\0\0\0\0" "\0\0\x20\0\1");
     size_t count = UNSAID, at = UNSAID;
-    expect(nbt_service_items(it.at, it.length, 0, 12, NULL, 0, &count, &at) == NBT_DONE && count == 0 && at == UNSAID, "room for no entry");
+    expect(nbt_service_items(it.at, it.length, 0, NBT_FIRST_ITEM, NULL, 0, &count, &at) == NBT_DONE && count == 0 && at == UNSAID, "room for no entry");
 }
 
 /* A row, with other numbers and inputs: with many where no input is so long that this would take long. */

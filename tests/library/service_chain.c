@@ -8,7 +8,7 @@ enum { AT_ONCE = 1024 };
 int main(void) {
     static uint8_t payload[65535];
     static struct nbt_service_entry entries[AT_ONCE];
-    size_t length = fread(payload, 1, sizeof payload, stdin), used, at, place = 12, servers = 0, i;
+    size_t length = fread(payload, 1, sizeof payload, stdin), used, at, place = NBT_FIRST_ITEM, servers = 0, i;
     uint32_t number = 0, status;
     while ((status = nbt_service_items(payload, length, number, place, entries, AT_ONCE, &used, &at)) == NBT_DONE) {
         for (i = 0; i < used; i++)

@@ -17,7 +17,9 @@ same() {
 # needing TOOL PART COMMAND: a part that is left out where a tool isn't there.
 needing() { if command -v "$1" >/dev/null; then part "$2" "$3"; else lacks "$2" "$1"; fi; }
 
-calls() { grep -oE '\bnbt_[a-z_]+\(' "$top/include/nbt.h" | tr -d '(' | sort -u; }
+# The calls of the library, and beside them what stands in the header alone.
+calls() { grep -oE '^(uint32_t|void) nbt_[a-z_]+' "$top/include/nbt.h" | cut -d ' ' -f 2 | sort; }
+all_of_header() { grep -oE '\bnbt_[a-z_]+\(' "$top/include/nbt.h" | tr -d '(' | sort -u; }
 
 # wanted FILE: what an example prints, which its last comment says.
 wanted() { awk '/^ \*\/$/ { shown = 0 } shown { sub(/^ \* ?/, ""); print } /^\/\* Prints:$/ { shown = 1 }' "$1"; }

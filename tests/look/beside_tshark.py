@@ -1,10 +1,10 @@
 #!/usr/bin/env python3
-"""Captures through tools/nbt-look, beside tools/pcap2cap, and files beside the fields of tshark too.
+"""Captures through tools/nbt-look, beside tools/nbt-pcap2cap, and files beside the fields of tshark too.
 
 Usage: tests/look/beside_tshark.py COUNT [SEED], or .. FILE..
 
 Random captures are those of tests/captures/random_pcap.py, ten in a file; tests/wireshark/random_captures.py says which packets they
-have. The packets are those that pcap2cap has, each with its frame, time, addresses, ports and service; as much is left out for each
+have. The packets are those that nbt-pcap2cap has, each with its frame, time, addresses, ports and service; as much is left out for each
 reason, but for fragments of IP; and what the last lines count adds up.
 
 Of each frame of a file the packets are those that tshark dissects: nbns by the number and the word of its header, nbdgm by its kind and
@@ -51,7 +51,7 @@ def ten(rng):
 
 def first_difference(path, beside=lambda path, objects: ''):
     """What the tool shows of a capture that the others don't find, or the other way round."""
-    done, other = (run(f'{TOOLS}/{tool}', *words, path) for tool, words in (('nbt-look', ['--json']), ('pcap2cap', [])))
+    done, other = (run(f'{TOOLS}/{tool}', *words, path) for tool, words in (('nbt-look', ['--json']), ('nbt-pcap2cap', [])))
     objects = [json.loads(line, object_pairs_hook=members) for line in done.stdout.splitlines()]
     packets = [each for each in objects if 'left_out' not in each and 'cut' not in each]
     given, wanted = collections.Counter(map(head_of, packets)), collections.Counter(PAYLOAD.findall(other.stdout))
@@ -111,7 +111,7 @@ def found_by_tshark(path):
 
 
 def miscounted(summary, objects, packets, other):
-    """What the last lines of the tool count otherwise than its objects do, or pcap2cap does."""
+    """What the last lines of the tool count otherwise than its objects do, or nbt-pcap2cap does."""
     found = re.fullmatch(r'(\d+) frames?, (\d+) packets?, (\d+) malformed, (\d+) left out(?:: (.*))?', summary.splitlines()[0])
     frames, *counts = map(int, found.groups()[:4])
     wanted = [len(packets), sum('refused' in each for each in packets), len(objects) - len(packets)]
@@ -133,7 +133,7 @@ def counted(reasons):
 
 
 def head_of(packet):
-    """The comment that pcap2cap writes of a packet, and its service."""
+    """The comment that nbt-pcap2cap writes of a packet, and its service."""
     source, target = ('[%s]' % each if ':' in each else each for each in (packet['from'], packet['to']))
     ends = '%s:%d > %s:%d' % (source, packet['ports'][0], target, packet['ports'][1])
     return f'# frame {packet["frame"]} {packet["time"] or "-"} {ends}', str(packet['port'])

@@ -9,16 +9,17 @@ A file has cases, each after a line `== WHAT`. A line of packets is `MOMENTS FRO
 that comes back, and ` > WORDS` for further ones. MOMENTS are milliseconds with commas between: one for each of them, or those at which a
 single one is sent again. FROM and TO are addresses, with a port where it isn't the service's own. WORDS are
 
-  syn, ack        a SYN, or a SYN with ACK, of the session service
+  syn, ack, rst   a SYN, a SYN with ACK, or a reset of the session service
   skip N          N bytes of a stream that aren't in the capture; below 0 it goes back, by 100,000 more before a SYN that comes again
-  ad86 ..         a response with this flag word to the line's first packet: the kind of its record where it isn't 0020, its TTL and its RDATA
+  ad86 ..         a response with this flag word to the line's first packet: the kind of its record where it isn't 0020, its TTL and its RDATA;
+                  or NAME=FLAGS,.. UNIT, a node status
   others          those of `nbt build`: a packet each of what it prints
 
 and before them an option is cut=N, a snap length; mac=DIGITS, the last two of the sender's MAC; patch=AT:HEX, other bytes of the payload,
 from AT on; front=N, so many bytes of the payload alone; by=ADDRESS, another sender; or pick=N,.., at each moment the N-th packet alone. A
-row of a table, which is named as --summary has it, is `TABLE: CELL | CELL ..`; a cell is COLUMN=TEXT, or the text of the first column,
-and after a last ` |` the row goes on. Tables that aren't there must not be shown, but for those of what is left out and, unless it is
-there, of stations.
+row of a table, which is named as --summary has it, is `TABLE: CELLS | COLUMN=TEXT ..`: the cells of the first columns, two spaces between them,
+a mark before the first one, and those of others; more rows follow behind `; `. `note: TEXT` stands below the tables. Tables and notes that aren't there must not be shown, but
+for what is left out and, unless it is there, stations.
 """
 import functools
 import glob
@@ -41,22 +42,23 @@ from nbt_look import arguments, frames, looking, summary  # noqa: F401: what the
 from nbt_pcap import tshark
 from nbt_pcap.frames import COUNTED
 from parts import tally
-from wire import ACK, SYN, Frames, pcap, written
+from wire import ACK, RST, SYN, Frames, pcap, written
 
 TOOL = f'{TOOLS}/nbt-look'
 PACKETS = re.compile(r'([\d.,]+) +(\S+) (> \S+) +(.*)')
 STEPS = re.compile(r' +([<>]) ')
 OPTION = re.compile(r'(cut|mac|patch|front|pick|by)=(\S+) +')
 FLAG_WORD = re.compile('[0-9a-f]{4}')
-BETWEEN = ' | '
-TITLES = {'queries': 'queries without an answer', 'failed': 'failed datagrams', 'left-out': 'left out'}
+COUNTS = re.compile('[0-9]+ frames?')
+SEGMENTS = {'syn': SYN, 'ack': SYN | ACK, 'rst': RST | ACK}
+TITLES = {'queries': 'queries that found nothing', 'failed': 'failed datagrams', 'left-out': 'left out'}
 # What is shown of nearly each capture, or counted elsewhere.
 BESIDES = {'stations', 'left out'}
 
 
 @dataclass
 class Case:
-    """A capture, and by its title each table that it has: of each row the cells that are compared, where '' is the first column."""
+    """A capture, and by its title each table that it has: of each row the cells that are compared, by their columns, and the first ones by number."""
 
     file: str
     what: str
@@ -69,17 +71,22 @@ def cases():
     found = []
     for path in sorted(glob.glob(f'{HERE}/../summary/*.txt')):
         with open(path, encoding='utf-8') as file:
-            lines = file.read().replace(' |\n', BETWEEN).splitlines()
+            lines = file.read().splitlines()
         for line in lines:
             if line.startswith('== '):
                 found.append(Case(os.path.basename(path), line[3:]))
             elif line[:1].isdigit():
                 found[-1].packets.append(line)
             elif line and not line.startswith('#'):
-                name, _, cells = line.partition(': ')
-                parted = (each.rpartition('=') for each in cells.split(BETWEEN))
-                found[-1].tables.setdefault(TITLES.get(name, name), []).append({column: text for column, _, text in parted})
+                name, _, text = line.partition(': ')
+                found[-1].tables.setdefault(TITLES.get(name, name), []).extend(map(row_of, text.split('; ')))
     return found
+
+
+def row_of(text):
+    """The cells of a row."""
+    cells, *others = text.split(' | ')
+    return dict(enumerate(cells.split('  '))) | {column: cell for column, _, cell in (each.rpartition('=') for each in others)}
 
 
 class Network(Frames):
@@ -100,7 +107,7 @@ class Network(Frames):
             options, words = said[number % len(said)]
             ends = (source, target[2:]) if ways[number % len(said)] == '>' else (options.get('by', target[2:]), source)
             if FLAG_WORD.fullmatch(words[0]):
-                word, *kind, lifetime, data = words
+                word, *kind, lifetime, data = words if '=' not in words[1] else (words[0], '0021', '0', status_of(*words[1:]))
                 words = ['response', asked[0], word, asked[1], *(kind or ['0020']), lifetime, data]
             for port, payload, flags in self.payloads(words, options, ends, number):
                 snap = int(options['cut']) if 'cut' in options else None
@@ -110,8 +117,8 @@ class Network(Frames):
     def payloads(self, words, options, ends, number):
         """Port, payload and flags of TCP of each packet; `number` is that of its moment."""
         verb = words[0]
-        if verb in ('syn', 'ack'):
-            return [(139, b'', SYN if verb == 'syn' else SYN | ACK)]
+        if verb in SEGMENTS:
+            return [(139, b'', SEGMENTS[verb])]
         if verb == 'skip':
             key = tuple(ends_of(each, 139) for each in ends)
             self.due[key] = self.due.get(key, 1_000) + int(words[1])
@@ -131,6 +138,12 @@ class Network(Frames):
 def built(program, *words):
     """The lines of `nbt build`."""
     return subprocess.run([program, 'build', *words], stdout=subprocess.PIPE, check=True, text=True).stdout.splitlines()
+
+
+def status_of(names, unit):
+    """RDATA of a node status."""
+    listed = [re.fullmatch('(.+)<(..)>=(....)', each) for each in names.split(',')]
+    return f'{len(listed):02x}' + ''.join(each[1].ljust(15).encode().hex() + each[2] + each[3] for each in listed) + unit
 
 
 def options_of(text):
@@ -156,20 +169,22 @@ def frames_of(case, program):
 
 
 def tables_in(text):
-    """The tables of a summary: of each title the rows."""
-    found = {}
-    for block in text.split('\n\n'):
+    """The tables of a summary, of each title the rows, and the notes."""
+    *blocks, last = text.split('\n\n')
+    notes = [{0: each} for each in last.splitlines() if not COUNTS.match(each)]
+    found = {'note': notes} if notes else {}
+    for block in blocks:
         title, *lines = block.splitlines()
         if lines and lines[0].startswith('  '):
-            starts = [match.start() for match in re.finditer(r'(?<=  )\S', lines[0])]
-            columns, *rows = ([line[start:end].strip() for start, end in zip(starts, [*starts[1:], None])] for line in lines)
+            _, *starts = (match.start() for match in re.finditer(r'(?<=  )\S', lines[0]))
+            columns, *rows = ([line[start:end].strip() for start, end in zip([0, *starts], [*starts, None])] for line in lines)
             found[title] = rows_of(columns, rows)
     return found
 
 
 def rows_of(columns, rows):
-    """Rows of texts by their columns."""
-    return [{'': row[0], **dict(zip(columns, row))} for row in rows]
+    """Rows of texts by their columns, and by number."""
+    return [dict(enumerate(row)) | dict(zip(columns, row)) for row in rows]
 
 
 def difference(case, shown):

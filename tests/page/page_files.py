@@ -36,6 +36,17 @@ def odd():
     return random_pcap.pcap_of(random.Random('page-0'), ())
 
 
+def backwards(data):
+    """The packets of a capture of raw IP in the reverse order, in frames as Linux cooks them."""
+    records, at = [], len(PCAP)
+    while at < len(data):
+        packet = data[at + 16:][:struct.unpack_from('<L', data, at + 8)[0]]
+        frame = struct.pack('>HHH6s2xH', 0, 1, 6, bytes((2, 0, 0, 0, 0, packet[15])), 0x800) + packet
+        records.insert(0, data[at:at + 8] + struct.pack('<LL', len(frame), len(frame)) + frame)
+        at += 16 + len(packet)
+    return pcap_header(113) + b''.join(records)
+
+
 def markup(program):
     """Packets whose names and comments would be elements, if they were read as HTML."""
     sent = program.build('group', '10.0.0.5:138/0001', r'\3cimg\20src=x\3e<00>', 'FRED<20>', '3c696d67207372633d783e', '20')

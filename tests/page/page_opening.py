@@ -100,7 +100,7 @@ class OpeningCases:
         frames = [(0, ethernet(inner)), *2 * [(0, ethernet(ip(47, b'\0\0\x08\0' + inner)))], *6 * [(1, radio)]]
         data = section() + interface() + interface(127) + b''.join(timed(face, START, each, len(each)) for face, each in frames)
         self.opened(self.path('unread.pcapng', data))
-        equal(self.browser.text('counts'), '1 packet · 0 names · 0 malformed · 0 left out · 8 not read here', 'the counts of such a capture')
+        equal(self.browser.text('counts'), '1 packet · 1 name · 0 malformed · 0 left out · 8 not read here', 'the counts of such a capture')
         equal(self.browser.text('live'), 'unread.pcapng: 1 packet, 0 malformed, 0 left out, 8 not read here', 'the footer of it')
         line = "8 frames of what this page doesn't read: GRE, link type radiotap (127). nbt-look reads them."
         equal(self.browser.texts('#unread'), [line], 'the line above its rows')

@@ -62,10 +62,10 @@ class PacketCases:
         """Where no row fits it is said what the box takes; a filter of Wireshark leads to words; conflicts are found by that word."""
         self.opened('life.pcap')
         frames = lambda: [row[0] for row in self.browser.rows()]
-        for words in ('conflict', 'Conflict'):
+        for words in ('conflict', 'Conflicts'):
             self.browser.filter(words)
-            self.browser.wait(lambda: len(frames()) == 3)
-            equal(frames(), ['2', '3', '22'], f'the packets of {words}')
+            self.browser.wait(lambda: len(frames()) == 2)
+            equal(frames(), ['3', '22'], f'the packets of {words}')
             check(not self.browser.id('hint').is_displayed(), f'no hint at {words}')
         self.browser.filter('nobody has this')
         equal(self.browser.text('hint').split(' words', 1)[0], 'No row fits “nobody has this”. The box takes', 'no row fits')

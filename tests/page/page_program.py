@@ -31,7 +31,7 @@ class Program:
     def __init__(self, program, top, folder):
         self.top, self.folder = top, folder
         os.mkdir(f'{folder}/bin')
-        for name, path in (('nbt', program), ('nbt-look', f'{top}/tools/nbt-look'), ('nbt-pcap2cap', f'{top}/tools/pcap2cap')):
+        for name, path in (('nbt', program), ('nbt-look', f'{top}/tools/nbt-look'), ('nbt-pcap2cap', f'{top}/tools/nbt-pcap2cap')):
             os.symlink(path, f'{folder}/bin/{name}')
         os.chmod(written(f'{folder}/bin/tshark', TSHARK.replace('REAL', shutil.which('tshark')).encode()), 0o755)
         self.env = {**os.environ, 'PATH': f"{folder}/bin:{os.environ['PATH']}", 'WIRESHARK_CONFIG_DIR': f'{folder}/settings'}
@@ -56,14 +56,14 @@ class Program:
     def kinds(self, name):
         """How many packets of a file are of each kind of nbt-look --kind."""
         packets = map(json.loads, self.lines(f'nbt-look --json --quiet {name}'))
-        kinds = collections.Counter(kind for packet in packets for kind in kinds_of(packet['port'], packet))
-        kinds['conflict'] = len(self.listed(name, '--kind conflict'))
-        return kinds
+        return collections.Counter(kind for packet in packets for kind in kinds_of(packet['port'], packet))
 
     def summary(self, name):
-        """The tables of nbt-look: by title rows of cells, the head first."""
+        """The tables of nbt-look, and what it says below them: by title the names of columns, and rows of cells."""
         tables = tables_in(self.bytes(f'nbt-look --summary {name}').decode())
-        return {title: [list(rows[0])[1:], *(list(row.values())[1:] for row in rows)] for title, rows in tables.items()}
+        of_kind = lambda kind, row: [each for each in row.items() if isinstance(each[0], kind)]
+        return {title: [{column for column, _ in of_kind(str, rows[0])}, *([cell for _, cell in of_kind(int, row)] for row in rows)]
+                for title, rows in tables.items()}
 
     def told(self, line):
         """What a packet of a capture says, as an object."""

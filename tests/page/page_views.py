@@ -1,4 +1,5 @@
 """The parts of tests/page.py on the other views: names, reassembly, two taps, what is exported, and the view that the address has."""
+import page_files
 from parts import check, equal
 
 # What is known of a datagram whose first bytes came alone.
@@ -9,28 +10,29 @@ class ViewCases:
     """A part of Cases."""
 
     def names(self):
-        """The tables are those of nbt-look --summary."""
-        for name in ('office.pcap', 'life.pcap', 'samba.pcap'):
+        """The tables are those of nbt-look --summary, with its marks and notes."""
+        self.path('backwards.pcap', page_files.backwards(self.program.bytes('cat office.pcap')))
+        for name in ('office.pcap', 'life.pcap', 'backwards.pcap', 'samba.pcap'):
             self.opened(name)
             # Those of datagrams come later.
             self.browser.view('names', lambda: self.browser.tables() and self.browser.id('view-names').get_attribute('aria-busy') is None)
-            shown, wanted = self.browser.tables(), self.program.summary(name)
+            shown, wanted = {title: [set(head), *rows] for title, (head, *rows) in self.browser.tables().items()}, self.program.summary(name)
+            if notes := self.browser.texts('#view-names section ~ .quiet'):
+                shown['note'] = [set(), *([each] for each in notes)]
             for title in shown | wanted:
                 equal(shown.get(title), wanted.get(title), f'{name}, {title}')
-        self.losers()
+        self.marks()
 
-    def losers(self):
-        """Who holds a name and who was refused it is said, and has another color."""
-        equal(self.browser.text('to-names'), 'Names 3', 'how many conflicts there are')
-        equal(self.browser.texts('#view-names .lead'), ['3 names are in conflict.'], 'how many names are in conflict')
-        frames = {'FRED<20>': 150, 'FRED<03>': 153, 'FRED<00>': 156}
-        equal(self.browser.texts('.outcomes li'), [f'{name}: 10.0.0.6 holds it; 10.0.0.5 was refused it. frame {frame}' for name, frame in frames.items()],
-              'how the conflicts ended')
-        colors = self.browser.run('return Array.from(document.querySelectorAll("#view-names, #view-names td[data-column=address]"),'
-                                  '(each) => getComputedStyle(each).color)')
-        equal([each == colors[0] for each in colors[1:8]], [False, True, False, True, False, True, True],
-              'the colors of losers, of holders, and of a name that is in no conflict')
-        self.browser.all('.outcomes a')[1].click()
+    def marks(self):
+        """What stands before a row stands out, and says what it is for; frames lead to their packets; refusals are counted."""
+        equal(self.browser.text('to-names'), 'Names 3', 'how many rows of refusals there are')
+        equal(self.browser.texts('#view-names .lead'), ['There are refusals of 3 names.'], 'of how many names there are refusals')
+        marks = self.browser.run('return Array.from(document.querySelectorAll("#view-names .mark"), (each) =>'
+                                 '[each.parentNode.textContent, each.title, getComputedStyle(each).color !== getComputedStyle(document.body).color])')
+        title = "The latest word isn't that the address has the name"
+        equal(marks, [[f'! {name}', title, True] for name in ('FRED<00>', 'FRED<03>', 'FRED<20>')], 'the marks')
+        equal(self.browser.texts('#view-names [data-column=answered] a'), ['frame 162'], 'the frame in what came of a query')
+        self.browser.all('#view-names a[href$="frame=153"]')[0].click()
         self.browser.shows('Frame 153')
 
     def deliveries(self):

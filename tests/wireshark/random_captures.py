@@ -1,13 +1,13 @@
 #!/usr/bin/env python3
-"""Random captures through tools/pcap2cap, which has tshark read them, beside the page's own reading of files, in node.
+"""Random captures through tools/nbt-pcap2cap, which has tshark read them, beside the page's own reading of files, in node.
 
 Usage: tests/wireshark/random_captures.py COUNT [SEED]
 
 Each has datagrams, fragments of IP and TCP streams as networks deliver them, below VLAN tags, with snap lengths, as pcap or pcapng, in
 either byte order; some of them cooked as Linux does, in both versions, or from a loopback; two of three have sections, each as one more capture,
 which one start of tshark reads. What both print has to be the same, byte for byte: payloads with their moments, frames and ends, comments on what is
-left out, ticks, and the summary with its counts by reason. The page reads no tunnels: of one capture in three pcap2cap has to print the same with
-tunnels around its packets and without. The last line is 'N passed, M failed'; a capture that fails is kept in the folder of temporary files, and named.
+left out, ticks, and the summary with its counts by reason. The page reads no tunnels: of one capture in three nbt-pcap2cap has to print the same
+with tunnels around its packets and without. The last line is 'N passed, M failed'; a capture that fails is kept in the folder of temporary files, and named.
 """
 import os
 import random
@@ -24,7 +24,7 @@ from seeds import compared, first_unlike
 from wire import written
 
 TOP = os.path.realpath(f'{sys.path[0]}/../..')
-TOOL = [f'{TOP}/tools/pcap2cap']
+TOOL = [f'{TOP}/tools/nbt-pcap2cap']
 SECTIONS = (1, 14, 14)
 
 
@@ -55,7 +55,7 @@ def unlike(given, wanted):
 
 
 def counts(summary):
-    """What a summary counts; the order of reasons with the same count is left to each. pcap2cap says in words that there is no frame."""
+    """What a summary counts; the order of reasons with the same count is left to each. nbt-pcap2cap says in words that there is no frame."""
     if summary.endswith('it has no frame\n'):
         summary = '0 frames, 0 of these ports, 0 left out'
     return sorted(set(re.split(': |, ', summary.strip())))

@@ -5,11 +5,11 @@ import json
 BINARY = {ast.Add: '+', ast.Sub: '-', ast.Mult: '*', ast.Pow: '**', ast.BitAnd: '&', ast.BitOr: '|', ast.LShift: '<<', ast.RShift: '>>'}
 ORDER = {ast.Lt: '<', ast.LtE: '<=', ast.Gt: '>', ast.GtE: '>=', ast.Is: '===', ast.IsNot: '!=='}
 # Methods that JavaScript has by another name, and those that python.js has as functions.
-RENAMED = {'append': 'push', 'startswith': 'startsWith', 'endswith': 'endsWith'}
+RENAMED = {'append': 'push', 'startswith': 'startsWith'}
 METHODS = {'clear', 'extend', 'get', 'hex', 'insert', 'isdigit', 'items', 'partition', 'pop', 'removeprefix', 'rpartition', 'setdefault', 'strip', 'values'}
 AS_OTHERS = {'bool': 'is', 'tuple': 'list'}
 # Calls that answer true or false.
-TRUTHS = {'all', 'any', 'bool', 'isdigit', 'isinstance', 'startswith', 'endswith'}
+TRUTHS = {'all', 'any', 'bool', 'isdigit', 'isinstance', 'startswith'}
 BUILT_IN = {'all', 'any', 'bool', 'bytearray', 'int', 'iter', 'len', 'list', 'max', 'min', 'next', 'sorted', 'str', 'sum', 'tuple', 'zip'}
 
 
@@ -121,8 +121,6 @@ class Expressions:
             if isinstance(left, ast.Constant) or isinstance(right, ast.Constant):
                 return f"({one} {'===' if isinstance(op, ast.Eq) else '!=='} {other})"
             return '!' * isinstance(op, ast.NotEq) + self.helper('same', one, other)
-        if isinstance(left, ast.Tuple):
-            one, other = self.helper('order', one, other), '0'
         return f'({one} {ORDER[type(op)]} {other})'
 
     def of_ifexp(self, node):

@@ -8,7 +8,7 @@ HEAP = 'heap_give_back', 'heap_limit', 'heap_take'
 LISTS = {'LINES': ('line_kind', str.lower), 'OUTCOMES': ('outcome', str), 'SECTIONS': ('section', str.lower),
          'REQUESTS': ('request', lambda name: name[0].lower() + name.title().replace('_', '')[1:])}
 NUMBERS = {'Status': 'status', 'TYPE': 'record_type', 'SESSION': 'session_type'}
-LIMITS = 'KEYS', 'MOST_KEYS', 'TAKE_ROOM'
+LIMITS = 'FIRST_ITEM', 'KEYS', 'MOST_KEYS', 'TAKE_ROOM'
 TYPES = {'Section': 'SECTIONS', 'RequestKind': 'REQUESTS', 'TakenOutcome': 'OUTCOMES'}
 
 

@@ -2,7 +2,8 @@
 from .header import CONSTANTS, MADE, camel, in_lines
 
 IN_PYTHON = {'status': 'Status', 'line_kind': 'LineKind', 'operation': 'Operation', 'result_code': 'ResultCode', 'node_type': 'NodeType',
-             'datagram_type': 'DatagramType', 'session_type': 'SessionType', 'request': 'Request', 'outcome': 'Outcome'}
+             'datagram_type': 'DatagramType', 'session_type': 'SessionType', 'request': 'Request', 'outcome': 'Outcome', 'record_type': 'RecordType',
+             'word': 'HeaderFlag', 'name_flag': 'NameFlag', 'datagram_flag': 'DatagramFlag'}
 PYTHON_SAYS = {'status': 'Why a call did nothing; include/nbt.h says when each comes.', 'request': 'What a request asks for.'}
 PACKED = 'service_header', 'service_entry'
 # The numbers of packets that the tools read.
@@ -43,12 +44,12 @@ def python_file(header):
     for enum, name in IN_PYTHON.items():
         lines = [f'    {each.name} = {each.digits}' for each in header.enums[enum]]
         said = PYTHON_SAYS.get(enum) or header.titles[enum]
-        parts.append('\n'.join([f'class {name}(enum.IntEnum):', f'    """{said}"""', '', *lines]))
+        parts.append('\n'.join([f'class {name}(enum.Int{"Flag" if name.endswith("Flag") else "Enum"}):', f'    """{said}"""', '', *lines]))
     numbers = in_lines([f'{it},' for it in sorted(header.placed)], '    ', 120)
     constants = [together((each.name, each.digits) for each in header.enums[enum]) for enum in CONSTANTS]
     limits = [f'{name} = {number:_}' for name, number in header.limits.items()]
     parts.append('\n'.join(['# The statuses that say where the fault stands.', f'PLACED = frozenset(Status(it) for it in (\n{numbers}\n))',
-                            '# Numbers of packets.', *constants, '# Limits.', *limits]))
+                            '# Numbers of packets, for calculations.', *constants, '# Limits.', *limits]))
     # Calls that are given a type fill in parts of RDATA.
     packed = {*PACKED, *(name.removeprefix('nbt_') for _, name, given in header.calls if given.startswith('uint16_t type, '))}
     for name, fields in header.structures.items():

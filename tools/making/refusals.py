@@ -9,7 +9,7 @@ TEXT = r'"((?:[^"\\]|\\.)*)"'
 ADVICE = re.compile(rf'pub const (\w+): &str =\s*{TEXT};', re.DOTALL)
 REFUSAL = re.compile(rf'words: {TEXT},\s*number: {TEXT},\s*by: &(?:EACH|\[(.*?)\]),\s*advice: (?:{TEXT}|(\w+)),', re.DOTALL)
 # In the manual page, and in docs/FORMATS.md, what stands between.
-LIST = re.compile(r'(?<=prints such a line\.\n\.Bl -tag -width Ds\n).*?(?=\.El\n)', re.DOTALL)
+LIST = re.compile(r'(?<=which a program printed it\.\n\.Bl -tag -width Ds\n).*?(?=\.El\n)', re.DOTALL)
 OF_BUILD = re.compile(r'(?<=^`nbt build` may say )[^;]*(?=;)', re.MULTILINE)
 WIDTH = 79
 

@@ -4,7 +4,7 @@ import re
 from .header import ALIKE, MADE, camel, in_lines, plain
 
 # By its module and its name: of which enumeration a type is, which of the members it has, what it is, what serde calls its members, and what
-# a number is that none has.
+# a number is that none has, which may get a name then.
 IN_RUST = {
     ('service', 'Operation'): ('operation', (), '', 'snake_case', 'number'),
     ('service', 'ResultCode'): ('result_code', (), '', '', 'number'),
@@ -77,7 +77,7 @@ impl Status {{
 def rust_enum(header, place, enum, names, says, case, missing):
     """A type of an enumeration, with its numbers and words."""
     title = says or header.titles[enum].partition('. ')[0].removesuffix('.') + '.'
-    lines = [f'/// {title}', *[SERDE % f'rename_all = "{case}"'] * bool(case), f'{place[1]} {{']
+    lines = [f'/// {title}', *['#[non_exhaustive]'] * (missing == 'number'), *[SERDE % f'rename_all = "{case}"'] * bool(case), f'{place[1]} {{']
     for it in header.enums[enum]:
         if not names or it.name in names:
             word = word_of(enum, it.name)

@@ -14,8 +14,8 @@ from .page import page_file
 INDENT = '    '
 # By the folder below tools, the modules; what they import of others stands in page/src/model.
 MODULES = {'nbt_pcap': ('direction', 'reasons', 'session', 'streams', 'ticks'),
-           'nbt_look': ('rooms', 'owners', 'parts', 'messages', 'waiting', 'tenures', 'claims', 'conflicts', 'names', 'queries', 'stations', 'sessions',
-                        'kinds', 'places', 'pieces', 'datagrams', 'seen', 'shown', 'counts')}
+           'nbt_look': ('rooms', 'words', 'said', 'names', 'queries', 'stations', 'sessions', 'kinds', 'places', 'pieces', 'datagrams', 'seen',
+                        'shown')}
 PLACE = 'page/src/made'
 KNOWN = {'vocabulary', *(name for names in MODULES.values() for name in names)}
 
@@ -148,11 +148,6 @@ class Script:
         """Puts a value to a target; answers what it may be read by then."""
         if isinstance(target, ast.Subscript) and not isinstance(target.slice, ast.Constant):
             self.put(depth, self.expressions.helper('put', self.expressions.of(target.value), self.expressions.of(target.slice), value) + ';')
-        elif isinstance(target, ast.Tuple) and any(isinstance(each, ast.Subscript) for each in target.elts):
-            parts = [f'part{at}' for at in range(len(target.elts))]
-            self.put(depth, f"const [{', '.join(parts)}] = {value};")
-            for each, part in zip(target.elts, parts):
-                self.assigned(each, part, depth)
         else:
             self.put(depth, f'{self.expressions.target(target)} = {value};')
             return self.expressions.target(target)

@@ -1,7 +1,7 @@
 """What stands of nbt.h within other files, as limits in pages, found by what stands around it."""
 OF_TABLES = ((r'(How many keys the table holds at most, 1 to )\d+(\.\nWithout it they are )\d+', '{MOST_KEYS}', '{KEYS}'),
              (r'(How many keys of one source address the table holds at most, 1 to )\d+', '{MOST_KEYS}'))
-OF_NAMES = (r"(more than a station's )\d+", '{MOST_NAMES}'),
+OF_NAMES = (r"(a station has at most )\d+", '{MOST_NAMES}'),
 OF_NBT = (*OF_TABLES, (r'(How many bytes the capture may have, 1 to \d+\.\nWithout it they are )\d+', '{INPUT}'))
 OF_HEADER = ((r'(\* NBT_BAD_LINE for any other line, and for one of more than )[\d,]+', '{MOST_LINE:,}'),
              (r'(Of a payload of at most )[\d,]+', '{LINE_ROOM:,}'),
@@ -12,7 +12,7 @@ OF_PAGES = {
     'README.md': ((r'(a table has at most )[\d,]+(?= keys)', '{MOST_KEYS:,}'),),
     'docs/ATTACKS.md': ((r'(`--input-limit`; )[\d,]+( of a line, )[\d,]+(?= held)', '{MOST_LINE:,}', '{MOST_HELD:,}'),
                         (r'(`nbt replay --keys )\d+', '{MOST_KEYS}')),
-    'docs/CALLING.md': ((r'(into a room of at most )[\d,]+', '{MOST_HELD:,}'),),
+    'docs/CALLING.md': ((r'(into a room of at most )[\d,]+', '{MOST_HELD:,}'), *((rf'(^- `{it}`: ).*', f'{{{it}}}') for it in ('Operation', 'ResultCode'))),
     'docs/CAPTURES.md': ((r'(nbt save --keys )\d+', '{MOST_KEYS}'),),
     'docs/DECISIONS.md': ((r'(longer than )[\d,]+(?= bytes, or with a line feed inside)', '{MOST_LINE:,}'),),
     'docs/FORMATS.md': ((r'(N of `--keys` is how many keys a table holds, 1 to )[\d,]+(, and )[\d,]+(?= where)', '{MOST_KEYS:,}', '{KEYS:,}'),

@@ -1,15 +1,19 @@
 """The command line of nbt-look."""
 import argparse
+import difflib
 import ipaddress
+import os
 
 from nbt_pcap import arguments
 from nbt_pcap.process import NAME, Stopped
 
 from .filters import advice
-from .vocabulary import KINDS, TABLES
+from .vocabulary import KIND_SAME, KINDS, TABLES
 
 USAGE = 'usage: %s FILE.., or -, --live or -i INTERFACE in place of FILE; --help says more' % NAME
 SUMMARY = '--summary='
+# Other words for tables.
+TABLE_MEANT = {'conflict': 'refusals', 'conflicts': 'refusals'}
 # Options of tshark, and what stands for them here.
 OF_TSHARK = {
     '-Y': '--name, --host, --port and --kind choose packets', '-R': '--name, --host, --port and --kind choose packets',
@@ -65,6 +69,8 @@ def judge(options):
     options.live = options.live or options.interface is not None
     if options.help or options.version:
         return
+    if options.summary:
+        judge_words(options.files)
     judge_files(options)
     if options.frame is not None and (options.summary or options.live):
         raise Stopped(2, '--frame stands without --summary and a network; --help says more')
@@ -113,17 +119,26 @@ def port(text):
 
 def tables_in(text):
     """Tables of the summary, with commas between them, by their titles."""
-    wanted = text.split(',')
-    for each in wanted:
+    found = [TABLE_MEANT.get(each, each) for each in text.split(',')]
+    for each in found:
         if each not in TABLES:
-            raise Stopped(2, 'argument --summary: %s is no table; they are %s; --help says more' % (each or 'nothing', ', '.join(TABLES)))
-    return [TABLES[each][0] for each in wanted]
+            near = difflib.get_close_matches(each, TABLES, 1)
+            why = ': perhaps %s' % near[0] if near else '; they are ' + ', '.join(TABLES)
+            raise Stopped(2, 'argument --summary: %s is no table%s; --help says more' % (each or 'nothing', why))
+    return [TABLES[each][0] for each in found]
+
+
+def judge_words(files):
+    """Refuses the names of tables that stand where files do."""
+    for each in files:
+        if not os.path.lexists(each) and all(word in TABLES or word in TABLE_MEANT for word in each.split(',')):
+            raise Stopped(2, f'there is no file {each}; tables stand in the word of their option, {SUMMARY}{each}; --help says more')
 
 
 def kinds_in(text):
     """Kinds with commas between them."""
-    wanted = text.split(',')
-    for each in wanted:
+    found = [KIND_SAME.get(each, each) for each in text.split(',')]
+    for each in found:
         if each not in KINDS:
             raise argparse.ArgumentTypeError(advice(each))
-    return wanted
+    return found

@@ -33,9 +33,6 @@ class Datagrams:
     def rows(self, _times):
         return [each for _, each in sorted(self.room.entries.items(), key=lambda pair: pair[0])]
 
-    def others(self):
-        return self.room.others
-
 
 class Failed:
     """The datagrams that didn't become whole: of each its key, what is known of it, and its frames."""
@@ -70,9 +67,6 @@ class Failed:
     def rows(self, _times):
         self.list_all()
         return sorted(self.room.entries.values(), key=lambda row: row['frames'][0])
-
-    def others(self):
-        return self.room.others
 
 
 def runs_missing(places, end):

@@ -12,31 +12,31 @@ class Filter:
         self.names = {each.casefold() for each in options.names}
         self.hosts, self.ports, self.kinds = set(options.hosts), set(options.only_ports), set(options.kinds)
         self.is_all = not (self.names or self.hosts or self.ports or self.kinds)
-        self.claims = self.streams = None
-        if 'conflict' in self.kinds:
-            from . import claims, messages
-            self.claims, self.message_of = claims.Claims(), messages.message_of
+        self.sessions = None
         if self.names:
-            from .sessions import Streams
-            self.streams = Streams(options.session_ports)
+            from .sessions import Sessions
+            self.sessions = Sessions(options.session_ports, lambda address, name: None)
 
-    def opened(self, item):
-        if self.streams:
-            self.streams.opened(item)
+    def wants_segment(self, item):
+        """Whether a segment of TCP is wanted, which has no name and no kind but that of its port."""
+        if self.sessions:
+            self.sessions.segment(item, False)
+        return not self.names and (not self.kinds or 'session' in self.kinds) and self.is_between(item, 139)
 
     def wants(self, item, shown):
         """Whether an item is wanted, by the object of a packet; None stands for what is left out. Takes each item in turn."""
-        message = self.message_of(item, shown) if self.claims and shown else None
-        is_conflict = message is not None and self.claims.take(message)
-        called = self.streams.called(item, shown) if self.streams and isinstance(item, Packet) else ()
-        ends = item.frame if isinstance(item, LeftOut) else item
-        if self.hosts and not self.hosts & {ends.source, ends.target}:
+        called = self.sessions.called(item, shown) if self.sessions and isinstance(item, Packet) else ()
+        service = getattr(item, 'service', None)
+        if not self.is_between(item.frame if isinstance(item, LeftOut) else item, service):
             return False
-        if self.ports and not self.ports & {ends.source_port, ends.target_port, str(getattr(item, 'service', ''))}:
-            return False
-        if self.kinds and not is_conflict and self.kinds.isdisjoint(kinds_of(getattr(item, 'service', None), shown)):
+        if self.kinds and self.kinds.isdisjoint(kinds_of(service, shown)):
             return False
         return not self.names or (shown is not None and any(self.is_named(each) for each in (*names_in(shown), *called)))
+
+    def is_between(self, ends, service):
+        """Whether these ends have a host and a port that are wanted."""
+        is_of_host = not self.hosts or self.hosts & {ends.source, ends.target}
+        return bool(is_of_host and (not self.ports or self.ports & {ends.source_port, ends.target_port, str(service or '')}))
 
     def is_named(self, text):
         text = text.casefold()
@@ -74,7 +74,7 @@ ANSWERS = {
     'incomplete': '--summary has the datagrams that are incomplete, fragment the pieces of all',
     'spoilt': '--summary has the datagrams that are spoilt, fragment the pieces of all',
     'whole': '--summary has how many datagrams are whole, datagram all of them and their pieces',
-    'unanswered': '--summary has the queries without an answer, query all of them'}
+    'unanswered': '--summary has the queries that found nothing, query all of them'}
 # Kinds by which something else may be meant.
 SEE_ALSO = {'missing': 'fragment for pieces of datagrams, of which --summary has what is missing, negative for names that are not found'}
 

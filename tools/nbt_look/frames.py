@@ -6,18 +6,17 @@ from nbt_pcap.rows import is_joined, last
 
 from .fragments import FIELDS as FRAGMENT_FIELDS
 from .fragments import Unfinished
-from .items import Cut, Frame, LeftOut, Opened, Packet
+from .items import Cut, Frame, LeftOut, Packet, Segment
 from .screen import safe
 from .tally import PACKET, STATISTIC, Others, Without
 
 # What a row has besides the fields that packets are made of.
 FIELDS = ('frame.interface_name', 'frame.interface_id', 'ieee8021ad.id', 'ieee8021ad.svid', 'ieee8021ad.cvid', 'vlan.id', 'eth.src', 'eth.dst',
-          *FRAGMENT_FIELDS)
+          'sll.src.eth', *FRAGMENT_FIELDS)
 TAGS = slice(2, 6)               # the fields with tags of VLANs, the outer ones first
 # What tshark calls an interface without a name.
 NO_NAME = 'unknown'
 STATISTICS = (STATISTIC,)
-SYN, ACK = 0x02, 0x10
 
 
 class Noted(Report):
@@ -50,6 +49,7 @@ class Frames(Reader):
 
     def __init__(self, options, times):
         self.items = []
+        self.needs_segments = options.summary or bool(options.names)
         super().__init__(options, None, Noted(self.items))
         self.times = times
         self.protocols = ''          # those of the first frame
@@ -84,12 +84,12 @@ class Frames(Reader):
 
     def mark(self, row, shape):
         """The frame of a row."""
-        (name, number), vlans, (source_mac, target_mac) = self.more[:2], ','.join(filter(None, self.more[TAGS])), self.more[6:8]
+        (name, number), vlans, (source_mac, target_mac, cooked_mac) = self.more[:2], ','.join(filter(None, self.more[TAGS])), self.more[6:9]
         ends = (row.source or row.source6, row.tcp_source or row.udp_source, row.target or row.target6, row.tcp_target or row.udp_target)
         if not shape.single:
             ends, source_mac, target_mac = map(last, ends), last(source_mac), last(target_mac)
         label, known = self.interface(name, number)
-        frame = Frame(int(row.number), self.clock.at if self.clock.first is not None else None, *ends, label, vlans, source_mac, target_mac,
+        frame = Frame(int(row.number), self.clock.at if self.clock.first is not None else None, *ends, label, vlans, source_mac or cooked_mac, target_mac,
                       int(row.size), int(row.captured))
         frame.interface_name = known
         return frame
@@ -102,12 +102,11 @@ class Frames(Reader):
         return self.named[1]
 
     def segment(self, row, packet):
-        """A segment with a SYN says who opens the connection: its sender, or where it has an ACK too its target."""
-        flags = int(packet.flags or '0', 16)
-        if flags & SYN and packet.target:
-            sides = (packet.host.source.strip('[]'), packet.source), (packet.host.target.strip('[]'), packet.target)
-            (source, port), (target, to) = sides if not flags & ACK else sides[::-1]
-            self.items.append(Opened(self.report.mark, source, port, target, to, packet.stream, packet.sequence, not flags & ACK))
+        """A segment is an item before the packets that it completes, where somebody looks at it."""
+        if self.needs_segments and packet.flags and packet.target:
+            host = packet.host
+            self.items.append(Segment(self.report.mark, host.source.strip('[]'), packet.source, host.target.strip('[]'), packet.target, packet.stream,
+                                      packet.sequence, int(packet.flags, 16)))
         super().segment(row, packet)
 
     def payload(self, row, service, digits, packet):

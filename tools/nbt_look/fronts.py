@@ -1,6 +1,6 @@
 """What stands of a packet that the snap length cut, or that nbt refuses to read: its object of JSON, with a phrase."""
-from .parts import first_of, is_response, type_of
 from .vocabulary import MULTIHOMED, SECTIONS, STATUS_TYPE
+from .words import first_of, is_response, type_of
 
 # By OPCODE, what a request does with a name, and a response; the latter where RCODE is 0, and where it isn't.
 REQUESTS = {'query': 'asks for %s', 'registration': 'claims %s', MULTIHOMED: 'claims as one of several addresses %s', 'refresh': 'refreshes %s',

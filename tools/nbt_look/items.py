@@ -1,4 +1,4 @@
-"""What a capture has: packets, the fronts of those that are cut, frames of which something is left out, and connections that are opened; and items
+"""What a capture has: packets, the fronts of those that are cut, frames of which something is left out, and segments of TCP; and items
 by the number of their frames: what is known of a frame only later still comes to its place."""
 import collections
 import operator
@@ -8,8 +8,8 @@ Packet = collections.namedtuple('Packet', 'frame service moment digits source so
 Cut = collections.namedtuple('Cut', (*Packet._fields, 'size'))
 # `missing` are the runs of bytes that the file lacks before or beside it: from which byte on, and how many, None where that isn't known.
 LeftOut = collections.namedtuple('LeftOut', 'frame reason missing')
-# That a connection of port 139 is opened, by the source: with a SYN, or else by the SYN that an answer acknowledges.
-Opened = collections.namedtuple('Opened', 'frame source source_port target target_port stream sequence is_first')
+# A segment of port 139, whatever it has: it says who opens a connection, and whether anybody answers.
+Segment = collections.namedtuple('Segment', 'frame source source_port target target_port stream sequence flags')
 
 
 class Frame:

@@ -1,8 +1,8 @@
 """The kinds of packets."""
 from nbt_pcap.header import MORE
 
-from .parts import is_response
 from .vocabulary import MULTIHOMED, PIECES, STATUS_TYPE
+from .words import REGISTERING, is_response, statuses_of
 
 
 def kinds_of(port, shown):
@@ -34,13 +34,19 @@ def service_kinds(shown):
     asks_status = any(each.get('type') == STATUS_TYPE for each in (*shown['questions'], *shown['answers'], shown.get('about', {})))
     operation = 'registration' if shown['op'] == MULTIHOMED else shown['op']
     kinds = ['status' if asks_status else str(operation)]
-    return [*kinds, 'response', *kinds_of_response(shown['op'], shown['rcode'])] if is_response(shown) else kinds
+    if not is_response(shown):
+        return kinds
+    is_of_conflict = is_taken(shown['op'], shown['rcode']) or any('CNF' in each['set'] for record in statuses_of(shown) for each in record['names'])
+    return [*kinds, 'response', *kinds_of_response(shown['op'], shown['rcode']), *(['conflict'] if is_of_conflict else [])]
+
+
+def is_taken(operation, code):
+    """Whether a response says that a name is in conflict, or refuses one that another station has: RFC 1002 section 4.2.6."""
+    return code == 'CFT_ERR' or (code == 'ACT_ERR' and operation in REGISTERING)
 
 
 def kinds_of_response(operation, code):
     """What a response says by its code. A conflict demand answers nothing."""
     if code == 'ok':
         return [] if operation == 'wack' else ['positive']
-    if code != 'CFT_ERR':
-        return ['negative']
-    return ['conflict'] if operation == 'registration' else ['conflict', 'negative']
+    return [] if code == 'CFT_ERR' and operation == 'registration' else ['negative']

@@ -1,8 +1,8 @@
 """A line for each packet, in columns."""
 from nbt_pcap.header import SERVICES
 
-from .counts import left_out_words
 from .screen import Sink
+from .shown import left_out_words
 
 # The least widths of the columns before the phrase, which grow with what stands in them.
 WIDTHS = (5, 9, 15, 15)

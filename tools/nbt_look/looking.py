@@ -15,7 +15,7 @@ from . import trial
 from .filters import Filter
 from .frames import FIELDS, STATISTICS, Frames
 from .fronts import front_of, malformed_of
-from .items import WINDOW, Cut, Opened, Ordering, Packet
+from .items import WINDOW, Cut, Ordering, Packet, Segment
 from .listing import Listing
 from .objects import Objects
 from .screen import Screen
@@ -118,9 +118,8 @@ class Look:
     def told(self, told):
         """Takes an item with what nbt says of it."""
         item, text = told.item, told.text
-        if isinstance(item, Opened):
-            self.filter.opened(item)
-            self.sink.opened(item)
+        if isinstance(item, Segment):
+            self.sink.segment(item, self.filter.wants_segment(item))
             return
         self.times.see(item.frame.at)
         if isinstance(item, Packet):
@@ -180,7 +179,7 @@ def program():
     try:
         found = local_program(None)
     except Stopped as why:
-        raise Stopped(3, "nbt isn't there: make build builds it, make install puts it beside this tool") from why
+        raise Stopped(3, "nbt isn't there: the package nbt installs it; from the sources, make build builds it") from why
     if found not in map(os.path.abspath, (BUILT, INSTALLED)):
         trial.judge(found)
     return found

@@ -42,7 +42,7 @@ class Objects(Sink):
             'frame': frame.number, 'time': self.times.utc(frame.at), 'from': source or None, 'to': target or None,
             'ports': [int(each) for each in ports if each], 'interface': frame.interface_name,
             'vlan': [int(each, 0) for each in frame.vlans.split(',') if each],
-            'mac': [frame.source_mac, frame.target_mac] if frame.source_mac else None,
+            'mac': [frame.source_mac, frame.target_mac or None] if frame.source_mac else None,
             'size': frame.size, 'captured': frame.captured})
 
 

@@ -1,115 +1,115 @@
-"""Queries and node status requests that nobody answers: RFC 1002 sections 4.2.12 to 4.2.18."""
+"""Queries and node status requests that found nothing: RFC 1002 sections 4.2.12 to 4.2.18. docs/SUMMARY.md has the definitions."""
 from dataclasses import dataclass, field
 
 from .rooms import Room
-from .vocabulary import MOST_FRAMES, MOST_UNREAD, TABLES, Act, Answer, Front
-from .waiting import Waiting
+from .times import since
+from .vocabulary import ADDRESS_TYPE, ANSWERING, EPOCH, LATE, LATER, MALFORMED, MOST_FRAMES, OTHER, STATUS_TYPE, TABLES
+from .words import is_response, type_of
 
-KINDS = {Act.ASKS: 'query', Act.ASKS_STATUS: 'status', Act.ASKS_SOMETHING: None}
-RESPONSES = (Act.ANSWERS, Act.FINDS_NONE)
-OF_FRONT = {Front.WHOLE: Answer.WHOLE, Front.CUT: Answer.CUT, Front.MALFORMED: Answer.MALFORMED}
-# How much an answer says.
-RANKS = {Answer.NEVER: 0, Answer.UNKNOWN: 1, Answer.CUT: 2, Answer.MALFORMED: 3, Answer.WHOLE: 4}
+KINDS = {ADDRESS_TYPE: 'query', STATUS_TYPE: 'status'}
+# The types of what a positive response has, where one stands.
+POSITIVE = (ADDRESS_TYPE, STATUS_TYPE, None)
+# What a row has of the response that came last.
+NOTHING = {'answered': None, 'answer': None, 'answered_by': None, 'after': None}
 
 
 @dataclass
-class Unanswered:
-    """The requests of one name, asker and station asked that have no answer which stands whole: how often, their frames, since when."""
+class Request:
+    """A request with its repeats: its row (name, type, asker and station asked), which packet of all the first one is, since when, how often, in
+    which frames, and what came of it last."""
 
+    key: tuple
+    is_to_group: bool
+    order: int
     since: int
+    latest: int = EPOCH              # when the latest repeat came
     times: int = 0
     frames: list = field(default_factory=list)
-    answer: Answer = Answer.NEVER
-    answered: int = None
+    has_own: bool = False            # a response belongs to it
+    is_answered: bool = False        # and is a positive one
+    reply: dict = None               # what came last, and which packet of all that is
+    replied: int = 0
 
-    def count(self, request, answer, frame):
-        self.since = min(self.since, request.since)
-        self.times += request.times
-        self.frames = sorted([*self.frames, *request.frames])[:MOST_FRAMES]
-        if (RANKS[answer], frame or 0) >= (RANKS[self.answer], self.answered or 0):
-            self.answer, self.answered = answer, frame
+    def repeat(self, message):
+        self.times += 1
+        self.latest = message.moment
+        if len(self.frames) < MOST_FRAMES:
+            self.frames.append(message.frame)
 
-    def copy(self):
-        return Unanswered(self.since, self.times, self.frames, self.answer, self.answered)
+    def is_fresh(self, moment):
+        """Whether this is at most 10 s after the latest repeat."""
+        return moment - self.latest <= ANSWERING
 
 
 class Queries:
-    """Queries and node status requests without an answer, by name, asker and station asked."""
+    """All requests, and of each identifier, name and asker the latest by station asked and type: responses are looked at for these."""
 
     title, head = TABLES['queries']
 
-    def __init__(self, owners):
-        self.waiting = Waiting(owners, lambda request: self.over(self.room, request))
-        self.room = Room()                           # those without an answer
-        self.answered = Room()                       # the frame of the latest answer
-        self.unread = Room()                         # the times of what can't be read, by who sent it, or anybody, to whom
+    def __init__(self, kept):
+        self.kept = kept
+        self.room = Room()
+        self.latest = {}
+        self.packets = 0
 
     def take(self, message):
-        if message.act in KINDS and message.name is not None:
-            self.waiting.put(message, KINDS[message.act])
-        elif message.act is Act.WAITS:
-            self.waiting.wait(message)
-        elif message.act in RESPONSES:
-            answer = Answer.UNKNOWN if message.name is None else OF_FRONT[message.front]
-            for each in self.waiting.of(message):
-                self.answer(each, answer, message.frame)
+        self.packets += 1
+        if message.shown['op'] == 'query' and not is_response(message.shown):
+            self.ask(message, type_of(message.shown))
+        elif message.shown['op'] == 'query' and message.front != MALFORMED:
+            self.respond(message, type_of(message.shown))
 
-    def answer(self, request, answer, frame):
-        """Keeps the first answer that says the most."""
-        if request.answer is not None and RANKS[answer] <= RANKS[request.answer[0]]:
-            return
-        request.answer = answer, None if answer is Answer.UNKNOWN else frame
-        found = self.answered.get(key_of(request), lambda: [0]) if answer is Answer.WHOLE else None
+    def ask(self, message, kind):
+        """Takes a request, or a repeat of one."""
+        waiting, key = self.latest.get((message.name, message.number, message.source), {}), (message.name, kind, message.source, message.target)
+        found = waiting.get(key)
+        if found is None or found.has_own or not found.is_fresh(message.moment):
+            found = self.kept.entry(self.room, message.name, self.packets, lambda: Request(key, message.is_to_group, self.packets, message.at))
+            if found:
+                self.latest.setdefault((message.name, message.number, message.source), {})[key] = found
         if found:
-            found[0] = max(found[0], frame)
+            found.repeat(message)
 
-    def cannot_read(self, source, target, at):
-        """Takes a frame of port 137 of which not even the header stands."""
-        for each in (source, None):
-            times = self.unread.get((each, target), lambda: [])
-            if times is not None:
-                times.append(at)
-                if len(times) > MOST_UNREAD:
-                    times.pop(0)
+    def respond(self, message, kind):
+        """A response belongs to the requests that were sent to its sender, or else to those that were sent to a group, within 10 s; one that
+        belongs to none says something to each that it fits."""
+        waiting = self.latest.get((message.name, message.number, message.target), {})
+        fitting = [each for each in waiting.values() if kind not in KINDS or each.key[1] in (kind, None)]
+        fresh = [each for each in fitting if each.is_fresh(message.moment)]
+        own = [each for each in fresh if each.key[3] == message.source] or [each for each in fresh if each.is_to_group]
+        for each in own:
+            self.belong(each, message, kind)
+        for each in fitting if not own else ():
+            self.reply(each, OTHER if each.is_fresh(message.moment) else LATE, message)
 
-    def over(self, room, request):
-        """Counts a request that waits no longer, unless its answer stands whole."""
-        answer, frame = request.answer or (self.unread_answer(request), None)
-        found = None if answer is Answer.WHOLE else room.get(key_of(request), lambda: Unanswered(request.since))
-        if found:
-            found.count(request, answer, frame)
+    def belong(self, request, message, kind):
+        """A response that belongs to a request answers it, or says why nothing was found."""
+        request.has_own = True
+        if message.code == 'ok' and kind in POSITIVE:
+            request.is_answered = True
+            self.reply(request, LATER, message)
+        else:
+            self.reply(request, 'redirected' if message.code == 'ok' else str(message.code), message)
 
-    def unread_answer(self, request):
-        times = self.unread.entries.get((None if request.is_broadcast else request.asked, request.asker), ())
-        return Answer.UNKNOWN if any(request.since <= at <= request.until for at in times) else Answer.NEVER
-
-    def until_now(self):
-        """Those without an answer, and those that wait for one."""
-        room = Room()
-        room.others = self.room.others
-        for key, each in self.room.entries.items():
-            room.entries[key] = each.copy()
-        for each in self.waiting.all():
-            self.over(room, each)
-        return room
+    def reply(self, request, what, message):
+        if what == LATER or not request.is_answered:
+            after = since(message.moment - request.latest)[:-3] if what == LATE else None
+            request.reply = {'answered': message.frame, 'answer': what, 'answered_by': message.source or None, 'after': after}
+            request.replied = self.packets
 
     def rows(self, times):
-        found = sorted(self.until_now().entries.items(), key=lambda pair: [each or '' for each in pair[0]])
-        return [self.row(key, each, times) for key, each in found]
+        requests = {}
+        for each in self.room.entries.values():
+            requests.setdefault(each.key, []).append(each)
+        found = sorted(requests.items(), key=lambda pair: [each or '' for each in pair[0]])
+        return [self.row(key, each, times) for key, each in found if not all(one.is_answered for one in each)]
 
-    def row(self, key, each, times):
-        """A later answer that stands whole says more than a front of one."""
+    def row(self, key, requests, times):
+        """A row as an object of JSON. What came last is the latest reply, that to a later request which was answered too."""
         name, kind, by, asked = key
-        answer, frame = each.answer.value, each.answered
-        later = self.answered.entries.get(key, [0])[0]
-        if later > each.frames[0]:
-            answer, frame = 'later', later
-        return {'name': name, 'kind': kind, 'by': by, 'asked': asked or None, 'times': each.times, 'frames': each.frames, 'since': times(each.since),
-                'answered': frame, 'answer': answer}
-
-    def others(self):
-        return self.until_now().others
-
-
-def key_of(request):
-    return request.name, request.kind, request.asker, request.asked
+        failed = [each for each in requests if not each.is_answered]
+        replied = [each for each in requests if each.reply and (not each.is_answered or each.order > failed[0].order)]
+        reply = sorted(replied, key=lambda each: each.replied)[-1].reply if replied else NOTHING
+        return {'name': name, 'type': KINDS.get(kind, kind), 'by': by or None, 'asked': asked or None, 'times': sum(each.times for each in failed),
+                'frames': sorted([frame for each in failed for frame in each.frames])[:MOST_FRAMES],
+                'since': None if failed[0].since is None else times(failed[0].since), **reply, 'not_all_kept': self.kept.lacks(name)}

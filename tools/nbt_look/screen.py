@@ -7,6 +7,7 @@ import textwrap
 from nbt_pcap.process import write_all
 
 from .shown import cell
+from .vocabulary import DROPPED, HEADS
 
 try:
     from rich.color import ColorSystem
@@ -36,8 +37,8 @@ class Sink:
     def __init__(self, screen, times):
         self.screen, self.times = screen, times
 
-    def opened(self, item):
-        """Nothing is said of a connection that is opened."""
+    def segment(self, item, is_wanted):
+        """Nothing is said of segments of TCP."""
 
     def finish(self, tally, left_out):
         """All is printed."""
@@ -75,30 +76,23 @@ class Screen:
         """Rows of the same keys, under their names; `texts` makes the text of a value, with its row, where it isn't the usual one."""
         self.line(title, 'head')
         for number, lines in enumerate(rows_of(rows, head, texts, self.width)):
-            for each in lines:
-                self.line(each, 'head' if number == 0 else None)
+            is_marked = number and rows[number - 1].get('marked')
+            for at, each in enumerate(lines):
+                self.line(MARK + each[len(MARK):] if is_marked and not at else each, 'refused' if is_marked else None if number else 'head')
 
 
-BETWEEN = '  '
+BETWEEN, MARK = '  ', '! '
 
 
 def rows_of(rows, head, texts, width):
     """The lines of each row, of which the first is the head. `width` is how long a line may be, None where nothing bounds it."""
-    named = [key.replace('_', ' ') for key in head]
-    cells = [named] + [[texts.get(key, cell)(row[key], row) for key in head] for row in rows]
-    widths = [max(map(len, column)) for column in zip(*cells)]
-    if width and sum(len(BETWEEN) + each for each in widths) > width:
-        yield from folded(rows, named, head, texts, width)
-        return
-    for row in cells:
-        yield [beside(row, widths)]
-
-
-def folded(rows, named, head, texts, width):
-    """The lines of each row, where cells have several."""
-    cells = [[[each] for each in named]]
-    cells += [[lines_of(row[key]) if key not in texts else [texts[key](row[key], row)] for key in head] for row in rows]
-    fold(cells, width)
+    names = [[[HEADS.get(key, key.replace('_', ' '))] for key in head]]
+    cells = names + [[[texts.get(key, cell)(row[key], row)] for key in head] for row in rows]
+    while width and size_of(cells) > width and head[-1] in DROPPED:
+        head, cells = head[:-1], [row[:-1] for row in cells]
+    if width and size_of(cells) > width:
+        cells[1:] = [[line if key in texts else lines_of(row[key]) for key, line in zip(head, lines)] for row, lines in zip(rows, cells[1:])]
+        fold(cells, width)
     widths = widths_of(cells)
     for row in cells:
         yield [beside(line, widths) for line in itertools.zip_longest(*row, fillvalue='')]

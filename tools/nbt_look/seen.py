@@ -1,11 +1,15 @@
 """What is made of the packets of a capture, one after another, for all tables but those of datagrams."""
-from .claims import Claims
-from .messages import message_of
-from .names import Names
+from nbt_pcap.reasons import CUT
+
+from .names import Names, Refusals, all_rows, several
 from .queries import Queries
+from .rooms import Kept, Room
+from .said import Said
 from .sessions import Sessions
+from .shown import counted
 from .stations import Stations
-from .vocabulary import EPOCH, TABLES
+from .vocabulary import TABLES
+from .words import message_of
 
 
 class Faults:
@@ -14,52 +18,61 @@ class Faults:
     title, head = TABLES['malformed']
 
     def __init__(self):
-        self.reasons = {}
+        self.room = Room()
 
     def take(self, item, shown):
-        if 'refused' in shown:
-            found = self.reasons.setdefault(without_place(shown['refused']), [0, item.frame.number, shown.get('at')])
+        found = self.room.get(without_place(shown['refused']), lambda: [0, item.frame.number, shown.get('at')]) if 'refused' in shown else None
+        if found:
             found[0] += 1
 
     def rows(self, _times):
-        return [dict(zip(self.head, (reason, *each))) for reason, each in sorted(self.reasons.items(), key=lambda pair: pair[0])]
-
-    def others(self):
-        return 0
+        return [dict(zip(self.head, (reason, *each))) for reason, each in sorted(self.room.entries.items(), key=lambda pair: pair[0])]
 
 
 class Seen:
     """All that is summed up, of which the memory is by the number of names and stations, with a bound. `session_ports` are those of the service."""
 
     def __init__(self, session_ports):
-        self.claims, self.faults = Claims(), Faults()
-        self.stations, self.queries = Stations(self.claims), Queries(self.claims.owners)
+        self.kept, self.faults = Kept(), Faults()
+        self.refusals = Refusals(self.kept)
+        self.said, self.queries = Said(self.kept, self.refusals), Queries(self.kept)
+        self.stations = Stations(self.said, self.refusals)
         self.sessions = Sessions(session_ports, lambda address, name: self.stations.named(address, name))
-        self.parts = [Names(self.claims), self.claims.conflicts, self.stations, self.queries, self.sessions]
+        self.parts = [Names('names', self.said, all_rows), Names('several', self.said, several), self.refusals, self.queries, self.sessions, self.stations]
+        self.before = self.earlier = None        # the time of the latest packet, and the first frame that is earlier than one before it
+        self.nameless = 0
 
     def take(self, item, shown):
-        """Takes a packet, or what stands of one, which counts, and is marked where it says less than a whole one. Answers whether it is of a
-        conflict about a name."""
-        message = message_of(item, shown)
-        self.claims.see(item.frame.at or EPOCH)
-        self.stations.take(item, shown, message)
+        """Takes a packet, or what stands of one."""
+        self.look_at(item.frame)
+        self.stations.take(item, shown)
         self.sessions.take(item, shown)
-        if message:
+        message = message_of(item, shown)
+        if message and message.name is not None:
+            self.said.take(message)
             self.queries.take(message)
-            return self.claims.take(message)
-        if item.service == 137:
-            self.cannot_read(item, item.frame.at)
-        return False
+        elif item.service == 137 and 'cut' in shown:
+            self.nameless += 1
 
-    def left_out(self, ends, at):
-        """Takes a frame of which the reason is counted elsewhere; it may have been an answer."""
-        if '137' in (ends.source_port, ends.target_port):
-            self.cannot_read(ends, at)
+    def left_out(self, ends, reason):
+        """Takes a frame of which the reason is counted elsewhere."""
+        self.nameless += reason == CUT and '137' in (ends.source_port, ends.target_port)
 
-    def cannot_read(self, ends, at):
-        """Takes a frame of the name service of which not even the header stands."""
-        self.queries.cannot_read(ends.source, ends.target, at or EPOCH)
-        self.claims.cannot_read(ends.target, at or EPOCH)
+    def look_at(self, frame):
+        """Looks at the time of a packet."""
+        if frame.at is not None:
+            if self.before is not None and frame.at < self.before and self.earlier is None:
+                self.earlier = frame.number
+            self.before = frame.at
+
+    def notes(self):
+        """What is said below the tables."""
+        others, most = len(self.kept.others), self.kept.most
+        texts = [(self.said.cut, 'cut before its address: ' + counted(self.said.cut, 'answer')),
+                 (self.nameless, 'cut before its name: ' + counted(self.nameless, 'packet')),
+                 (self.earlier, f'frame {self.earlier} is earlier than the one before'),
+                 (others, 'not kept: ' + (f'more than {most} names' if others > most else counted(others, 'name')))]
+        return [text for count, text in texts if count]
 
 
 def without_place(refused):

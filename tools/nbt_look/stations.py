@@ -1,66 +1,59 @@
-"""The stations: who sends packets, and what they are called."""
+"""The stations: who sends packets, from which MACs, and by which names."""
 from dataclasses import dataclass, field
 
-from .messages import CLAIMS
 from .rooms import Room
-from .vocabulary import MOST_OF_STATION, TABLES, Act
+from .vocabulary import MOST_OF_STATION, TABLES, Word
+from .words import is_response, statuses_of
 
 
 @dataclass
 class Station:
-    """An address, and what is known of it."""
+    """An address that sent packets."""
 
-    mac: str = None
     packets: int = 0
+    macs: dict = field(default_factory=dict)
     unit: str = None
-    names: dict = field(default_factory=dict)
     status: list = field(default_factory=list)
 
 
 class Stations:
-    """The stations, by address."""
+    """The stations, by address, and the names by which they sent datagrams and called others."""
 
     title, head = TABLES['stations']
 
-    def __init__(self, claims):
-        self.room = Room()
-        self.claims = claims
+    def __init__(self, said, refusals):
+        self.said, self.refusals = said, refusals
+        self.room, self.used = Room(), Room()
 
-    def take(self, item, shown, message):
-        """Takes a packet: who sends it, and the names that it uses. Names of sessions come by `named`, once they are accepted."""
+    def take(self, item, shown):
+        """Takes a packet."""
         sender = self.room.get(item.source, lambda: Station())
         if sender:
             sender.packets += 1
-            sender.mac = item.frame.source_mac or sender.mac
-        if message and message.act in CLAIMS:
-            for name, address, *_ in message.places():
-                self.named(address, name)
-        elif message and message.act is Act.ANSWERS:
-            answers(message, sender)
-        elif 'source' in shown and 'key' in shown:
+            if item.frame.source_mac:
+                sender.macs[item.frame.source_mac] = True
+        for record in statuses_of(shown) if sender and 'answers' in shown and is_response(shown) else ():
+            sender.status = [each['name'] for each in record['names'][:MOST_OF_STATION]]
+            sender.unit = record.get('unit')
+        if 'source' in shown and 'key' in shown:
             self.named(shown['key'].partition(':')[0], shown['source'])
 
     def named(self, address, name):
-        station = self.room.get(address, lambda: Station())
-        if station and len(station.names) < MOST_OF_STATION:
-            station.names[name] = True
+        """An address uses a name."""
+        if self.used.get((address, name), lambda: True) is None:
+            self.room.others += 1
 
     def rows(self, _times):
-        return [dict(zip(self.head, (address or None, each.mac, each.packets, *self.names(address, each), each.status, each.unit)))
-                for address, each in sorted(self.room.entries.items())]
-
-    def names(self, address, station):
-        """The names of a station, and those that it was refused."""
-        refused = [name for name in station.names if self.claims.is_refused(name, address)]
-        return [name for name in station.names if name not in refused], refused
-
-    def others(self):
-        return self.room.others
+        names = by_address([*[(row.address, row.name) for row in self.said.room.entries.values() if row.is_standing()], *self.used.entries])
+        refused = by_address([(key[1], key[0]) for key, each in self.refusals.room.entries.items() if each[0] is not Word.NOT_RELEASED])
+        return [dict(zip(self.head, (address or None, list(each.macs), each.packets, names.get(address, []), refused.get(address, []), each.status, each.unit)))
+                for address, each in sorted(self.room.entries.items(), key=lambda pair: pair[0])]
 
 
-def answers(message, sender):
-    """Takes the names of a node status."""
-    for record in message.shown['answers']:
-        if sender and record.get('names'):
-            sender.status = [each['name'] for each in record['names'][:MOST_OF_STATION]]
-            sender.unit = record.get('unit')
+def by_address(pairs):
+    """The names of each address, each once."""
+    found = {}
+    for address, name in sorted(pairs):
+        if name not in found.setdefault(address, [])[-1:]:
+            found[address].append(name)
+    return found

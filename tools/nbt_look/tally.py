@@ -4,7 +4,7 @@ import collections
 
 from nbt_pcap.report import left_out_text
 
-from .counts import counted
+from .shown import counted
 
 
 class Tally:

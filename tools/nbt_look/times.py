@@ -30,10 +30,6 @@ class Times:
         return '%s.%06dZ' % (self.second_text, part // 1000) if self.second_text else None
 
 
-def nanoseconds(seconds):
-    return seconds * 10**9
-
-
 def since(span):
     """A span in seconds; before the first frame it is negative."""
     second, part = divmod(abs(span), 10**9)

@@ -4,64 +4,38 @@ import enum
 from nbt_pcap.header import FRAGMENTS, NBSTAT
 
 
-class Act(enum.Enum):
-    """What a packet does with a name, by R, OPCODE, RCODE and type; each has its section of RFC 1002."""
+class Word(enum.Enum):
+    """What a packet says of a name at an address; each has its section of RFC 1002. docs/SUMMARY.md has the table."""
 
-    CLAIMS = 'claims'                    # name registration request 4.2.2, name refresh request 4.2.4, operation 15
-    OVERWRITES = 'overwrites'            # name overwrite request and demand 4.2.3
-    GRANTS = 'grants'                    # positive name registration response 4.2.5
-    REFUSES = 'refuses'                  # negative name registration response 4.2.6
-    CHALLENGES = 'challenges'            # end-node challenge registration response 4.2.7
-    DEMANDS = 'demands'                  # name conflict demand 4.2.8, or a negative response with CFT_ERR
-    RELEASES = 'releases'                # name release request and demand 4.2.9
-    RELEASED = 'released'                # positive name release response 4.2.10
-    KEEPS = 'keeps'                      # negative name release response 4.2.11
-    ASKS = 'asks'                        # name query request 4.2.12
-    ANSWERS = 'answers'                  # positive name query response 4.2.13, redirect 4.2.15, node status response 4.2.18
-    FINDS_NONE = 'finds none'            # negative name query response 4.2.14
-    WAITS = 'waits'                      # WACK response 4.2.16
-    ASKS_STATUS = 'asks status'          # node status request 4.2.17
-    ASKS_SOMETHING = 'asks something'    # name query request 4.2.12 or node status request 4.2.17, of which no type stands
-    OTHER = 'other'                      # another operation
-
-
-class Front(enum.Enum):
-    """How much of a packet stands."""
-
-    WHOLE = 'whole'
-    CUT = 'cut'
-    MALFORMED = 'malformed'
+    CLAIMS = 'claims'                             # name registration request 4.2.2, operation 15 too
+    REFRESHES = 'refreshes'                       # name refresh request 4.2.4
+    TAKES = 'takes'                               # name overwrite request and demand 4.2.3
+    GIVES_UP = 'gives up'                         # name release request and demand 4.2.9
+    ANSWERS = 'answers'                           # positive name query response 4.2.13, with its sender's own address
+    LISTS = 'lists it'                            # node status response 4.2.18
+    LISTS_CONFLICT = 'lists it in conflict'       # the same, with CNF
+    LISTS_INACTIVE = 'lists it inactive'          # the same, without ACT
+    GRANTED = 'granted'                           # positive name registration response 4.2.5
+    TO_ASK = 'to ask the holder'                  # end-node challenge registration response 4.2.7
+    TOLD = 'told of a conflict'                   # name conflict demand 4.2.8, or a negative response with CFT_ERR
+    REFUSED = 'refused'                           # negative name registration response 4.2.6
+    TO_WAIT = 'to wait'                           # WACK response 4.2.16
+    RELEASED = 'released'                         # positive name release response 4.2.10
+    NOT_RELEASED = 'not released'                 # negative name release response 4.2.11
+    SAID = 'said to have it'                      # positive name query response 4.2.13, with another address
 
 
-class Standing(enum.Enum):
-    """What became of a name at an address."""
-
-    CLAIMS = 'claims'
-    HOLDS = 'holds'
-    SAID = 'is said to be'
-    REFUSED = 'refused'
-    RELEASED = 'released'
-    LOST = 'lost'
-    EXPIRED = 'expired'
-
-
-class Answer(enum.Enum):
-    """What answered a request: the later ones say more. Of 'not known' something came of which no name stands."""
-
-    NEVER = 'never'
-    UNKNOWN = 'not known'
-    CUT = 'cut'
-    MALFORMED = 'malformed'
-    WHOLE = 'whole'
-
-
+# How much of a packet stands, where that isn't all.
+CUT, MALFORMED = 'cut', 'malformed'
+# What came of a request that found nothing, beside the words of a negative response: a late one, one by another station, one to a later request.
+LATE, OTHER, LATER = 'late', 'by', 'later'
 # The kinds of packets by the port of their packets, with a word on each.
 KINDS_OF = {
     'port 137': {
         'query': 'asks for a name, and what is answered', 'status': 'asks what names a station has, and what is answered',
         'registration': 'claims a name, and what is answered', 'refresh': 'claims a name again, and what is answered',
         'release': 'gives a name up, and what is answered', 'wack': 'asks to wait', 'response': 'any answer',
-        'conflict': 'claims a name that another station has, is refused one for that, or has to give one up'},
+        'conflict': 'refuses a name that another station has, or says that one is in conflict'},
     'port 138': {
         'datagram': 'unique, group or broadcast', 'unique': 'a datagram to one station', 'group': 'a datagram to a group',
         'broadcast': 'a datagram to all', 'fragment': 'a piece of a datagram', 'error': 'a datagram is not taken',
@@ -72,57 +46,48 @@ KINDS_OF = {
     'each port': {
         'positive': 'an answer that grants, finds or accepts', 'negative': 'an answer that refuses, or finds nothing',
         'malformed': 'nbt refuses to read it', 'left-out': 'cut, or not read for another reason'}}
-# The words for kinds of packets.
+# Another word for a kind, and the words for kinds of packets.
+KIND_SAME = {'conflicts': 'conflict'}
 KINDS = tuple(kind for kinds in KINDS_OF.values() for kind in kinds)
 # The kinds of packets with a piece of a datagram, or with a whole one; and what answers a call.
 PIECES = tuple(FRAGMENTS.values())
 SESSION_RESPONSES = ('positive', 'negative', 'retarget')
 # The sections of a packet of port 137.
 SECTIONS = ('questions', 'answers', 'authorities', 'additional')
-# RR_TYPE of node statuses, as objects of JSON have it; the operation by which a station claims a name for several addresses of its own.
-STATUS_TYPE = f'{NBSTAT:04x}'
+# RR_TYPE NBSTAT and NB, as objects of JSON have them; the operation by which a station claims a name for several addresses of its own.
+STATUS_TYPE, ADDRESS_TYPE = f'{NBSTAT:04x}', '0020'
 MULTIHOMED = 15
-# What a response says of a name that another station has: RFC 1002 section 4.2.6.
-TAKEN = ('ACT_ERR', 'CFT_ERR')
-# An address that is nobody's, and a unit that is none.
-NOBODYS = '0.0.0.0'
-NO_UNIT = '000000000000'
 # What the last byte of a name says, where it is unique and where it is a group's.
 SUFFIXES = {'00': ('workstation', 'domain'), '01': ('messenger', 'master browser'), '03': ('messenger', 'messenger'),
             '06': ('remote access server', ''), '1b': ('domain master browser', ''), '1c': ('', 'domain controllers'),
             '1d': ('master browser', ''), '1e': ('', 'browser elections'), '1f': ('NetDDE', ''), '20': ('file server', ''),
             '21': ('remote access client', ''), 'be': ('network monitor', ''), 'bf': ('network monitor application', '')}
 # The tables, by the words that choose them: their titles and columns.
+OF_ROW = ('group', 'says', 'frame', 'is_told', 'by', 'told_frame', 'time', 'first', 'claims', 'refusals', 'lifetime', 'kind')
 TABLES = {
-    'names': ('names', ('name', 'kind', 'address', 'group', 'how', 'since', 'until', 'lifetime', 'conflicts', 'refusals')),
-    'conflicts': ('conflicts', ('name', 'holder', 'refused', 'by', 'frame')),
-    'stations': ('stations', ('address', 'mac', 'packets', 'names', 'refused', 'status', 'unit')),
-    'queries': ('queries without an answer', ('name', 'kind', 'by', 'asked', 'times', 'frames', 'since', 'answered')),
+    'names': ('names', ('name', 'address', *OF_ROW)),
+    'several': ('several', ('name', 'address', 'mac', *OF_ROW)),
+    'refusals': ('refusals', ('name', 'address', 'by', 'reason', 'times', 'first', 'last', 'time')),
+    'queries': ('queries that found nothing', ('name', 'type', 'by', 'asked', 'times', 'frames', 'since', 'answered')),
     'sessions': ('sessions', ('calling', 'called', 'from', 'to', 'calls', 'accepted', 'refused', 'sent', 'received')),
+    'stations': ('stations', ('address', 'macs', 'packets', 'names', 'refused', 'status', 'unit')),
     'datagrams': ('datagrams', ('source', 'destination', 'kind', 'whole', 'incomplete', 'spoilt', 'cut')),
     'failed': ('failed datagrams', ('key', 'state', 'source', 'destination', 'bytes_known', 'size', 'missing', 'frames')),
     'malformed': ('malformed', ('reason', 'packets', 'frame', 'payload_byte')),
     'left-out': ('left out', ('reason', 'frames'))}
-# The start of 1970, which stands for the time of a frame without one, and a time after all others.
-EPOCH, FOREVER = 0, 2**64
-# How long a station that broadcasts a claim waits for objections: BCAST_REQ_RETRY_TIMEOUT, RFC 1002 section 6.
-OBJECTING = 250_000_000
+# What a table has over a column whose key is another one, and the columns that a narrow terminal lets go, the last one first.
+HEADS = {'told_frame': 'frame'}
+DROPPED = ('time', 'first', 'claims', 'refusals', 'lifetime', 'kind')
+# The start of 1970, which stands for the time of a frame without one.
+EPOCH = 0
 # How long after its latest repeat a request may be answered: twice UCAST_REQ_RETRY_TIMEOUT, our choice.
 ANSWERING = 10_000_000_000
-IN_NANOSECONDS = ('EPOCH', 'FOREVER', 'OBJECTING', 'ANSWERING')
-# How many names, claims, stations, pairs of callers and so on are kept at most; the rest is counted.
-MOST_ENTRIES = 16_384
-# How many tenures of a name are looked at for conflicts, and how many pairs of addresses that claim one name are kept.
-MOST_OF_NAME = 64
-MOST_PAIRS = 4_096
-# How many names of a station are kept.
+IN_NANOSECONDS = ('EPOCH', 'ANSWERING')
+# How many names are kept, rows of each table, and requests; the rest is counted.
+MOST_ENTRIES = 65_536
+# How many names of a node status are kept, and how many frames of a row.
 MOST_OF_STATION = 64
-# How many identifiers wait, and how many requests of one; the one that came first is over then. How many frames of one are kept.
-MOST_WAITING = 4_096
-MOST_OF_ONE = 256
 MOST_FRAMES = 16
-# Of how many frames that can't be read at all the times are kept, for who sent them to whom.
-MOST_UNREAD = 64
 # How many streams are known; the one that was silent longest is let go.
 MOST_STREAMS = 16_384
 # How many bytes of pieces are held of datagrams that aren't whole, to say what they lack.

@@ -4,11 +4,11 @@ import subprocess
 
 from nbt_pcap.process import say
 
-from .counts import counted, left_out_words
 from .listing import ends
 from .objects import ENCODE, Objects
 from .places import is_in_name, place_of
 from .screen import Sink
+from .shown import counted, left_out_words
 
 ROW = 16
 
@@ -58,7 +58,7 @@ class Whole(Sink):
         self.screen.line('frame %d, %s, %s' % (frame.number, self.times.text(frame.at), self.times.utc(frame.at) or '-'), 'head')
         words = ['%s > %s' % addresses, '%d of %d bytes captured' % (frame.captured, frame.size)]
         if frame.source_mac:
-            words.append('MAC %s > %s' % (frame.source_mac, frame.target_mac))
+            words.append('MAC %s > %s' % (frame.source_mac, frame.target_mac or '-'))
         words += ['%s %s' % each for each in (('VLAN', frame.vlans), ('interface', frame.interface_name)) if each[1]]
         self.screen.line(', '.join(words))
 
@@ -165,8 +165,8 @@ OF_PORT = {
     (137, 'reserved label'): 'no name stands there: perhaps other traffic',
     (138, 'reserved label'): 'no name stands there: other traffic, or a later piece of a datagram cut by RFC 1002, section 5.3',
     (139, 'reserved label'): 'no name stands there: perhaps other traffic',
-    (138, 'unknown type'): 'the first byte is no type of port 138, as 13 of `138 0 1302000700000000008a82` is: perhaps other traffic',
-    (139, 'unknown type'): 'the first byte is no type of port 139, as 85 of `139 0 85000000` is: perhaps other traffic, or a stream whose start is missing',
+    (138, 'unknown type'): "the first byte is none of port 138's types, such as 13: perhaps other traffic",
+    (139, 'unknown type'): "the first byte is none of port 139's types, such as 85: perhaps other traffic, or a stream whose start is missing",
     (139, 'trailing bytes'): 'bytes follow the two names with which a session request ends: leave it out, its sender is broken or hostile'}
 
 

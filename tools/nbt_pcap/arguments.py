@@ -1,4 +1,4 @@
-"""The command line of pcap2cap, and what can be said of its file before tshark reads it."""
+"""The command line of nbt-pcap2cap, and what can be said of its file before tshark reads it."""
 import argparse
 import os
 import stat

@@ -10,7 +10,7 @@ from .process import Stopped, faults_of
 
 LINE = re.compile(rb'(137|138|139) ([0-9]{1,20}) ((?:[0-9a-fA-F]{2})+|empty)|tick ([0-9]{1,20})|(#.*)?', re.DOTALL)
 COMMENT = re.compile(r'# frame ([0-9]{1,10}) (\S+) (\S+):([0-9]{1,5}) > (\S+):([0-9]{1,5})')
-# What pcap2cap says of the next payload, of which the snap length cut the end.
+# What nbt-pcap2cap says of the next payload, of which the snap length cut the end.
 CUT = re.compile(rb'# frame [0-9]{1,10} is cut: the file has [0-9]{1,5} of the ([0-9]{1,5}) bytes of its payload')
 TIME = re.compile(r'([0-9]{4})-([0-9]{2})-([0-9]{2})T([0-9]{2}):([0-9]{2}):([0-9]{2})\.([0-9]{6})Z')
 
@@ -29,7 +29,7 @@ class BadTime(Refused):
 
 
 class Frame:
-    """What a comment says of a frame, in the words of pcap2cap."""
+    """What a comment says of a frame, in the words of nbt-pcap2cap."""
 
     def __init__(self, number, time, *ends):
         self.number = int(number)

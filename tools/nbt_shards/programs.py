@@ -16,5 +16,5 @@ def local_program(asked):
         asked = beside if os.path.exists(beside) else 'nbt'
     found = shutil.which(asked)
     if found is None:
-        raise Stopped(3, '%s: no such program; `make build` builds it, --program PATH names another' % asked)
+        raise Stopped(3, '%s: no such program; the package nbt installs it, or `make build` of the sources; --program PATH names another' % asked)
     return os.path.abspath(found)

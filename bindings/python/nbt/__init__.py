@@ -1,6 +1,6 @@
 """NetBIOS packets over TCP and UDP (RFC 1001, RFC 1002), read and written by the shared library libnbt.
 
-names       texts and spellings
+names       texts, parts and spellings of names
 packets     what `nbt show` prints of a payload
 service     requests of port 137
 responses   responses of port 137
@@ -27,9 +27,10 @@ from . import rdata
 from .buffers import Buffer
 from .captures import Line, capture_line
 from .datagrams import Datagram, DatagramFront, datagram_error, datagram_query
-from .header import DatagramType, LineKind, NodeType, Operation, Outcome, ResultCode, SessionType, Status
+from .header import (DatagramFlag, DatagramType, HeaderFlag, LineKind, NameFlag, NodeType, Operation, Outcome, RecordType, ResultCode,
+                     SessionType, Status)
 from .library import VERSION
-from .names import spell, text
+from .names import NameParts, join_name, spell, split_name, text
 from .packets import brief, json, show
 from .rdata import *
 from .responses import negative_query_response, node_status_response, query_response, response
@@ -42,10 +43,10 @@ from .tables import Key, differ, list_table, merge, table_json
 from .turns import ReentryError
 
 __version__ = VERSION().decode()
-__all__ = ['Buffer', 'Datagram', 'DatagramFront', 'DatagramType', 'Delivery', 'Key', 'Line', 'LineKind', 'MoreNeeded',
-           'NbtError', 'NodeType', 'Operation', 'Outcome', 'Question', 'Record', 'ReentryError', 'ResultCode',
-           'ServicePacket', 'SessionFront', 'SessionPacket', 'SessionStream', 'SessionType', 'Station', 'Status',
-           'Taken', 'brief', 'capture_line', 'datagram_error', 'datagram_query', 'differ', 'json', 'list_table', 'merge',
-           'negative_query_response', 'node_status', 'node_status_response', 'query', 'query_response', 'refresh',
-           'registration', 'release', 'response', 'show', 'spell', 'table_json', 'text']
+__all__ = ['Buffer', 'Datagram', 'DatagramFlag', 'DatagramFront', 'DatagramType', 'Delivery', 'HeaderFlag', 'Key', 'Line', 'LineKind',
+           'MoreNeeded', 'NameFlag', 'NameParts', 'NbtError', 'NodeType', 'Operation', 'Outcome', 'Question', 'Record', 'RecordType',
+           'ReentryError', 'ResultCode', 'ServicePacket', 'SessionFront', 'SessionPacket', 'SessionStream', 'SessionType', 'Station',
+           'Status', 'Taken', 'brief', 'capture_line', 'datagram_error', 'datagram_query', 'differ', 'join_name', 'json', 'list_table',
+           'merge', 'negative_query_response', 'node_status', 'node_status_response', 'query', 'query_response', 'refresh',
+           'registration', 'release', 'response', 'show', 'spell', 'split_name', 'table_json', 'text']
 __all__ += rdata.__all__

@@ -29,7 +29,7 @@ class DatagramFront:
     """What stands at the front of a payload of port 138: the header and, of a fragment, the names that are there whole."""
 
     type: Union[DatagramType, int]  # the number where no packet has it
-    flags: int                      # FLAGS, all eight bits
+    flags: int                      # FLAGS, all eight bits, of which two are DatagramFlag's
     identifier: int                 # DGM_ID
     address: ipaddress.IPv4Address  # SOURCE_IP
     port: int                       # SOURCE_PORT

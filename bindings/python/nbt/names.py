@@ -3,11 +3,11 @@ section 4.1. The form of texts is the library's choice: the characters of the na
 digits between < and >, and the labels of its scope, each after a full stop."""
 from __future__ import annotations
 
-from typing import Iterable, Iterator
+from typing import Iterable, Iterator, NamedTuple
 
 from .buffers import Buffer, given
 from .library import BYTES, writer
-from .numbers import encoded
+from .numbers import encoded, number
 
 SPELL = writer('nbt_name_spell', *BYTES)
 TEXT = writer('nbt_name_text', *BYTES)
@@ -36,13 +36,43 @@ def spelled(name: bytes) -> bytes:
     return b'\x20' + bytes(ord('A') + half for byte in name for half in (byte >> 4, byte & 15)) + b'\0'
 
 
+class NameParts(NamedTuple):
+    """What a name is made of: RFC 1001 section 14.1."""
+
+    characters: bytes  # fifteen; spaces fill up a shorter name
+    suffix: int        # the sixteenth byte
+    scope: str         # the text of its scope, as in NETBIOS.COM; empty without one
+
+
+def split_name(text: str) -> NameParts:
+    """The parts of the name with this text: of FRED<20> b'FRED' and eleven spaces, 0x20, and no scope.
+
+    NbtError: as of `spell`.
+    """
+    spelling = spell(text)
+    halves = [letter - ord('A') for letter in spelling[1:33]]
+    *characters, suffix = (high << 4 | low for high, low in zip(halves[::2], halves[1::2]))
+    return NameParts(bytes(characters), suffix, TEXT(spelling, len(spelling)).decode().partition('>')[2][1:])
+
+
+def join_name(characters: Buffer, suffix: int, scope: str = '') -> str:
+    """The text of the name with these characters, at most fifteen, this suffix and this scope.
+
+    NbtError: BAD_TEXT and LONG_TEXT of a scope; the place counts in the text of the whole. ValueError for more characters.
+    """
+    front = given(characters).ljust(15)
+    if len(front) > 15:
+        raise ValueError(f'characters: {len(front)} are given, and a name has fifteen')
+    name = text(spelled(front + bytes([number(suffix, 8, 'suffix')])))
+    return text(spell(f'{name}.{scope}')) if scope else name
+
+
 def sixteen(text: str) -> bytes:
     """The sixteen bytes of the name with this text; ValueError where it has a scope."""
-    spelling = spell(text)
-    if len(spelling) != 34:
+    characters, suffix, scope = split_name(text)
+    if scope:
         raise ValueError(f'{text}: a scope stands where a name has none')
-    halves = [letter - ord('A') for letter in spelling[1:33]]
-    return bytes(high << 4 | low for high, low in zip(halves[::2], halves[1::2]))
+    return characters + bytes([suffix])
 
 
 def spelling_end(data: bytes, at: int) -> int:

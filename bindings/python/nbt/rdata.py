@@ -34,7 +34,7 @@ class Flagged:
 class NbEntry(Flagged):
     """An address of a NetBIOS name, in RDATA of type NB."""
 
-    flags: int                      # NB_FLAGS
+    flags: int                      # NB_FLAGS: bits of NameFlag
     address: ipaddress.IPv4Address  # NB_ADDRESS
 
 
@@ -43,7 +43,7 @@ class NodeName(Flagged):
     """One of the names of a node."""
 
     name: str                 # as a text
-    flags: int                # NAME_FLAGS
+    flags: int                # NAME_FLAGS: bits of NameFlag
     deregistered = Flag(DRG)  # whether it is being given up
     conflict = Flag(CNF)      # whether another node claims it
     active = Flag(ACT)

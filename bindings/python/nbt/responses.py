@@ -20,8 +20,8 @@ RESPONSE = writer('nbt_service_response', ctypes.c_uint16, ctypes.c_uint16, *BYT
 
 def response(identifier: int, name: str, rdata: Union[Rdata, Buffer], time_to_live: int = 0, *, op: int = Operation.QUERY,
              flags: int = 0, rcode: int = ResultCode.OK, type: Optional[int] = None) -> bytes:
-    """A response. The time to live is in seconds, and `flags` are NM_FLAGS where they stand in the header's second word, as AA
-    0x0400. The type is that of the RDATA: it is given with bytes, which are of any type.
+    """A response. The time to live is in seconds, and `flags` are NM_FLAGS where they stand in the header's second word, as
+    HeaderFlag.AA. The type is that of the RDATA: it is given with bytes, which are of any type.
 
     NbtError also: NAME_LONG and NAME_TRAILING_BYTES of a DomainName, whose places count in its spelling. Bytes of type NS are such
     a spelling, and may have NAME_TRUNCATED to NAME_POINTER too.

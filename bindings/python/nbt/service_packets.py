@@ -8,13 +8,12 @@ from typing import Any, List, Optional, Tuple, Type, TypeVar, Union, cast
 
 from . import names
 from .buffers import Buffer, lend
-from .header import AA, B, NM_FLAGS, R, RA, RD, SERVICE_ENTRY, SERVICE_HEADER, TC, Operation, ResultCode
+from .header import AA, B, FIRST_ITEM, NM_FLAGS, R, RA, RD, SERVICE_ENTRY, SERVICE_HEADER, TC, Operation, ResultCode
 from .library import ADDRESS, ALONE, DONE, LENGTH, behind, call, error_of
 from .numbers import Flag, whole_number
 from .rdata import DomainName, Rdata, read_rdata
 from .statuses import NbtError
 
-HEADER_LENGTH = 12
 Made = TypeVar('Made')
 
 # Room for a header, and for how many questions and records there is room at once.
@@ -31,7 +30,7 @@ class Question:
     """What is asked for."""
 
     name: Union[str, DomainName]  # the text of a NetBIOS name; a DomainName where it is none
-    type: int                     # QUESTION_TYPE, as of enum nbt_record_type
+    type: int                     # QUESTION_TYPE, of RecordType or another
     class_number: int             # QUESTION_CLASS
 
 
@@ -50,8 +49,8 @@ class ServicePacket:
     identifier: int                     # NAME_TRN_ID
     response: bool                      # R
     op: Union[Operation, int]           # OPCODE
-    flags: int                          # NM_FLAGS where they stand in the header's second word
-    rcode: Union[ResultCode, int]           # RCODE
+    flags: int                          # NM_FLAGS where they stand in the header's second word: bits of HeaderFlag
+    rcode: Union[ResultCode, int]       # RCODE
     counts: Tuple[int, int, int, int]   # QDCOUNT, ANCOUNT, NSCOUNT, ARCOUNT
     questions: Tuple[Question, ...]
     answers: Tuple[Record, ...]
@@ -125,7 +124,7 @@ def read_items(payload: int, length: int, count: int) -> Tuple[List[Any], int, O
     """The questions and records that stand in the payload at an address, of so many, by sections; where they end; and the fault
     of the next one, if there should be one."""
     sections: List[Any] = [[], [], [], []]
-    number, place, most = 0, HEADER_LENGTH, min(count, MOST_ENTRIES, length // LEAST + 1)
+    number, place, most = 0, FIRST_ITEM, min(count, MOST_ENTRIES, length // LEAST + 1)
     room, used, at = room_for(most)(), ctypes.c_size_t(), ctypes.c_size_t()
     into, filled, fault = ctypes.addressof(room), ctypes.addressof(used), ctypes.addressof(at)
     while number < count:

@@ -63,9 +63,9 @@ class Offsets(unittest.TestCase):
             buffer = kind(ALIVE)
             with self.assertRaises(nbt.MoreNeeded):
                 nbt.SessionPacket.read(buffer, 4)
-            for offset in (-1, 5):
-                with self.assertRaisesRegex(ValueError, f'^offset: {offset} lies outside of 4 bytes$'):
-                    nbt.SessionPacket.read(buffer, offset)
+            for call in nbt.SessionPacket.read, nbt.ServicePacket.read, nbt.ServicePacket.read_front:
+                for offset in (-1, 5):
+                    self.assertRaisesRegex(ValueError, f'^offset: {offset} lies outside of 4 bytes$', call, buffer, offset)
         for empty in (b'', bytearray(), array('H')):
             self.assertRaises(nbt.MoreNeeded, nbt.SessionPacket.read, empty)
 
@@ -157,7 +157,7 @@ class Words(unittest.TestCase):
     def test_no_number(self):
         for call, words in ((lambda: nbt.show(139.0, b''), 'port: 139.0'), (lambda: nbt.query('3', 'FRED<20>'), "identifier: '3'"),
                             (lambda: nbt.Station([], '10.0.0.9', 138.5), 'port: 138.5'),
-                            (lambda: nbt.SessionPacket.read(ALIVE, 0.0), 'offset: 0.0')):
+                            (lambda: nbt.SessionPacket.read(ALIVE, 0.0), 'offset: 0.0'), (lambda: nbt.ServicePacket.read(CLAIM, 0.0), 'offset: 0.0')):
             with self.assertRaisesRegex(TypeError, f'^{words} is no whole number$'):
                 call()
 

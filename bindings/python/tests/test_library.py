@@ -37,7 +37,7 @@ class Library(unittest.TestCase):
             self.header = lines.read()
 
     def test_calls(self):
-        for name in re.findall(r'\b(nbt_[a-z_]+)\(', self.header):
+        for name in re.findall(r'^(?:uint32_t|void) (nbt_[a-z_]+)\(', self.header, re.MULTILINE):
             self.assertTrue(hasattr(LIBRARY, name), name)
 
     def test_version(self):

@@ -1,5 +1,5 @@
-"""Packets of ports 138 and 139, and what is shown: types and flags, numbers that no packet has, and threads; lines of captures: texts and bytes,
-with a line feed at the end or without."""
+"""Names in parts; packets of ports 138 and 139, and what is shown: types and flags, numbers that no packet has, and threads; lines of captures:
+texts and bytes, with a line feed at the end or without."""
 import unittest
 from concurrent.futures import ThreadPoolExecutor
 
@@ -11,7 +11,34 @@ FRED = b'\x20EGFCEFEECACACACACACACACACACACACA\0'
 HELLO = nbt.Datagram.write(DatagramType.GROUP, 10, '10.0.0.5', 138, 'JOE<00>', 'FRED<20>', b'hello')[0]
 
 
+class Names(unittest.TestCase):
+    def test_parts(self):
+        """tests/library/answers.py joins those of other names again."""
+        self.assertEqual(nbt.split_name('FRED<20>'), (b'FRED           ', 0x20, ''))
+        self.assertEqual(nbt.split_name(r'\01\02__MSBROWSE__\02<01>.NETBIOS.a\2e'), (b'\1\2__MSBROWSE__\2', 1, r'NETBIOS.a\2e'))
+        self.assertEqual(nbt.join_name(b'FRED', 0x20, 'NETBIOS.COM'), 'FRED<20>.NETBIOS.COM')
+        for suffix in range(256):
+            name = bytes([*range(suffix, 256), *range(suffix)][:15])
+            self.assertEqual(nbt.split_name(nbt.join_name(name, suffix)), (name, suffix, ''))
+
+    def test_no_parts(self):
+        for error, said, *words in (
+                (ValueError, '^characters: 16 ', bytes(16), 0), (ValueError, '^suffix: 256 ', b'', 256), (TypeError, '^str is no', 'FRED', 0),
+                (nbt.NbtError, '^bad text 11$', b'FRED', 0x20, 'a..b'), (nbt.NbtError, '^text too long$', b'FRED', 0x20, 'a' * 64)):
+            self.assertRaisesRegex(error, said, nbt.join_name, *words)
+        self.assertRaisesRegex(nbt.NbtError, '^bad text 4$', nbt.split_name, 'FRED')
+
+
 class Types(unittest.TestCase):
+    def test_numbers_by_name(self):
+        """RFC 1002 sections 4.2.1.1, 4.2.1.3, 4.2.18 and 4.4.1."""
+        self.assertEqual({it.name: it.value for it in nbt.RecordType}, {'NS': 2, 'NULL': 10, 'NB': 32, 'NBSTAT': 33})
+        query = nbt.ServicePacket.read(nbt.query(1, 'FRED<20>', broadcast=True))
+        self.assertEqual((query.flags, query.questions[0].type), (nbt.HeaderFlag.RD | nbt.HeaderFlag.B, nbt.RecordType.NB))
+        answer = nbt.ServicePacket.read(nbt.response(1, 'JOE<00>', b'', type=nbt.RecordType.NULL, flags=nbt.HeaderFlag.AA))
+        self.assertEqual((answer.flags, answer.answers[0].type), (0x0400, 10))
+        self.assertEqual((nbt.NameFlag.G | nbt.NameFlag.ACT, nbt.DatagramFlag.FIRST), (0x8400, nbt.Datagram.read(HELLO).flags))
+
     def test_flags(self):
         for flags, first, more in (0, False, False), (1, False, True), (2, True, False), (0xff, True, True):
             payload = HELLO[:1] + bytes([flags]) + HELLO[2:]

@@ -3,10 +3,9 @@ import unittest
 from ipaddress import IPv4Address
 
 import nbt
-from nbt import DomainName, NbEntry, NodeName, NodeStatus, Operation, ResultCode, ServicePacket, Status
+from nbt import DomainName, NbEntry, NodeName, NodeStatus, Operation, RecordType, ResultCode, ServicePacket, Status
 
 ENTRY = NbEntry(0x6000, IPv4Address('10.0.0.5'))
-NB, NBSTAT, NS = 0x0020, 0x0021, 0x0002
 
 
 class Written(unittest.TestCase):
@@ -25,8 +24,8 @@ class Written(unittest.TestCase):
 
     def test_bytes_of_any_kind(self):
         for kind in bytearray, memoryview:
-            self.assertEqual(nbt.response(3, 'FRED<20>', kind(b'\x29\x10'), 60, type=NB), nbt.response(3, 'FRED<20>', b'\x29\x10', 60, type=NB))
-        self.assertEqual(nbt.response(3, 'FRED<20>', DomainName(())), nbt.response(3, 'FRED<20>', b'\0', type=NS))
+            self.assertEqual(nbt.response(3, 'FRED<20>', kind(b'\x29\x10'), 60, type=32), nbt.response(3, 'FRED<20>', b'\x29\x10', 60, type=RecordType.NB))
+        self.assertEqual(nbt.response(3, 'FRED<20>', DomainName(())), nbt.response(3, 'FRED<20>', b'\0', type=RecordType.NS))
 
     def test_most(self):
         most = NodeStatus((NodeName(r'\00<ff>', 0xffff),) * 255, bytes(6))
@@ -47,7 +46,7 @@ class Refused(unittest.TestCase):
     def test_values_that_are_none(self):
         status = lambda names, unit=None: NodeStatus(tuple(NodeName(*it) for it in names), unit)
         for words, changed in [
-                (((),), {'op': 16}), (((),), {'rcode': -1}), (((),), {'flags': 0x8000}), (((),), {'flags': 1}), (((),), {'type': NBSTAT}),
+                (((),), {'op': 16}), (((),), {'rcode': -1}), (((),), {'flags': 0x8000}), (((),), {'flags': 1}), (((),), {'type': RecordType.NBSTAT}),
                 ((b'',), {'type': 65_536}), (((NbEntry(65_536, 5),),), {}), (((NbEntry(0, 'FRED'),),), {}), (((), 1 << 32), {}),
                 ((DomainName((bytes(64),)),), {}), ((DomainName((bytes(256),)),), {}), ((status([('JOE<00>.COM', 0)]),), {}),
                 ((status([('JOE<00>', 65_536)]),), {}), ((status([('JOE<00>', 0)] * 256),), {}), ((status([], b'seven b'),), {})]:

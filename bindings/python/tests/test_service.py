@@ -76,11 +76,6 @@ class Read(unittest.TestCase):
                 packet = ServicePacket.read(buffer)
             self.assertEqual(packet.answers[0].rdata, DomainName((b'ns',)))
 
-    def test_outside(self):
-        for call in ServicePacket.read, ServicePacket.read_front:
-            self.assertRaisesRegex(ValueError, '^offset: 69 lies outside of 68 bytes$', call, REGISTRATION, 69)
-            self.assertRaisesRegex(TypeError, '^offset: 0.0 is no whole number$', call, REGISTRATION, 0.0)
-
 
 class Chains(unittest.TestCase):
     def test_many_names_at_a_chains_end(self):

@@ -51,6 +51,9 @@ def front(payload: bytearray) -> Optional[int]:
     packet, fault = nbt.ServicePacket.read_front(payload, offset=1)
     if packet is None or fault is None:
         return None
+    parts: nbt.NameParts = nbt.split_name(nbt.join_name(b'FRED', 0x20, scope='NETBIOS.COM'))
+    if packet.flags & nbt.HeaderFlag.B and packet.questions[0].type == nbt.RecordType.NB:
+        return parts.suffix
     retarget = nbt.SessionPacket.read(nbt.json(137, payload).encode()).retarget
     return fault.at if retarget is None else retarget[1] + packet.counts[0] + len(nbt.__version__)
 

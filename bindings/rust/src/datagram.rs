@@ -30,6 +30,7 @@ pub use crate::header::datagram::{Kind, Query};
 /// A packet of port 138, whose names and data are lent from the payload.
 #[derive(Clone, Copy, Debug, PartialEq, Eq, Hash)]
 #[cfg_attr(feature = "serde", derive(serde::Serialize))]
+#[non_exhaustive]
 pub struct Packet<'a> {
     /// FLAGS, all eight bits.
     pub flags: u8,
@@ -59,6 +60,7 @@ pub enum Body<'a> {
 /// A piece of a datagram (RFC 1002 section 4.4.2). That each carries both names is our choice.
 #[derive(Clone, Copy, Debug, PartialEq, Eq, Hash)]
 #[cfg_attr(feature = "serde", derive(serde::Serialize))]
+#[non_exhaustive]
 pub struct Fragment<'a> {
     /// For whom the datagram is.
     pub kind: Kind,
@@ -136,6 +138,7 @@ fn body_of<'a>(payload: &'a [u8], found: &FoundDatagram) -> Result<Body<'a>> {
 /// The header of a packet of port 138, whether or not the packet stands, and the names of a fragment that are there whole.
 #[derive(Clone, Copy, Debug, PartialEq, Eq, Hash)]
 #[cfg_attr(feature = "serde", derive(serde::Serialize))]
+#[non_exhaustive]
 pub struct Header<'a> {
     /// MSG_TYPE, also one that no packet has; [`Kind`] and [`Query`] are made of it.
     pub message_type: u8,

@@ -12,13 +12,22 @@
 //! - [`merge`], [`differ`], [`list_table`], [`table_json`]: saved tables, joined, compared and listed
 //!
 //! ```
-//! let payload = [0x83, 0, 0, 1, 0x82];
-//! assert_eq!(nbt::show(139, &payload)?, "negative code=82 used=5\n");
+//! use nbt::service::{read, Entry, Operation, Rdata, Request};
 //!
-//! let refused = nbt::spell("FRED").unwrap_err();
-//! assert_eq!((refused.status(), refused.at()), (nbt::Status::BadText, Some(4)));
-//! assert_eq!(refused.to_string(), "bad text 4");
-//! # Ok::<(), nbt::Error>(())
+//! let entry = Entry { nb_flags: 0, address: "10.0.0.6".parse()? };
+//! let payload = Request::Registration(entry, 300_000).write(2, "FRED<20>", true)?;
+//! let packet = read(&payload)?;
+//! assert_eq!(packet.header.operation(), Ok(Operation::Registration));
+//! for record in packet.additional() {
+//!     assert_eq!(record.name.to_string(), "FRED<20>");
+//!     if let Rdata::Addresses(mut claimants) = record.rdata() {
+//!         assert_eq!(claimants.next(), Some(entry));
+//!     }
+//! }
+//! let refused = read(&payload[..40]).unwrap_err();
+//! assert_eq!((refused.status(), refused.at()), (nbt::Status::NameTruncated, Some(40)));
+//! assert_eq!(refused.to_string(), "name: truncated 40");
+//! # Ok::<(), Box<dyn std::error::Error>>(())
 //! ```
 //!
 //! Names as texts are written as in `FRED<20>` or `FRED<20>.NETBIOS.COM` (our choice): the characters of the name, its

@@ -12,9 +12,10 @@ use crate::room::found;
 use crate::service::{Entry, NB, NBSTAT, NS};
 use crate::Name;
 
-/// What a record says, by its type.
+/// What a record says, by its type. Types that are [`Other`](Rdata::Other) now may get views of their own.
 #[derive(Clone, Debug)]
 #[cfg_attr(feature = "serde", derive(serde::Serialize), serde(rename_all = "snake_case"))]
+#[non_exhaustive]
 // A name lies in place.
 #[allow(clippy::large_enum_variant)]
 pub enum Rdata<'a> {
@@ -106,6 +107,7 @@ parts! {
 /// The names of a node: RFC 1002 section 4.2.18.
 #[derive(Clone, Debug)]
 #[cfg_attr(feature = "serde", derive(serde::Serialize))]
+#[non_exhaustive]
 pub struct NodeStatus<'a> {
     /// The names.
     pub names: NodeNames<'a>,

@@ -55,6 +55,7 @@ pub struct Response<'a> {
 
 /// What a response says of a name: its RDATA.
 #[derive(Clone, Copy, Debug, PartialEq, Eq, Hash)]
+#[non_exhaustive]
 pub enum Answer<'a> {
     /// Of type NB: who has the name.
     Addresses(&'a [Entry]),

@@ -1,22 +1,5 @@
 //! Packets of the name service, port 137: RFC 1002 section 4.2. [`Request`] writes those of sections 4.2.12, 4.2.17, 4.2.2,
-//! 4.2.4 and 4.2.9, [`Response`] those with one answer, and [`read`] reads all.
-//!
-//! ```
-//! use nbt::service::{read, Entry, Operation, Rdata, Request};
-//!
-//! let entry = Entry { nb_flags: 0, address: "10.0.0.6".parse()? };
-//! let payload = Request::Registration(entry, 300_000).write(2, "FRED<20>", true)?;
-//! let packet = read(&payload)?;
-//! assert_eq!(packet.header.operation(), Ok(Operation::Registration));
-//! assert_eq!(packet.questions().len(), 1);
-//! for record in packet.additional() {
-//!     assert_eq!(record.name.to_string(), "FRED<20>");
-//!     if let Rdata::Addresses(mut claimants) = record.rdata() {
-//!         assert_eq!(claimants.next(), Some(entry));
-//!     }
-//! }
-//! # Ok::<(), Box<dyn std::error::Error>>(())
-//! ```
+//! 4.2.4 and 4.2.9, [`Response`] those with one answer, and [`read`] reads all: the crate's page begins with a program.
 
 use std::net::Ipv4Addr;
 
@@ -102,6 +85,7 @@ impl Entry {
 /// What is asked about a name.
 #[derive(Clone, Copy, Debug, PartialEq, Eq, Hash)]
 #[cfg_attr(feature = "serde", derive(serde::Serialize, serde::Deserialize), serde(rename_all = "snake_case"))]
+#[non_exhaustive]
 pub enum Request {
     /// Who has it?
     Query,

@@ -4,7 +4,8 @@ use std::fmt;
 
 use crate::header::service::Section;
 use crate::header::{
-    nbt_service_header, nbt_service_items, nbt_service_read, FoundServiceEntry, FoundServiceHeader, DONE, NO_ITEM,
+    nbt_service_header, nbt_service_items, nbt_service_read, FoundServiceEntry, FoundServiceHeader, DONE, FIRST_ITEM,
+    NO_ITEM,
 };
 use crate::rdata::Rdata;
 use crate::room::{found, passed};
@@ -12,7 +13,7 @@ use crate::service::Header;
 use crate::{Error, Name, Result};
 
 /// Where the first question or record stands: behind the header.
-const FIRST: usize = 12;
+const FIRST: usize = FIRST_ITEM as usize;
 /// How many of them are read at once.
 const AT_ONCE: usize = 16;
 

@@ -38,7 +38,7 @@ use Rattle.nb_service.specs.Header.{nm_bits}
 -- ---- the responses that words name: packets with one answer, and no question (RFC 1002 sections 4.2.5 to 4.2.18)
 -- Of these sections all but 4.2.8 and 4.2.15 have such packets.
 
--- HasRdata kind bytes rdata: these bytes stand where the RDATA of a record of this kind does, at most 65,535: of kind NS
+-- HasRdata kind bytes rdata: these bytes stand where the RDATA of a record of this type does, at most 65,535: of type NS
 -- the spelling of a domain name
 pub data HasRdata (kind : ℕ) (bytes : List ℕ) : ResourceData → Type 0 where
   plain : kind ≢ NS → length bytes ≤ 65535 → HasRdata kind bytes (of_bytes bytes)

@@ -43,7 +43,7 @@ pub fn build(alloc: Global, words: &[&str], broadcast: bool) -> Result<Bytes, Bu
     let id = word(alloc, id)?;
     let flags = flag_word(alloc, flags, broadcast)?;
     let name = name_from_text(name)?;
-    let (kind, ttl) = kind_and_ttl(alloc, kind, ttl)?;
+    let (kind, ttl) = type_and_ttl(alloc, kind, ttl)?;
     let rdata = data(alloc, digits)?;
     answered(alloc, id, flags, answer(&name, kind, ttl, rdata.as_slice()))
 }
@@ -63,7 +63,7 @@ fn flag_word(alloc: Global, digits: &str, broadcast: bool) -> Result<u16, BuildF
 }
 
 /// The type of a record, and its time to live.
-fn kind_and_ttl(alloc: Global, kind: &str, ttl: &str) -> Result<(u16, u32), BuildFault>
+fn type_and_ttl(alloc: Global, kind: &str, ttl: &str) -> Result<(u16, u32), BuildFault>
     ensures { MatchResult result (λ both. WordText both.0 kind.now
         × NumberText 4294967295 both.1 ttl.now)
         (IsRefused (λ (both : ℕ × ℕ). WordText both.0 kind.now

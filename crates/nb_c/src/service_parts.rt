@@ -11,7 +11,7 @@ use nb_calls::service_parts::{
     write_spelling,
 };
 
-/// Reads the entry of a number, counted from 0, of RDATA of a kind. No memory is taken.
+/// Reads the entry of a number, counted from 0, of RDATA of a type. No memory is taken.
 ///
 /// RFC 1002 section 4.2.13.
 #[unsafe(no_mangle)]
@@ -29,7 +29,7 @@ pub extern "C" fn nbt_service_address(
     fill(address_at(kind, contents, number), address, at)
 }
 
-/// Reads a node's name of a number, counted from 0, of RDATA of a kind. No memory is taken.
+/// Reads a node's name of a number, counted from 0, of RDATA of a type. No memory is taken.
 ///
 /// RFC 1002 section 4.2.18.
 #[unsafe(no_mangle)]
@@ -47,7 +47,7 @@ pub extern "C" fn nbt_service_node(
     fill(node_at(kind, contents, number), node, at)
 }
 
-/// Reads the unit identifier of a node of RDATA of a kind. No memory is taken.
+/// Reads the unit identifier of a node of RDATA of a type. No memory is taken.
 ///
 /// RFC 1002 section 4.2.18.
 #[unsafe(no_mangle)]

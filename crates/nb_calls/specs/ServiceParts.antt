@@ -43,7 +43,7 @@ part_answer numbers parts number = one_part numbers (length parts) (slice_get pa
 abbrev pub address_numbers : AddressEntry → NbtServiceAddress
 address_numbers entry = record { address = from_be_bytes w32 entry.address; flags = entry.flags }
 
--- ReadsAddress kind bytes number answer: this is answered of the entry of this number of RDATA of this kind
+-- ReadsAddress kind bytes number answer: this is answered of the entry of this number of RDATA of this type
 abbrev pub ReadsAddress : ℕ → List ℕ → ℕ → Result NbtServiceAddress Refusal → Type 0
 ReadsAddress kind bytes number =
     Chosen (AreEntries kind bytes) (part_answer address_numbers (entries_of_data (of_bytes bytes)) number) (Err (Fault statuses.OTHER_RDATA))
@@ -52,11 +52,11 @@ ReadsAddress kind bytes number =
 abbrev pub node_numbers : NodeName → NbtServiceNode
 node_numbers name = record { flags = name.flags; name = name.bytes }
 
--- HasStatusParts kind bytes: RDATA of this kind and these bytes is a node's status
+-- HasStatusParts kind bytes: RDATA of this type and these bytes is a node's status
 abbrev pub HasStatusParts : ℕ → List ℕ → Type 0
 HasStatusParts kind bytes = (count : ℕ) × (rest : List ℕ) × IsStatus kind bytes count rest
 
--- ReadsNode kind bytes number answer: this is answered of the name of this number of RDATA of this kind
+-- ReadsNode kind bytes number answer: this is answered of the name of this number of RDATA of this type
 abbrev pub ReadsNode : ℕ → List ℕ → ℕ → Result NbtServiceNode Refusal → Type 0
 ReadsNode kind bytes number =
     Chosen (HasStatusParts kind bytes) (part_answer node_numbers (status_of_data (of_bytes bytes)).names number)
@@ -68,7 +68,7 @@ unit_answer statistics size =
     if nat_le UNIT_ID_LENGTH (length statistics) then Ok (record { bytes = take UNIT_ID_LENGTH statistics })
     else Err (FaultAt statuses.TRUNCATED size)
 
--- ReadsUnit kind bytes answer: this is answered of UNIT_ID of RDATA of this kind
+-- ReadsUnit kind bytes answer: this is answered of UNIT_ID of RDATA of this type
 abbrev pub ReadsUnit : ℕ → List ℕ → Result NbtServiceUnit Refusal → Type 0
 ReadsUnit kind bytes =
     Chosen (HasStatusParts kind bytes) (unit_answer (status_of_data (of_bytes bytes)).statistics (length bytes))

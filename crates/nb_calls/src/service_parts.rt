@@ -42,7 +42,7 @@ pub struct NbtServiceUnit {
     pub bytes: [u8; UNIT_ID_LENGTH],
 }
 
-/// The entry of a number of RDATA of a kind.
+/// The entry of a number of RDATA of a type.
 #[tactic(auto, using(crate::proofs::AnswerLemmas::choices))]
 pub fn address_at(kind: u16, contents: &[u8], number: usize) -> Result<NbtServiceAddress, Refusal>
     ensures { Alone NbtServiceAddress (ReadsAddress kind contents.now number) result }
@@ -66,7 +66,7 @@ fn address_of(entries: &AddressEntries<'_>, number: usize) -> Result<NbtServiceA
     }
 }
 
-/// A node's name of a number of RDATA of a kind.
+/// A node's name of a number of RDATA of a type.
 pub fn node_at(kind: u16, contents: &[u8], number: usize) -> Result<NbtServiceNode, Refusal>
     ensures { Alone NbtServiceNode (ReadsNode kind contents.now number) result }
 {
@@ -92,7 +92,7 @@ fn node_of(status: &NodeStatus<'_>, number: usize) -> Result<NbtServiceNode, Ref
     }
 }
 
-/// The unit identifier of RDATA of a kind.
+/// The unit identifier of RDATA of a type.
 pub fn unit_at(kind: u16, contents: &[u8]) -> Result<NbtServiceUnit, Refusal>
     ensures { Alone NbtServiceUnit (ReadsUnit kind contents.now) result }
 {

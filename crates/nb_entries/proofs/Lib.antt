@@ -3,3 +3,4 @@ mod Covers
 mod KeptRuns
 mod Runs
 mod SavedReading
+mod LawLemmas

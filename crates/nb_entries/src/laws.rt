@@ -2,12 +2,13 @@
 //!
 //! They speak of the values of `specs/` alone, and say that the definitions mean what they are
 //! called.
+#![tactic(auto, using(crate::proofs::LawLemmas::laws))]
 
 ghost use Rattle.std.specs.Prelude.{◌≡◌, ℕ, ◌↔◌, IsTrue, Some, List};
 ghost use Rattle.std.specs.FinMap as maps;
 ghost use Rattle.nb_entries.specs.Marks.{GoesOnFrom, Promises};
 ghost use Rattle.nb_entries.specs.Cover.{CoverFacts, CoverValue, join_cover, IsCover};
-ghost use Rattle.nb_entries.specs.Entry.{EntryValue, join_entry, IsEntry, EntryFacts};
+ghost use Rattle.nb_entries.specs.Entry.{EntryValue, join_entry, IsEntry, EntryFacts, FactsFit, facts_agree};
 ghost use Rattle.nb_entries.specs.Equal.{same_cover, same_entry};
 ghost use Rattle.nb_datagram.specs.Fragment.{Core, Covers, DatagramParts};
 ghost use Rattle.nb_datagram.specs.declared.key.Key.{Key};
@@ -17,10 +18,46 @@ ghost use Rattle.std.specs.Ordering.{nat_cmp};
 ghost use Rattle.nb_entries.specs.Runs.{RunValue, AreApart, map_of_runs, runs_of_map, AreRangesOf, ranges_of_map};
 ghost use Rattle.nb_entries.specs.declared.ranges.PlaceRange.{PlaceRange};
 
+/// Two entries pass the test of agreement exactly where they don't contradict each other: one kind,
+/// the same names, and covers of which neither contradicts the other.
+pub fn entry_agreement_is_the_relation()
+    ensures { (a b : EntryFacts) → IsTrue (facts_agree a b) ↔ FactsFit a b }
+{}
+
+/// It makes no difference which of two covers is joined into the other.
+pub fn cover_join_is_commutative()
+    ensures { (a b : CoverValue) → join_cover a b ≡ join_cover b a }
+{}
+
+/// It makes no difference in which groups three covers are joined.
+pub fn cover_join_is_associative()
+    ensures { (a b c : CoverValue) → join_cover (join_cover a b) c ≡ join_cover a (join_cover b c) }
+{}
+
+/// A well-formed cover joined with itself is as it was.
+pub fn cover_join_is_idempotent()
+    ensures { (a : CoverValue) → IsCover a → join_cover a a ≡ a }
+{}
+
 /// The join of two well-formed covers is well formed.
 #[tactic(auto, using(crate::specs::Shared::EntryLemmas::join_cover_formed))]
 pub fn cover_join_is_well_formed()
     ensures { (a b : CoverValue) → IsCover a → IsCover b → IsCover (join_cover a b) }
+{}
+
+/// It makes no difference which of two entries is joined into the other.
+pub fn entry_join_is_commutative()
+    ensures { (a b : EntryValue) → join_entry a b ≡ join_entry b a }
+{}
+
+/// It makes no difference in which groups three entries are joined.
+pub fn entry_join_is_associative()
+    ensures { (a b c : EntryValue) → join_entry (join_entry a b) c ≡ join_entry a (join_entry b c) }
+{}
+
+/// A well-formed entry joined with itself is as it was.
+pub fn entry_join_is_idempotent()
+    ensures { (a : EntryValue) → IsEntry a → join_entry a a ≡ a }
 {}
 
 /// The join of two well-formed entries is well formed.

@@ -87,7 +87,7 @@ fn say_made(line: &mut Line<'_>, packet: Result<Packet<'_>, NoMemory>) {
     }
 }
 
-/// `record NAME KIND CLASS TTL RDATA`: the parts of the record of these, or why there is none. The
+/// `record NAME TYPE CLASS TTL RDATA`: the parts of the record of these, or why there is none. The
 /// name is the bytes of its spelling.
 pub fn record(line: &mut Line<'_>) {
     let name = line.domain();
@@ -116,7 +116,7 @@ pub fn name_server(line: &mut Line<'_>) {
     say_record(line, &record);
 }
 
-/// `response ID WORD NAME KIND CLASS TTL RDATA`: the bytes of the packet with this answer alone.
+/// `response ID WORD NAME TYPE CLASS TTL RDATA`: the bytes of the packet with this answer alone.
 pub fn responded(line: &mut Line<'_>) {
     let id = line.hex_16();
     let word = line.hex_16();

@@ -38,7 +38,7 @@ fn say_questions(line: &mut Line<'_>, questions: &[Question]) {
     }
 }
 
-/// Says a question: name, kind and class.
+/// Says a question: name, type and class.
 pub fn say_question(line: &mut Line<'_>, question: &Question) {
     line.say("question ");
     say_name(line, &question.name);
@@ -61,7 +61,7 @@ fn say_records(line: &mut Line<'_>, section: &str, records: &[Record<'_>]) {
     }
 }
 
-/// Says a record: name, kind, class, time to live, and RDATA of bytes or of a name.
+/// Says a record: name, type, class, time to live, and RDATA of bytes or of a name.
 pub fn say_record(line: &mut Line<'_>, record: &Record<'_>) {
     line.begin();
     let name = record.name();

@@ -2,7 +2,7 @@
 --
 -- Our choice: a record's name that has a label and is the first question's is written as a pointer to where
 -- that name stands, at the first offset after the header. All other names are spelled, also the one in
--- the RDATA of a record of kind NS.
+-- the RDATA of a record of type NS.
 use Rattle.std.specs.Prelude.{ℕ, ◌<◌, ◌^◌, Bool, false, List, [], ◌∷◌, ◌++◌, length, if◌then◌else◌}
 use Rattle.std.specs.Int.{w16, w32, to_be_bytes}
 use Rattle.std.specs.List.{AllByRecursion, flat_map}
@@ -75,7 +75,7 @@ abbrev pub IsNamedData : ResourceData → Type 0
 IsNamedData (of_bytes bytes) = Unit {0}
 IsNamedData (of_domain labels) = IsDomain labels
 
--- the numbers of a record fit their fields, its labels make a name, and its kind has such RDATA
+-- the numbers of a record fit their fields, its labels make a name, and its type has such RDATA
 pub record IsRecord (entry : ResourceRecord) : Type 0 where
   pub name : IsDomain entry.name
   pub kind : entry.kind < 2 ^ 16

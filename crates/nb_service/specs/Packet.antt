@@ -7,7 +7,7 @@
 --
 -- Our choice: those bytes count as no part of the packet.
 --
--- Our choice: the RDATA of a record of kind NS is a domain name, which ends where the RDATA does.
+-- Our choice: the RDATA of a record of type NS is a domain name, which ends where the RDATA does.
 use Rattle.std.specs.Prelude.{◌≡◌, ◌≢◌, ℕ, ◌+◌, ◌≤◌, List, [], ◌∷◌, ◌++◌, length}
 use Rattle.std.specs.Int.{w16, w32}
 use Rattle.nb_names.specs.declared.reading.Pointers.TheVariants.{Followed}
@@ -28,7 +28,7 @@ pub record QuestionAt (packet : List ℕ) (at : ℕ) (question : Question) (next
   pub end : next ≡ after + 4
 
 -- RdataAt packet at size kind rdata: at this offset stand `size` bytes, which are this RDATA of a record
--- of this kind
+-- of this type
 pub data RdataAt (packet : List ℕ) (at size kind : ℕ) : ResourceData → Type 0 where
   bytes_there : (bytes : List ℕ) → kind ≢ NS → length bytes ≡ size → StandsAt packet at bytes
       → RdataAt packet at size kind (of_bytes bytes)

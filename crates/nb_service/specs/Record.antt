@@ -10,7 +10,7 @@ pub data ResourceData : Type 0 where
   of_bytes : List ℕ → ResourceData
   of_domain : List (List ℕ) → ResourceData
 
--- a record: the labels of its name, its kind, class, time to live in seconds, and RDATA
+-- a record: the labels of its name, its type, class, time to live in seconds, and RDATA
 pub record ResourceRecord : Type 0 where
   pub name : List (List ℕ)
   pub kind : ℕ
@@ -23,7 +23,7 @@ abbrev pub record_of : List (List ℕ) → ℕ → ℕ → ℕ → ResourceData 
 record_of name kind class ttl rdata =
     record { name = name; kind = kind; class = class; ttl = ttl; rdata = rdata }
 
--- IsRdataOf kind rdata: records of this kind may have this RDATA: a domain name where the kind is NS, and
+-- IsRdataOf kind rdata: records of this type may have this RDATA: a domain name where the type is NS, and
 -- elsewhere bytes, up to the 65,535 that RDLENGTH can hold
 abbrev pub IsRdataOf : ℕ → ResourceData → Type 0
 IsRdataOf kind (of_bytes bytes) = (kind ≢ NS) × (length bytes ≤ MAX_RDATA)

@@ -24,7 +24,7 @@ pub data QuestionFails (packet : List ℕ) (at : ℕ) : ServiceFault → Type 0 
   question_cut : (labels : List (List ℕ)) (after : ℕ) → NameAt packet Followed at labels after
       → length packet < after + 4 → QuestionFails packet at (Truncated (length packet))
 
--- RdataBegins packet at kind size rdata: a record at this offset is of this kind, and has `size` bytes
+-- RdataBegins packet at kind size rdata: a record at this offset is of this type, and has `size` bytes
 -- of RDATA, to begin at `rdata`
 pub record RdataBegins (packet : List ℕ) (at kind size rdata : ℕ) : Type 0 where
   pub labels : List (List ℕ)

@@ -1,4 +1,4 @@
--- What the RDATA of records of two kinds says: NB_FLAGS and addresses (RFC 1002 section 4.2.13), and the
+-- What the RDATA of records of two types says: NB_FLAGS and addresses (RFC 1002 section 4.2.13), and the
 -- names of a node (RFC 1002 section 4.2.18). Numbers are big-endian, and lengths are in bytes.
 --
 -- Our choice: of what follows the names of a node, any length is taken for its statistics.
@@ -21,14 +21,14 @@ use Rattle.nb_service.specs.Record.{ResourceData, of_bytes, of_domain, ResourceR
 abbrev pub entry_bytes : AddressEntry → List ℕ
 entry_bytes entry = to_be_bytes w16 entry.flags ++ entry.address
 
--- HasEntries entry bytes: the record is of kind NB, and its RDATA is these bytes, as many as whole entries
+-- HasEntries entry bytes: the record is of type NB, and its RDATA is these bytes, as many as whole entries
 -- have
 pub record HasEntries (entry : ResourceRecord) (bytes : List ℕ) : Type 0 where
   pub kind : entry.kind ≡ NB
   pub rdata : entry.rdata ≡ of_bytes bytes
   pub whole : length bytes % ENTRY_LENGTH ≡ 0
 
--- AreEntries kind bytes: RDATA of this kind and these bytes is entries: its kind is NB, and it has whole ones alone
+-- AreEntries kind bytes: RDATA of this type and these bytes is entries: its type is NB, and it has whole ones alone
 abbrev pub AreEntries : ℕ → List ℕ → Type 0
 AreEntries kind bytes = (kind ≡ NB) × (length bytes % ENTRY_LENGTH ≡ 0)
 
@@ -45,14 +45,14 @@ pub record StatusParts : Type 0 where
 abbrev pub after_count : StatusParts → List ℕ
 after_count status = flat_map node_name_bytes status.names ++ status.statistics
 
--- HasStatus entry count rest: the record is of kind NBSTAT, and its RDATA is NUM_NAMES, which is the
+-- HasStatus entry count rest: the record is of type NBSTAT, and its RDATA is NUM_NAMES, which is the
 -- count, and then these bytes, enough of them for so many names
 pub record HasStatus (entry : ResourceRecord) (count : ℕ) (rest : List ℕ) : Type 0 where
   pub kind : entry.kind ≡ NBSTAT
   pub rdata : entry.rdata ≡ of_bytes (count ∷ rest)
   pub room : NODE_NAME_LENGTH * count ≤ length rest
 
--- IsStatus kind bytes count rest: RDATA of this kind and these bytes is a node's status: its kind is NBSTAT, and its bytes are
+-- IsStatus kind bytes count rest: RDATA of this type and these bytes is a node's status: its type is NBSTAT, and its bytes are
 -- NUM_NAMES, which is the count, and then these, enough of them for so many names
 abbrev pub IsStatus : ℕ → List ℕ → ℕ → List ℕ → Type 0
 IsStatus kind bytes count rest =
@@ -76,12 +76,12 @@ node_name_of bytes = record { bytes = take 16 bytes; flags = from_be_bytes w16 (
 abbrev pub node_names_of : List ℕ → List NodeName
 node_names_of bytes = parts NODE_NAME_LENGTH node_name_of (length bytes / NODE_NAME_LENGTH) bytes
 
--- the entries of RDATA of kind NB: none where its bytes aren't whole entries
+-- the entries of RDATA of type NB: none where its bytes aren't whole entries
 abbrev pub entries_of_data : ResourceData → List AddressEntry
 entries_of_data (of_bytes bytes) = if length bytes % ENTRY_LENGTH == 0 then entries_of bytes else []
 entries_of_data (of_domain labels) = []
 
--- the address entries of a record: none where it isn't of kind NB
+-- the address entries of a record: none where it isn't of type NB
 abbrev pub entries_in : ResourceRecord → List AddressEntry
 entries_in entry = if entry.kind == NB then entries_of_data entry.rdata else []
 
@@ -94,13 +94,13 @@ abbrev pub status_of_size : ℕ → List ℕ → StatusParts
 status_of_size size rest =
     if nat_le size (length rest) then record { names = node_names_of (take size rest); statistics = drop size rest } else no_status
 
--- the status of RDATA of kind NBSTAT: NUM_NAMES, and then at least so many names
+-- the status of RDATA of type NBSTAT: NUM_NAMES, and then at least so many names
 abbrev pub status_of_data : ResourceData → StatusParts
 status_of_data (of_bytes []) = no_status
 status_of_data (of_bytes (count ∷ rest)) = status_of_size (NODE_NAME_LENGTH * count) rest
 status_of_data (of_domain labels) = no_status
 
--- the node status of a record: without names and statistics where it isn't of kind NBSTAT
+-- the node status of a record: without names and statistics where it isn't of type NBSTAT
 abbrev pub status_in : ResourceRecord → StatusParts
 status_in entry = if entry.kind == NBSTAT then status_of_data entry.rdata else no_status
 

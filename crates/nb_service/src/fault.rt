@@ -140,7 +140,7 @@ impl From<NoMemory> for PushFault {
 /// Why there is no such record. Where both apply, the first is answered.
 #[derive(Clone, Copy, Debug, PartialEq, Eq)]
 pub enum RecordFault {
-    /// The kind is NS, whose RDATA is a domain name (our choice).
+    /// The type is NS, whose RDATA is a domain name (our choice).
     KindIsNs,
     /// The RDATA has more than 65,535 bytes.
     TooLong,

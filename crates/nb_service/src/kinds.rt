@@ -1,4 +1,4 @@
-//! Kinds of questions and records, by their numbers. Other numbers may stand in packets too.
+//! Types of questions and records, by their numbers. Other numbers may stand in packets too.
 
 /// An IPv4 address (RFC 1002 section 4.2.1.3).
 pub const A: u16 = 0x0001;

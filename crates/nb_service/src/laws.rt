@@ -57,7 +57,7 @@ pub fn equal_is_same()
     ensures packets { (a b : ServicePacket) → IsTrue (packet_eq a b) ↔ (a ≡ b) }
 {}
 
-/// The address entries of a record of kind 32: RDATA that is entries alone, each of two bytes of
+/// The address entries of a record of type 32: RDATA that is entries alone, each of two bytes of
 /// flags, the high one first, and four of an address. Other records have none.
 ///
 /// RFC 1002 section 4.2.13.
@@ -77,7 +77,7 @@ pub fn entries_of_a_record()
     ensures other_kinds { (entry : ResourceRecord) → entry.kind ≢ 32 → entries_in entry ≡ [] }
 {}
 
-/// The status of a node is that of a record of kind 33: RDATA of NUM_NAMES, so many names, each of
+/// The status of a node is that of a record of type 33: RDATA of NUM_NAMES, so many names, each of
 /// sixteen bytes and two of flags, the high one first, and what follows them. Other records have
 /// none, nor has RDATA with less than so many names.
 ///
@@ -103,7 +103,7 @@ pub fn status_of_a_record()
         status_in entry ≡ record { names = []; statistics = [] } }
 {}
 
-/// Where a record's RDATA is a domain name, its kind is 2, and that name is read ten bytes after
+/// Where a record's RDATA is a domain name, its type is 2, and that name is read ten bytes after
 /// the record's own, its pointers followed, up to where the record ends.
 #[tactic(auto, using(crate::proofs::SectionLemmas::named_rdata))]
 pub fn name_in_rdata()

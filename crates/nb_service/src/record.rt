@@ -14,7 +14,7 @@ use std::marker::Model;
 pub struct Question {
     /// The name asked for.
     pub name: DomainName,
-    /// The kind of record asked for; [`crate::kinds`] names some.
+    /// The type of record asked for (QUESTION_TYPE); [`crate::kinds`] names some.
     pub kind: u16,
     /// The class; [`crate::classes`] names one.
     pub class: u16,
@@ -88,7 +88,7 @@ impl<'a> Record<'a> {
         }
     }
 
-    /// A record of any kind but NS. No memory is taken.
+    /// A record of any type but NS. No memory is taken.
     ///
     /// # Errors
     ///
@@ -115,7 +115,7 @@ impl<'a> Record<'a> {
         Ok(Record::new(name, kind, class, ttl, Rdata::Bytes(rdata)))
     }
 
-    /// A record of kind NS, with the domain name of a name server. No memory is taken.
+    /// A record of type NS, with the domain name of a name server. No memory is taken.
     pub fn ns(name: DomainName, class: u16, ttl: u32, domain: DomainName) -> Record<'a>
         ensures { result ≡ record_of name NS class ttl (of_domain domain) }
     {
@@ -129,7 +129,7 @@ impl<'a> Record<'a> {
         &self.name
     }
 
-    /// The kind; [`crate::kinds`] names some.
+    /// The type (RR_TYPE); [`crate::kinds`] names some.
     pub fn kind(&self) -> u16
         ensures { result ≡ self.now.kind }
     {
@@ -150,7 +150,7 @@ impl<'a> Record<'a> {
         self.ttl
     }
 
-    /// The RDATA, a domain name exactly where the kind is NS.
+    /// The RDATA, a domain name exactly where the type is NS.
     pub fn rdata(&self) -> &Rdata<'a>
         ensures value { rdata_of result.now ≡ self.now.rdata }
         ensures kept { IsRdataOf self.now.kind self.now.rdata }
@@ -191,9 +191,9 @@ impl<'a> Eq for Record<'a> {
 /// The RDATA of a record (RFC 1002 section 4.2.1.3).
 #[derive(Debug, Drop)]
 pub enum Rdata<'a> {
-    /// Bytes, of any kind of record but NS.
+    /// Bytes, of any type of record but NS.
     Bytes(&'a [u8]),
-    /// A domain name, of a record of kind NS.
+    /// A domain name, of a record of type NS.
     Domain(DomainName),
 }
 
@@ -223,7 +223,7 @@ pub struct Extent {
 /// 4.2.1.2 and 4.2.1.3).
 #[derive(Clone, Copy, Debug, PartialEq, Eq)]
 pub struct Fields {
-    /// The kind of record, or of what is asked for; [`crate::kinds`] names some.
+    /// The type of record, or of what is asked for; [`crate::kinds`] names some.
     pub kind: u16,
     /// The class; [`crate::classes`] names one.
     pub class: u16,

@@ -131,7 +131,7 @@ pub fn see_question(names: &NameReader<'_, '_>, at: usize) -> Result<Seen, Servi
     Ok(Seen { at, name, fields })
 }
 
-/// Judges the RDATA of a record of a kind: the `size` bytes at `begin`.
+/// Judges the RDATA of a record of a type: the `size` bytes at `begin`.
 #[inline(always)]
 fn check_rdata(
     names: &NameReader<'_, '_>,
@@ -160,7 +160,7 @@ fn check_rdata(
 /// # Errors
 ///
 /// What is wrong first: the name's fault, that the packet ends before the record does
-/// (`Truncated`), or of a record of kind NS the fault of the name in its RDATA.
+/// (`Truncated`), or of a record of type NS the fault of the name in its RDATA.
 ///
 /// RFC 1002 section 4.2.1.3.
 #[inline(always)]

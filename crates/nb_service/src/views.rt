@@ -1,4 +1,4 @@
-//! The views of RDATA: the address entries of kind NB, and the node status of kind NBSTAT.
+//! The views of RDATA: the address entries of type NB, and the node status of type NBSTAT.
 ghost use Rattle.std.specs.Prelude.{◌≡◌, ◌*◌, ℕ, List, [], length, IfSome, MatchOption, ◌<◌, ◌%◌, slice_get, take, drop};
 ghost use Rattle.std.specs.List.{flat_map};
 ghost use Rattle.nb_service.specs.Record.{of_bytes};
@@ -66,9 +66,9 @@ impl Part for AddressEntry {
 pub type AddressEntries<'a> = Parts<'a, AddressEntry>;
 
 impl<'a> AddressEntries<'a> {
-    /// The entries of RDATA of a kind, as these bytes.
+    /// The entries of RDATA of a type, as these bytes.
     ///
-    /// None where the kind isn't NB, and where the bytes aren't entries of six bytes alone.
+    /// None where the type isn't NB, and where the bytes aren't entries of six bytes alone.
     /// RFC 1002 section 4.2.13.
     pub fn of_rdata(kind: u16, bytes: &'a [u8]) -> Option<AddressEntries<'a>>
         ensures found { MatchOption result (¬ AreEntries kind bytes.now)
@@ -91,7 +91,7 @@ impl<'a> AddressEntries<'a> {
 impl<'a> Record<'a> {
     /// The addresses of a NetBIOS name.
     ///
-    /// None where the kind isn't NB, and where the RDATA isn't entries of six bytes alone.
+    /// None where the type isn't NB, and where the RDATA isn't entries of six bytes alone.
     /// RFC 1002 section 4.2.13.
     pub fn address_entries(&self) -> Option<AddressEntries<'a>>
         ensures found { MatchOption result ((bytes : List ℕ) → ¬ HasEntries self.now bytes)
@@ -177,9 +177,9 @@ impl<'a> Model for NodeStatus<'a> {
 }
 
 impl<'a> NodeStatus<'a> {
-    /// The status of RDATA of a kind, as these bytes.
+    /// The status of RDATA of a type, as these bytes.
     ///
-    /// None where the kind isn't NBSTAT, and where there is less than NUM_NAMES promises.
+    /// None where the type isn't NBSTAT, and where there is less than NUM_NAMES promises.
     /// RFC 1002 section 4.2.18.
     pub fn of_rdata(kind: u16, bytes: &'a [u8]) -> Option<NodeStatus<'a>>
         ensures found { MatchOption result
@@ -244,7 +244,7 @@ impl<'a> NodeStatus<'a> {
 impl<'a> Record<'a> {
     /// The names of a node, and its statistics.
     ///
-    /// None where the kind isn't NBSTAT, and where the RDATA has less than NUM_NAMES promises.
+    /// None where the type isn't NBSTAT, and where the RDATA has less than NUM_NAMES promises.
     /// RFC 1002 section 4.2.18.
     pub fn node_status(&self) -> Option<NodeStatus<'a>>
         ensures found { MatchOption result

@@ -1,5 +1,5 @@
 -- What reads of a table answer, and a table without a key.
-use Rattle.std.proofs.Common.{◌≡◌, ◌-◌, ◌↔◌, Bool, true, false, cond, not, IsTrue, Option, Some, None, is_some, sym, ◌∙◌, ap, subst, arith, ◌&&◌, List, Decides}
+use Rattle.std.proofs.Common.{◌≡◌, ◌↔◌, Bool, true, false, cond, not, IsTrue, Option, Some, None, is_some, sym, ◌∙◌, ap, subst, arith, ◌&&◌, List, Decides}
 use Rattle.std.proofs.lemmas.Option.{none-some, same_Some}
 use Rattle.std.specs.FinMap as maps
 use Rattle.nb_datagram.specs.declared.key.Key.{Key}

@@ -1,5 +1,5 @@
--- When two fragments contradict each other, and when a key is spoilt in a list of fragments (our choice). Here
--- stand the relations; the tests by which tables are defined stand in ConflictTests.
+-- When two fragments contradict each other, and when a key is spoilt in a list of fragments (our choice): the
+-- relations, and then the tests by which tables are defined.
 use Rattle.std.specs.Prelude.{◌≡◌, ◌≢◌, ◌≤◌, ℕ, List, Contains, Bool, false, not, [], ◌∷◌, ◌||◌, filter}
 use Rattle.nb_datagram.specs.declared.key.Key.{Key}
 use Rattle.nb_datagram.specs.Fragment.{Core, Covers, EndsAt}
@@ -61,7 +61,7 @@ pub record IsSpoilt (L : List Core) (k : Key) : Type 0 where
   pub disagree : Disagree one other
 
 -- ---- the tests of conflict and of spoiling by which tables are defined
--- That they are the relations of Conflict are laws.
+-- Laws say that they are the relations above: conflict_test_is_the_relation and spoilt_test_is_the_relation.
 
 -- f and g conflict, as a test
 abbrev pub conflicts : Core → Core → Bool
@@ -79,6 +79,10 @@ keyed p = filter (λ f. p f.key)
 -- with_key k L: the fragments of L with key k, in order
 abbrev pub with_key : Key → List Core → List Core
 with_key k = keyed (same_key k)
+
+-- without_key k L: the fragments of L whose key isn't k, in order
+abbrev pub without_key : Key → List Core → List Core
+without_key k = keyed (λ q. not (same_key k q))
 
 -- is_spoilt L k: L contradicts itself about the key k, as a test
 abbrev pub is_spoilt : List Core → Key → Bool

@@ -7,14 +7,14 @@
 //! a table, which of the two limits a refusal reports, and which key it names.
 #![tactic(auto, using(crate::proofs::LawLemmas::laws))]
 
-ghost use Rattle.std.specs.Prelude.{◌≡◌, ◌≤◌, ◌↔◌, ◌++◌, ℕ, Bool, List, Some, ◌<◌, map, None};
+ghost use Rattle.std.specs.Prelude.{◌≡◌, ◌≤◌, ◌↔◌, ◌++◌, ℕ, Bool, IsTrue, List, Some, ◌<◌, map, None};
 ghost use Rattle.std.specs.FinMap as maps;
 ghost use Rattle.nb_datagram.specs.declared.key.Key.{Key};
 ghost use Rattle.nb_datagram.specs.Fragment.{Core, Covers, EndsAt, core_of, DatagramParts, FragmentParts};
 ghost use Rattle.nb_entries.specs.declared.slot.Slot.TheVariants.{Spoilt, Held};
 ghost use Rattle.nb_entries.specs.Maps.{joined_at};
 ghost use Rattle.nb_entries.specs.Entry.{EntryFacts, join_entry};
-ghost use Rattle.nb_table.specs.Conflict.{IsSpoilt, PastEnd, Conflict, keyed};
+ghost use Rattle.nb_table.specs.Conflict.{IsSpoilt, PastEnd, Conflict, conflicts, is_spoilt, keyed, without_key};
 ghost use Rattle.nb_table.specs.Contents.{Contents, IsTableOf, HasByte, HasEnd, HasPromise, table_of, entry_at, IsWholeAt, datagram_at};
 ghost use Rattle.nb_table.specs.Join.{join, IsTable, SameCores};
 ghost use Rattle.nb_entries.specs.declared.outline.State.{State};
@@ -36,11 +36,13 @@ mod saved;
 
 use nb_datagram::laws::pieces_are_parts;
 pub use nb_entries::laws::{
-    a_map_has_one_row_of_ranges, an_awaited_promise_is_past_the_bytes, cover_join_is_well_formed,
+    a_map_has_one_row_of_ranges, an_awaited_promise_is_past_the_bytes, cover_join_is_associative,
+    cover_join_is_commutative, cover_join_is_idempotent, cover_join_is_well_formed,
     covers_are_equal_where_contents_are, datagram_has_the_bytes_of_its_entry,
-    entries_are_equal_where_contents_are, entry_join_is_well_formed, map_of_runs_gives_them_back,
-    promised_place_is_past_the_covered, ranges_of_a_map_have_its_places, runs_of_a_map_are_apart,
-    runs_of_a_map_give_it_back,
+    entries_are_equal_where_contents_are, entry_agreement_is_the_relation,
+    entry_join_is_associative, entry_join_is_commutative, entry_join_is_idempotent,
+    entry_join_is_well_formed, map_of_runs_gives_them_back, promised_place_is_past_the_covered,
+    ranges_of_a_map_have_its_places, runs_of_a_map_are_apart, runs_of_a_map_give_it_back,
 };
 pub use saved::{
     a_saved_table_is_read, a_table_saved_in_the_first_form_is_read, an_input_is_read_as_one_table,
@@ -128,6 +130,26 @@ pub fn keeping_keys_keeps_their_fragments()
         maps.retain_keys (table_of L) p ≡ table_of (keyed p L) }
 {}
 
+/// A table without a key is the table of its list without that key's fragments.
+pub fn dropping_a_key_drops_its_fragments()
+    ensures { (L : List Core) (k : Key) → maps.remove (table_of L) k ≡ table_of (without_key k L) }
+{}
+
+/// It makes no difference which of two tables is joined into the other.
+pub fn table_join_is_commutative()
+    ensures { (a b : Contents) → join a b ≡ join b a }
+{}
+
+/// It makes no difference in which groups three tables are joined.
+pub fn table_join_is_associative()
+    ensures { (a b c : Contents) → join (join a b) c ≡ join a (join b c) }
+{}
+
+/// A well-formed table joined with itself is as it was.
+pub fn table_join_is_idempotent()
+    ensures { (a : Contents) → IsTable a → join a a ≡ a }
+{}
+
 /// The join of two well-formed tables is well formed.
 pub fn table_join_is_well_formed()
     ensures { (a b : Contents) → IsTable a → IsTable b → IsTable (join a b) }
@@ -155,6 +177,16 @@ pub fn a_change_is_one()
 /// A key is in one state at most.
 pub fn a_state_is_one()
     ensures { (t : Contents) (k : Key) (s r : State) → IsState t k s → IsState t k r → s ≡ r }
+{}
+
+/// Two fragments fail the test of agreement exactly where they contradict each other.
+pub fn conflict_test_is_the_relation()
+    ensures { (f g : Core) → IsTrue (conflicts f g) ↔ Conflict f g }
+{}
+
+/// A key passes the test for spoilt exactly where two of the list's fragments of it disagree.
+pub fn spoilt_test_is_the_relation()
+    ensures { (L : List Core) (k : Key) → IsTrue (is_spoilt L k) ↔ IsSpoilt L k }
 {}
 
 /// A fragment passes the end of another exactly where it covers a place at or past that end.

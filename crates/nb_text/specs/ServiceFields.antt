@@ -51,7 +51,7 @@ abbrev pub question_fields : Question → List Field
 question_fields question =
     Part (codes "  question") ∷ (named_fields question.name question.kind question.class ++ LineEnds ∷ PartEnds ∷ [])
 
--- RDATA: its bytes, or the name in a record of kind NS
+-- RDATA: its bytes, or the name in a record of type NS
 abbrev pub rdata_field : ResourceData → Field
 rdata_field (of_bytes bytes) = Data (key_named "data") bytes
 rdata_field (of_domain labels) = Text (key_named "domain") (labels_written labels)

@@ -48,7 +48,7 @@ abbrev pub question_line : Question → List ℕ
 question_line question =
     codes "  question " ++ (labels_written question.name ++ (type_text question.kind question.class ++ line_end))
 
--- RDATA: its bytes, or the name in a record of kind NS
+-- RDATA: its bytes, or the name in a record of type NS
 abbrev pub rdata_text : ResourceData → List ℕ
 rdata_text (of_bytes bytes) = codes " data=" ++ data_text bytes
 rdata_text (of_domain labels) = codes " domain=" ++ labels_written labels

@@ -1,4 +1,4 @@
--- The views of RDATA (our choice): what the RDATA of records of one kind says, in fields, in text and in a phrase. They are
+-- The views of RDATA (our choice): what the RDATA of records of one type says, in fields, in text and in a phrase. They are
 -- address entries (RFC 1002 section 4.2.13) and a node's status (4.2.18).
 use Rattle.std.specs.Prelude.{ℕ, nat_lt, ◌==◌, Bool, List, [], ◌∷◌, ◌++◌, length, take, map, codes, Option, Some, None, if◌then◌else◌}
 use Rattle.std.specs.Fmt.{decimal}
@@ -21,7 +21,7 @@ use Rattle.nb_text.specs.Keys.{key_named, key_of, name_key}
 use Rattle.nb_text.specs.Lines.{line_end}
 use Rattle.nb_text.specs.Words.{Flag, flag, names_set, set_text}
 
--- a view: the kind of its records; the fields behind those of the record, and the lines behind its line; for a phrase flags, of an
+-- a view: the type of its records; the fields behind those of the record, and the lines behind its line; for a phrase flags, of an
 -- address or of a node's name, units of nodes, and what is listed, where a node's status is asked for or isn't
 pub record View : Type 0 where
   pub kind : ℕ
@@ -49,7 +49,7 @@ entry_line entry =
 abbrev pub address_listed : AddressEntry → Listed
 address_listed entry = items.Address entry.address
 
--- what RDATA of kind NB says
+-- what RDATA of type NB says
 abbrev pub entries_view : View
 entries_view = record {
   kind = NB;
@@ -111,7 +111,7 @@ status_fields status = list_fields (codes "names") (flat_map node_name_fields st
 abbrev pub status_lines : StatusParts → List ℕ
 status_lines status = flat_map node_name_line status.names ++ unit_line status.statistics
 
--- what RDATA of kind NBSTAT says
+-- what RDATA of type NBSTAT says
 abbrev pub status_view : View
 status_view = record {
   kind = NBSTAT;
@@ -129,7 +129,7 @@ abbrev pub host_listed : ResourceData → List Listed
 host_listed (of_bytes bytes) = if length bytes == 4 then items.Address bytes ∷ [] else []
 host_listed (of_domain labels) = []
 
--- what RDATA of kind A says
+-- what RDATA of type A says
 abbrev pub host_view : View
 host_view = record {
   kind = A;
@@ -142,16 +142,16 @@ host_view = record {
 
 -- ---- all views
 
--- a row for each kind that has one
+-- a row for each type that has one
 abbrev pub views : List View
 views = entries_view ∷ status_view ∷ host_view ∷ []
 
--- by_kind rows part kind rdata: this part of the view of a kind, and nothing where it has none
+-- by_kind rows part kind rdata: this part of the view of a type, and nothing where it has none
 abbrev pub by_kind : {T : Type 0} → List View → (View → ResourceData → List T) → ℕ → ResourceData → List T
 by_kind [] part kind rdata = []
 by_kind (view ∷ rows) part kind rdata = if kind == view.kind then part view rdata else by_kind rows part kind rdata
 
--- the fields of RDATA of a kind
+-- the fields of RDATA of a type
 abbrev pub fields_by : ℕ → ResourceData → List Field
 fields_by = by_kind views (λ view. view.fields)
 

@@ -1,5 +1,5 @@
-//! The views of RDATA: what the RDATA of records of one kind says, to a sink and in a phrase. Each
-//! has its parts here: the address entries of kind NB, and the node status of kind NBSTAT.
+//! The views of RDATA: what the RDATA of records of one type says, to a sink and in a phrase. Each
+//! has its parts here: the address entries of type NB, and the node status of type NBSTAT.
 ghost use Rattle.std.specs.Prelude.{◌≡◌, ◌++◌, List, OnOk, fold, length, map, slice_get};
 ghost use Rattle.std.specs.List.{flat_map};
 ghost use Rattle.nb_service.specs.Record.{of_bytes};
@@ -21,7 +21,7 @@ use nb_service::limits::UNIT_ID_LENGTH;
 use nb_service::{AddressEntries, AddressEntry, NodeFlags, NodeName, NodeStatus};
 use nb_telling::{Flag, Sink};
 
-/// Tells what RDATA of this kind and these bytes says.
+/// Tells what RDATA of this type and these bytes says.
 pub fn tell_view<S: Sink>(kind: u16, bytes: &[u8], sink: &mut S) -> Result<(), NoMemory>
     ensures told { OnOk result (S.seen sink.new
         ≡ fold S.after (S.seen sink.old) (fields_by kind (of_bytes bytes.now))) }
@@ -34,7 +34,7 @@ pub fn tell_view<S: Sink>(kind: u16, bytes: &[u8], sink: &mut S) -> Result<(), N
     }
 }
 
-/// The first flags in RDATA of this kind and these bytes.
+/// The first flags in RDATA of this type and these bytes.
 pub fn first_flags(kind: u16, bytes: &[u8]) -> Option<u16>
     ensures { result ≡ first (flags_by kind (of_bytes bytes.now)) }
 {
@@ -45,14 +45,14 @@ pub fn first_flags(kind: u16, bytes: &[u8]) -> Option<u16>
     }
 }
 
-/// The unit in RDATA of this kind and these bytes.
+/// The unit in RDATA of this type and these bytes.
 pub fn first_unit(kind: u16, bytes: &[u8]) -> Option<[u8; UNIT_ID_LENGTH]>
     ensures { result ≡ first (units_by kind (of_bytes bytes.now)) }
 {
     NodeStatus::of_rdata(kind, bytes)?.unit_id()
 }
 
-/// Lists what RDATA of this kind and these bytes has: names of a node, where its status is asked
+/// Lists what RDATA of this type and these bytes has: names of a node, where its status is asked
 /// for, else addresses.
 pub fn list_view(status: bool, kind: u16, bytes: &[u8], listed: &mut Few)
     ensures { (items : List Listed) → listed.old ≡ few items →
@@ -148,7 +148,7 @@ fn list_each<P: ViewParts>(parts: &Option<P>, listed: &mut Few)
     }
 }
 
-/// Tells the list of the entries that RDATA of kind NB is, where it has the form.
+/// Tells the list of the entries that RDATA of type NB is, where it has the form.
 pub fn tell_entries<S: Sink>(bytes: &[u8], sink: &mut S) -> Result<(), NoMemory>
     ensures told { OnOk result (S.seen sink.new
         ≡ fold S.after (S.seen sink.old) (entries_view.fields (of_bytes bytes.now))) }
@@ -190,7 +190,7 @@ impl ViewPart for AddressEntry {
     }
 }
 
-/// Tells the node status that RDATA of kind NBSTAT is: a list of its names, which is empty where
+/// Tells the node status that RDATA of type NBSTAT is: a list of its names, which is empty where
 /// the RDATA hasn't the form, and the unit where there is one.
 pub fn tell_status<S: Sink>(bytes: &[u8], sink: &mut S) -> Result<(), NoMemory>
     ensures told { OnOk result (S.seen sink.new

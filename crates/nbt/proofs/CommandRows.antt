@@ -1,5 +1,6 @@
 -- The subcommand that clap entered, by the rows of its matches.
-use Rattle.nbt.proofs.Common.{◌≡◌, ◌≤◌, ◌<◌, ℕ, [], ◌∷◌, inl, inr, length, map, codes, arith, true, refl, sym, ap, subst, ◌∙◌, Bor, List, Option, Some, None, IfSome, Result, ◌≢◌, HasMatchesOf, Text, found_of, is_simple, rows_of, subcommand_name_of, subcommand_of, subcommand_rows_of, takes, subcommand_rows, App, ArgMatches, Box, option_map, Keeps, Fault, Status, BadUsage, Failed}
+use Rattle.nbt.proofs.Common.{◌≡◌, ◌≤◌, ◌++◌, ℕ, [], ◌∷◌, inl, inr, drop, take, length, map, codes, arith, true, refl, sym, ap, subst, ◌∙◌, Bor, List, Option, Some, None, OnErr, Ok, Err, Result, ◌≢◌, HasMatchesOf, Text, found_of, is_simple, rows_of, subcommand_name_of, subcommand_of, subcommand_rows_of, takes, subcommand_rows, App, ArgMatches, Box, option_map, Keeps, Fault, Status, BadUsage, Failed}
+use Rattle.std.specs.Prelude.{◌-◌, IfOk, OnSome}
 use Rattle.std.specs.Fmt.{digits}
 use Rattle.clap.specs.Words.{Row}
 use Rattle.clap.proofs.OnLiterals.{clap_on_literals}
@@ -12,7 +13,10 @@ use Rattle.nbt.specs.CommandLine.{Reports, answer_to, IsCommand, nbt_app, word_o
 use Rattle.nbt.specs.Commands.{Picks, Ran, RanBy, Streams, no_memory, ran, with_status}
 use Rattle.std.proofs.Math.ListN.{get_or}
 use Rattle.nbt.specs.FaultTexts.{status_after}
-use Rattle.nbt.specs.Refusals.{AsksRefusal}
+use Rattle.std.specs.List.{join_by}
+use Rattle.std.proofs.lemmas.List.Folds.{flat_map-map}
+use Rattle.std.proofs.lemmas.List.{take_rest}
+use Rattle.nbt.specs.Refusals.{AsksRefusal, spaced}
 use Rattle.nbt.specs.declared.command_forms.Subcommand.{Subcommand}
 
 -- clap's functions say of this command line which subcommand is entered
@@ -96,19 +100,41 @@ lacked_memory words s kind status is reported unread =
 pub ended_so : (m : ArgMatches) (s : Streams) (r : Result Unit Fault) (outcome : Result Status Fault) → outcome ≡ with_status r → Ran m s (with_status r) → Ran m s outcome
 ended_so m s r outcome is so = subst (Ran m s) (sym is) so
 
--- three words, of which the second is this
-pub asks : {A : Type 0} (f : A → List ℕ) (words : List A) (help : A) → 3 ≤ length words → length words < 4 → help ≡ get_or words 1 help → f help ≡ codes "help"
+-- three words or more, of which the second is this
+pub asks : {A : Type 0} (f : A → List ℕ) (words : List A) (help : A) → 3 ≤ length words → help ≡ get_or words 1 help → f help ≡ codes "help"
     → AsksRefusal (map f words)
-asks f [] help most less is said = absurd (omega (arith, most))
-asks f (a ∷ []) help most less is said = absurd (omega (arith, most))
-asks f (a ∷ b ∷ []) help most less is said = absurd (omega (arith, most))
-asks f (a ∷ b ∷ d ∷ []) help most less is said = (f a, f d, ap (λ (w : List ℕ). f a ∷ w ∷ f d ∷ []) (ap f (sym is) ∙ said))
-asks f (a ∷ b ∷ d ∷ e ∷ words) help most less is said = absurd (omega (arith, less))
+asks f [] help most is said = absurd (omega (arith, most))
+asks f (a ∷ []) help most is said = absurd (omega (arith, most))
+asks f (a ∷ b ∷ []) help most is said = absurd (omega (arith, most))
+asks f (a ∷ b ∷ d ∷ words) help most is said = (f a, f d, map f words, ap (λ (w : List ℕ). f a ∷ w ∷ f d ∷ map f words) (ap f (sym is) ∙ said))
+
+-- words as one text, and the texts of what holds them
+spaced_texts : {A : Type 0} (f : A → List ℕ) (words : List A) → join_by f (codes " ") words ≡ spaced (map f words)
+spaced_texts f [] = refl
+spaced_texts f (a ∷ words) = ap (λ (t : List ℕ). f a ++ t) (sym (flat_map-map (λ (t : List ℕ). codes " " ++ t) f words))
+
+-- the words behind the first two, as one text
+pub asked_text : {A : Type 0} (f : A → List ℕ) (words : List A) (program help : List ℕ) (texts : List (List ℕ)) → map f words ≡ program ∷ help ∷ texts
+    → join_by f (codes " ") (take (length words - 2) (drop 2 words)) ≡ spaced texts
+asked_text f [] program help texts are = absurd (cc are)
+asked_text f (a ∷ []) program help texts are = absurd (cc are)
+asked_text f (a ∷ b ∷ words) program help texts are =
+    let rest : map f words ≡ texts = cc are in
+    ap (join_by f (codes " ")) (take_rest (a ∷ b ∷ words) 2) ∙ spaced_texts f words ∙ ap spaced rest
 
 -- what holds anyway
-pub if_some : {A : Type 0} {P : Type 0} (found : Option A) → P → IfSome found (λ a. P)
-if_some None p = tt
-if_some (Some a) p = p
+pub if_found : {A E P : Type 0} (found : Result (Option A) E) → P → IfOk found (λ some. OnSome some P)
+if_found (Ok None) p = tt
+if_found (Ok (Some a)) p = p
+if_found (Err e) p = tt
+
+pub on_some : {A P : Type 0} (found : Option A) (a : A) → found ≡ Some a → OnSome found P → P
+on_some None a is p = absurd (cc is)
+on_some (Some b) a is p = p
+
+pub on_err : {A E P : Type 0} (r : Result A E) → P → OnErr r P
+on_err (Ok a) p = tt
+on_err (Err e) p = p
 
 -- ---- the command line takes a subcommand that may stand alone, and clap fails then only where memory ran out
 

@@ -1,6 +1,7 @@
 -- Words that clap refuses, and that ask for no help and no version, are a bad command line.
-use Rattle.nbt.proofs.Common.{◌≡◌, ◌≢◌, ◌⊎◌, inl, inr, [], ◌∷◌, true, refl, sym, codes, subst, ℕ, List, Option, Keeps, Text, kind_of, Status, BadUsage, Failed}
+use Rattle.nbt.proofs.Common.{◌≡◌, ◌≢◌, ◌⊎◌, inl, inr, [], ◌∷◌, true, false, true≢false, refl, sym, ap, ◌∙◌, takes, codes, subst, ℕ, List, Option, Keeps, Text, kind_of, Status, BadUsage, Failed}
 use Rattle.clap.specs.Words.{App}
+use Rattle.std.proofs.Math.Bool.{and-false}
 use Rattle.clap.specs.Faults.{fault_of, is_simple_and_free}
 use Rattle.clap.specs.Kinds.{HasKind, IsAmong}
 use Rattle.clap.proofs.OnLiterals.{clap_on_literals}
@@ -15,14 +16,23 @@ pub nbt_is_free : is_simple_and_free nbt_app ≡ true
 unfolding clap_on_literals
 nbt_is_free = refl
 
-asks_help : (program text : Text) → IsAmong kind.DisplayHelp (fault_of nbt_app (program ∷ codes "help" ∷ text ∷ []))
+asks_help : (program : Text) (words : List Text) → IsAmong kind.DisplayHelp (fault_of nbt_app (program ∷ codes "help" ∷ words))
 unfolding clap_on_literals
-asks_help program text = inl refl
+asks_help program words = inl refl
+
+untaken : (program : Text) (words : List Text) → takes nbt_app (program ∷ codes "help" ∷ words) ≡ false
+unfolding clap_on_literals
+untaken program words = and-false _
 
 -- words that ask for a refusal's line ask for help
 pub asked_is_help : (words : List Text) → AsksRefusal words → AreMisused words → ⊥
-asked_is_help words (program, text, is) misused =
-    misused.no_help (subst (λ (w : List Text). IsAmong kind.DisplayHelp (fault_of nbt_app w)) (sym is) (asks_help program text))
+asked_is_help words (program, text, rest, is) misused =
+    misused.no_help (subst (λ (w : List Text). IsAmong kind.DisplayHelp (fault_of nbt_app w)) (sym is) (asks_help program (text ∷ rest)))
+
+-- they are none that clap takes
+pub asked_is_untaken : (words : List Text) → AsksRefusal words → takes nbt_app words ≡ true → ⊥
+asked_is_untaken words (program, text, rest, is) taken =
+    true≢false (sym taken ∙ ap (takes nbt_app) is ∙ untaken program (text ∷ rest))
 
 -- clap took the words
 pub taken_is_no_misuse : (app : App) (words : List Text) → app ≡ nbt_app → (is_simple_and_free app ≡ true → fault_of app words ≡ []) → AreMisused words → ⊥

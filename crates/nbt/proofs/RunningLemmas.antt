@@ -2,7 +2,6 @@
 use Rattle.nbt.proofs.Common.{◌≡◌, ◌≢◌, ◌≤◌, ◌⊎◌, inl, inr, ℕ, List, Option, true, refl, sym, ap, subst, arith, Keeps, Text, takes, CountedOf, Counts, no_calls, Keeps-same, Status, BadUsage, Done, Failed, Refused}
 use Rattle.nbt.specs.CommandLine.{AreMisused, AreAlone, nbt_app}
 use Rattle.nbt.specs.Commands.{RanBy, Streams, streams}
-use Rattle.nbt.specs.Refusals.{AsksRefusal}
 use Rattle.nbt.specs.Running.{Runs}
 use Rattle.nbt.specs.Status.{code_of}
 
@@ -25,7 +24,7 @@ code_of_misuse status (inr failed) = inr (ap code_of failed)
 module _ {R W : Type 0} (I : R → Option (List ℕ)) (O : W → Option (List ℕ)) (words : List Text) where
   -- what is promised of a run over counted streams
   pub record RunsCounted (i j : CountedOf R) (o p : CountedOf W) (status : Status) : Type 0 where
-    pub ran : takes nbt_app words ≡ true → ¬ AsksRefusal words → RanBy words (streams I O i j o p) status
+    pub ran : takes nbt_app words ≡ true → RanBy words (streams I O i j o p) status
     pub alone : AreAlone words → status ≢ BadUsage
     pub usage : status ≡ BadUsage → Keeps (O o.inner) (O p.inner)
     pub misused : AreMisused words → ((status ≡ BadUsage) ⊎ (status ≡ Failed)) × (j ≡ i) × Keeps (O o.inner) (O p.inner)
@@ -34,13 +33,13 @@ module _ {R W : Type 0} (I : R → Option (List ℕ)) (O : W → Option (List �
   over : (i j : CountedOf R) (o p : CountedOf W) (status : Status) → i.counts ≡ no_calls → o.counts ≡ no_calls → RunsCounted i j o p status
       → Runs words (I i.inner) (I j.inner) (O o.inner) (O p.inner) (code_of status)
   over i j o p status reads writes run = record {
-    ran = λ taken asks. record {
+    ran = λ taken. record {
       reads = j.counts;
       writes = p.counts;
       status = status;
       ran =
           let at : Counts → Counts → Streams = λ a b. record (streams I O i j o p) { reads = a; writes = b } in
-          subst (λ a. RanBy words (at a no_calls) status) reads (subst (λ b. RanBy words (at i.counts b) status) writes (run.ran taken asks));
+          subst (λ a. RanBy words (at a no_calls) status) reads (subst (λ b. RanBy words (at i.counts b) status) writes (run.ran taken));
       is = refl;
     };
     alone = λ is two. run.alone is (two_is_usage status two);

@@ -2,7 +2,7 @@
 use Rattle.std.specs.Borrow.{Bor}
 use Rattle.std.specs.Prelude.{◌≡◌, ◌≢◌, ◌==◌, ◌⊎◌, ℕ, List, [], ◌∷◌, ◌++◌, cond, All, Contains, Option, None, Some, codes}
 use Rattle.std.specs.Cmp.Lexicographic.{pointwise}
-use Rattle.std.specs.List.{flat_map, list_any}
+use Rattle.std.specs.List.{flat_map, join_by, list_any}
 use Rattle.nbt.specs.declared.fault.Fault.{Fault}
 use Rattle.nbt.specs.declared.fault.Fault.TheVariants.{Write, Memory}
 use Rattle.nbt.specs.declared.refusals.Refusal.{Refusal}
@@ -32,6 +32,10 @@ lines_of_all command refusals = flat_map (lines_by command) refusals
 abbrev pub IsPrintFault : Fault → Type 0
 IsPrintFault fault = (fault ≡ Write) ⊎ (fault ≡ Memory)
 
--- the words are the program's name, `help`, and one word more, which may be a refusal's
+-- the words are the program's name, `help`, and more words, which may be a refusal's
 abbrev pub AsksRefusal : List (List ℕ) → Type 0
-AsksRefusal words = (program : List ℕ) × (text : List ℕ) × (words ≡ program ∷ codes "help" ∷ text ∷ [])
+AsksRefusal words = (program text : List ℕ) × (rest : List (List ℕ)) × (words ≡ program ∷ codes "help" ∷ text ∷ rest)
+
+-- words as one text, with a space between any two
+abbrev pub spaced : List (List ℕ) → List ℕ
+spaced words = join_by (λ word. word) (codes " ") words

@@ -8,7 +8,6 @@ use Rattle.nbt.specs.declared.errors.Audience.TheVariants.{Programs}
 use Rattle.nbt.specs.declared.fault.Status.{Status}
 use Rattle.nbt.specs.CommandLine.{AreMisused, AreAlone, nbt_app}
 use Rattle.nbt.specs.Commands.{RanBy}
-use Rattle.nbt.specs.Refusals.{AsksRefusal}
 use Rattle.nbt.specs.Status.{code_of}
 
 -- RanOver words old_in new_in old_out new_out code: the command that clap takes the words for ended with this exit
@@ -35,7 +34,7 @@ IsMisuse code old_in new_in old_out new_out = ((code ≡ 2) ⊎ (code ≡ 3)) ×
 
 -- Runs words old_in new_in old_out new_out code: what a run with these words left of its input and on its output, and its exit status
 pub record Runs (words : List Text) (old_in new_in old_out new_out : Option (List ℕ)) (code : ℕ) : Type 0 where
-  pub ran : takes nbt_app words ≡ true → ¬ AsksRefusal words → RanOver words old_in new_in old_out new_out code
+  pub ran : takes nbt_app words ≡ true → RanOver words old_in new_in old_out new_out code
   pub alone : AreAlone words → code ≢ 2
   pub usage : code ≡ 2 → Keeps old_out new_out
   pub misused : AreMisused words → IsMisuse code old_in new_in old_out new_out

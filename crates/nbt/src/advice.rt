@@ -1,8 +1,8 @@
 //! `nbt help REFUSAL`, and what the help of a command says of its refusals.
-ghost use Rattle.std.specs.Prelude.{◌≡◌, ◌⊎◌, ◌++◌, ◌∷◌, [], Contains, IfErr, IfNone, IfOk, IfSome, List, OnErr, OnOk, codes, map, string_bytes, ℕ};
+ghost use Rattle.std.specs.Prelude.{◌≡◌, ◌⊎◌, ◌++◌, ◌∷◌, [], Contains, IfErr, IfNone, IfOk, IfSome, List, OnErr, OnOk, OnSome, codes, map, string_bytes, ℕ};
 ghost use Rattle.std.specs.Io.KnownBytes.{Appends};
 ghost use Rattle.nb_names.specs.Devices.{AppendsFront};
-ghost use Rattle.nbt.specs.Refusals.{AsksRefusal, HasNone, IsFirstWith, IsPrintFault, advice_line, lines_by, lines_of_all};
+ghost use Rattle.nbt.specs.Refusals.{AsksRefusal, HasNone, IsFirstWith, IsPrintFault, advice_line, lines_by, lines_of_all, spaced};
 
 use crate::fault::Fault;
 use crate::output::Output;
@@ -11,26 +11,65 @@ use nb_names::NoMemory;
 use std::alloc::Global;
 use std::io::Write;
 
-/// The refusal of which help is asked for, where the words are the program's name, `help` and the
-/// text of one of these refusals.
-pub fn asked<'a>(refusals: &'a [Refusal], words: &[String]) -> Option<&'a Refusal>
-    ensures asks { IfSome result (λ refusal. AsksRefusal (map string_bytes words.now)) }
-    ensures known { IfSome result (λ refusal. Contains refusals.now refusal.now) }
-    ensures unknown { (program text : List ℕ)
-        → map string_bytes words.now ≡ program ∷ codes "help" ∷ text ∷ []
-        → IfNone result (HasNone text refusals.now) }
-    ensures same { (program text : List ℕ)
-        → map string_bytes words.now ≡ program ∷ codes "help" ∷ text ∷ []
-        → HasNone text refusals.now
-        ⊎ IfSome result (λ refusal. refusal.now.words.now ≡ text) }
+/// The refusal of which help is asked for, where the words are the program's name, `help` and, as
+/// one word or several, what a program says of one of these refusals.
+///
+/// # Errors
+///
+/// `NoMemory` where memory ran out.
+pub fn asked<'a>(
+    alloc: Global,
+    refusals: &'a [Refusal],
+    words: &[String],
+) -> Result<Option<&'a Refusal>, NoMemory>
+    ensures asks { IfOk result (λ found. OnSome found (AsksRefusal (map string_bytes words.now))) }
+    ensures known { IfOk result
+        (λ found. IfSome found (λ refusal. Contains refusals.now refusal.now)) }
+    ensures unknown { (program text : List ℕ) (rest : List (List ℕ))
+        → map string_bytes words.now ≡ program ∷ codes "help" ∷ text ∷ rest
+        → IfOk result (λ found. IfNone found (HasNone (spaced (text ∷ rest)) refusals.now)) }
+    ensures same { (program text : List ℕ) (rest : List (List ℕ))
+        → map string_bytes words.now ≡ program ∷ codes "help" ∷ text ∷ rest
+        → HasNone (spaced (text ∷ rest)) refusals.now
+        ⊎ IfOk result (λ found. IfSome found
+        (λ refusal. refusal.now.words.now ≡ spaced (text ∷ rest))) }
+    ensures err { OnErr result (AsksRefusal (map string_bytes words.now)) }
 {
     match words {
-        [_, help, text] if help.as_str() == "help" => refusal_of(refusals, text.as_str()),
-        _ => None,
+        [_, help, _, ..] if help.as_str() == "help" => {
+            let text = words[2..].join(alloc, " ")?;
+            refusal_in_any_case(alloc, refusals, text.as_str())
+        }
+        _ => Ok(None),
     }
 }
 
-/// The refusal with this text: the words alone, or as the program prints them, in a line of its own
+/// The refusal with this text, whatever the case of its letters.
+///
+/// # Errors
+///
+/// `NoMemory` where memory ran out.
+fn refusal_in_any_case<'a>(
+    alloc: Global,
+    refusals: &'a [Refusal],
+    text: &str,
+) -> Result<Option<&'a Refusal>, NoMemory>
+    ensures known { IfOk result
+        (λ found. IfSome found (λ refusal. Contains refusals.now refusal.now)) }
+    ensures unknown { IfOk result (λ found. IfNone found (HasNone text.now refusals.now)) }
+    ensures same { HasNone text.now refusals.now
+        ⊎ IfOk result (λ found. IfSome found (λ refusal. refusal.now.words.now ≡ text.now)) }
+{
+    match refusal_of(refusals, text) {
+        Some(refusal) => Ok(Some(refusal)),
+        None => {
+            let lowered = text.to_ascii_lowercase(alloc)?;
+            Ok(refusal_of(refusals, lowered.as_str()))
+        }
+    }
+}
+
+/// The refusal with this text: the words alone, or as a program prints them, in a line of its own
 /// or of a report.
 pub fn refusal_of<'a>(refusals: &'a [Refusal], text: &str) -> Option<&'a Refusal>
     ensures known { IfSome result (λ refusal. Contains refusals.now refusal.now) }
@@ -44,8 +83,8 @@ pub fn refusal_of<'a>(refusals: &'a [Refusal], text: &str) -> Option<&'a Refusal
     }
 }
 
-/// What a line says of its refusal, as in `nbt: full`, `4 unheard 10.0.0.5:138/0001` and
-/// `2 refused source name: not netbios 3 error 1302`.
+/// What a line says of its refusal, as in `nbt: full`, `4 unheard 10.0.0.5:138/0001`,
+/// `2 refused source name: not netbios 3 error 1302` and `refused: truncated, at byte 2`.
 fn reason_of(line: &str) -> &str {
     let front = match line.rsplit_once(" error ") {
         Some((front, _)) => front,
@@ -59,8 +98,17 @@ fn reason_of(line: &str) -> &str {
         None => front.strip_prefix("refused ").unwrap_or(front),
     };
     match refused.rsplit_once(": ") {
-        Some((_, reason)) => reason,
-        None => refused,
+        Some((_, reason)) => in_own_words(reason),
+        None => in_own_words(refused),
+    }
+}
+
+/// The program's words where the library has others for the same (`WORDS` of nb_calls).
+fn in_own_words(reason: &str) -> &str {
+    match reason {
+        "text too long" | "data too long" => "too long",
+        "bad line" => "line",
+        _ => reason,
     }
 }
 
@@ -90,12 +138,20 @@ fn said_by<'a>(refusals: &'a [Refusal], reason: &str) -> Option<&'a Refusal>
 fn is_said(refusal: &Refusal, reason: &str) -> bool {
     match reason.strip_prefix(refusal.words) {
         Some("") => true,
-        Some(rest) => match rest.strip_prefix(' ') {
-            Some(number) => {
-                !refusal.number.is_empty() && !number.is_empty() && is_number(number)
-            }
-            None => false,
-        },
+        Some(rest) => !refusal.number.is_empty() && is_place(rest),
+        None => false,
+    }
+}
+
+/// Whether this is the number behind the words of a refusal: ` 4`, `, at byte 4` or `, at byte 4 of
+/// the name`.
+fn is_place(text: &str) -> bool {
+    let place = text.strip_prefix(", at byte").unwrap_or(text);
+    match place.strip_prefix(' ') {
+        Some(rest) => {
+            let number = rest.strip_suffix(" of the name").unwrap_or(rest);
+            !number.is_empty() && is_number(number)
+        }
         None => false,
     }
 }

@@ -19,6 +19,11 @@ use std::io::Write;
 const LOOK: &str =
     "a pcap or pcapng file: `nbt-look FILE` shows it, `nbt-pcap2cap FILE` makes a capture of it\n";
 
+/// What is said of words after `help` that are none of its.
+const UNHELPED: &str =
+    "nbt help: the words are neither a command nor a refusal: `nbt show --help` ends with what \
+     `show` refuses, and `man nbt` lists all refusals\n";
+
 /// Tells a person what a fault means and what to do then, as a line. Where there is no memory for
 /// it, or the device fails, nothing else changes.
 pub fn print_hint<E: Write>(alloc: Global, fault: Fault, errors: &mut Errors<'_, E>)
@@ -64,6 +69,14 @@ pub fn print_input<E: Write>(
     }
     if let Ok(line) = input_line(alloc, words, error) {
         let _ = errors.output.print(line.as_bytes());
+    }
+}
+
+/// Says, in a line, that the words after `help` are neither a command nor a refusal, and where
+/// refusals are listed, where clap refuses such words.
+pub fn print_unhelped<E: Write>(words: &[String], errors: &mut Errors<'_, E>) {
+    if words.get(1).is_some_and(|word| word.as_str() == "help") {
+        let _ = errors.output.print(UNHELPED.as_bytes());
     }
 }
 

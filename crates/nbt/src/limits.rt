@@ -25,12 +25,13 @@ pub const INPUT_HELP: &str =
 
 /// What to do where there are more names than a station holds.
 pub const NAMES_ADVICE: &str =
-    "more than a station's 254: replay the capture again for the others, as `nbt replay \
+    "a station has at most 254 names: replay the capture again for the others, as by `nbt replay \
      'FRED<20>'`";
 
 /// What to do where there are more keys than `--keys`.
 pub const FULL_ADVICE: &str =
-    "more keys than --keys: allow more, as in `--keys 65535`, or have a tick each second";
+    "more keys than --keys allows: allow more, as in `--keys 65535`, or have a tick each second in \
+     the capture";
 
 /// What to do where memory ran out.
 pub const MEMORY_ADVICE: &str =

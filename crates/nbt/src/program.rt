@@ -6,7 +6,7 @@ ghost use Rattle.nbt.specs.FaultTexts.{status_after};
 ghost use Rattle.nbt.specs.CommandLine.{AreAlone, DoesRead, nbt_app, AreMisused, Reports, answer_to};
 ghost use Rattle.nbt.specs.Commands.{Ran, RanBy, streams, with_status};
 ghost use Rattle.nbt.specs.Running.{IsMisuse, RanOver};
-ghost use Rattle.nbt.specs.Refusals.{AsksRefusal, IsPrintFault};
+ghost use Rattle.nbt.specs.Refusals.{IsPrintFault};
 ghost use Rattle.nbt.specs.Printing.{ExplainsWrite};
 
 use crate::advice::{asked, helped_command, print_advice, refusal_lines};
@@ -22,7 +22,7 @@ use crate::commands::save::run_save;
 use crate::commands::show::run_show;
 use crate::errors::{Audience, Errors};
 use crate::fault::{Fault, Status};
-use crate::hints::{print_hint, print_input, print_mistake};
+use crate::hints::{print_hint, print_input, print_mistake, print_unhelped};
 use crate::output::Output;
 use crate::refusals::refusals;
 use crate::streams::{Call, run_for};
@@ -37,9 +37,9 @@ use std::io::{Read, Write};
 /// The first of the words is the program's name. What is asked for goes to `output`, a fault to
 /// `errors` as one line after `nbt: `; a fault in writing that line changes nothing. The status
 /// is 0 where all was done, 1 where input was refused or two tables differ, 2 for a bad command
-/// line (with `clap`'s text on `errors`), and 3 where a device failed or memory ran out. `clap`'s
-/// help, with what the command may refuse, the line of a refusal after the word `help`, and the
-/// version go to `output`, and all is done then.
+/// line (with `clap`'s text on `errors`, and a line more after `help`), and 3 where a device failed
+/// or memory ran out. `clap`'s help, with what the command may refuse, the line of a refusal after
+/// the word `help`, and the version go to `output`, and all is done then.
 pub fn run<R: Read, W: Write, E: Write>(
     alloc: Global,
     words: &[String],
@@ -49,7 +49,6 @@ pub fn run<R: Read, W: Write, E: Write>(
 ) -> u8
     // Words that are a command with its own options and arguments, as clap takes them.
     ensures ran { takes nbt_app (map string_bytes words.now) ≡ true →
-        ¬ AsksRefusal (map string_bytes words.now) →
         RanOver (map string_bytes words.now) (R.remaining input.old) (R.remaining input.new)
         (W.contents output.old) (W.contents output.new) result }
     ensures alone { AreAlone (map string_bytes words.now) → result ≢ 2 }
@@ -83,7 +82,6 @@ pub fn run_counted<R: Read, W: Write, E: Write>(
     errors: &mut Errors<'_, E>,
 ) -> Status
     ensures ran { takes nbt_app (map string_bytes words.now) ≡ true →
-        ¬ AsksRefusal (map string_bytes words.now) →
         RanBy (map string_bytes words.now) (streams R.remaining W.contents
         input.old input.new output.old output.new) result }
     ensures alone { AreAlone (map string_bytes words.now) → result ≢ Status.BadUsage }
@@ -96,8 +94,12 @@ pub fn run_counted<R: Read, W: Write, E: Write>(
     ensures quiet { result ≡ Status.Done → errors.old.audience ≡ Audience.Programs →
         errors.new ≡ errors.old }
 {
-    if let Some(refusal) = asked(refusals(), words) {
-        return report(alloc, done(print_advice(alloc, refusal, output)), errors);
+    match asked(alloc, refusals(), words) {
+        Ok(Some(refusal)) => {
+            return report(alloc, done(print_advice(alloc, refusal, output)), errors);
+        }
+        Ok(None) => {}
+        Err(_) => return report(alloc, Err(Fault::Memory), errors),
     }
     match command(alloc) {
         Ok(command) => match command.try_get_matches_from(words) {
@@ -219,6 +221,7 @@ fn report_unmatched<W: Write, E: Write>(
         ClapAnswer::Asked => report(alloc, done(print_help(alloc, words, error, output)), errors),
         ClapAnswer::Misused => {
             let _ = write!(errors.output, "{error}");
+            print_unhelped(words, errors);
             print_input(alloc, words, error, errors);
             Status::BadUsage
         }

@@ -30,42 +30,42 @@ const REFUSALS: [Refusal; 29] = [
         number: " AT",
         by: &["name", "show", "replay", "merge", "list", "agree"],
         advice: "the bytes end inside a packet, name or table: capture whole packets, as by \
-                 `tcpdump -s 0`; save it again",
+                 `tcpdump -s 0`, or save the table again",
     },
     Refusal {
         words: "unknown type",
         number: "",
         by: &["show", "replay"],
-        advice: "the first byte is no type of the port, as 85 of `139 0 85000000` is: other \
-                 traffic, or a stream cut wrong",
+        advice: "the first byte is none of the port's types, such as 85 of port 139: other \
+                 traffic, or a stream that was cut inside a packet",
     },
     Refusal {
         words: "reserved flags",
         number: "",
         by: &["show"],
-        advice: "its second byte has a bit of no session packet: cut the stream where one begins, \
-                 as in `139 0 85000000`",
+        advice: "the second byte has a bit that no session packet has: cut the stream where a \
+                 packet begins, as `139 0 85000000` does",
     },
     Refusal {
         words: "bad length",
         number: "",
         by: &["show"],
-        advice: "bytes 2 and 3 are no length of its type: cut the stream where a packet begins, as \
-                 in `139 0 85000000`",
+        advice: "bytes 2 and 3 are a length that no packet of this type has: cut the stream where \
+                 one begins, as `139 0 85000000` does",
     },
     Refusal {
         words: "reserved label",
         number: " AT",
         by: &["name", "show", "replay"],
-        advice: "no length of a label: other traffic, or a later piece of a datagram cut by RFC \
-                 1002, section 5.3",
+        advice: "byte AT is no length of a label: other traffic, or a later piece of a datagram \
+                 that was cut by RFC 1002, section 5.3",
     },
     Refusal {
         words: "bad pointer",
         number: " AT",
         by: &["show"],
-        advice: "it leads forward or to itself, not back as c00c does: leave it out, its sender is \
-                 broken or hostile",
+        advice: "the pointer leads forward or to itself, not back as c00c does: leave the packet \
+                 out, its sender is broken or hostile",
     },
     Refusal {
         words: "pointer not allowed",
@@ -78,43 +78,43 @@ const REFUSALS: [Refusal; 29] = [
         words: "not netbios",
         number: " AT",
         by: &["name", "show", "replay"],
-        advice: "byte AT of the name isn't as in `nbt name 'FRED<20>'`, 20 and 32 letters A to P: \
-                 perhaps other traffic",
+        advice: "byte AT of the name is wrong: a NetBIOS name is 20 and 32 letters A to P, as `nbt \
+                 name 'FRED<20>'` prints it; perhaps other traffic",
     },
     Refusal {
         words: "name rdata",
         number: " AT",
         by: &["show"],
-        advice: "the name in an NS record ends before or after its data: leave it out, its sender \
-                 is broken or hostile",
+        advice: "the name in an NS record ends before or after the record's data: leave the packet \
+                 out, its sender is broken or hostile",
     },
     Refusal {
         words: "trailing bytes",
         number: " AT",
         by: &["name", "show"],
-        advice: "bytes follow a spelling's name, or a session request's two names: leave out those \
-                 from AT on",
+        advice: "bytes follow the name of a spelling, or the two names of a session request: leave \
+                 out the bytes from AT on",
     },
     Refusal {
         words: "misplaced first",
         number: "",
         by: &["replay"],
-        advice: "F, 02 of flags, is clear at offset 0 or set at another: `nbt show` prints both; \
-                 set it at 0 alone",
+        advice: "the flag F (02) is clear at offset 0, or set at another: `nbt show` prints flags \
+                 and offset; set F at offset 0 alone",
     },
     Refusal {
         words: "unheard",
         number: "",
         by: &["replay"],
-        advice: "the station lacks the destination's name: give it, in its case, as `nbt show` \
-                 prints it: destination=FRED<20>",
+        advice: "the station has no name that is the destination's: give it, in the same case, as \
+                 `nbt show` prints it: destination=FRED<20>",
     },
     Refusal {
         words: "too long",
         number: " AT",
         by: &["name", "show", "build", "replay"],
-        advice: "more than 15 characters before `<20>`, 63 of a label, 222 of a scope, or 65535 of \
-                 a datagram: shorten it",
+        advice: "more than 15 characters before `<20>`, 63 in a label or 222 in a scope, or more \
+                 than 65535 bytes in a datagram: shorten it",
     },
     Refusal {
         words: "bad text",
@@ -140,21 +140,22 @@ const REFUSALS: [Refusal; 29] = [
         words: "arguments",
         number: "",
         by: &["show", "build"],
-        advice: "no packet: see `nbt build --help`, as `nbt build query 0003 'FRED<20>'`; of \
-                 --brief and --partial give one",
+        advice: "the words make no packet, as `nbt build query 0003 'FRED<20>'` does: see `nbt \
+                 build --help`; of --brief and --partial give one",
     },
     Refusal {
         words: "zero piece",
         number: "",
         by: &["build"],
-        advice: "MOST is 0, and a fragment has some bytes of the data: give 1 or more, such as 512",
+        advice: "MOST, how many bytes of data a fragment has at most, is 0: give 1 or more, such \
+                 as 512",
     },
     Refusal {
         words: "line",
         number: " N",
         by: &["show", "replay", "save", "merge", "list", "agree"],
-        advice: "no line as `138 0 00ff` or `tick 1`, or no table of `nbt save`: leave out \\r; \
-                 for a pcap use nbt-pcap2cap",
+        advice: "no line of a capture, as `138 0 00ff` and `tick 1` are, or no table of `nbt \
+                 save`: leave out \\r; nbt-pcap2cap makes lines of a pcap",
     },
     Refusal {
         words: "bad magic",
@@ -192,22 +193,22 @@ const REFUSALS: [Refusal; 29] = [
         words: "full source",
         number: "",
         by: &["replay", "save", "merge", "list"],
-        advice: "more keys of one address than --per-source: allow more, as in `--per-source \
-                 1024`, or leave it out",
+        advice: "more keys of one address than --per-source allows: allow more, as in \
+                 `--per-source 1024`, or leave the option out",
     },
     Refusal {
         words: "unexpected argument",
         number: "",
         by: &["show", "save", "merge", "list", "agree"],
-        advice: "the command has no such word: what it reads comes on standard input, as in `nbt \
+        advice: "the command takes no such word: what it reads comes on standard input, as in `nbt \
                  show <capture`",
     },
     Refusal {
         words: "read",
         number: "",
         by: &EACH,
-        advice: "the input failed, is a folder or too long, or a word isn't UTF-8: allow more, as \
-                 in `--input-limit 99999999`",
+        advice: "the input can't be read, as a folder can't, or it is too long, or a word isn't \
+                 UTF-8: allow more, as in `--input-limit 99999999`",
     },
     Refusal {
         words: "write",

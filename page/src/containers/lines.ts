@@ -71,7 +71,7 @@ export function* payloadsIn(lines: Iterable<Line>): Generator<{ end: number, see
         if (line.kind === 'payload') {
             const bytes = bytesOf(line.digits);
             const mark = (before?.kind === 'comment' && markOf(before.text, bytes.length)) || unnamed(line, bytes.length);
-            yield { end: line.end, seen: { kind: 'payload', port: line.port, mark, mac: null, vlan: null, bytes } };
+            yield { end: line.end, seen: { kind: 'payload', port: line.port, mark, mac: null, target: null, vlan: null, bytes } };
         }
         before = line;
     }

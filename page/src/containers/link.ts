@@ -18,27 +18,28 @@ const RAW = [12, 14, 101, 228, 229];
 const FAMILY_4 = 2;
 const FAMILIES_6 = new Set([24, 28, 30, 10]);
 
-/** Where IP begins, and the hardware address of who sent the frame; or why that isn't known: a packet may stand behind what isn't read here. */
-export type Packet = { at: number, mac: string | null, vlan: number | null };
+/** Where IP begins, the hardware addresses of who sent the frame, and of Ethernet where to; or why that isn't known: a packet may stand behind what
+ * isn't read here. */
+export type Packet = { at: number, mac: string | null, target: string | null, vlan: number | null };
 export type Wrapping = 'PPPoE' | 'MPLS' | 'LLC' | 'more than 4 VLAN tags';
 export type WhyNoPacket = 'unknown link type' | 'no IP' | 'cut' | Wrapping;
 
 /** Where IP begins in a frame. */
 export function packetIn(link: number, bytes: Uint8Array): Packet | WhyNoPacket {
-    if (link === ETHERNET) return afterType(bytes, 12, macOf(bytes, 6));
+    if (link === ETHERNET) return afterType(bytes, 12, macOf(bytes, 6), macOf(bytes, 0));
     if (link === COOKED) return afterType(bytes, 14, word(bytes, 4) === 6 ? macOf(bytes, 6) : null);
     if (link === COOKED_2) return cooked2(bytes);
-    if (RAW.includes(link)) return bytes.length ? { at: 0, mac: null, vlan: null } : 'cut';
+    if (RAW.includes(link)) return bytes.length ? { at: 0, mac: null, target: null, vlan: null } : 'cut';
     return link === LOOPBACK || link === NULL_LOOPBACK ? afterFamily(bytes) : 'unknown link type';
 }
 
 /** @param place where the type of what follows stands */
-function afterType(bytes: Uint8Array, place: number, mac: string | null): Packet | WhyNoPacket {
+function afterType(bytes: Uint8Array, place: number, mac: string | null, target: string | null = null): Packet | WhyNoPacket {
     let vlan: number | null = null;
     for (let tags = 0; tags <= MOST_TAGS; tags++, place += 4) {
         if (place + 2 > bytes.length) return 'cut';
         const type = word(bytes, place);
-        if (type === IPV4 || type === IPV6) return { at: place + 2, mac, vlan };
+        if (type === IPV4 || type === IPV6) return { at: place + 2, mac, target, vlan };
         if (!TAGS.has(type)) return withoutPacket(type, bytes, place + 2);
         if (place + 4 > bytes.length) return 'cut';
         vlan ??= word(bytes, place + 2) & 0xfff;
@@ -66,7 +67,7 @@ function cooked2(bytes: Uint8Array): Packet | WhyNoPacket {
     if (bytes.length < 20) return 'cut';
     const type = word(bytes, 0);
     const mac = bytes[11] === 6 ? macOf(bytes, 12) : null;
-    if (type === IPV4 || type === IPV6) return { at: 20, mac, vlan: null };
+    if (type === IPV4 || type === IPV6) return { at: 20, mac, target: null, vlan: null };
     return TAGS.has(type) ? afterType(bytes, 22, mac) : withoutPacket(type, bytes, 20);
 }
 
@@ -75,7 +76,7 @@ function afterFamily(bytes: Uint8Array): Packet | WhyNoPacket {
     if (bytes.length < 4) return 'cut';
     const family = bytes[0] === 0 && bytes[1] === 0 ? word(bytes, 2) : bytes[0] | (bytes[1] << 8);
     const isPacket = family === FAMILY_4 || FAMILIES_6.has(family);
-    return isPacket ? { at: 4, mac: null, vlan: null } : 'no IP';
+    return isPacket ? { at: 4, mac: null, target: null, vlan: null } : 'no IP';
 }
 
 export function word(bytes: Uint8Array, at: number) {

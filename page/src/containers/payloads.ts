@@ -18,19 +18,17 @@ const MOST_STREAMS = 262_144;
 /** Why a frame has no packet that nbt-look would find either. */
 const NOTHING = ['no IP', 'cut'];
 
-/** A payload: what one packet of these ports has, and the frame that completes it. */
-export interface Payload {
-    kind: 'payload'; port: 137 | 138 | 139; mark: Mark;
-    mac: string | null; // that of who sent the frame
-    vlan: number | null;
-    bytes: Uint8Array; // a part of what is held of the file
-}
-/** That a connection of port 139 is opened, by an end: with a SYN, or else by the SYN that an answer acknowledges. */
-export type Opened = { kind: 'opened', caller: string, callee: string, sequence: number, isFirst: boolean };
+/** The hardware addresses from which and, of Ethernet, to which a frame goes. */
+export type Below = { mac: string | null, target: string | null, vlan: number | null };
+/** A payload, a part of what is held of the file: what one packet of these ports has, and the frame that completes it. */
+export type Payload = Below & { kind: 'payload', port: 137 | 138 | 139, mark: Mark, bytes: Uint8Array };
+/** A segment with a SYN, or the one after it: what says whether a connection of port 139 is opened. */
+export type Sent = { kind: 'segment', source: string, target: string, sequence: number, flags: number };
 /** What the file has of a packet of UDP that the snap length cut. */
-export type Cut = { kind: 'cut', port: 137 | 138, mark: Mark, mac: string | null, bytes: Uint8Array };
-export type Seen = Payload | Opened | Cut | Unread | LeftOut | Comment;
-export type Below = { mac: string | null, vlan: number | null };
+export type Cut = Below & { kind: 'cut', port: 137 | 138, mark: Mark, bytes: Uint8Array };
+/** What is known of a stream: where each end begins, and whether what comes next says how its SYN is answered. */
+type Stream = { number: number, starts: Map<string, number>, isOpening: boolean };
+export type Seen = Payload | Sent | Cut | Unread | LeftOut | Comment;
 
 /** The frames of a file; null of one that is neither pcap nor pcapng. */
 export function framesOf(file: Slices) {
@@ -49,7 +47,7 @@ export class PayloadReader {
     /** Frames that are of none of these ports, by why. */
     others = new Map<string, number>();
     now: bigint | null = null;
-    numbers = new Map<string, { number: number, starts: Map<string, number> }>();
+    numbers = new Map<string, Stream>();
 
     constructor(public give: (seen: Seen) => void) {}
 
@@ -92,7 +90,7 @@ export class PayloadReader {
         this.report.mark.source = `${internet.source}:${ports.source}`;
         this.report.mark.destination = `${internet.destination}:${ports.destination}`;
         const segment = internet.protocol === TCP ? segmentIn(internet) : null;
-        const stream = segment?.payload ? this.streamOf(segment) : 0;
+        const stream = segment?.payload ? this.streamOf(segment) : null;
         if (!isOurs(internet, ports)) {
             this.unread(wrappingOf(internet));
             return this.other('another port');
@@ -109,53 +107,48 @@ export class PayloadReader {
         if (size < 0 || payload.length < size) {
             const reason = payload.length < size && this.report.cut === CUT ? CUT : BAD_LENGTH;
             const isFront = reason === CUT && payload.length > 0;
-            if (isFront) this.give({ kind: 'cut', port: port as 137 | 138, mark: this.report.mark, mac: below.mac, bytes: payload });
+            if (isFront) this.give({ kind: 'cut', port: port as 137 | 138, mark: this.report.mark, bytes: payload, ...below });
             const there = `its UDP length is ${size + UDP_HEADER}, and the file has ${payload.length} bytes of its payload`;
             return this.report.leave_out(reason, there);
         }
         this.payload(port as 137 | 138, below, payload);
     }
 
-    segment(internet: Internet, below: Below, segment: Segment, stream: number) {
-        if (!segment.payload) {
+    segment(internet: Internet, below: Below, segment: Segment, stream: Stream | null) {
+        if (!segment.payload || !stream) {
             if (internet.size > TCP_HEADER) this.report.leave_out(this.report.cut, 'the file ends inside its TCP header');
             return;
         }
-        if (segment.syn) this.opened(segment);
-        const sides = [[stream, internet.source, segment.source], [stream, internet.destination, segment.destination]];
-        const { flags, sequence, size, payload } = segment;
+        const { flags, syn, ack, sequence, size, payload } = segment;
+        const { source, destination: target } = this.report.mark;
+        if (syn || stream.isOpening) this.give({ kind: 'segment', source, target, sequence, flags });
+        stream.isOpening = syn && !ack;
+        const sides = [[stream.number, internet.source, segment.source], [stream.number, internet.destination, segment.destination]];
         for (const bytes of this.streams.segment(...sides, flags, sequence, size, payload.subarray(0, size))) this.payload(139, below, bytes);
     }
 
-    /** @param segment one with a SYN */
-    opened({ ack, sequence }: Segment) {
-        const { source, destination } = this.report.mark;
-        const [caller, callee] = ack ? [destination, source] : [source, destination];
-        this.give({ kind: 'opened', caller, callee, sequence, isFirst: !ack });
-    }
-
-    /** The number of a stream: that of its ends, and a new one where they begin anew: with a SYN of another place than their first segments say,
-     * those of the other side by what they acknowledge. */
+    /** The stream of a segment: that of its ends, and a new one where they begin anew: with a SYN of another place than their first segments say, those
+     * of the other side by what they acknowledge. */
     streamOf(segment: Segment) {
         const { source, destination } = this.report.mark;
         const ends = source < destination ? `${source} ${destination}` : `${destination} ${source}`;
         let known = this.numbers.get(ends);
         const isAnew = segment.syn && !segment.ack && known?.starts.has(source) && known.starts.get(source) !== segment.sequence;
         if (!known || isAnew) {
-            known = { number: this.streamCount++, starts: new Map() };
+            known = { number: this.streamCount++, starts: new Map(), isOpening: true };
             if (this.numbers.size >= MOST_STREAMS) this.numbers.clear();
             this.numbers.set(ends, known);
         }
         if (segment.syn) known.starts.set(source, segment.sequence);
         else if (!known.starts.has(source)) known.starts.set(source, (segment.sequence - 1) >>> 0);
         if (segment.ack && !known.starts.has(destination)) known.starts.set(destination, (segment.acknowledged - 1) >>> 0);
-        return known.number;
+        return known;
     }
 
     streamCount = 0;
 
     payload(port: 137 | 138 | 139, below: Below, bytes: Uint8Array) {
-        this.give({ kind: 'payload', port, mark: this.report.mark, mac: below.mac, vlan: below.vlan, bytes });
+        this.give({ kind: 'payload', port, mark: this.report.mark, bytes, ...below });
     }
 
     withoutPacket(why: WhyNoPacket) {

@@ -148,7 +148,7 @@ export function clear(it) {
 // ---- Numbers and order.
 
 /** Before (less than 0), the same (0) or behind. */
-export function order(one, other) {
+function order(one, other) {
     if (!Array.isArray(one)) return Number(one > other) - Number(one < other);
     const place = one.findIndex((each, at) => !same(each, other[at]));
     return place < 0 || place >= other.length ? one.length - other.length : order(one[place], other[place]);

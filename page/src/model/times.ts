@@ -3,8 +3,6 @@
 const SECOND = 1_000_000_000n;
 const MILLISECOND = 1_000_000n;
 
-export const nanoseconds = (seconds: number) => BigInt(seconds) * SECOND;
-
 /** A time in UTC with six places, or `-` where there is none.
  * @param time nanoseconds since 1970 */
 export function utc(time: bigint | null) {

@@ -6,7 +6,7 @@ import { Room } from '../made/rooms.js';
 const MOST = 64;
 
 /** `frame` is the first of them */
-export type UnreadRow = { link: string, why: string, frames: number, frame: number };
+export type UnreadRow = { link_type: string, why: string, frames: number, frame: number };
 export type UnreadCounts = { frames: number, whys: string[] };
 
 export class UnreadFrames {
@@ -15,7 +15,7 @@ export class UnreadFrames {
 
     take({ link, why, frame }: Unread) {
         this.frames += 1;
-        const row = this.room.get(`${link} ${why}`, () => ({ link, why, frames: 0, frame }));
+        const row = this.room.get(`${link} ${why}`, () => ({ link_type: link, why, frames: 0, frame }));
         if (row) row.frames += 1;
     }
 
@@ -25,6 +25,6 @@ export class UnreadFrames {
 
     /** How many there are, and of what: a link type, or what packets are wrapped in. */
     counts(): UnreadCounts {
-        return { frames: this.frames, whys: Array.from(new Set(this.rows().map(({ link, why }) => (why === 'link type' ? `link type ${link}` : why)))) };
+        return { frames: this.frames, whys: Array.from(new Set(this.rows().map(({ link_type: link, why }) => (why === 'link type' ? `link type ${link}` : why)))) };
     }
 }

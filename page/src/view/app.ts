@@ -75,7 +75,7 @@ export class App {
     /** Opens a file.
      * @param number of the tap */
     async open(file: Blob, name: string, number: number, closes: number | null) {
-        const counts = { frames: 0, packets: 0, refused: 0, leftOut: 0, names: 0, conflicts: 0, unread: { frames: 0, whys: [] } };
+        const counts = { frames: 0, packets: 0, refused: 0, leftOut: 0, names: 0, refusals: 0, unread: { frames: 0, whys: [] } };
         const tap: Tap = {
             name, size: file.size, kind: 'frames', isPacked: false, rows: new Rows(), first: null, counts, isRead: false, fault: null, incomplete: 0, closes,
         };

@@ -11,7 +11,7 @@ export interface News {
 }
 export interface Counts {
     frames: number; packets: number; refused: number; leftOut: number;
-    names: number; conflicts: number; unread: UnreadCounts;
+    names: number; refusals: number; unread: UnreadCounts;
 }
 
 export class Desk {

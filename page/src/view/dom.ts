@@ -30,27 +30,29 @@ export function withCode(text: string) {
     return text.split('`').map((part, at) => (at % 2 ? element('code', {}, part) : part));
 }
 
-/** A table, of which only the first rows are shown until more are wanted.
- * @param kind a class of each row */
-export function table(title: string, head: string[], rows: (Node | string)[][], kind: (row: number) => string = () => '') {
+/** A table, of which only the first rows are made until more are wanted.
+ * @param cells of a row
+ * @param kind the class of a row */
+export function table<T>(title: string, head: string[], rows: T[], cells: (row: T) => (Node | string)[], kind: (row: T) => string = () => '') {
     const body = element('tbody');
     const made = element('table', {}, element('caption', {}, title),
         element('thead', {}, element('tr', {}, ...head.map((each) => element('th', { scope: 'col' }, each)))), body);
     const scroller = element('div', { class: 'table', tabindex: 0, role: 'region', 'aria-label': title }, made);
     const more = element('button', { type: 'button' });
     const show = (count: number) => {
-        const from = body.rows.length;
-        body.append(...rows.slice(from, count).map((cells, at) =>
-            element('tr', { class: kind(from + at) || null }, ...cells.map((cell, place) => element('td', { 'data-column': head[place] }, cell)))));
+        for (const row of rows.slice(body.rows.length, count)) {
+            body.append(element('tr', { class: kind(row) || null }, ...cells(row).map((cell, place) => element('td', { 'data-column': head[place] }, cell))));
+        }
         more.hidden = count >= rows.length;
+        more.textContent = `Show ${number(Math.min(MORE_ROWS, rows.length - count))} more of ${number(rows.length)} rows`;
     };
-    more.textContent = `Show all ${rows.length} rows`;
-    more.addEventListener('click', () => show(rows.length));
+    more.addEventListener('click', () => show(body.rows.length + MORE_ROWS));
     show(MOST_ROWS);
     return element('section', {}, scroller, more);
 }
 
-const MOST_ROWS = 400;
+/** How many rows are made at first, and at each click. */
+const [MOST_ROWS, MORE_ROWS] = [400, 4_000];
 
 /** A number with a space between thousands, and the word after it. */
 export function counted(count: number, one: string, many: string = `${one}s`) {

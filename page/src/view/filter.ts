@@ -1,5 +1,5 @@
 /** Which packets are shown: words of a box, and what was chosen of the counts. */
-import { KINDS, SERVICES } from '../made/vocabulary.js';
+import { KINDS, KIND_SAME, SERVICES } from '../made/vocabulary.js';
 import type { Rows } from './rows.js';
 
 /** A whole address of IPv4, which is no part of another one. */
@@ -19,9 +19,9 @@ export class Filter {
     constructor(public chosen: Chosen) {
         const { words, kind } = chosen;
         const parts = words.trim().split(/\s+/).filter((each) => each !== '');
-        this.kinds = parts.map((each) => each.toLowerCase()).filter((each) => KINDS.includes(each)).concat(kind || []);
+        this.kinds = parts.flatMap((each) => kindIn(each) ?? []).concat(kind || []);
         this.ports = parts.filter((each) => SERVICES.includes(each)).map(Number);
-        this.patterns = parts.filter((each) => !KINDS.includes(each.toLowerCase()) && !SERVICES.includes(each)).map(patternOf);
+        this.patterns = parts.filter((each) => !kindIn(each) && !SERVICES.includes(each)).map(patternOf);
         this.found = this.patterns.map(() => new Map());
     }
 
@@ -58,6 +58,12 @@ export class Filter {
         }
         return has;
     }
+}
+
+/** The kind that a word is; undefined of any other. */
+function kindIn(word: string): string | undefined {
+    const plain = word.toLowerCase();
+    return KINDS.find((each) => each === (Reflect.get(KIND_SAME, plain) ?? plain));
 }
 
 /** What a word has to be a part of; an address has to stand there by itself. */

@@ -17,8 +17,8 @@ export class Header {
     show() {
         this.files();
         this.counts();
-        const { incomplete = 0, counts: { conflicts } = { conflicts: 0 } } = this.app.tap ?? {};
-        badge('names', 'Names', conflicts, counted(conflicts, 'conflict'));
+        const { incomplete = 0, counts: { refusals } = { refusals: 0 } } = this.app.tap ?? {};
+        badge('names', 'Names', refusals, counted(refusals, 'refusal'));
         badge('reassembly', 'Reassembly', incomplete, `${counted(incomplete, 'key')} incomplete`);
         this.choice();
     }

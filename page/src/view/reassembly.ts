@@ -42,13 +42,13 @@ export class ReassemblyView {
         if (!answer) this.handed.replaceChildren();
         if (!answer || !rows) return;
         const { handed, more } = answer;
-        const cells = handed.map((each: Handed) => [
+        const cells = (each: Handed) => [
             each.row === null ? '-' : String(rows.frame.at(each.row)), each.moment, each.key, each.source, each.destination,
             `${each.data.length / 2}`, preview(each.data),
-        ]);
+        ];
         this.handed.replaceChildren(
             element('p', {}, `A station with ${names.join(', ') || 'no name'} is handed ${counted(handed.length + more, 'datagram')}.`),
-            ...(cells.length ? [table('handed over', ['frame', 'moment, ms', 'key', 'from', 'to', 'bytes', 'text'], cells)] : []));
+            ...(handed.length ? [table('handed over', ['frame', 'moment, ms', 'key', 'from', 'to', 'bytes', 'text'], handed, cells)] : []));
     }
 }
 
@@ -56,8 +56,7 @@ export class ReassemblyView {
 function tableOf(keys: Key[], named: (key: Key) => Node | string) {
     if (!keys.length) return [element('p', { class: 'quiet' }, 'There are no datagrams of which a station holds anything.')];
     const counts = ['whole', 'partial', 'spoilt'].map((state) => `${number(keys.filter((key) => key.state === state).length)} ${state}`);
-    const cells = keys.map((key) => [named(key), key.state, bar(key), key.source || '-', key.destination || '-',
-        key.state === 'whole' ? folded(key.data) : known(key)]);
+    const cells = (key: Key) => [named(key), key.state, bar(key), key.source || '-', key.destination || '-', key.state === 'whole' ? folded(key.data) : known(key)];
     return [element('p', { class: 'lead' }, `${counted(keys.length, 'key')}: ${counts.join(', ')}.`),
-        table('keys', ['key', 'state', 'places', 'from', 'to', 'what is known'], cells, (at) => keys[at].state)];
+        table('keys', ['key', 'state', 'places', 'from', 'to', 'what is known'], keys, cells, (key) => key.state)];
 }

@@ -37,20 +37,20 @@ export class TapsView {
             return [title, number(states.length), ...['whole', 'partial', 'spoilt'].map((state) => number(states.filter((each) => each === state).length))];
         };
         return table('tables', ['table', 'keys', 'whole', 'partial', 'spoilt'],
-            [row(`tap 1: ${one}`, 'one'), row(`tap 2: ${other}`, 'other'), row('the join', 'both')]);
+            [row(`tap 1: ${one}`, 'one'), row(`tap 2: ${other}`, 'other'), row('the join', 'both')], (each) => each);
     }
 
     /** A table of keys, with what each side knows. */
     group(title: string, rows: Row[]) {
         if (!rows.length) return [];
-        const cells = rows.map(({ key, one, other, both }) => {
+        const cells = ({ key, one, other, both }: Row) => {
             const { source, destination, data, wide } = both.state === 'spoilt' ? one ?? other ?? both : both;
             const room = Math.max(wide, one?.wide ?? 0, other?.wide ?? 0, 1);
             const tap = this.firsts.findIndex((each) => each.has(key));
             return [tap < 0 ? key : this.app.link(key, { tap, frame: this.firsts[tap].get(key) }), source || '-', destination || '-', ...[one, other, both].map((each) => side(each, room)),
                 both.state === 'whole' ? folded(data) : '-'];
-        });
-        return [table(title, ['key', 'from', 'to', 'tap 1', 'tap 2', 'the join', 'data'], cells)];
+        };
+        return [table(title, ['key', 'from', 'to', 'tap 1', 'tap 2', 'the join', 'data'], rows, cells)];
     }
 }
 

@@ -75,11 +75,14 @@ const answers = {
 
     packet: ({ tap, row }: { tap: number, row: number }) => packetOf(tapOf(tap), row),
 
-    tables: ({ tap }: { tap: number }) => ({ tables: tapOf(tap).seen.tables(), notKept: tapOf(tap).seen.notKept() }),
+    tables({ tap: number }: { tap: number }) {
+        const { seen, first } = tapOf(number);
+        return { tables: seen.tables(first), notKept: seen.notKept(), notes: seen.summed.notes() };
+    },
 
     async datagrams({ tap }: { tap: number }) {
         const datagrams = await datagramsOf(tapOf(tap));
-        return { tables: { datagrams: datagrams.rows(), failed: datagrams.failed.rows() }, notKept: { datagrams: datagrams.others(), failed: datagrams.failed.others() } };
+        return { tables: { datagrams: datagrams.rows(), failed: datagrams.failed.rows() }, notKept: { datagrams: datagrams.room.others, failed: datagrams.failed.room.others } };
     },
 
     async listed({ tap }: { tap: number }) {

@@ -1,7 +1,7 @@
 /** What is known of one file. */
 import type { Nbt } from '../../../bindings/javascript/nbt.mjs';
 import { partsOf, shown } from '../containers/ends.js';
-import type { Cut, Opened, Payload, Seen as Given } from '../containers/payloads.js';
+import type { Cut, Payload, Seen as Given, Sent } from '../containers/payloads.js';
 import type { LeftOut, Mark } from '../containers/report.js';
 import { made, written } from '../model/capture.js';
 import { Seen, type Ends, type Item } from '../model/seen.js';
@@ -39,16 +39,17 @@ export class Tap {
     take(item: Given) {
         if (item.kind === 'comment') this.packets.comment(item.text);
         else if (item.kind === 'payload') this.payload(item);
-        else if (item.kind === 'opened') this.opened(item);
+        else if (item.kind === 'segment') this.segment(item);
         else if (item.kind === 'cut') this.front(item);
         else if (item.kind === 'unread') this.seen.unread.take(item);
         else this.leftOut(item);
     }
 
-    front({ port, mark, mac, bytes }: Cut) {
+    front(item: Cut) {
+        const { port, mark, bytes } = item;
         this.frontOf = mark.frame;
         const told = { ...this.standing(port, bytes), cut: true };
-        this.seen.summed.take(itemOf(mark, port, mac), told);
+        this.seen.summed.take(itemOf(item), told);
         const { source, destination, kind } = told;
         if (kind && source !== undefined && destination !== undefined && this.cut.length < MOST_CUT) this.cut.push([source, destination, kind]);
     }
@@ -59,25 +60,24 @@ export class Tap {
         return port === 137 ? serviceFront(this.library, bytes) : datagramFront(this.library, bytes);
     }
 
-    opened({ caller, callee, sequence, isFirst }: Opened) {
-        this.seen.summed.sessions.opened({ ...endsOf(caller, callee), stream: null, sequence, is_first: isFirst });
+    segment({ source, target, sequence, flags }: Sent) {
+        this.seen.summed.sessions.segment({ ...endsOf(source, target), stream: null, sequence, flags });
     }
 
-    payload({ port, mark, mac, vlan, bytes }: Payload) {
+    payload(item: Payload) {
+        const { port, mark, bytes } = item;
         const text = this.library.json(port, bytes);
         const said = this.library.brief(port, bytes);
         const told: Told = JSON.parse(text);
         const standing = told.refused === undefined ? told : { ...this.standing(port, bytes), ...told };
         standing.brief = said;
-        const isConflict = this.seen.take(standing, itemOf(mark, port, mac));
-        this.packets.add(mark, { port, mac, vlan, bytes });
-        const kinds = kindsOf(port, told);
-        if (isConflict && !kinds.includes('conflict')) kinds.push('conflict');
-        this.row(mark, port, kinds.join(' '), told.refused === undefined ? '' : withoutPlace(told.refused), said);
+        this.seen.take(standing, itemOf(item));
+        this.packets.add(mark, item);
+        this.row(mark, port, kindsOf(port, told).join(' '), told.refused === undefined ? '' : withoutPlace(told.refused), said);
     }
 
     leftOut({ mark, why }: LeftOut) {
-        this.seen.leave(why, mark.frame === this.frontOf ? null : endsOf(mark.source, mark.destination), mark.time);
+        this.seen.leave(why, mark.frame === this.frontOf ? null : endsOf(mark.source, mark.destination));
         this.packets.add(mark, { port: LEFT_OUT, mac: null, vlan: null, bytes: new Uint8Array(0) });
         const sizes = mark.captured < mark.size ? `, ${mark.captured} of ${mark.size} bytes` : '';
         this.row(mark, LEFT_OUT, 'left-out', why, `left out: ${why}${sizes}`);
@@ -99,16 +99,16 @@ export class Tap {
     counts() {
         const { seen } = this;
         const left = Array.from(seen.leftOut.values()).reduce((sum, each) => sum + each, 0);
-        const { of_name: ofName, conflicts } = seen.summed.claims;
+        const { kept, refusals } = seen.summed;
         return {
-            frames: this.frames, packets: seen.packets, refused: seen.refusedPackets, leftOut: left, names: ofName.entries.size, conflicts: conflicts.all().length,
+            frames: this.frames, packets: seen.packets, refused: seen.refusedPackets, leftOut: left, names: kept.names.size, refusals: refusals.room.entries.size,
             unread: seen.unread.counts(),
         };
     }
 }
 
-function itemOf({ frame, time, source, destination }: Mark, port: number, mac: string | null): Item {
-    return { ...endsOf(source, destination), frame: { number: frame, at: time, source_mac: mac }, service: port, stream: null };
+function itemOf({ mark: { frame, time, source, destination }, port, mac, target }: Payload | Cut): Item {
+    return { ...endsOf(source, destination), frame: { number: frame, at: time, source_mac: mac, target_mac: target }, service: port, stream: null };
 }
 
 function endsOf(source: string, target: string): Ends {

@@ -1,11 +1,9 @@
-//! What serde is given of the values, as JSON, and what is read back of it.
+//! What serde is given of the values, as JSON, and what is read back of it. tests/library/answers.rs has what packets of port 137 say.
 
 use std::fmt::{Debug, Display};
 
 use nbt::datagram::{self, write_error, write_query, Datagram, Query};
-use nbt::service::{
-    self, Answer, Entry, NodeName, NodeType, Operation, Question, Request, Response, ResultCode, Section,
-};
+use nbt::service::{self, Entry, NodeName, NodeType, Operation, Question, Request, ResultCode, Section};
 use nbt::session::{self, write};
 use nbt::station::{Key, Outcome, OwnedDelivery};
 use nbt::{Error, Limits, Line, Name, Spelling, Status};
@@ -48,20 +46,6 @@ fn entry() -> Entry {
 
 fn key() -> Key {
     Key { sender: "10.0.0.5:138".parse().unwrap(), identifier: 7 }
-}
-
-/// What is said of the answer of a response about `FRED<20>`.
-#[track_caller]
-fn rdata(answer: Answer<'_>) -> Value {
-    let response = Response { identifier: 1, word: 0x8500, name: "FRED<20>", time_to_live: 9, answer };
-    let payload = response.write().unwrap();
-    let packet = service::read(&payload).unwrap();
-    let said = to_value(packet).unwrap();
-    assert_eq!(said["questions"], json!([]));
-    let record = &said["records"][0];
-    assert_eq!((&record["name"], &record["section"]), (&json!("FRED<20>"), &json!("answer")));
-    assert_eq!((&record["class"], &record["time_to_live"]), (&json!(1), &json!(9)));
-    record["rdata"].clone()
 }
 
 #[test]
@@ -116,6 +100,8 @@ fn values_that_lend_nothing() {
     both_ways(node, json!({"name": "FRED<20>", "flags": 0x0400}));
     let question = Question { name: name("FRED<20>"), kind: 32, class: 1 };
     both_ways(question, json!({"name": "FRED<20>", "kind": 32, "class": 1}));
+    let header = service::Header { identifier: 2, word: 0x2910, counts: [1, 0, 0, 1] };
+    both_ways(header, json!({"identifier": 2, "word": 0x2910, "counts": [1, 0, 0, 1]}));
     both_ways(Limits { keys: 9, per_source: u32::MAX }, json!({"keys": 9, "per_source": u32::MAX}));
     both_ways(Request::NodeStatus, json!("node_status"));
     let wanted = json!({"registration": [{"nb_flags": 0x6000, "address": "10.0.0.6"}, 9]});
@@ -125,40 +111,6 @@ fn values_that_lend_nothing() {
     both_ways(front.header.unwrap(), wanted.clone());
     let fault = json!({"status": "BAD_LENGTH", "number": 54, "at": null});
     assert_eq!(to_value(front).unwrap(), json!({"header": wanted, "fault": fault}));
-}
-
-#[test]
-fn service_packets() {
-    let payload = Request::Registration(entry(), 9).write(2, "FRED<20>", true).unwrap();
-    let packet = service::read(&payload).unwrap();
-    let header = json!({"identifier": 2, "word": 0x2910, "counts": [1, 0, 0, 1]});
-    both_ways(packet.header, header.clone());
-    let record = json!({
-        "section": "additional", "name": "FRED<20>", "kind": 32, "class": 1, "time_to_live": 9,
-        "rdata": {"addresses": [{"nb_flags": 0x6000, "address": "10.0.0.6"}]},
-    });
-    let question = json!({"name": "FRED<20>", "kind": 32, "class": 1});
-    let wanted = json!({"header": header, "questions": [question], "records": [record], "used": 68});
-    assert_eq!(to_value(packet).unwrap(), wanted);
-    let front = to_value(service::read_front(&payload[..60])).unwrap();
-    assert_eq!(front["packet"]["questions"], wanted["questions"]);
-    assert_eq!(front["packet"]["records"], json!([]));
-    let fault = json!({"status": "TRUNCATED", "number": 50, "at": 60});
-    assert_eq!(front["fault"], fault);
-}
-
-#[test]
-fn what_records_say() {
-    let names = ["FRED<20>", "JOE<00>"].map(|it| NodeName { name: name(it), flags: 0x0400 });
-    let said = rdata(Answer::NodeStatus(&names, Some([0, 0, 0x5e, 1, 2, 0xff])));
-    let wanted = json!([{"name": "FRED<20>", "flags": 0x0400}, {"name": "JOE<00>", "flags": 0x0400}]);
-    assert_eq!(said, json!({"node_status": {"names": wanted, "unit": "00005e0102ff"}}));
-    let said = rdata(Answer::NodeStatus(&[], None));
-    assert_eq!(said, json!({"node_status": {"names": [], "unit": null}}));
-    let said = rdata(Answer::NameServer(&name("JOE<00>")));
-    assert_eq!(said, json!({"name_server": "JOE<00>"}));
-    assert_eq!(rdata(Answer::Other(10, &[0, 0xab])), json!({"other": "00ab"}));
-    assert_eq!(rdata(Answer::Other(32, &[])), json!({"addresses": []}));
 }
 
 #[test]

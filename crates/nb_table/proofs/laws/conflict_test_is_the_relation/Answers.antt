@@ -1,0 +1,5 @@
+use Rattle.nb_table.specs.Shared.ConflictLemmas.{conflicts_decides}
+use Rattle.nb_table.proofs.laws.conflict_test_is_the_relation.Goals as goal
+
+pub returns : goal.returns
+returns c = conflicts_decides

@@ -10,11 +10,13 @@ Usage: tests/docs/pages.py, whose last line is 'N passed, M failed'; --write wri
 - a file of wrong-bodies/, which says what is wrong, why and where it is refused, and whose old lines stand once in the file that it changes;
   a file of must-fail/, which says what is wrong and why, and stands in the table of named wrong bodies in docs/PROOFS.md, and each that
   stands there;
-- the crates of the table of costs in docs/PROOFS.md;
+- a public call that computes something, which has a wrong body (computing.py);
+- the crates of the tables of costs in docs/PROOFS.md, and how many wrong bodies each has;
 - a paragraph of a Rust sample of README.md or docs/CALLING.md, which is lines of one source, indented as they may be;
 - how many words README.md has, and all pages that aren't made of the sources;
 - the words that `nbt build` takes, of each packet in each place that lists them (build_words.py).
 """
+import collections
 import functools
 import re
 import subprocess
@@ -22,6 +24,7 @@ import sys
 
 sys.path.insert(1, f'{sys.path[0]}/../lib')
 from build_words import FORMS, compared
+from computing import wrong_body_of_each
 from made_pages import calls, definitions_of, made, spec_files
 from parts import tally
 from sources import CRATES, LISTED, ROOT, aliases, edit, functions, law_files, planted, sources, text_of
@@ -160,6 +163,15 @@ def costs():
     text = (ROOT / 'docs' / 'PROOFS.md').read_text(encoding='utf-8')
     found = [it[0] for it in rows(text) if len(it) == 3 and re.fullmatch(r'[0-9,]+', it[1])]
     yield found == [*LISTED, 'all'], f'PROOFS.md has what each crate costs, and all: {found}'
+    stated = {it[0]: int(it[1]) for it in rows(text) if len(it) == 4 and it[1].isdigit()}
+    there = collections.Counter(path.parts[0] for path, *_ in edits() if path.parts[1] == 'wrong-bodies')
+    for crate, number in (there | {'all': there.total()}).items():
+        yield stated.get(crate) == number, f'PROOFS.md has {stated.get(crate)} wrong bodies of {crate}: {number} are there'
+
+
+def computing():
+    """Whether each public call that computes something has a wrong body."""
+    yield from wrong_body_of_each(LIBRARIES)
 
 
 def sizes():
@@ -215,7 +227,7 @@ def main(word=''):
         for path, said, _ in edits():
             print(f'{path.parts[0]}/{path.stem}: {said["what"]}\n    {said["why"]}')
         return
-    checks = (places, names, promises, commented, wrong_bodies, named_bodies, costs, sizes, made_lines, rust_samples, build_words)
+    checks = (places, names, promises, commented, wrong_bodies, named_bodies, computing, costs, sizes, made_lines, rust_samples, build_words)
     tally((case, not is_right) for check in checks for is_right, case in check())
 
 

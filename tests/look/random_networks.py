@@ -43,6 +43,8 @@ TARGETS = (SERVER, SERVER, '10.0.0.255', '10.0.0.255', '10.1.0.255', '10.0.0.6')
 CLAIMS, QUERIES = (0x2910, 0x2910, 0x2900, 0x2810, 0x2800, 0x7900, 0x7810, 0x4000, 0x4810, 0x3000, 0x3010, 0x3010), (0x0110, 0x0100, 0x0000, 0x0010)
 ANSWERS = {'claim': (0x580, 0x580, 0x500, 0x586, 0x585, 0x583, 0x587, 0x589), 'release': (0x400, 0x400, 0x406, 0x405),
            'query': (0x500, 0x580, 0x583, 0x585, 0x587)}
+# Of an exchange, what answers.
+ORDERLY = (False, False, False, False, True, True, True)
 DELAYS = (0, 1_000, 200_000, 2_000_000, 9_999_999, 10_000_000, 10_000_001, 12_345_678)
 TABLES = {'names': (said.names, 13), 'several': (said.several, 14), 'refusals': (said.refusals, 8), 'queries that found nothing': (said.queries, 8)}
 # Where the name, and after it the type, of the first item of a payload ends.
@@ -63,15 +65,12 @@ class Story:
         if rng.random() < 0.45:
             word, kind, name = rng.choice(QUERIES), rng.choice((NB, NBSTAT)), rng.choice((name, name, ANY))
         asked = self.packet(who, target, name, word, kind, self.places(who) if word > 0x1000 else (), rng.randint(1, 3))
-        for _ in range(rng.choice((0, 1, 1, 1, 2, 3))):
-            self.sends(asked)
+        for says in rng.choice((ORDERLY, ORDERLY, ORDERLY, rng.sample(ORDERLY, len(ORDERLY))))[rng.randint(0, 4):rng.randint(4, 7)]:
             self.at += rng.choice(DELAYS)
-        for _ in range(rng.choice((0, 1, 1, 1, 2, 3))):
-            self.answer(asked)
+            self.answer(asked) if says else self.sends(asked)
 
     def answer(self, asked):
         rng = self.rng
-        self.at += rng.choice(DELAYS)
         source = rng.choice((*SENDERS, SERVER, asked.target, asked.target)) if asked.target[-3:] != '255' else rng.choice((*SENDERS, SERVER))
         target, number = rng.choice((asked.source,) * 9 + SENDERS), rng.choice((asked.identifier,) * 9 + (2,))
         about = 'query' if asked.operation == 0 else 'release' if asked.operation == 6 else 'claim'

@@ -23,11 +23,11 @@ def object_of(row, is_marked, said, times):
 
 
 class Names:
-    """A table of rows of names: `chosen` answers those of all that was said, each with whether it is marked."""
+    """A table of rows of names: `chosen` answers those of all that was said, each with whether it is marked; `room` counts what isn't kept."""
 
-    def __init__(self, table, said, chosen):
+    def __init__(self, table, said, room, chosen):
         self.title, self.head = TABLES[table]
-        self.said, self.room, self.chosen = said, said.room, chosen
+        self.said, self.room, self.chosen = said, room, chosen
 
     def rows(self, times):
         return [object_of(row, is_marked, self.said, times) for row, is_marked in self.chosen(self.said)]

@@ -38,7 +38,8 @@ class Seen:
         self.said, self.queries = Said(self.kept, self.refusals), Queries(self.kept)
         self.stations = Stations(self.said, self.refusals)
         self.sessions = Sessions(session_ports, lambda address, name: self.stations.named(address, name))
-        self.parts = [Names('names', self.said, all_rows), Names('several', self.said, several), self.refusals, self.queries, self.sessions, self.stations]
+        self.parts = [Names('names', self.said, self.said.room, all_rows), Names('several', self.said, Room(), several),
+                      self.refusals, self.queries, self.sessions, self.stations]
         self.before = self.earlier = None        # the time of the latest packet, and the first frame that is earlier than one before it
         self.nameless = 0
 

@@ -8,7 +8,7 @@ from .words import CLAIMING, CODED, OWN, REFUSING, STANDING, group_of, is_wildca
 CLAIM, RELEASE, GRANT = 'claimed', 'released', 'granted'
 
 
-@dataclass
+@dataclass(slots=True)
 class Half:
     """The latest word of an address itself, or of others: who said it, when, in which frame, and which packet of all it is."""
 
@@ -20,7 +20,7 @@ class Half:
     order: int
 
 
-@dataclass
+@dataclass(slots=True)
 class Row:
     """A name at an address."""
 

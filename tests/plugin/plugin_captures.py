@@ -8,7 +8,7 @@ sys.path[1:1] = [TESTS, os.path.join(TESTS, 'captures'), os.path.join(TESTS, '..
 from fuzz_traffic import Traffic
 from model.names import Refused, text_of
 from model.packets import MORE, read_fragment
-from nbt_look.counts import run_text
+from nbt_look.shown import run_text
 from nbt_look.datagrams import runs_missing
 from nbt_pcap.capture import Capture, Output
 from plugin_pcap import datagram_frame, segment_frame

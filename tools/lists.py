@@ -34,7 +34,7 @@ def with_limits(path, patterns, header):
     """A file with what stands of the header within it."""
     over = {f'OVER_{name}': number + 1 for name, number in header.limits.items()}
     named = {name: ', '.join(f'{it.name} {it.digits}' for it in header.enums[enum]) for enum, name in python.IN_PYTHON.items()}
-    said = {'VERSION': header.version, 'MOST_HELD': crates.constants('nb_member/src/limits.rt')['MAX_HELD'], **header.limits, **over, **named}
+    said = {'VERSION': header.version, 'MOST_HELD': crates.constants('nb_capture/src/limits.rt')['MAX_HELD'], **header.limits, **over, **named}
     text = path.read_text(encoding='utf-8')
     for pattern, *wanted in patterns:
         words = ''.join(f'\\g<{at}>{each}' for at, each in enumerate(wanted, 1)).format(**said)

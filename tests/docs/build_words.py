@@ -1,12 +1,13 @@
-"""The words that `nbt build` takes: crates/nbt/src/forms.rt has them, and each other place says the same. That it takes them is shown
+"""The words that `nbt build` takes: crates/nb_building/src/forms.rt has them, and each other place says the same. That it takes them is shown
 by the model, which reads docs/FORMATS.md."""
 import re
 
 from sources import ROOT
 
-FORMS = 'crates/nbt/src/forms.rt'
+FORMS = 'crates/nb_building/src/forms.rt'
 NAME = re.compile(r'const (\w+): Field = Field\("([A-Z]+)",')
-FORM = re.compile(r'Form\("(\w+)", &\[([^\]]*)\]\)')
+FORM = re.compile(r'(".+) => Some\(&\[([^\]]*)\]\)')
+PACKET = re.compile(r'^    "(\w+)",$', re.MULTILINE)
 # By file what precedes and follows its list, and an item of that: packets and the words of each, or that they are those of the item before.
 PLACES = {
     'crates/nb_building/src/building.rt': ('/// | `what` | `words` |\n', '///\n', r'.+'),
@@ -22,7 +23,7 @@ def forms():
     """By the word of each packet the words after it, in order."""
     text = (ROOT / FORMS).read_text(encoding='utf-8')
     names = dict(NAME.findall(text))
-    return {what: [names[each] for each in re.findall(r'\w+', fields)] for what, fields in FORM.findall(text)}
+    return {what: [names[each] for each in re.findall(r'\w+', fields)] for words, fields in FORM.findall(text) for what in re.findall(r'\w+', words)}
 
 
 def listed(path, wanted):
@@ -39,6 +40,7 @@ def listed(path, wanted):
 def compared():
     """A place, what it has, and what it should have."""
     wanted = forms()
+    yield f'{FORMS}, PACKETS', sorted(PACKET.findall((ROOT / FORMS).read_text(encoding='utf-8'))), sorted(wanted)
     for path in PLACES:
         found = listed(path, wanted)
         yield from ((f'{path}, {what}', found.get(what), words) for what, words in wanted.items())

@@ -66,7 +66,7 @@ def calls(crate):
 def signature(function):
     """How a call is called. A block with bounds of its own is shown with them."""
     words = one_line(f'{function.block}: {function.head}' if function.owner and not function.trait else function.head)
-    head = re.fullmatch(rf'(?:impl(?:<[^:>]*>)? ({function.owner}\b[^:]*): )?(?:pub )?fn ({function.name}\b.*)', words)
+    head = re.fullmatch(rf'(?:impl(?:<(?:const \w+: \w+|[^:>])*>)? ({function.owner}\b[^:]*): )?(?:pub )?fn ({function.name}\b.*)', words)
     return words if not head else f'{head[1] or function.owner}::{head[2]}' if function.owner else head[2]
 
 

@@ -32,7 +32,7 @@ from sources import CRATES, LISTED, ROOT, aliases, edit, functions, law_files, p
 LIBRARIES = [it for it in LISTED if it != 'nbt' and not it.startswith('nb_examples')]
 TICKED = re.compile(r'`([^`\n]+)`')
 FILE = re.compile(r'(?<![\w./-])(?:[\w.-]+/)*[\w-]+\.(?:antt|rt|py|sh|md|mjs|mts|edit|pcap|toml|bash|zsh)\b')
-FOLDER = re.compile(r'(?<![\w./*-])(?:crates|docs|tests|tools|bindings|examples|include|man|completions|nb_\w+|nbt)/[\w./-]*\w')
+FOLDER = re.compile(r'(?<![\w./*-])(?:crates|docs|tests|tools|bindings|examples|include|man|completions|nbt?_\w+|nbt)/[\w./-]*\w')
 # What pages name without its being a file here: words for names, and what a command makes.
 ELSEWHERE = {
     'CALL-what_the_wrong_body_does.edit', 'proofs/SUBJECTLemmas.antt', 'crates/first', 'out/nbt.mjs', 'nbt/header.py', 'header.mjs', 'big.pcap',

@@ -1,6 +1,10 @@
 -- Packets that words name, from what the calls that make them answer.
-use Rattle.nb_building.proofs.Common.{◌≡◌, ℕ, Bool, List, [], ◌∷◌, map, ap, ap₂, ◌∙◌, refl, Result, Ok, Err, ◌<◌, ◌+◌, ◌++◌, length, get_or, take, sym, append_assoc, IfOk, codes, DataText, NetbiosName, labels_of_name, IsText, ResourceData, ResourceRecord, record_of, ServicePacket, IsServiceBuilt, IsSessionBuilt, NamesDatagrams, NamesService, NamesSession, NumberText, WordText, response, HasRdata, response_packet, with_flag, of_service, of_session, GiveTooMuch, append-nil, take_more}
+use Rattle.nb_building.proofs.Common.{◌≡◌, ◌≢◌, inl, inr, ℕ, Bool, List, [], ◌∷◌, map, ap, ap₂, ◌∙◌, refl, Result, Ok, Err, ◌<◌, ◌+◌, ◌++◌, length, get_or, take, sym, append_assoc, IfOk, codes, DataText, NetbiosName, labels_of_name, IsText, ResourceData, ResourceRecord, record_of, ServicePacket, IsServiceBuilt, IsSessionBuilt, NamesDatagrams, NamesService, NamesSession, NumberText, WordText, response, HasRdata, response_packet, with_flag, of_service, of_session, GiveTooMuch, append-nil, take_more}
 use Rattle.std.specs.Prelude.{IfErr}
+use Rattle.nb_building.specs.declared.build_fault.BuildFault.{BuildFault}
+use Rattle.nb_building.specs.declared.build_fault.BuildFault.TheVariants.{TooLong}
+use Rattle.nb_building.specs.Refusals.{IsUnanswered}
+use Rattle.nb_service.specs.declared.kinds.TheConstants.{NS}
 use Rattle.nb_service.specs.declared.classes.TheConstants.{IN}
 use Rattle.nb_service.specs.Requests.{packet_of}
 use Rattle.nb_service.specs.Encoding as service
@@ -75,9 +79,13 @@ pub tells_too_much : {A E : Type 0} (P : Type 0) (what word : List ℕ) (words t
 tells_too_much P what word words texts fault (Ok a) is_what are much h = tt
 tells_too_much P what word words texts fault (Err e) is_what are much h = λ is. too_much what word words texts is_what are (much (h is))
 
--- what a fault reports, where that is it
-pub told_of : {A E : Type 0} {P : Type 0} (fault : E) (r : Result A E) → r ≡ Err fault → IfErr r (λ e. e ≡ fault → P) → P
-told_of {P = P} fault r is h = let told : fault ≡ fault → P = rw is at h in told refl
+-- what an answer that is too long reports
+pub told_long : {A : Type 0} (place kind : ℕ) (bytes : List ℕ) (r : Result A BuildFault) → r ≡ Err TooLong
+    → IfErr r (IsUnanswered place kind bytes) → (kind ≢ NS) × (65535 < length bytes)
+told_long place kind bytes r is h = of_told (rw is at h) where
+  of_told : IsUnanswered place kind bytes TooLong → (kind ≢ NS) × (65535 < length bytes)
+  of_told (inl (same, other, far)) = (other, far)
+  of_told (inr (clash, ns, none)) = absurd (cc clash)
 
 -- ---- what printing the lines of payloads keeps from turn to turn
 

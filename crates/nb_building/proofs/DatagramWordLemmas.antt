@@ -1,5 +1,5 @@
 -- Words that name no packets of port 138.
-use Rattle.nb_building.proofs.Common.{◌≡◌, ◌≢◌, ◌<◌, ◌≤◌, ℕ, ◌+◌, ◌*◌, List, [], ◌∷◌, length, map, get_or, refl, sym, ap, ◌∙◌, subst, arith, Result, Ok, Err, codes, ◌==◌, if◌then◌else◌, slice_range, IfErr, range_with_len, length-map, get_or-map, DataText, NetbiosName, IsText, Unnamed, CodeText, KeyText, NamesDatagrams, NumberText, error, fragments, queries}
+use Rattle.nb_building.proofs.Common.{◌≡◌, ◌≢◌, ◌⊎◌, inl, inr, ◌<◌, ◌≤◌, ℕ, ◌+◌, ◌*◌, List, [], ◌∷◌, length, map, get_or, refl, sym, ap, ◌∙◌, subst, arith, Result, Ok, Err, codes, ◌==◌, if◌then◌else◌, slice_range, IfErr, range_with_len, length-map, get_or-map, DataText, NetbiosName, IsText, Unnamed, CodeText, KeyText, NamesDatagrams, NumberText, error, fragments, queries}
 use Rattle.nb_datagram.specs.declared.key.Key.{Key}
 use Rattle.nb_datagram.specs.declared.key.Kind.{Kind}
 use Rattle.nb_datagram.specs.declared.key.Kind.TheVariants.{Unique, Group, Broadcast}
@@ -12,13 +12,9 @@ use Rattle.nb_datagram.specs.Fragment.{DatagramParts, FragmentParts, named_lengt
 use Rattle.nb_datagram.specs.Pieces.{AreTooLong, piece, piece_count}
 use Rattle.std.proofs.lemmas.Fmt.{decimal_injective}
 use Rattle.nb_building.specs.declared.build_fault.BuildFault.{BuildFault}
-use Rattle.nb_building.specs.declared.build_fault.BuildFault.TheVariants.{Memory}
+use Rattle.nb_building.specs.declared.build_fault.BuildFault.TheVariants.{Memory, TooLong, ZeroPiece}
+use Rattle.nb_building.specs.Refusals.{Explains, no_memory, too_long, zero_piece}
 use Rattle.nb_building.proofs.UnnamedLemmas.{one_data}
-
-pub query_letter : (kind : QueryKind) → get_or (query_word kind) 0 0 ≢ 101
-query_letter Request is = absurd (omega (arith, is))
-query_letter Positive is = absurd (omega (arith, is))
-query_letter Negative is = absurd (omega (arith, is))
 
 -- ---- the words of each packet
 
@@ -51,52 +47,6 @@ fragment_words _ _ _ a b c e f are (fragments d most a' b' c' e' f' is_a is_b is
     }
 fragment_words _ _ _ a b c e f are others = absurd (cc are)
 
--- the first of two words is a key
-pub key_of_two : (what : List ℕ) (texts payloads : List (List ℕ)) (a b : List ℕ) → texts ≡ a ∷ b ∷ [] → NamesDatagrams what texts payloads
-    → (key : Key) × KeyText key a
-key_of_two _ _ _ a b are (fragments d most a' b' c e f is_a is_b is_c is_e is_f some short fit) = absurd (cc are)
-key_of_two _ _ _ a b are (error key code d g is_d is_g) = (key, subst (KeyText key) (ap (λ l. get_or l 0 []) are) is_d)
-key_of_two _ _ _ a b are (queries kind key name d g is_d is_g) = (key, subst (KeyText key) (ap (λ l. get_or l 0 []) are) is_d)
-
-pub code_of_two : (texts payloads : List (List ℕ)) (a b : List ℕ) → texts ≡ a ∷ b ∷ [] → NamesDatagrams (codes "error") texts payloads
-    → (code : ℕ) × CodeText code b
-code_of_two texts payloads a b are names = of_word (codes "error") texts payloads refl are names where
-  of_word : (what : List ℕ) (texts payloads : List (List ℕ)) → get_or what 0 0 ≡ 101 → texts ≡ a ∷ b ∷ [] → NamesDatagrams what texts payloads
-      → (code : ℕ) × CodeText code b
-  of_word _ _ _ is are (fragments d most a' b' c e f is_a is_b is_c is_e is_f some short fit) = absurd (cc are)
-  of_word _ _ _ is are (error key code d g is_d is_g) = (code, subst (CodeText code) (ap (λ l. get_or l 1 []) are) is_g)
-  of_word _ _ _ is are (queries kind key name d g is_d is_g) = absurd (query_letter kind is)
-
-pub name_of_two : (what : List ℕ) (texts payloads : List (List ℕ)) (a b : List ℕ) → get_or what 0 0 ≢ 101 → texts ≡ a ∷ b ∷ []
-    → NamesDatagrams what texts payloads → (name : NetbiosName) × IsText name b
-name_of_two _ _ _ a b other are (fragments d most a' b' c e f is_a is_b is_c is_e is_f some short fit) = absurd (cc are)
-name_of_two _ _ _ a b other are (error key code d g is_d is_g) = absurd (other refl)
-name_of_two _ _ _ a b other are (queries kind key name d g is_d is_g) = (name, subst (IsText name) (ap (λ l. get_or l 1 []) are) is_g)
-
--- ---- how many words each takes
-
-abbrev pub count_of : List ℕ → ℕ
-count_of what = if get_or what 0 0 == 117 then 5 else if get_or what 0 0 == 103 then 5 else if get_or what 0 0 == 98 then 5 else 2
-
-pub kind_counted : (kind : Kind) → count_of (kind_text kind) ≡ 5
-kind_counted Unique = refl
-kind_counted Group = refl
-kind_counted Broadcast = refl
-
-pub query_counted : (kind : QueryKind) → count_of (query_word kind) ≡ 2
-query_counted Request = refl
-query_counted Positive = refl
-query_counted Negative = refl
-
-texts_counted : (what : List ℕ) (texts payloads : List (List ℕ)) → NamesDatagrams what texts payloads → length texts ≡ count_of what
-texts_counted _ _ _ (fragments d most a b c e f is_a is_b is_c is_e is_f some short fit) = sym (kind_counted d.kind)
-texts_counted _ _ _ (error key code d g is_d is_g) = refl
-texts_counted _ _ _ (queries kind key name d g is_d is_g) = sym (query_counted kind)
-
-pub words_counted : {A : Type 0} (f : A → List ℕ) (words : List A) (what : List ℕ) (payloads : List (List ℕ))
-    → NamesDatagrams what (map f words) payloads → length words ≡ count_of what
-words_counted f words what payloads names = sym (length-map words f) ∙ texts_counted what (map f words) payloads names
-
 -- ---- a datagram is too long whatever its key
 
 pub too_long_anyhow : (d e : DatagramParts) (m : ℕ) → d.source ≡ e.source → d.destination ≡ e.destination → d.bytes ≡ e.bytes
@@ -127,12 +77,16 @@ no_fragments texts payloads a b c e f what d most are is_source is_destination i
     h.fit (subst (AreTooLong h.whole) (sym same) (too_long_anyhow d h.whole most (is_source h.whole.source h.source)
     (is_destination h.whole.destination h.destination) (one_data d.bytes h.whole.bytes e is_bytes h.bytes) (long (subst (λ (n : ℕ). 1 ≤ n) same h.some))))
 
-pub fragments_unnamed : {T : Type 0} (what : List ℕ) (texts : List (List ℕ)) (a b c e f : List ℕ) (d : DatagramParts) (most : ℕ)
+pub fragments_explained : {T : Type 0} (what : List ℕ) (texts : List (List ℕ)) (a b c e f : List ℕ) (d : DatagramParts) (most : ℕ)
     (r : Result T BuildFault) → texts ≡ a ∷ b ∷ c ∷ e ∷ f ∷ []
     → ((name : NetbiosName) → IsText name b → d.source ≡ name)
     → ((name : NetbiosName) → IsText name c → d.destination ≡ name) → DataText d.bytes e
-    → NumberText 65535 most f → IfErr r (λ fault. fault ≢ Memory → 1 ≤ most → AreTooLong d most)
-    → IfErr r (Unnamed (NamesDatagrams what texts))
-fragments_unnamed what texts a b c e f d most (Ok x) are is_source is_destination is_bytes is_most long = tt
-fragments_unnamed what texts a b c e f d most (Err fault) are is_source is_destination is_bytes is_most long =
-    λ other payloads. no_fragments texts payloads a b c e f what d most are is_source is_destination is_bytes is_most (long other)
+    → NumberText 65535 most f
+    → IfErr r (λ fault. (fault ≡ Memory) ⊎ (((fault ≡ TooLong) ⊎ (fault ≡ ZeroPiece)) × (1 ≤ most → AreTooLong d most)))
+    → IfErr r (Explains (NamesDatagrams what texts) what texts)
+fragments_explained what texts a b c e f d most (Ok x) are is_source is_destination is_bytes is_most long = tt
+fragments_explained what texts a b c e f d most (Err fault) are is_source is_destination is_bytes is_most (inl memory) = rw memory no_memory
+fragments_explained what texts a b c e f d most (Err fault) are is_source is_destination is_bytes is_most (inr (inl is, long)) =
+    rw is (too_long (λ payloads. no_fragments texts payloads a b c e f what d most are is_source is_destination is_bytes is_most long))
+fragments_explained what texts a b c e f d most (Err fault) are is_source is_destination is_bytes is_most (inr (inr is, long)) =
+    rw is (zero_piece (λ payloads. no_fragments texts payloads a b c e f what d most are is_source is_destination is_bytes is_most long))

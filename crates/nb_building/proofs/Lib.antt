@@ -6,4 +6,5 @@ mod MarkLemmas
 mod PortLemmas
 mod RefusalLemmas
 mod ServiceWordLemmas
+mod TakenLemmas
 mod UnnamedLemmas

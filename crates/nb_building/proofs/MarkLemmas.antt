@@ -7,12 +7,12 @@ use Rattle.std.proofs.lemmas.List.Sums.{fails_before_first, passes_at_first, spl
 use Rattle.std.proofs.lemmas.Str.Parse.{digit_from_value}
 use Rattle.std.proofs.Math.Seq.{get_or-append_seam}
 use Rattle.nb_building.specs.declared.build_fault.BuildFault.{BuildFault}
-use Rattle.nb_building.specs.declared.build_fault.BuildFault.TheVariants.{Arguments}
+use Rattle.nb_building.specs.declared.build_fault.BuildFault.TheVariants.{Word}
 use Rattle.nb_building.proofs.ArgumentLemmas.{AllDigits-decimal}
 
 -- a refusal that is passed on
-pub none_passed_on : {T A : Type 0} (Named : A → Type 0) (Q : T → Type 0) (fault : BuildFault) (r : Result T BuildFault)
-    → IsErrAnd r (λ made. made ≡ fault) → fault ≡ Arguments → ((value : A) → ¬ Named value) → MatchResult r Q (NamesNone Named)
+pub none_passed_on : {T A : Type 0} {place : ℕ} (Named : A → Type 0) (Q : T → Type 0) (fault : BuildFault) (r : Result T BuildFault)
+    → IsErrAnd r (λ made. made ≡ fault) → fault ≡ Word place → ((value : A) → ¬ Named value) → MatchResult r Q (NamesNone place Named)
 none_passed_on Named Q fault (Ok x) h is none = absurd h
 none_passed_on Named Q fault (Err made) h is none = (h ∙ is, none)
 

@@ -1,5 +1,5 @@
 -- Which port the packets that words name are of, by the first word.
-use Rattle.nb_building.proofs.Common.{◌≡◌, ◌⊎◌, inl, inr, ap, Bool, ℕ, List, get_or, Result, Ok, Err, refl, sym, ◌∙◌, arith, codes, ◌==◌, if◌then◌else◌, IfErr, ServicePacket, IsServiceBuilt, IsSessionBuilt, Names, NamesDatagrams, NamesService, NamesSession, query, status, registration, refresh, release, response, request, message, positive, negative, retarget, keepalive, fragments, error, queries, of_service, of_session, of_datagrams, Unnamed}
+use Rattle.nb_building.proofs.Common.{◌≡◌, inl, inr, ap, Bool, ℕ, List, get_or, Result, Ok, Err, refl, sym, ◌∙◌, arith, codes, ◌==◌, if◌then◌else◌, IfErr, ServicePacket, IsServiceBuilt, IsSessionBuilt, Names, NamesDatagrams, NamesService, NamesSession, query, status, registration, refresh, release, response, request, message, positive, negative, retarget, keepalive, fragments, error, queries, of_service, of_session, of_datagrams}
 use Rattle.nb_session.specs.Packet as session
 use Rattle.nb_datagram.specs.declared.key.Kind.{Kind}
 use Rattle.nb_datagram.specs.declared.key.Kind.TheVariants.{Unique}
@@ -8,6 +8,9 @@ use Rattle.nb_datagram.specs.declared.packet.QueryKind.TheVariants as query_kind
 use Rattle.nb_datagram.specs.FaultTexts.{kind_text}
 use Rattle.nb_text.specs.Words.{query_word}
 use Rattle.nb_building.specs.declared.build_fault.BuildFault.{BuildFault}
+use Rattle.nb_building.specs.Refusals.{Explains}
+use Rattle.nb_building.specs.Words.{IsDatagramWord, IsServiceWord, IsSessionWord}
+use Rattle.nb_building.proofs.TakenLemmas.{explained_wider}
 
 -- the port, by the first letter of the word, or the third of those that begin with `r`, or the second of those with `m`
 abbrev pub port_of : List ℕ → ℕ
@@ -61,26 +64,41 @@ session_only broadcast what texts is none _ _ (of_session bytes h) = none bytes 
 session_only broadcast what texts is none _ _ (of_datagrams payloads h) =
     let clash = sym is ∙ datagram_port what texts payloads h in absurd (omega (arith, clash))
 
+datagram_only : (broadcast : Bool) (what : List ℕ) (texts : List (List ℕ)) → port_of what ≡ 138
+    → ((payloads : List (List ℕ)) → ¬ NamesDatagrams what texts payloads) → (port : ℕ) (payloads : List (List ℕ))
+    → ¬ Names broadcast what texts port payloads
+datagram_only broadcast what texts is none _ _ (of_service bytes h) =
+    let clash = sym is ∙ service_port broadcast what texts h.packet h.named in absurd (omega (arith, clash))
+datagram_only broadcast what texts is none _ _ (of_session bytes h) =
+    let clash = sym is ∙ session_port what texts h.packet h.named in absurd (omega (arith, clash))
+datagram_only broadcast what texts is none _ _ (of_datagrams payloads h) = none payloads h
+
 -- ---- what one port's words don't name, those of the others don't either
 
-pub service_unnamed : {T : Type 0} (broadcast : Bool) (what : List ℕ) (texts : List (List ℕ)) (r : Result T BuildFault)
-    → port_of what ≡ 137 → IfErr r (Unnamed (IsServiceBuilt broadcast what texts))
-    → IfErr r (Unnamed (λ (packets : ℕ × List (List ℕ)). Names broadcast what texts packets.0 packets.1))
-service_unnamed broadcast what texts (Ok x) is none = tt
-service_unnamed broadcast what texts (Err fault) is none =
-    λ other packets. service_only broadcast what texts is (none other) packets.0 packets.1
+pub service_explained : {T : Type 0} (broadcast : Bool) (what : List ℕ) (texts : List (List ℕ)) (r : Result T BuildFault)
+    → port_of what ≡ 137 → IfErr r (Explains (IsServiceBuilt broadcast what texts) what texts)
+    → IfErr r (Explains (λ (packets : ℕ × List (List ℕ)). Names broadcast what texts packets.0 packets.1) what texts)
+service_explained broadcast what texts r is =
+    explained_wider (IsServiceBuilt broadcast what texts) (λ (packets : ℕ × List (List ℕ)). Names broadcast what texts packets.0 packets.1) what texts r
+    (λ none packets. service_only broadcast what texts is none packets.0 packets.1)
 
-pub session_unnamed : {T : Type 0} (broadcast : Bool) (what : List ℕ) (texts : List (List ℕ)) (r : Result T BuildFault)
-    → port_of what ≡ 139 → IfErr r (Unnamed (IsSessionBuilt what texts))
-    → IfErr r (Unnamed (λ (packets : ℕ × List (List ℕ)). Names broadcast what texts packets.0 packets.1))
-session_unnamed broadcast what texts (Ok x) is none = tt
-session_unnamed broadcast what texts (Err fault) is none =
-    λ other packets. session_only broadcast what texts is (none other) packets.0 packets.1
+pub session_explained : {T : Type 0} (broadcast : Bool) (what : List ℕ) (texts : List (List ℕ)) (r : Result T BuildFault)
+    → port_of what ≡ 139 → IfErr r (Explains (IsSessionBuilt what texts) what texts)
+    → IfErr r (Explains (λ (packets : ℕ × List (List ℕ)). Names broadcast what texts packets.0 packets.1) what texts)
+session_explained broadcast what texts r is =
+    explained_wider (IsSessionBuilt what texts) (λ (packets : ℕ × List (List ℕ)). Names broadcast what texts packets.0 packets.1) what texts r
+    (λ none packets. session_only broadcast what texts is none packets.0 packets.1)
 
--- ---- the first words of two ports
+pub datagram_explained : {T : Type 0} (broadcast : Bool) (what : List ℕ) (texts : List (List ℕ)) (r : Result T BuildFault)
+    → port_of what ≡ 138 → IfErr r (Explains (NamesDatagrams what texts) what texts)
+    → IfErr r (Explains (λ (packets : ℕ × List (List ℕ)). Names broadcast what texts packets.0 packets.1) what texts)
+datagram_explained broadcast what texts r is =
+    explained_wider (NamesDatagrams what texts) (λ (packets : ℕ × List (List ℕ)). Names broadcast what texts packets.0 packets.1) what texts r
+    (λ none packets. datagram_only broadcast what texts is none packets.0 packets.1)
 
-pub service_word : (what : List ℕ) → (what ≡ codes "query") ⊎ ((what ≡ codes "status") ⊎ ((what ≡ codes "registration")
-    ⊎ ((what ≡ codes "refresh") ⊎ ((what ≡ codes "release") ⊎ (what ≡ codes "response"))))) → port_of what ≡ 137
+-- ---- the first words of each port
+
+pub service_word : (what : List ℕ) → IsServiceWord what → port_of what ≡ 137
 service_word what (inl is) = ap port_of is
 service_word what (inr (inl is)) = ap port_of is
 service_word what (inr (inr (inl is))) = ap port_of is
@@ -88,11 +106,19 @@ service_word what (inr (inr (inr (inl is)))) = ap port_of is
 service_word what (inr (inr (inr (inr (inl is))))) = ap port_of is
 service_word what (inr (inr (inr (inr (inr is))))) = ap port_of is
 
-pub session_word : (what : List ℕ) → (what ≡ codes "request") ⊎ ((what ≡ codes "message") ⊎ ((what ≡ codes "positive")
-    ⊎ ((what ≡ codes "negative") ⊎ ((what ≡ codes "retarget") ⊎ (what ≡ codes "keepalive"))))) → port_of what ≡ 139
+pub session_word : (what : List ℕ) → IsSessionWord what → port_of what ≡ 139
 session_word what (inl is) = ap port_of is
 session_word what (inr (inl is)) = ap port_of is
 session_word what (inr (inr (inl is))) = ap port_of is
 session_word what (inr (inr (inr (inl is)))) = ap port_of is
 session_word what (inr (inr (inr (inr (inl is))))) = ap port_of is
 session_word what (inr (inr (inr (inr (inr is))))) = ap port_of is
+
+pub datagram_word : (what : List ℕ) → IsDatagramWord what → port_of what ≡ 138
+datagram_word what (inl is) = ap port_of is
+datagram_word what (inr (inl is)) = ap port_of is
+datagram_word what (inr (inr (inl is))) = ap port_of is
+datagram_word what (inr (inr (inr (inl is)))) = ap port_of is
+datagram_word what (inr (inr (inr (inr (inl is))))) = ap port_of is
+datagram_word what (inr (inr (inr (inr (inr (inl is)))))) = ap port_of is
+datagram_word what (inr (inr (inr (inr (inr (inr is)))))) = ap port_of is

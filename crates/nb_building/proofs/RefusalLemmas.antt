@@ -1,9 +1,9 @@
 -- Why words are refused, from why their parts are.
 use Rattle.nb_building.proofs.Common.{◌≡◌, ◌≢◌, inl, inr, ℕ, ◌<◌, ◌^◌, List, [], ◌∷◌, ◌++◌, length, Result, Ok, Err, sym, ◌∙◌, subst, arith, append_assoc, IsInRange, w16, to_be_bytes, IsErrAnd, MatchResult, HexText, AddressText, CodeText, KeyText, NumberText, WordText, IsRefused, SplitsAt}
-use Rattle.nb_names.specs.HexadecimalFacts.{length-HexText}
+use Rattle.nb_streams.specs.HexadecimalFacts.{length-HexText}
 use Rattle.nb_datagram.specs.declared.key.Key.{Key}
 use Rattle.nb_building.specs.declared.build_fault.BuildFault.{BuildFault}
-use Rattle.nb_building.specs.declared.build_fault.BuildFault.TheVariants.{Arguments}
+use Rattle.nb_building.specs.declared.build_fault.BuildFault.TheVariants.{Word}
 use Rattle.nb_building.proofs.MarkLemmas.{address_lacks, lacks-append, number_lacks, one_split, Lacks}
 
 -- ---- one word
@@ -14,31 +14,31 @@ no_digits text bytes other is is_other apart =
     apart (omega (arith, length-HexText bytes text is, length-HexText other text is_other))
 
 -- digits that are those of a word, or of another number of bytes
-pub word_read : (text bytes : List ℕ) (r : Result ℕ BuildFault) → HexText bytes text
-    → MatchResult r (λ number. (number < 2 ^ 16) × (bytes ≡ to_be_bytes w16 number)) (λ fault. (fault ≡ Arguments) × (length bytes ≢ 2))
-    → MatchResult r (λ number. WordText number text) (IsRefused (λ number. WordText number text))
-word_read text bytes (Ok number) is h = (h.0, subst (λ (l : List ℕ). HexText l text) h.1 is)
-word_read text bytes (Err fault) is h =
+pub word_read : (place : ℕ) (text bytes : List ℕ) (r : Result ℕ BuildFault) → HexText bytes text
+    → MatchResult r (λ number. (number < 2 ^ 16) × (bytes ≡ to_be_bytes w16 number)) (λ fault. (fault ≡ Word place) × (length bytes ≢ 2))
+    → MatchResult r (λ number. WordText number text) (IsRefused place (λ number. WordText number text))
+word_read place text bytes (Ok number) is h = (h.0, subst (λ (l : List ℕ). HexText l text) h.1 is)
+word_read place text bytes (Err fault) is h =
     inr (h.0, λ number names. no_digits text bytes (to_be_bytes w16 number) is names.1 h.1)
 
-pub code_read : (text bytes : List ℕ) (r : Result ℕ BuildFault) → HexText bytes text
-    → MatchResult r (λ code. bytes ≡ code ∷ []) (λ fault. (fault ≡ Arguments) × (length bytes ≢ 1))
-    → MatchResult r (λ code. CodeText code text) (IsRefused (λ code. CodeText code text))
-code_read text bytes (Ok code) is h = subst (λ (l : List ℕ). HexText l text) h is
-code_read text bytes (Err fault) is h =
+pub code_read : (place : ℕ) (text bytes : List ℕ) (r : Result ℕ BuildFault) → HexText bytes text
+    → MatchResult r (λ code. bytes ≡ code ∷ []) (λ fault. (fault ≡ Word place) × (length bytes ≢ 1))
+    → MatchResult r (λ code. CodeText code text) (IsRefused place (λ code. CodeText code text))
+code_read place text bytes (Ok code) is h = subst (λ (l : List ℕ). HexText l text) h is
+code_read place text bytes (Err fault) is h =
     inr (h.0, λ code names. no_digits text bytes (code ∷ []) is names h.1)
 
 -- a refusal that is passed on
-pub refused_passed_on : {T A B : Type 0} (Named : A → Type 0) (P : B → Type 0) (Q : T → Type 0) (fault : BuildFault) (r : Result T BuildFault)
-    → IsErrAnd r (λ made. made ≡ fault) → IsRefused P fault → ((value : A) → Named value → (part : B) × P part)
-    → MatchResult r Q (IsRefused Named)
+pub refused_passed_on : {T A B : Type 0} {place : ℕ} (Named : A → Type 0) (P : B → Type 0) (Q : T → Type 0) (fault : BuildFault) (r : Result T BuildFault)
+    → IsErrAnd r (λ made. made ≡ fault) → IsRefused place P fault → ((value : A) → Named value → (part : B) × P part)
+    → MatchResult r Q (IsRefused place Named)
 refused_passed_on Named P Q fault (Ok x) h none part = absurd h
 refused_passed_on Named P Q fault (Err made) h (inl memory) part = inl (h ∙ memory)
 refused_passed_on Named P Q fault (Err made) h (inr none) part =
     inr (h ∙ none.0, λ value names. let has = part value names in none.1 has.0 has.1)
 
-pub none_or_no_room : {T A : Type 0} (Named : A → Type 0) (Q : T → Type 0) (fault : BuildFault) (r : Result T BuildFault)
-    → IsErrAnd r (λ made. made ≡ fault) → fault ≡ Arguments → ((value : A) → ¬ Named value) → MatchResult r Q (IsRefused Named)
+pub none_or_no_room : {T A : Type 0} {place : ℕ} (Named : A → Type 0) (Q : T → Type 0) (fault : BuildFault) (r : Result T BuildFault)
+    → IsErrAnd r (λ made. made ≡ fault) → fault ≡ Word place → ((value : A) → ¬ Named value) → MatchResult r Q (IsRefused place Named)
 none_or_no_room Named Q fault (Ok x) h is none = absurd h
 none_or_no_room Named Q fault (Err made) h is none = inr (h ∙ is, none)
 

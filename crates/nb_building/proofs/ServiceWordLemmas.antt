@@ -1,104 +1,71 @@
--- Words that name no packets of port 137.
-use Rattle.nb_building.proofs.Common.{◌≡◌, ◌≢◌, Bool, ℕ, List, [], ◌∷◌, get_or, Result, Ok, Err, sym, ap, ◌∙◌, subst, codes, w16, from_be_bytes, to_be_bytes, IfErr, DataText, NetbiosName, IsText, ServicePacket, ResourceData, ResourceRecord, EntryTexts, IsServiceBuilt, NamesService, NumberText, WordText, query, refresh, registration, release, response, status, HasRdata, Unnamed}
-use Rattle.std.proofs.lemmas.Nat.{from_be_bytes-to_be_bytes_2}
-use Rattle.nb_service.specs.declared.views.AddressEntry.{AddressEntry}
+-- Why the words of a response name none, where its answer couldn't be made.
+use Rattle.nb_building.proofs.Common.{◌≡◌, ◌≢◌, ◌⊎◌, inl, inr, ◌<◌, Bool, ℕ, List, [], ◌∷◌, get_or, length, Result, Ok, Err, refl, sym, ap, ◌∙◌, subst, arith, codes, IfErr, DataText, IsErrAnd, NamesNone, NetbiosName, IsText, ServicePacket, ResourceData, ResourceRecord, IsServiceBuilt, NamesService, NumberText, WordText, response, HasRdata, plain, domain}
+use Rattle.nb_names.specs.declared.reading.Pointers.TheVariants.{Refused}
+use Rattle.nb_names.specs.Labels.{NameAt}
+use Rattle.nb_service.specs.declared.kinds.TheConstants.{NS}
+use Rattle.nb_building.specs.Refusals.{Explains, IsUnanswered, no_memory, too_long}
 use Rattle.nb_building.specs.declared.build_fault.BuildFault.{BuildFault}
-use Rattle.nb_building.specs.declared.build_fault.BuildFault.TheVariants.{Memory}
-use Rattle.nb_building.proofs.UnnamedLemmas.{one_data, one_hex}
+use Rattle.nb_building.specs.declared.build_fault.BuildFault.TheVariants.{Memory, TooLong, Word}
+use Rattle.nb_building.proofs.TakenLemmas.{explained_word, one_word_text}
+use Rattle.nb_building.proofs.UnnamedLemmas.{one_data}
 
--- ---- the words of each packet
-
-pub question_words : (broadcast : Bool) (what : List ℕ) (texts : List (List ℕ)) (packet : ServicePacket) (a b : List ℕ) → texts ≡ a ∷ b ∷ []
-    → NamesService broadcast what texts packet → ((id : ℕ) × WordText id a) × ((name : NetbiosName) × IsText name b)
-question_words broadcast _ _ _ a b are (query id name d e is_d is_e) =
-    ((id, subst (WordText id) (ap (λ l. get_or l 0 []) are) is_d), (name, subst (IsText name) (ap (λ l. get_or l 1 []) are) is_e))
-question_words broadcast _ _ _ a b are (status id name d e is_d is_e) =
-    ((id, subst (WordText id) (ap (λ l. get_or l 0 []) are) is_d), (name, subst (IsText name) (ap (λ l. get_or l 1 []) are) is_e))
-question_words broadcast _ _ _ a b are others = absurd (cc are)
-
-pub record ClaimWords (a b c d e : List ℕ) : Type 0 where
-  pub id : (id : ℕ) × WordText id a
-  pub name : (name : NetbiosName) × IsText name b
-  pub claim : (claim : ℕ × AddressEntry) × (NumberText 4294967295 claim.0 c × EntryTexts claim.1 d e)
-
-claim_of : (id ttl : ℕ) (name : NetbiosName) (entry : AddressEntry) (a b c d e f g h i j : List ℕ) → f ∷ g ∷ h ∷ i ∷ j ∷ [] ≡ a ∷ b ∷ c ∷ d ∷ e ∷ []
-    → WordText id f → IsText name g → NumberText 4294967295 ttl h → EntryTexts entry i j → ClaimWords a b c d e
-claim_of id ttl name entry a b c d e f g h i j are is_f is_g is_h is_i =
-    record {
-      id = (id, subst (WordText id) (ap (λ l. get_or l 0 []) are) is_f);
-      name = (name, subst (IsText name) (ap (λ l. get_or l 1 []) are) is_g);
-      claim = (
-        (ttl, entry),
-        (
-          subst (NumberText 4294967295 ttl) (ap (λ l. get_or l 2 []) are) is_h,
-          subst (λ (l : List (List ℕ)). EntryTexts entry (get_or l 3 []) (get_or l 4 [])) are is_i,
-        ),
-      );
-    }
-
-pub claim_words : (broadcast : Bool) (what : List ℕ) (texts : List (List ℕ)) (packet : ServicePacket) (a b c d e : List ℕ)
-    → texts ≡ a ∷ b ∷ c ∷ d ∷ e ∷ [] → NamesService broadcast what texts packet → ClaimWords a b c d e
-claim_words broadcast _ _ _ a b c d e are (registration id ttl name entry f g h i j is_f is_g is_h is_i) =
-    claim_of id ttl name entry a b c d e f g h i j are is_f is_g is_h is_i
-claim_words broadcast _ _ _ a b c d e are (refresh id ttl name entry f g h i j is_f is_g is_h is_i) =
-    claim_of id ttl name entry a b c d e f g h i j are is_f is_g is_h is_i
-claim_words broadcast _ _ _ a b c d e are others = absurd (cc are)
-
-pub release_words : (broadcast : Bool) (what : List ℕ) (texts : List (List ℕ)) (packet : ServicePacket) (a b c d : List ℕ)
-    → texts ≡ a ∷ b ∷ c ∷ d ∷ [] → NamesService broadcast what texts packet
-    → ((id : ℕ) × WordText id a) × ((name : NetbiosName) × IsText name b) × ((entry : AddressEntry) × EntryTexts entry c d)
-release_words broadcast _ _ _ a b c d are (release id name entry f g i j is_f is_g is_i) = (
-  (id, subst (WordText id) (ap (λ l. get_or l 0 []) are) is_f),
-  (name, subst (IsText name) (ap (λ l. get_or l 1 []) are) is_g),
-  (entry, subst (λ (l : List (List ℕ)). EntryTexts entry (get_or l 2 []) (get_or l 3 [])) are is_i),
-)
-release_words broadcast _ _ _ a b c d are others = absurd (cc are)
-
-pub record ResponseWords (a b c d e f : List ℕ) : Type 0 where
-  pub id : (id : ℕ) × WordText id a
-  pub word : (word : ℕ) × WordText word b
-  pub name : (name : NetbiosName) × IsText name c
-  pub both : (both : ℕ × ℕ) × (WordText both.0 d × NumberText 4294967295 both.1 e)
-  pub bytes : List ℕ
-  pub is_bytes : DataText bytes f
-  pub rdata : ResourceData
-  pub has : HasRdata both.0.0 bytes rdata
-
-pub response_words : (broadcast : Bool) (what : List ℕ) (texts : List (List ℕ)) (packet : ServicePacket) (a b c d e f : List ℕ)
-    → texts ≡ a ∷ b ∷ c ∷ d ∷ e ∷ f ∷ [] → NamesService broadcast what texts packet → ResponseWords a b c d e f
-response_words broadcast _ _ _ a b c d e f are (response id word kind ttl name bytes rdata g h i j k l is_g is_h is_i is_j is_k is_l has) =
-    record {
-      id = (id, subst (WordText id) (ap (λ t. get_or t 0 []) are) is_g);
-      word = (word, subst (WordText word) (ap (λ t. get_or t 1 []) are) is_h);
-      name = (name, subst (IsText name) (ap (λ t. get_or t 2 []) are) is_i);
-      both = ((kind, ttl), (subst (WordText kind) (ap (λ t. get_or t 3 []) are) is_j, subst (NumberText 4294967295 ttl) (ap (λ t. get_or t 4 []) are) is_k));
-      bytes = bytes;
-      is_bytes = subst (DataText bytes) (ap (λ t. get_or t 5 []) are) is_l;
-      rdata = rdata;
-      has = has;
-    }
-response_words broadcast _ _ _ a b c d e f are others = absurd (cc are)
-
--- ---- the answer of a response
-
-one_word_text : (m n : ℕ) (text : List ℕ) → WordText m text → WordText n text → m ≡ n
-one_word_text m n text is_m is_n =
-    sym (from_be_bytes-to_be_bytes_2 m is_m.0) ∙ ap (from_be_bytes w16) (one_hex (to_be_bytes w16 m) (to_be_bytes w16 n) text is_m.1 is_n.1)
-    ∙ from_be_bytes-to_be_bytes_2 n is_n.0
+-- the answer of a response that is named
+response_answer : (broadcast : Bool) (what : List ℕ) (texts : List (List ℕ)) (packet : ServicePacket) (a b c d e f : List ℕ)
+    → texts ≡ a ∷ b ∷ c ∷ d ∷ e ∷ f ∷ [] → NamesService broadcast what texts packet
+    → (kind : ℕ) × (bytes : List ℕ) × (rdata : ResourceData) × WordText kind d × DataText bytes f × HasRdata kind bytes rdata
+response_answer broadcast _ _ _ a b c d e f are (response id word kind ttl name bytes rdata g h i j k l is_g is_h is_i is_j is_k is_l has) =
+    (kind, bytes, rdata, subst (WordText kind) (ap (λ t. get_or t 3 []) are) is_j, subst (DataText bytes) (ap (λ t. get_or t 5 []) are) is_l, has)
+response_answer broadcast _ _ _ a b c d e f are others = absurd (cc are)
 
 no_response : (broadcast : Bool) (texts : List (List ℕ)) (a b c d e f bytes : List ℕ) (kind : ℕ) → texts ≡ a ∷ b ∷ c ∷ d ∷ e ∷ f ∷ []
-    → WordText kind d → DataText bytes f → ((rdata : ResourceData) → ¬ HasRdata kind bytes rdata)
+    → WordText kind d → DataText bytes f → kind ≢ NS → 65535 < length bytes
     → (out : List ℕ) → ¬ IsServiceBuilt broadcast (codes "response") texts out
-no_response broadcast texts a b c d e f bytes kind are is_kind is_bytes none out built =
-    let h = response_words broadcast _ texts built.packet a b c d e f are built.named in
-    none h.rdata (subst (λ (n : ℕ). HasRdata n bytes h.rdata) (one_word_text h.both.0.0 kind d h.both.1.0 is_kind)
-    (subst (λ (l : List ℕ). HasRdata h.both.0.0 l h.rdata) (one_data h.bytes bytes f h.is_bytes is_bytes) h.has))
+no_response broadcast texts a b c d e f bytes kind are is_kind is_bytes other far out built =
+    of_rdata h.0 h.1 h.2 (one_word_text h.0 kind d h.3 is_kind) (one_data h.1 bytes f h.4 is_bytes) h.5 where
+      h : (kind : ℕ) × (bytes : List ℕ) × (rdata : ResourceData) × WordText kind d × DataText bytes f × HasRdata kind bytes rdata
+      h = response_answer broadcast _ texts built.packet a b c d e f are built.named
 
-pub response_unnamed : {T : Type 0} (broadcast : Bool) (texts : List (List ℕ)) (a b c d e f bytes : List ℕ) (kind : ℕ)
+      of_rdata : (k : ℕ) (l : List ℕ) (rdata : ResourceData) → k ≡ kind → l ≡ bytes → ¬ HasRdata k l rdata
+      of_rdata k l _ is are (plain no_ns short) = absurd (omega (arith, far, short, ap length are))
+      of_rdata k l _ is are (domain labels ns at) = absurd (other (rw (← is) ns))
+
+pub response_explained : {T : Type 0} (broadcast : Bool) (texts : List (List ℕ)) (a b c d e f bytes : List ℕ) (kind : ℕ)
     (answer : Result ResourceRecord BuildFault) (r : Result T BuildFault) → texts ≡ a ∷ b ∷ c ∷ d ∷ e ∷ f ∷ []
-    → WordText kind d → DataText bytes f → IfErr answer (Unnamed (HasRdata kind bytes))
-    → IfErr r (λ fault. fault ≢ Memory → answer ≡ Err fault) → IfErr r (Unnamed (IsServiceBuilt broadcast (codes "response") texts))
-response_unnamed broadcast texts a b c d e f bytes kind answer (Ok x) are is_kind is_bytes refused told = tt
-response_unnamed broadcast texts a b c d e f bytes kind answer (Err fault) are is_kind is_bytes refused told =
-    λ other. let none : Unnamed (HasRdata kind bytes) fault = rw (told other) at refused in
-    no_response broadcast texts a b c d e f bytes kind are is_kind is_bytes (none other)
+    → (id : ℕ) × WordText id a → (word : ℕ) × WordText word b → (name : NetbiosName) × IsText name c → WordText kind d
+    → (ttl : ℕ) × NumberText 4294967295 ttl e → DataText bytes f
+    → IfErr answer (IsUnanswered 5 kind bytes)
+    → IfErr r (λ fault. (fault ≡ Memory) ⊎ (answer ≡ Err fault))
+    → IfErr r (Explains (IsServiceBuilt broadcast (codes "response") texts) (codes "response") texts)
+response_explained broadcast texts a b c d e f bytes kind answer (Ok x) are is_id is_word is_name is_kind is_ttl is_bytes refused told = tt
+response_explained broadcast texts a b c d e f bytes kind answer (Err fault) are is_id is_word is_name is_kind is_ttl is_bytes refused (inl memory) =
+    rw memory no_memory
+response_explained broadcast texts a b c d e f bytes kind answer (Err fault) are is_id is_word is_name is_kind is_ttl is_bytes refused (inr told) =
+    of_answer (rw told at refused) where
+      of_answer : IsUnanswered 5 kind bytes fault → Explains (IsServiceBuilt broadcast (codes "response") texts) (codes "response") texts fault
+      of_answer (inl (is, other, far)) = rw is (too_long (no_response broadcast texts a b c d e f bytes kind are is_kind is_bytes other far))
+      of_answer (inr (is, ns, none)) =
+          rw is (explained_word _ _ _ _ _ 5 refl are (
+            is_id,
+            (
+              is_word,
+              (
+                is_name,
+                (
+                  (kind, is_kind),
+                  (
+                    is_ttl,
+                    λ h.
+                        let named = h.2 (subst (λ n. WordText n d) ns is_kind) in
+                        none named.0 (subst (λ l. NameAt l Refused 0 named.0 (length l)) (one_data h.0 bytes f h.1 is_bytes) named.1),
+                  ),
+                ),
+              ),
+            ),
+          ))
+
+-- data of a record of type NS that spells no name
+pub no_domain : {T : Type 0} (place kind : ℕ) (bytes : List ℕ) (fault : BuildFault) (r : Result T BuildFault) → kind ≡ NS
+    → IsErrAnd r (λ made. made ≡ fault) → NamesNone place (λ labels. NameAt bytes Refused 0 labels (length bytes)) fault
+    → IfErr r (IsUnanswered place kind bytes)
+no_domain place kind bytes fault (Ok x) ns h none = tt
+no_domain place kind bytes fault (Err made) ns h none = inr (h ∙ none.0, ns, none.1)

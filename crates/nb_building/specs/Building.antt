@@ -1,7 +1,7 @@
 -- The packets that words name, as a line of a capture for each (our choice).
 use Rattle.std.specs.Prelude.{◌≡◌, ℕ, Bool, List, [], ◌∷◌, ◌++◌, codes}
 use Rattle.std.specs.Fmt.{decimal}
-use Rattle.nb_names.specs.Hexadecimal.{digits_text}
+use Rattle.nb_streams.specs.Hexadecimal.{digits_text}
 use Rattle.nb_building.specs.Built.{Names}
 
 -- payload_line port payload: the line of a capture for the payload, at moment 0

@@ -5,9 +5,9 @@
 use Rattle.std.specs.Prelude.{◌≡◌, ◌<◌, ◌≤◌, ◌^◌, ◌++◌, ℕ, Bool, List, [], ◌∷◌, length, codes, map, ◌≢◌, true, false, bit_or}
 use Rattle.std.specs.Fmt.{decimal}
 use Rattle.std.specs.Int.{w16, to_be_bytes}
-use Rattle.nb_names.specs.Addresses.{address_text}
-use Rattle.nb_names.specs.DomainName.{AreBytes}
-use Rattle.nb_names.specs.Hexadecimal.{HexText, DataText}
+use Rattle.nb_streams.specs.Addresses.{address_text}
+use Rattle.nb_streams.specs.Places.{AreBytes}
+use Rattle.nb_streams.specs.Hexadecimal.{HexText, DataText}
 use Rattle.nb_names.specs.Name.{NetbiosName, labels_of_name}
 use Rattle.nb_names.specs.NameText.{IsText}
 use Rattle.nb_service.specs.declared.views.AddressEntry.{AddressEntry}

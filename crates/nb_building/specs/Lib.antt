@@ -1,4 +1,5 @@
 pub mod FaultTexts
 pub mod Built
+pub mod Words
 pub mod Refusals
 pub mod Building

@@ -1,14 +1,20 @@
--- Why words are refused (our choice).
-use Rattle.std.specs.Prelude.{◌≡◌, ◌≢◌, ◌⊎◌, ◌++◌, ℕ, List, ◌∷◌, ◌<◌, ◌≤◌, [], length, codes}
+-- Why words are refused (our choice). The place of a word is how many stand before it.
+use Rattle.std.specs.Prelude.{◌≡◌, ◌≢◌, ◌⊎◌, ◌++◌, ℕ, List, ◌∷◌, ◌<◌, ◌≤◌, [], length, codes, get_or, None, Some}
 use Rattle.std.specs.List.{AllByRecursion}
-use Rattle.nb_names.specs.declared.hexadecimal.DigitsFault.{DigitsFault}
-use Rattle.nb_names.specs.declared.hexadecimal.DigitsFault.TheVariants.{BadDigits, NoMemory}
+use Rattle.nb_streams.specs.declared.hexadecimal.DigitsFault.{DigitsFault}
+use Rattle.nb_streams.specs.declared.hexadecimal.DigitsFault.TheVariants.{BadDigits, NoMemory}
 use Rattle.nb_datagram.specs.declared.fault.CutFault.{CutFault}
 use Rattle.nb_datagram.specs.declared.fault.CutFault.TheVariants as cut_fault
 use Rattle.nb_building.specs.declared.build_fault.BuildFault.{BuildFault}
-use Rattle.nb_building.specs.declared.build_fault.BuildFault.TheVariants.{Arguments, Memory, TooLong, ZeroPiece}
-use Rattle.nb_names.specs.Hexadecimal.{DataText}
-use Rattle.nb_names.specs.NameText.{IsText}
+use Rattle.nb_building.specs.declared.build_fault.BuildFault.TheVariants.{What, Count, Word, Text, Memory, TooLong, ZeroPiece}
+use Rattle.nb_streams.specs.Hexadecimal.{DataText}
+use Rattle.nb_names.specs.declared.reading.Pointers.TheVariants.{Refused}
+use Rattle.nb_names.specs.Labels.{NameAt}
+use Rattle.nb_names.specs.declared.fault.TextFault.{TextFault}
+use Rattle.nb_names.specs.Name.{NetbiosName}
+use Rattle.nb_names.specs.NameText.{IsText, IsFaultOf}
+use Rattle.nb_building.specs.declared.forms.WordKind.{WordKind}
+use Rattle.nb_building.specs.Words.{IsFirstWrong, kinds_of}
 use Rattle.nb_datagram.specs.declared.key.Kind.{Kind}
 use Rattle.nb_datagram.specs.Fragment.{DatagramParts}
 use Rattle.nb_datagram.specs.Pieces.{AreTooLong}
@@ -16,10 +22,10 @@ use Rattle.nb_datagram.specs.FaultTexts.{kind_text}
 use Rattle.nb_service.specs.declared.kinds.TheConstants.{NS}
 use Rattle.nb_building.specs.Built.{KeyText, NumberText, WordText}
 
--- the fault of digits that were refused
-abbrev pub of_digits : DigitsFault → BuildFault
-of_digits BadDigits = Arguments
-of_digits NoMemory = Memory
+-- the fault of the word at a place, whose digits were refused
+abbrev pub of_digits : ℕ → DigitsFault → BuildFault
+of_digits place BadDigits = Word place
+of_digits place NoMemory = Memory
 
 -- the fault of a datagram that wasn't cut
 abbrev pub of_cut : CutFault → BuildFault
@@ -29,13 +35,20 @@ of_cut cut_fault.NoMemory = Memory
 
 -- ---- one word
 
--- NamesNone Named fault: the fault is `Arguments`, and no value is named
-abbrev pub NamesNone : {A : Type 0} → (A → Type 0) → BuildFault → Type 0
-NamesNone {A} Named fault = (fault ≡ Arguments) × ((value : A) → ¬ Named value)
+-- NamesNone place Named fault: the fault is that of the word at the place, and no value is named
+abbrev pub NamesNone : {A : Type 0} → ℕ → (A → Type 0) → BuildFault → Type 0
+NamesNone {A} place Named fault = (fault ≡ Word place) × ((value : A) → ¬ Named value)
 
--- IsRefused Named fault: the same, or memory ran out
-abbrev pub IsRefused : {A : Type 0} → (A → Type 0) → BuildFault → Type 0
-IsRefused Named fault = (fault ≡ Memory) ⊎ NamesNone Named fault
+-- IsRefused place Named fault: the same, or memory ran out
+abbrev pub IsRefused : {A : Type 0} → ℕ → (A → Type 0) → BuildFault → Type 0
+IsRefused place Named fault = (fault ≡ Memory) ⊎ NamesNone place Named fault
+
+-- IsTextRefused place text fault: the fault is that of the text at this place, which stands for no name
+pub record IsTextRefused (place : ℕ) (text : List ℕ) (fault : BuildFault) : Type 0 where
+  pub of : TextFault
+  pub is : fault ≡ Text place of
+  pub told : IsFaultOf text of
+  pub none : (name : NetbiosName) → ¬ IsText name text
 
 -- SplitsAt mark text front behind: the text is what stands before its first such mark, the mark, and what stands behind it
 abbrev pub SplitsAt : ℕ → List ℕ → List ℕ → List ℕ → Type 0
@@ -46,6 +59,25 @@ SplitsAt mark text front behind = (text ≡ front ++ mark ∷ behind) × AllByRe
 -- Unnamed Named fault: unless memory ran out, nothing is named
 abbrev pub Unnamed : {A : Type 0} → (A → Type 0) → BuildFault → Type 0
 Unnamed {A} Named fault = fault ≢ Memory → (value : A) → ¬ Named value
+
+-- Explains Named what words fault: what is true of these words, behind this first one, where they are refused so; the values are
+-- the packets that they would name
+pub data Explains {A : Type 0} (Named : A → Type 0) (what : List ℕ) (words : List (List ℕ)) : BuildFault → Type 0 where
+  no_packet : kinds_of what ≡ None → Explains Named what words What
+  miscounted : (kinds : List WordKind) → kinds_of what ≡ Some kinds → length words ≢ length kinds → Explains Named what words Count
+  wrong_word : (kinds : List WordKind) (place : ℕ) → kinds_of what ≡ Some kinds → IsFirstWrong kinds [] words place
+      → Explains Named what words (Word place)
+  wrong_text : (kinds : List WordKind) (place : ℕ) (fault : TextFault) → kinds_of what ≡ Some kinds → IsFirstWrong kinds [] words place
+      → IsFaultOf (get_or words place []) fault → Explains Named what words (Text place fault)
+  too_long : ((value : A) → ¬ Named value) → Explains Named what words TooLong
+  zero_piece : ((value : A) → ¬ Named value) → Explains Named what words ZeroPiece
+  no_memory : Explains Named what words Memory
+
+-- IsUnanswered place kind bytes fault: why these bytes, of the word at the place, aren't the RDATA of a record of this type
+abbrev pub IsUnanswered : ℕ → ℕ → List ℕ → BuildFault → Type 0
+IsUnanswered place kind bytes fault =
+    ((fault ≡ TooLong) × (kind ≢ NS) × (65535 < length bytes))
+    ⊎ ((fault ≡ Word place) × (kind ≡ NS) × ((labels : List (List ℕ)) → ¬ NameAt bytes Refused 0 labels (length bytes)))
 
 -- ---- the words that are refused as `too long` (RFC 1002 sections 4.2.1.3, 4.3.1 and 4.4.2): more data than the
 -- length of a record, a message or a fragment can count

@@ -1,161 +1,189 @@
 //! Words as the parts of packets. Decimal numbers have no leading zeros; hexadecimal digits are
-//! read in either case.
-ghost use Rattle.std.specs.Prelude.{◌≡◌, ◌≢◌, ◌<◌, ◌^◌, ◌++◌, [], ◌∷◌, ℕ, List, IsTrue, MatchResult, true, length, slice_index};
+//! read in either case. `place` is that of the word, for its fault.
+ghost use Rattle.std.specs.Prelude.{◌≡◌, ◌≢◌, ◌<◌, ◌^◌, ◌++◌, [], ◌∷◌, ℕ, List, IsTrue, IfErr, IfOk, IsOkAnd, MatchResult, true, length, slice_index};
 ghost use Rattle.std.specs.List.{list_all};
 ghost use Rattle.std.specs.Char.{is_ascii_digit};
 ghost use Rattle.std.specs.Int.{w16, to_be_bytes};
 ghost use Rattle.std.specs.Fmt.{decimal};
-ghost use Rattle.nb_names.specs.Hexadecimal.{DataText};
-ghost use Rattle.nb_building.specs.Built.{AddressText, CodeText, EntryTexts, KeyText, NumberText, WordText};
-ghost use Rattle.nb_building.specs.Refusals.{IsRefused, NamesNone, SplitsAt};
+ghost use Rattle.nb_streams.specs.Hexadecimal.{DataText, HexText};
+ghost use Rattle.nb_names.specs.Name.{NetbiosName};
+ghost use Rattle.nb_names.specs.NameText.{IsText};
+ghost use Rattle.nb_building.specs.Built.{AddressText, CodeText, KeyText, NumberText, WordText};
+ghost use Rattle.nb_building.specs.Refusals.{IsRefused, IsTextRefused, NamesNone, SplitsAt, of_digits};
 
 use crate::build_fault::BuildFault;
 use nb_datagram::Key;
-use nb_names::{Bytes, bytes_of_digits, data_of_text};
-use nb_service::AddressEntry;
+use nb_names::{Name, name_from_text};
+use nb_streams::{Bytes, DigitsFault, bytes_of_digits, data_of_text};
 use std::alloc::Global;
 
 /// A word of a packet, as an identifier or flags: four hexadecimal digits.
-pub fn word(alloc: Global, text: &str) -> Result<u16, BuildFault>
+pub fn word(alloc: Global, text: &str, place: usize) -> Result<u16, BuildFault>
     ensures { MatchResult result (λ number. WordText number text.now)
-        (IsRefused (λ number. WordText number text.now)) }
+        (IsRefused place (λ number. WordText number text.now)) }
 {
-    let digits = bytes_of_digits(alloc, text.as_bytes())?;
-    word_of(digits.as_slice())
+    let digits = digits(alloc, text, place)?;
+    word_of(digits.as_slice(), place)
 }
 
 /// The number of sixteen bits that two bytes are.
-fn word_of(bytes: &[u8]) -> Result<u16, BuildFault>
+fn word_of(bytes: &[u8], place: usize) -> Result<u16, BuildFault>
     ensures { MatchResult result (λ number. (number < 2 ^ 16)
         × (bytes.now ≡ to_be_bytes w16 number))
-        (λ fault. (fault ≡ BuildFault.Arguments) × (length bytes.now ≢ 2)) }
+        (λ fault. (fault ≡ BuildFault.Word place) × (length bytes.now ≢ 2)) }
 {
     match bytes {
         [high, low] => Ok(u16::from_be_bytes([*high, *low])),
-        _ => Err(BuildFault::Arguments),
+        _ => Err(BuildFault::Word(place)),
+    }
+}
+
+/// A name, by its text.
+pub fn named(text: &str, place: usize) -> Result<Name, BuildFault>
+    ensures found { IfOk result (λ name. IsText name text.now) }
+    ensures only { (name : NetbiosName) → IsText name text.now →
+        IsOkAnd result (λ read. read ≡ name) }
+    ensures refused { IfErr result (IsTextRefused place text.now) }
+{
+    match name_from_text(text) {
+        Ok(name) => Ok(name),
+        Err(fault) => Err(BuildFault::Text(place, fault)),
     }
 }
 
 /// A code: two hexadecimal digits.
-pub fn code(alloc: Global, text: &str) -> Result<u8, BuildFault>
+pub fn code(alloc: Global, text: &str, place: usize) -> Result<u8, BuildFault>
     ensures { MatchResult result (λ code. CodeText code text.now)
-        (IsRefused (λ code. CodeText code text.now)) }
+        (IsRefused place (λ code. CodeText code text.now)) }
 {
-    let digits = bytes_of_digits(alloc, text.as_bytes())?;
-    code_of(digits.as_slice())
+    let digits = digits(alloc, text, place)?;
+    code_of(digits.as_slice(), place)
 }
 
 /// The number that one byte is.
-fn code_of(bytes: &[u8]) -> Result<u8, BuildFault>
+fn code_of(bytes: &[u8], place: usize) -> Result<u8, BuildFault>
     ensures { MatchResult result (λ code. bytes.now ≡ code ∷ [])
-        (λ fault. (fault ≡ BuildFault.Arguments) × (length bytes.now ≢ 1)) }
+        (λ fault. (fault ≡ BuildFault.Word place) × (length bytes.now ≢ 1)) }
 {
     match bytes {
         [code] => Ok(*code),
-        _ => Err(BuildFault::Arguments),
+        _ => Err(BuildFault::Word(place)),
     }
 }
 
 /// A decimal number to 4,294,967,295.
-pub fn long_number(text: &str) -> Result<u32, BuildFault>
+pub fn long_number(text: &str, place: usize) -> Result<u32, BuildFault>
     ensures { MatchResult result (λ number. NumberText 4294967295 number text.now)
-        (NamesNone (λ number. NumberText 4294967295 number text.now)) }
+        (NamesNone place (λ number. NumberText 4294967295 number text.now)) }
 {
     if !is_decimal(text) {
-        return Err(BuildFault::Arguments);
+        return Err(BuildFault::Word(place));
     }
     match text.parse::<u32>() {
         Ok(number) => Ok(number),
-        Err(_) => Err(BuildFault::Arguments),
+        Err(_) => Err(BuildFault::Word(place)),
     }
 }
 
 /// A decimal number to 65,535.
-pub fn number(text: &str) -> Result<u16, BuildFault>
+pub fn number(text: &str, place: usize) -> Result<u16, BuildFault>
     ensures { MatchResult result (λ number. NumberText 65535 number text.now)
-        (NamesNone (λ number. NumberText 65535 number text.now)) }
+        (NamesNone place (λ number. NumberText 65535 number text.now)) }
 {
-    match u16::try_from(long_number(text)?) {
+    match u16::try_from(long_number(text, place)?) {
         Ok(number) => Ok(number),
-        Err(_) => Err(BuildFault::Arguments),
+        Err(_) => Err(BuildFault::Word(place)),
     }
 }
 
 /// An IPv4 address: four decimal numbers to 255, with dots between them.
-pub fn address(text: &str) -> Result<[u8; 4], BuildFault>
+pub fn address(text: &str, place: usize) -> Result<[u8; 4], BuildFault>
     ensures { MatchResult result (λ address. AddressText address text.now)
-        (NamesNone (λ address. AddressText address text.now)) }
+        (NamesNone place (λ address. AddressText address text.now)) }
 {
-    let (first, rest) = before_dot(text)?;
-    let (second, rest) = before_dot(rest)?;
-    let (third, rest) = before_dot(rest)?;
-    Ok([first, second, third, small_number(rest)?])
-}
-
-/// An address entry of a packet, of its flags and its address.
-pub fn entry(alloc: Global, flags: &str, place: &str) -> Result<AddressEntry, BuildFault>
-    ensures { MatchResult result (λ entry. EntryTexts entry flags.now place.now)
-        (IsRefused (λ entry. EntryTexts entry flags.now place.now)) }
-{
-    Ok(AddressEntry {
-        flags: word(alloc, flags)?,
-        address: address(place)?,
-    })
+    let (first, rest) = before_dot(text, place)?;
+    let (second, rest) = before_dot(rest, place)?;
+    let (third, rest) = before_dot(rest, place)?;
+    Ok([first, second, third, small_number(rest, place)?])
 }
 
 /// A datagram's key: its sender's address and port, and the identifier, as `10.0.0.5:138/0001`.
-pub fn key(alloc: Global, text: &str) -> Result<Key, BuildFault>
+pub fn key(alloc: Global, text: &str, place: usize) -> Result<Key, BuildFault>
     ensures { MatchResult result (λ key. KeyText key text.now)
-        (IsRefused (λ key. KeyText key text.now)) }
+        (IsRefused place (λ key. KeyText key text.now)) }
 {
-    let (place, id) = parts(text, '/')?;
-    let (ip, port) = parts(place, ':')?;
+    let (sender, id) = parts(text, '/', place)?;
+    let (ip, port) = parts(sender, ':', place)?;
     Ok(Key {
-        ip: address(ip)?,
-        port: number(port)?,
-        id: word(alloc, id)?,
+        ip: address(ip, place)?,
+        port: number(port, place)?,
+        id: word(alloc, id, place)?,
     })
 }
 
 /// Data: hexadecimal digits, two a byte and at least two, or `empty`.
-pub fn data(alloc: Global, text: &str) -> Result<Bytes, BuildFault>
+pub fn data(alloc: Global, text: &str, place: usize) -> Result<Bytes, BuildFault>
     ensures { MatchResult result (λ bytes. DataText bytes text.now)
-        (IsRefused (λ bytes. DataText bytes text.now)) }
+        (IsRefused place (λ bytes. DataText bytes text.now)) }
 {
-    Ok(data_of_text(alloc, text.as_bytes())?)
+    match data_of_text(alloc, text.as_bytes()) {
+        Ok(bytes) => Ok(bytes),
+        Err(fault) => Err(digits_fault(fault, place)),
+    }
+}
+
+/// The bytes of hexadecimal digits, two a byte.
+fn digits(alloc: Global, text: &str, place: usize) -> Result<Bytes, BuildFault>
+    ensures { MatchResult result (λ bytes. HexText bytes text.now)
+        (IsRefused place (λ bytes. HexText bytes text.now)) }
+{
+    match bytes_of_digits(alloc, text.as_bytes()) {
+        Ok(bytes) => Ok(bytes),
+        Err(fault) => Err(digits_fault(fault, place)),
+    }
+}
+
+/// The fault of the word at a place, whose digits were refused.
+fn digits_fault(fault: DigitsFault, place: usize) -> BuildFault
+    ensures { result ≡ of_digits place fault }
+{
+    match fault {
+        DigitsFault::BadDigits => BuildFault::Word(place),
+        DigitsFault::NoMemory => BuildFault::Memory,
+    }
 }
 
 /// What stands before the first of these marks, which is ASCII, and what stands behind it.
-fn parts(text: &str, mark: char) -> Result<(&str, &str), BuildFault>
+fn parts(text: &str, mark: char, place: usize) -> Result<(&str, &str), BuildFault>
     requires { mark < 128 }
     ensures { MatchResult result (λ parts. SplitsAt mark text.now parts.0.now parts.1.now)
-        (NamesNone (λ (parts : List ℕ × List ℕ). text.now ≡ parts.0 ++ mark ∷ parts.1)) }
+        (NamesNone place (λ (parts : List ℕ × List ℕ). text.now ≡ parts.0 ++ mark ∷ parts.1)) }
 {
     match text.split_once(mark) {
         Some(parts) => Ok(parts),
-        None => Err(BuildFault::Arguments),
+        None => Err(BuildFault::Word(place)),
     }
 }
 
 /// The decimal number to 255 before the first dot, and what stands behind it.
-fn before_dot(text: &str) -> Result<(u8, &str), BuildFault>
+fn before_dot(text: &str, place: usize) -> Result<(u8, &str), BuildFault>
     ensures { MatchResult result
         (λ parts. (parts.0 < 256) × (text.now ≡ decimal parts.0 ++ 46 ∷ parts.1.now))
-        (NamesNone (λ (parts : ℕ × List ℕ). (parts.0 < 256)
+        (NamesNone place (λ (parts : ℕ × List ℕ). (parts.0 < 256)
         × (text.now ≡ decimal parts.0 ++ 46 ∷ parts.1))) }
 {
-    let (number, rest) = parts(text, '.')?;
-    Ok((small_number(number)?, rest))
+    let (number, rest) = parts(text, '.', place)?;
+    Ok((small_number(number, place)?, rest))
 }
 
 /// A decimal number to 255.
-fn small_number(text: &str) -> Result<u8, BuildFault>
+fn small_number(text: &str, place: usize) -> Result<u8, BuildFault>
     ensures { MatchResult result (λ number. NumberText 255 number text.now)
-        (NamesNone (λ number. NumberText 255 number text.now)) }
+        (NamesNone place (λ number. NumberText 255 number text.now)) }
 {
-    match u8::try_from(long_number(text)?) {
+    match u8::try_from(long_number(text, place)?) {
         Ok(number) => Ok(number),
-        Err(_) => Err(BuildFault::Arguments),
+        Err(_) => Err(BuildFault::Word(place)),
     }
 }
 

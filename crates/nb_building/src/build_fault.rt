@@ -1,16 +1,21 @@
 //! Why no packet is built.
 
 use nb_datagram::CutFault;
-use nb_names::{DigitsFault, NoMemory, TextFault};
+use nb_names::TextFault;
+use nb_streams::NoMemory;
 use std::fmt;
 
-/// Why no packet is built.
+/// Why no packet is built. The place of a word is how many stand before it.
 #[derive(Clone, Copy, Debug, PartialEq, Eq)]
 pub enum BuildFault {
-    /// The text of a name was refused.
-    Text(TextFault),
-    /// There is no such packet, it takes another number of words, or one of them is bad.
-    Arguments,
+    /// There is no such packet.
+    What,
+    /// The packet takes another number of words.
+    Count,
+    /// The word at this place isn't what the packet takes there.
+    Word(usize),
+    /// The word at this place is the text of a name, which was refused.
+    Text(usize, TextFault),
     /// The packet takes fewer bytes.
     TooLong,
     /// Pieces of no bytes were asked for.
@@ -27,36 +32,11 @@ impl fmt::Display for BuildFault {
 
     fn fmt<W: fmt::Write>(&self, f: &mut fmt::Formatter<W>) -> fmt::Result {
         match self {
-            BuildFault::Text(fault) => write!(f, "{fault}"),
-            BuildFault::Arguments => f.write_str("arguments"),
+            BuildFault::What | BuildFault::Count | BuildFault::Word(_) => f.write_str("arguments"),
+            BuildFault::Text(_, fault) => write!(f, "{fault}"),
             BuildFault::TooLong => f.write_str("too long"),
             BuildFault::ZeroPiece => f.write_str("zero piece"),
             BuildFault::Memory => f.write_str("memory"),
-        }
-    }
-}
-
-impl From<TextFault> for BuildFault {
-    ghost use Rattle.std.specs.Prelude.{◌≡◌};
-    ghost use Rattle.nb_building.specs.declared.build_fault.BuildFault.TheVariants.{Text};
-
-    ghost from_gives = { λ fault made. made ≡ Text fault };
-
-    fn from(fault: TextFault) -> BuildFault {
-        BuildFault::Text(fault)
-    }
-}
-
-impl From<DigitsFault> for BuildFault {
-    ghost use Rattle.std.specs.Prelude.{◌≡◌};
-    ghost use Rattle.nb_building.specs.Refusals.{of_digits};
-
-    ghost from_gives = { λ fault made. made ≡ of_digits fault };
-
-    fn from(fault: DigitsFault) -> BuildFault {
-        match fault {
-            DigitsFault::BadDigits => BuildFault::Arguments,
-            DigitsFault::NoMemory => BuildFault::Memory,
         }
     }
 }

@@ -2,11 +2,12 @@
 ghost use Rattle.std.specs.Prelude.{◌≡◌, ◌++◌, ℕ, Bool, List, map, IfErr, IfOk, OnOk, string_bytes};
 ghost use Rattle.nb_building.specs.Building.{AreLinesOf, payload_line, payload_lines};
 ghost use Rattle.nb_building.specs.Built.{IsServiceBuilt, IsSessionBuilt, Names, NamesDatagrams};
-ghost use Rattle.nb_building.specs.Refusals.{Unnamed, GiveTooMuch};
+ghost use Rattle.nb_building.specs.Refusals.{Explains, Unnamed, GiveTooMuch};
+ghost use Rattle.nb_building.specs.Words.{IsDatagramWord, IsServiceWord, IsSessionWord};
 
 use crate::build_fault::BuildFault;
 use crate::{datagram, service, session};
-use nb_names::{Bytes, NoMemory, push_digits};
+use nb_streams::{Bytes, NoMemory, push_digits};
 use std::alloc::Global;
 
 /// The lines of a capture for the packets that the words name: for each its port, the moment 0, and
@@ -51,6 +52,10 @@ pub fn capture_lines(
         GiveTooMuch what.now (map (λ w. w.now) words.now)) }
     ensures refused { IfErr result (Unnamed (λ (packets : ℕ × List (List ℕ)).
         Names broadcast what.now (map (λ w. w.now) words.now) packets.0 packets.1)) }
+    // Which word is wrong: the first that the packet doesn't take.
+    ensures why { IfErr result (Explains (λ (packets : ℕ × List (List ℕ)).
+        Names broadcast what.now (map (λ w. w.now) words.now) packets.0 packets.1)
+        what.now (map (λ w. w.now) words.now)) }
 {
     match what {
         "query" | "status" | "registration" | "refresh" | "release" | "response" => {
@@ -59,7 +64,10 @@ pub fn capture_lines(
         "request" | "message" | "positive" | "negative" | "retarget" | "keepalive" => {
             session_line(alloc, what, words)
         }
-        _ => datagram_lines(alloc, what, words),
+        "unique" | "group" | "broadcast" | "error" | "find" | "found" | "missing" => {
+            datagram_lines(alloc, what, words)
+        }
+        _ => Err(BuildFault::What),
     }
 }
 
@@ -70,12 +78,14 @@ fn service_line(
     words: &[&str],
     broadcast: bool,
 ) -> Result<String, BuildFault>
+    requires { IsServiceWord what.now }
     ensures built { IfOk result (λ lines. AreLinesOf broadcast what.now (map (λ w. w.now) words.now)
         (string_bytes lines)) }
     ensures too_long { IfErr result (λ fault. fault ≡ BuildFault.TooLong →
         GiveTooMuch what.now (map (λ w. w.now) words.now)) }
     ensures refused { IfErr result
-        (Unnamed (IsServiceBuilt broadcast what.now (map (λ w. w.now) words.now))) }
+        (Explains (IsServiceBuilt broadcast what.now (map (λ w. w.now) words.now))
+        what.now (map (λ w. w.now) words.now)) }
 {
     let packet = service::build(alloc, what, words, broadcast)?;
     Ok(line(alloc, 137, &packet)?)
@@ -83,12 +93,14 @@ fn service_line(
 
 /// The line of a session packet.
 fn session_line(alloc: Global, what: &str, words: &[&str]) -> Result<String, BuildFault>
+    requires { IsSessionWord what.now }
     ensures built { IfOk result (λ lines. (broadcast : Bool) →
         AreLinesOf broadcast what.now (map (λ w. w.now) words.now) (string_bytes lines)) }
     ensures too_long { IfErr result (λ fault. fault ≡ BuildFault.TooLong →
         GiveTooMuch what.now (map (λ w. w.now) words.now)) }
     ensures refused { IfErr result
-        (Unnamed (IsSessionBuilt what.now (map (λ w. w.now) words.now))) }
+        (Explains (IsSessionBuilt what.now (map (λ w. w.now) words.now))
+        what.now (map (λ w. w.now) words.now)) }
 {
     let packet = session::build(alloc, what, words)?;
     Ok(line(alloc, 139, &packet)?)
@@ -96,12 +108,14 @@ fn session_line(alloc: Global, what: &str, words: &[&str]) -> Result<String, Bui
 
 /// The lines of the packets of a datagram, or of one that is no fragment.
 fn datagram_lines(alloc: Global, what: &str, words: &[&str]) -> Result<String, BuildFault>
+    requires { IsDatagramWord what.now }
     ensures built { IfOk result (λ lines. (broadcast : Bool) →
         AreLinesOf broadcast what.now (map (λ w. w.now) words.now) (string_bytes lines)) }
     ensures too_long { IfErr result (λ fault. fault ≡ BuildFault.TooLong →
         GiveTooMuch what.now (map (λ w. w.now) words.now)) }
     ensures refused { IfErr result
-        (Unnamed (NamesDatagrams what.now (map (λ w. w.now) words.now))) }
+        (Explains (NamesDatagrams what.now (map (λ w. w.now) words.now))
+        what.now (map (λ w. w.now) words.now)) }
 {
     let packets = datagram::build(alloc, what, words)?;
     Ok(lines(alloc, 138, packets.as_slice())?)

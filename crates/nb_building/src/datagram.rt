@@ -1,19 +1,20 @@
 //! Datagram service packets from arguments.
-ghost use Rattle.std.specs.Prelude.{◌≡◌, ◌≢◌, ◌≤◌, ◌++◌, [], ◌∷◌, map, codes, IfErr, IfOk, OnOk};
+ghost use Rattle.std.specs.Prelude.{◌≡◌, ◌≢◌, ◌⊎◌, ◌≤◌, ◌++◌, [], ◌∷◌, map, codes, IfErr, IfOk, OnOk};
 ghost use Rattle.nb_datagram.specs.Packet.{packet_bytes};
 ghost use Rattle.nb_datagram.specs.Pieces.{AreTooLong, pieces};
 ghost use Rattle.nb_datagram.specs.FaultTexts.{kind_text};
 ghost use Rattle.nb_text.specs.Words.{query_word};
 ghost use Rattle.nb_building.specs.Built.{NamesDatagrams};
-ghost use Rattle.nb_building.specs.Refusals.{Unnamed, GiveTooMuch};
+ghost use Rattle.nb_building.specs.Refusals.{Explains, GiveTooMuch};
+ghost use Rattle.nb_building.specs.Words.{IsDatagramWord};
 
-use crate::arguments::{code, data, key, number};
+use crate::arguments::{code, data, key, named, number};
 use crate::build_fault::BuildFault;
 use nb_datagram::limits::FIRST;
 use nb_datagram::{
     Datagram, ErrorPacket, Kind, Packet, Pieces, QueryKind, QueryPacket, cut, encode,
 };
-use nb_names::{Bytes, Items, NoMemory, name_from_text};
+use nb_streams::{Bytes, Items, NoMemory};
 use std::alloc::Global;
 
 /// The bytes of the packets that WHAT and its arguments give.
@@ -21,11 +22,13 @@ use std::alloc::Global;
 /// `unique`, `group` and `broadcast` take KEY SOURCE DESTINATION HEX MOST and give a packet for
 /// each piece; `error` takes KEY CODE; `find`, `found` and `missing` take KEY NAME.
 pub fn build(alloc: Global, what: &str, words: &[&str]) -> Result<Items<Bytes>, BuildFault>
+    requires { IsDatagramWord what.now }
     ensures built { IfOk result (NamesDatagrams what.now (map (λ w. w.now) words.now)) }
     ensures too_long { IfErr result (λ fault. fault ≡ BuildFault.TooLong →
         GiveTooMuch what.now (map (λ w. w.now) words.now)) }
     ensures refused { IfErr result
-        (Unnamed (NamesDatagrams what.now (map (λ w. w.now) words.now))) }
+        (Explains (NamesDatagrams what.now (map (λ w. w.now) words.now))
+        what.now (map (λ w. w.now) words.now)) }
 {
     match what {
         "unique" => fragments(alloc, Kind::Unique, words),
@@ -35,7 +38,7 @@ pub fn build(alloc: Global, what: &str, words: &[&str]) -> Result<Items<Bytes>, 
         "find" => query(alloc, QueryKind::Request, words),
         "found" => query(alloc, QueryKind::Positive, words),
         "missing" => query(alloc, QueryKind::Negative, words),
-        _ => Err(BuildFault::Arguments),
+        _ => Err(BuildFault::What),
     }
 }
 
@@ -45,16 +48,17 @@ fn fragments(alloc: Global, kind: Kind, words: &[&str]) -> Result<Items<Bytes>, 
     ensures too_long { IfErr result (λ fault. fault ≡ BuildFault.TooLong →
         GiveTooMuch (kind_text kind) (map (λ w. w.now) words.now)) }
     ensures refused { IfErr result
-        (Unnamed (NamesDatagrams (kind_text kind) (map (λ w. w.now) words.now))) }
+        (Explains (NamesDatagrams (kind_text kind) (map (λ w. w.now) words.now))
+        (kind_text kind) (map (λ w. w.now) words.now)) }
 {
     let [place, source, destination, digits, most] = words else {
-        return Err(BuildFault::Arguments);
+        return Err(BuildFault::Count);
     };
-    let key = key(alloc, place)?;
-    let source = name_from_text(source)?;
-    let destination = name_from_text(destination)?;
-    let data = data(alloc, digits)?;
-    let most = number(most)?;
+    let key = key(alloc, place, 0)?;
+    let source = named(source, 1)?;
+    let destination = named(destination, 2)?;
+    let data = data(alloc, digits, 3)?;
+    let most = number(most, 4)?;
     match Datagram::new(key, kind, source, destination, data) {
         Ok(datagram) => fragments_of(alloc, &datagram, most),
         Err(_) => Err(BuildFault::TooLong),
@@ -68,8 +72,9 @@ fn fragments_of(alloc: Global, datagram: &Datagram, most: u16) -> Result<Items<B
         map (λ piece. packet_bytes (Packet.Direct piece)) (pieces datagram.now most))) }
     ensures too_long { IfErr result (λ fault. fault ≡ BuildFault.TooLong →
         (1 ≤ most) × AreTooLong datagram.now most) }
-    ensures refused { IfErr result (λ fault. fault ≢ BuildFault.Memory →
-        1 ≤ most → AreTooLong datagram.now most) }
+    ensures refused { IfErr result (λ fault. (fault ≡ BuildFault.Memory)
+        ⊎ (((fault ≡ BuildFault.TooLong) ⊎ (fault ≡ BuildFault.ZeroPiece))
+        × (1 ≤ most → AreTooLong datagram.now most))) }
 {
     let pieces = cut(alloc, datagram, most)?;
     Ok(encoded_pieces(alloc, pieces)?)
@@ -92,13 +97,14 @@ fn error(alloc: Global, words: &[&str]) -> Result<Items<Bytes>, BuildFault>
     ensures built { IfOk result (NamesDatagrams (codes "error") (map (λ w. w.now) words.now)) }
     ensures too_long { IfErr result (λ fault. fault ≢ BuildFault.TooLong) }
     ensures refused { IfErr result
-        (Unnamed (NamesDatagrams (codes "error") (map (λ w. w.now) words.now))) }
+        (Explains (NamesDatagrams (codes "error") (map (λ w. w.now) words.now))
+        (codes "error") (map (λ w. w.now) words.now)) }
 {
     let [place, digits] = words else {
-        return Err(BuildFault::Arguments);
+        return Err(BuildFault::Count);
     };
-    let key = key(alloc, place)?;
-    let code = code(alloc, digits)?;
+    let key = key(alloc, place, 0)?;
+    let code = code(alloc, digits, 1)?;
     let flags = FIRST;
     let packet = Packet::Error(ErrorPacket { flags, key, code });
     Ok(alone(alloc, packet)?)
@@ -109,13 +115,14 @@ fn query(alloc: Global, kind: QueryKind, words: &[&str]) -> Result<Items<Bytes>,
     ensures built { IfOk result (NamesDatagrams (query_word kind) (map (λ w. w.now) words.now)) }
     ensures too_long { IfErr result (λ fault. fault ≢ BuildFault.TooLong) }
     ensures refused { IfErr result
-        (Unnamed (NamesDatagrams (query_word kind) (map (λ w. w.now) words.now))) }
+        (Explains (NamesDatagrams (query_word kind) (map (λ w. w.now) words.now))
+        (query_word kind) (map (λ w. w.now) words.now)) }
 {
     let [place, name] = words else {
-        return Err(BuildFault::Arguments);
+        return Err(BuildFault::Count);
     };
-    let key = key(alloc, place)?;
-    let destination = name_from_text(name)?;
+    let key = key(alloc, place, 0)?;
+    let destination = named(name, 1)?;
     let flags = FIRST;
     let packet = Packet::Query(QueryPacket {
         kind,

@@ -1,18 +1,18 @@
 //! Name service packets from arguments.
-ghost use Rattle.std.specs.Prelude.{◌≡◌, ◌≢◌, ◌⊎◌, ℕ, map, codes, IfErr, IfOk, MatchResult, Ok};
-ghost use Rattle.nb_service.specs.declared.views.AddressEntry as entries;
+ghost use Rattle.std.specs.Prelude.{◌≡◌, ◌≢◌, ◌⊎◌, map, codes, IfErr, IfOk, Ok};
 ghost use Rattle.nb_service.specs.Packet.{ServicePacket};
 ghost use Rattle.nb_service.specs.Encoding.{packet_bytes};
-ghost use Rattle.nb_building.specs.Built.{EntryTexts, IsServiceBuilt, NumberText};
-ghost use Rattle.nb_building.specs.Refusals.{IsRefused, Unnamed, GiveTooMuch};
+ghost use Rattle.nb_building.specs.Built.{IsServiceBuilt};
+ghost use Rattle.nb_building.specs.Refusals.{Explains, GiveTooMuch};
+ghost use Rattle.nb_building.specs.Words.{IsServiceWord};
 
-use crate::arguments::{entry, long_number, word};
+use crate::arguments::{address, long_number, named, word};
 use crate::build_fault::BuildFault;
 use crate::response;
-use nb_names::{Bytes, NoMemory, name_from_text};
 use nb_service::{
     AddressEntry, Packet, encode, node_status_request, query, refresh, registration, release,
 };
+use nb_streams::{Bytes, NoMemory};
 use std::alloc::Global;
 
 /// The bytes of the packet that WHAT and its arguments give.
@@ -25,11 +25,13 @@ pub fn build(
     words: &[&str],
     broadcast: bool,
 ) -> Result<Bytes, BuildFault>
+    requires { IsServiceWord what.now }
     ensures built { IfOk result (IsServiceBuilt broadcast what.now (map (λ w. w.now) words.now)) }
     ensures too_long { IfErr result (λ fault. fault ≡ BuildFault.TooLong →
         GiveTooMuch what.now (map (λ w. w.now) words.now)) }
     ensures refused { IfErr result
-        (Unnamed (IsServiceBuilt broadcast what.now (map (λ w. w.now) words.now))) }
+        (Explains (IsServiceBuilt broadcast what.now (map (λ w. w.now) words.now))
+        what.now (map (λ w. w.now) words.now)) }
 {
     match what {
         "query" => question(alloc, what, words, broadcast),
@@ -38,7 +40,7 @@ pub fn build(
         "refresh" => claim(alloc, what, words, broadcast),
         "release" => withdrawal(alloc, words, broadcast),
         "response" => response::build(alloc, words, broadcast),
-        _ => Err(BuildFault::Arguments),
+        _ => Err(BuildFault::What),
     }
 }
 
@@ -48,17 +50,18 @@ fn question(alloc: Global, what: &str, words: &[&str], broadcast: bool) -> Resul
     ensures built { IfOk result (IsServiceBuilt broadcast what.now (map (λ w. w.now) words.now)) }
     ensures too_long { IfErr result (λ fault. fault ≢ BuildFault.TooLong) }
     ensures refused { IfErr result
-        (Unnamed (IsServiceBuilt broadcast what.now (map (λ w. w.now) words.now))) }
+        (Explains (IsServiceBuilt broadcast what.now (map (λ w. w.now) words.now))
+        what.now (map (λ w. w.now) words.now)) }
 {
     let [id, name] = words else {
-        return Err(BuildFault::Arguments);
+        return Err(BuildFault::Count);
     };
-    let id = word(alloc, id)?;
-    let name = name_from_text(name)?;
+    let id = word(alloc, id, 0)?;
+    let name = named(name, 1)?;
     match what {
         "query" => encoded(alloc, query(alloc, id, &name, broadcast)),
         "status" => encoded(alloc, node_status_request(alloc, id, &name, broadcast)),
-        _ => Err(BuildFault::Arguments),
+        _ => Err(BuildFault::What),
     }
 }
 
@@ -68,15 +71,18 @@ fn claim(alloc: Global, what: &str, words: &[&str], broadcast: bool) -> Result<B
     ensures built { IfOk result (IsServiceBuilt broadcast what.now (map (λ w. w.now) words.now)) }
     ensures too_long { IfErr result (λ fault. fault ≢ BuildFault.TooLong) }
     ensures refused { IfErr result
-        (Unnamed (IsServiceBuilt broadcast what.now (map (λ w. w.now) words.now))) }
+        (Explains (IsServiceBuilt broadcast what.now (map (λ w. w.now) words.now))
+        what.now (map (λ w. w.now) words.now)) }
 {
     let [id, name, ttl, flags, place] = words else {
-        return Err(BuildFault::Arguments);
+        return Err(BuildFault::Count);
     };
-    let id = word(alloc, id)?;
-    let name = name_from_text(name)?;
-    let (ttl, entry) = claimed(alloc, ttl, flags, place)?;
-    let entry = entry.to_bytes();
+    let id = word(alloc, id, 0)?;
+    let name = named(name, 1)?;
+    let ttl = long_number(ttl, 2)?;
+    let flags = word(alloc, flags, 3)?;
+    let address = address(place, 4)?;
+    let entry = AddressEntry { flags, address }.to_bytes();
     match what {
         "registration" => {
             encoded(
@@ -85,7 +91,7 @@ fn claim(alloc: Global, what: &str, words: &[&str], broadcast: bool) -> Result<B
             )
         }
         "refresh" => encoded(alloc, refresh(alloc, id, &name, broadcast, ttl, &entry)),
-        _ => Err(BuildFault::Arguments),
+        _ => Err(BuildFault::What),
     }
 }
 
@@ -95,30 +101,18 @@ fn withdrawal(alloc: Global, words: &[&str], broadcast: bool) -> Result<Bytes, B
         (IsServiceBuilt broadcast (codes "release") (map (λ w. w.now) words.now)) }
     ensures too_long { IfErr result (λ fault. fault ≢ BuildFault.TooLong) }
     ensures refused { IfErr result
-        (Unnamed (IsServiceBuilt broadcast (codes "release") (map (λ w. w.now) words.now))) }
+        (Explains (IsServiceBuilt broadcast (codes "release") (map (λ w. w.now) words.now))
+        (codes "release") (map (λ w. w.now) words.now)) }
 {
     let [id, name, flags, place] = words else {
-        return Err(BuildFault::Arguments);
+        return Err(BuildFault::Count);
     };
-    let id = word(alloc, id)?;
-    let name = name_from_text(name)?;
-    let entry = entry(alloc, flags, place)?.to_bytes();
+    let id = word(alloc, id, 0)?;
+    let name = named(name, 1)?;
+    let flags = word(alloc, flags, 2)?;
+    let address = address(place, 3)?;
+    let entry = AddressEntry { flags, address }.to_bytes();
     encoded(alloc, release(alloc, id, &name, broadcast, &entry))
-}
-
-/// How long a claim to a name lasts, in seconds, and its address entry.
-fn claimed(
-    alloc: Global,
-    ttl: &str,
-    flags: &str,
-    place: &str,
-) -> Result<(u32, AddressEntry), BuildFault>
-    ensures { MatchResult result (λ claim. NumberText 4294967295 claim.0 ttl.now
-        × EntryTexts claim.1 flags.now place.now)
-        (IsRefused (λ (claim : ℕ × entries.AddressEntry). NumberText 4294967295 claim.0 ttl.now
-        × EntryTexts claim.1 flags.now place.now)) }
-{
-    Ok((long_number(ttl)?, entry(alloc, flags, place)?))
 }
 
 /// The bytes of a packet, where there was memory to make it.

@@ -1,13 +1,14 @@
 //! Session packets from arguments.
-ghost use Rattle.std.specs.Prelude.{◌≡◌, ◌≢◌, [], map, codes, length, IfErr, IfOk};
+ghost use Rattle.std.specs.Prelude.{◌≡◌, ◌≢◌, ◌⊎◌, [], map, codes, length, IfErr, IfOk};
 ghost use Rattle.nb_session.specs.Packet.{IsPacket};
 ghost use Rattle.nb_building.specs.Built.{IsSessionBuilt};
-ghost use Rattle.nb_building.specs.Refusals.{Unnamed, GiveTooMuch};
+ghost use Rattle.nb_building.specs.Refusals.{Explains, GiveTooMuch};
+ghost use Rattle.nb_building.specs.Words.{IsSessionWord};
 
-use crate::arguments::{address, code, data, number};
+use crate::arguments::{address, code, data, named, number};
 use crate::build_fault::BuildFault;
-use nb_names::{Bytes, name_from_text};
 use nb_session::{MessageData, Packet, encode};
+use nb_streams::Bytes;
 use std::alloc::Global;
 
 /// The bytes of the packet that WHAT and its arguments give.
@@ -15,11 +16,13 @@ use std::alloc::Global;
 /// `request` takes CALLED CALLING, `message` HEX, `negative` CODE, `retarget` ADDRESS PORT, and
 /// `positive` and `keepalive` take none.
 pub fn build(alloc: Global, what: &str, words: &[&str]) -> Result<Bytes, BuildFault>
+    requires { IsSessionWord what.now }
     ensures built { IfOk result (IsSessionBuilt what.now (map (λ w. w.now) words.now)) }
     ensures too_long { IfErr result (λ fault. fault ≡ BuildFault.TooLong →
         GiveTooMuch what.now (map (λ w. w.now) words.now)) }
     ensures refused { IfErr result
-        (Unnamed (IsSessionBuilt what.now (map (λ w. w.now) words.now))) }
+        (Explains (IsSessionBuilt what.now (map (λ w. w.now) words.now))
+        what.now (map (λ w. w.now) words.now)) }
 {
     match what {
         "request" => request(alloc, words),
@@ -28,7 +31,7 @@ pub fn build(alloc: Global, what: &str, words: &[&str]) -> Result<Bytes, BuildFa
         "negative" => negative(alloc, words),
         "retarget" => retarget(alloc, words),
         "keepalive" => bare(alloc, words, &Packet::Keepalive),
-        _ => Err(BuildFault::Arguments),
+        _ => Err(BuildFault::What),
     }
 }
 
@@ -37,13 +40,14 @@ fn request(alloc: Global, words: &[&str]) -> Result<Bytes, BuildFault>
     ensures built { IfOk result (IsSessionBuilt (codes "request") (map (λ w. w.now) words.now)) }
     ensures too_long { IfErr result (λ fault. fault ≢ BuildFault.TooLong) }
     ensures refused { IfErr result
-        (Unnamed (IsSessionBuilt (codes "request") (map (λ w. w.now) words.now))) }
+        (Explains (IsSessionBuilt (codes "request") (map (λ w. w.now) words.now))
+        (codes "request") (map (λ w. w.now) words.now)) }
 {
     let [called, calling] = words else {
-        return Err(BuildFault::Arguments);
+        return Err(BuildFault::Count);
     };
-    let called = name_from_text(called)?;
-    let calling = name_from_text(calling)?;
+    let called = named(called, 0)?;
+    let calling = named(calling, 1)?;
     encoded(alloc, &Packet::Request { called, calling })
 }
 
@@ -53,12 +57,13 @@ fn message(alloc: Global, words: &[&str]) -> Result<Bytes, BuildFault>
     ensures too_long { IfErr result (λ fault. fault ≡ BuildFault.TooLong →
         GiveTooMuch (codes "message") (map (λ w. w.now) words.now)) }
     ensures refused { IfErr result
-        (Unnamed (IsSessionBuilt (codes "message") (map (λ w. w.now) words.now))) }
+        (Explains (IsSessionBuilt (codes "message") (map (λ w. w.now) words.now))
+        (codes "message") (map (λ w. w.now) words.now)) }
 {
     let [digits] = words else {
-        return Err(BuildFault::Arguments);
+        return Err(BuildFault::Count);
     };
-    let bytes = data(alloc, digits)?;
+    let bytes = data(alloc, digits, 0)?;
     match MessageData::new(bytes.as_slice()) {
         Ok(message) => encoded(alloc, &Packet::Message(message)),
         Err(_) => Err(BuildFault::TooLong),
@@ -70,12 +75,13 @@ fn negative(alloc: Global, words: &[&str]) -> Result<Bytes, BuildFault>
     ensures built { IfOk result (IsSessionBuilt (codes "negative") (map (λ w. w.now) words.now)) }
     ensures too_long { IfErr result (λ fault. fault ≢ BuildFault.TooLong) }
     ensures refused { IfErr result
-        (Unnamed (IsSessionBuilt (codes "negative") (map (λ w. w.now) words.now))) }
+        (Explains (IsSessionBuilt (codes "negative") (map (λ w. w.now) words.now))
+        (codes "negative") (map (λ w. w.now) words.now)) }
 {
     let [digits] = words else {
-        return Err(BuildFault::Arguments);
+        return Err(BuildFault::Count);
     };
-    encoded(alloc, &Packet::Negative(code(alloc, digits)?))
+    encoded(alloc, &Packet::Negative(code(alloc, digits, 0)?))
 }
 
 /// The bytes of a retarget response, from ADDRESS PORT.
@@ -83,13 +89,14 @@ fn retarget(alloc: Global, words: &[&str]) -> Result<Bytes, BuildFault>
     ensures built { IfOk result (IsSessionBuilt (codes "retarget") (map (λ w. w.now) words.now)) }
     ensures too_long { IfErr result (λ fault. fault ≢ BuildFault.TooLong) }
     ensures refused { IfErr result
-        (Unnamed (IsSessionBuilt (codes "retarget") (map (λ w. w.now) words.now))) }
+        (Explains (IsSessionBuilt (codes "retarget") (map (λ w. w.now) words.now))
+        (codes "retarget") (map (λ w. w.now) words.now)) }
 {
     let [place, port] = words else {
-        return Err(BuildFault::Arguments);
+        return Err(BuildFault::Count);
     };
-    let address = address(place)?;
-    let port = number(port)?;
+    let address = address(place, 0)?;
+    let port = number(port, 1)?;
     encoded(alloc, &Packet::Retarget { address, port })
 }
 
@@ -97,12 +104,12 @@ fn retarget(alloc: Global, words: &[&str]) -> Result<Bytes, BuildFault>
 fn bare(alloc: Global, words: &[&str], packet: &Packet<'_>) -> Result<Bytes, BuildFault>
     ensures built { IfOk result (λ bytes. (words.now ≡ []) × IsPacket packet.now bytes) }
     ensures too_long { IfErr result (λ fault. fault ≢ BuildFault.TooLong) }
-    ensures refused { IfErr result
-        (λ fault. fault ≢ BuildFault.Memory → ¬ (length words.now ≡ 0)) }
+    ensures refused { IfErr result (λ fault. (fault ≡ BuildFault.Memory)
+        ⊎ ((fault ≡ BuildFault.Count) × ¬ (length words.now ≡ 0))) }
 {
     match words {
         [] => encoded(alloc, packet),
-        _ => Err(BuildFault::Arguments),
+        _ => Err(BuildFault::Count),
     }
 }
 

@@ -5,8 +5,8 @@ ghost use Rattle.nb_calls.specs.Captures.{TellsLine, line_lent};
 
 use nb_calls::output::write_bytes;
 use nb_calls::showing::{NbtLine, phrase, shown, tell_line, write_object};
-use nb_member::capture_line;
-use nb_member::laws::a_line_has_one_value;
+use nb_capture::capture_line;
+use nb_capture::laws::a_line_has_one_value;
 use nb_telling::JsonRoom;
 use nb_text::laws::one_telling;
 use nb_text::packet_object;

@@ -1,6 +1,6 @@
 -- What a member hands over of another table is what was said of it before.
 use Rattle.nb_calls.proofs.Common.{◌≡◌, ℕ, ◌≤◌, List, length, Result, Ok, Err, IfOk, refl, subst, sym, DatagramParts, Contents, IsRefused, Refusal, Memory, Fault, FaultAt, OrMemory, all_late, of_memory}
-use Rattle.nb_names.specs.declared.bytes.NoMemory as bytes
+use Rattle.nb_streams.specs.declared.bytes.NoMemory as bytes
 use Rattle.nb_table.specs.declared.fault.TableFault.{TableFault}
 use Rattle.nb_table.specs.declared.fault.TableFault.TheVariants.{MisplacedFirst, TooLong, FullSource, Full, NoMemory}
 use Rattle.nb_member.specs.Member.{MemberValue, contents}

@@ -2,14 +2,16 @@
 pub use Rattle.std.proofs.Common.{All, Bool, Bor, Contains, Err, IfErr, IfOk, IsTrue, List, None, Ok, Option, Result, Some, [], ap, append_assoc, arith, drop, eq-eqb, eqb-true, false, get_or, if◌then◌else◌, inl, inr, is_some, length, length-append, map, min, nat_eq, nat_le, nat_lt, option_map, refl, rules, set, slice_index_or, subst, sym, take, tests, true, true≢false, ℕ, ◌%◌, ◌&&◌, ◌*◌, ◌++◌, ◌+◌, ◌-◌, ◌/◌, ◌<◌, ◌==◌, ◌||◌, ◌↔◌, ◌∙◌, ◌∷◌, ◌≡◌, ◌≢◌, ◌≤◌, ◌⊎◌}
 pub use Rattle.std.specs.List.{find, flat_map, join_with_byte, list_all, list_any, onto_first, slice_range, slice_split}
 pub use Rattle.nb_table.specs.Contents.{Contents}
-pub use Rattle.nb_names.specs.Labels.{NameAt, StandsAt}
+pub use Rattle.nb_names.specs.Labels.{NameAt}
+pub use Rattle.nb_streams.specs.Places.{StandsAt}
 pub use Rattle.std.proofs.lemmas.Bool.{and_parts, cases_Bool, cases_eq, cases_lt, not-false}
 pub use Rattle.nb_table.specs.Saved.{IsRead, IsReadAs, LoadFails, full, full_source, ill_formed, no_memory, saved, too_long}
-pub use Rattle.nb_names.specs.NameText.{IsBad, IsFaultOf, IsFormed, IsFront, IsHexDigit, IsText, Item, Items, ScopeText, are_letters, escaped, is_letter, more_items, more_labels, no_item, no_label, plain}
-pub use Rattle.nb_names.specs.declared.bytes.NoMemory.{NoMemory}
+pub use Rattle.nb_names.specs.NameText.{IsBad, IsFaultOf, IsFormed, IsFront, IsText, Item, Items, ScopeText, are_letters, escaped, is_letter, more_items, more_labels, no_item, no_label, plain}
+pub use Rattle.nb_streams.specs.Hexadecimal.{IsHexDigit}
+pub use Rattle.nb_streams.specs.declared.bytes.NoMemory.{NoMemory}
 pub use Rattle.std.specs.Prelude.{MatchOption, SomeIff, not, ⊤}
 pub use Rattle.nb_names.specs.declared.reading.Pointers.TheVariants.{Followed, Refused}
-pub use Rattle.nb_service.proofs.ItemLemmas.{NameLaws, domain_no_fault, name_laws, one_domain_fault, read_is, read_is_ok, seen_extent, seen_fields, seen_name}
+pub use Rattle.nb_service.proofs.ItemLemmas.{domain_no_fault, one_domain_fault, read_is, read_is_ok, seen_extent, seen_fields, seen_name}
 pub use Rattle.nb_names.specs.Name.{NetbiosName, labels_of_name}
 pub use Rattle.nb_table.specs.Limits.{FewOfEach, Limits, TableValue}
 pub use Rattle.nb_names.specs.declared.fault.TextFault.{TextFault}

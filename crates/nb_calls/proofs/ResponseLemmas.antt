@@ -83,14 +83,14 @@ rdata_judged kind bytes rdata (domain read is there) = domain_judged bytes read 
 
 module _ (answered : Answered) (name : NetbiosName) (bytes : List ℕ) where
   -- this is said of a name, of which these bytes are RDATA, or memory ran out
-  abbrev Told : Result (List ℕ) Refusal → Type 0
-  Told answer =
+  abbrev IsAnswer : Result (List ℕ) Refusal → Type 0
+  IsAnswer answer =
       (rdata : Result ResourceData Refusal) × IsRdata answered.kind bytes rdata
       × OrMemory none_late (λ (other : Result (List ℕ) Refusal). other ≡ response_answer answered name rdata) answer
 
   pub response_written : (rdata : ResourceData) (entry : ResourceRecord) (told : Result (List ℕ) NoMemory)
       → IsRdata answered.kind bytes (Ok rdata) → entry ≡ answer_of answered name rdata
-      → IfOk told (λ (found : List ℕ). found ≡ response_of answered entry) → Told (of_memory told)
+      → IfOk told (λ (found : List ℕ). found ≡ response_of answered entry) → IsAnswer (of_memory told)
   response_written rdata entry told is made written =
       let expected : List ℕ = response_of answered (answer_of answered name rdata) in (
         Ok rdata,
@@ -99,7 +99,7 @@ module _ (answered : Answered) (name : NetbiosName) (bytes : List ℕ) where
             (subst (λ (e : ResourceRecord). IfOk told (λ (found : List ℕ). found ≡ response_of answered e)) made written),
       )
 
-  pub response_refused : (refusal : Refusal) → IsRdata answered.kind bytes (Err refusal) → Told (Err refusal)
+  pub response_refused : (refusal : Refusal) → IsRdata answered.kind bytes (Err refusal) → IsAnswer (Err refusal)
   response_refused refusal is = (Err refusal, is, said refusal (rdata_judged answered.kind bytes (Err refusal) is)) where
     said : (refusal : Refusal) → IsJudged (Err refusal)
         → OrMemory none_late (λ (other : Result (List ℕ) Refusal). other ≡ Err refusal) (Err refusal)

@@ -1,9 +1,9 @@
 -- What the call on a line of a capture answers (our choice).
 use Rattle.std.specs.Prelude.{◌≡◌, ◌⊎◌, ◌<◌, ℕ, List, [], length, Option, Some, None, Result, Ok, Err, if◌then◌else◌}
-use Rattle.nb_member.specs.Capture.{HasValue, SaysNothing, IsMalformed}
-use Rattle.nb_member.specs.declared.line.Line.{Line}
-use Rattle.nb_member.specs.declared.line.Line.TheVariants.{Packet, Tick}
-use Rattle.nb_member.specs.declared.line.LineFault.{LineFault}
+use Rattle.nb_capture.specs.Capture.{HasValue, SaysNothing, IsMalformed}
+use Rattle.nb_capture.specs.declared.line.Line.{Line}
+use Rattle.nb_capture.specs.declared.line.Line.TheVariants.{Packet, Tick}
+use Rattle.nb_capture.specs.declared.fault.LineFault.{LineFault}
 use Rattle.nb_calls.specs.declared.showing.NbtLine.{NbtLine}
 use Rattle.nb_calls.specs.declared.showing.TheConstants.{BLANK, PACKET, TICK}
 use Rattle.nb_calls.specs.declared.statuses.TheConstants as statuses
@@ -11,27 +11,27 @@ use Rattle.nb_calls.specs.Outputs.{fits, put_into, put_status, refused_status}
 use Rattle.nb_calls.specs.Statuses.{Refusal, Memory, Fault, line_refusal}
 
 -- what is told of a line: its numbers, and the payload that it has
-pub record LineTold : Type 0 where
+pub record LineParts : Type 0 where
   pub numbers : NbtLine
   pub payload : List ℕ
 
 -- what is told of a line that says this, or nothing
-abbrev pub line_told : Option Line → LineTold
-line_told None = record { numbers = record { kind = BLANK; port = 0; moment = 0 }; payload = [] }
-line_told (Some (Packet port moment payload)) =
+abbrev pub line_parts : Option Line → LineParts
+line_parts None = record { numbers = record { kind = BLANK; port = 0; moment = 0 }; payload = [] }
+line_parts (Some (Packet port moment payload)) =
     record { numbers = record { kind = PACKET; port = port; moment = moment }; payload = payload }
-line_told (Some (Tick now)) = record { numbers = record { kind = TICK; port = 0; moment = now }; payload = [] }
+line_parts (Some (Tick now)) = record { numbers = record { kind = TICK; port = 0; moment = now }; payload = [] }
 
 -- what is answered where this was read
-abbrev pub line_answer : Result (Option Line) LineFault → Result LineTold Refusal
-line_answer (Ok said) = Ok (line_told said)
+abbrev pub line_answer : Result (Option Line) LineFault → Result LineParts Refusal
+line_answer (Ok said) = Ok (line_parts said)
 line_answer (Err fault) = Err (line_refusal fault)
 
 -- SaysLine line answer: this is said of the line: nothing; the payload that came, or the clock; or that it is none of a
 -- capture's
-pub data SaysLine (line : List ℕ) : Result LineTold Refusal → Type 0 where
-  nothing : SaysNothing line → SaysLine line (Ok (line_told None))
-  something : (value : Line) → HasValue line value → SaysLine line (Ok (line_told (Some value)))
+pub data SaysLine (line : List ℕ) : Result LineParts Refusal → Type 0 where
+  nothing : SaysNothing line → SaysLine line (Ok (line_parts None))
+  something : (value : Line) → HasValue line value → SaysLine line (Ok (line_parts (Some value)))
   malformed : IsMalformed line → SaysLine line (Err (Fault statuses.BAD_LINE))
 
 -- what a caller lends for a line: its numbers, a buffer, and how many bytes it has or wants
@@ -45,7 +45,7 @@ abbrev pub line_lent : NbtLine → List ℕ → ℕ → LineLent
 line_lent numbers buffer used = record { numbers = numbers; buffer = buffer; used = used }
 
 -- WritesLine answer old new status: a call with this answer leaves what was lent so, and has this status
-abbrev pub WritesLine : Result LineTold Refusal → LineLent → LineLent → ℕ → Type 0
+abbrev pub WritesLine : Result LineParts Refusal → LineLent → LineLent → ℕ → Type 0
 WritesLine (Ok told) old new status =
     (new.numbers ≡ (if fits told.payload old.buffer then told.numbers else old.numbers))
     × (new.buffer ≡ put_into told.payload old.buffer) × (new.used ≡ length told.payload)
@@ -55,7 +55,7 @@ WritesLine (Err refusal) old new status =
     × (status ≡ refused_status refusal)
 
 -- the answer has a payload of a byte or more, for which memory is taken
-abbrev pub HasPayload : Result LineTold Refusal → Type 0
+abbrev pub HasPayload : Result LineParts Refusal → Type 0
 HasPayload (Ok told) = 0 < length told.payload
 HasPayload (Err refusal) = ⊥
 
@@ -63,6 +63,6 @@ HasPayload (Err refusal) = ⊥
 -- memory runs out, which it may only for a payload
 pub record TellsLine (line : List ℕ) (old new : LineLent) (status : ℕ) : Type 0 where
   pub some : WritesLine (Err Memory) old new status
-      ⊎ ((answer : Result LineTold Refusal) × SaysLine line answer × WritesLine answer old new status)
-  pub only : (answer : Result LineTold Refusal) → SaysLine line answer
+      ⊎ ((answer : Result LineParts Refusal) × SaysLine line answer × WritesLine answer old new status)
+  pub only : (answer : Result LineParts Refusal) → SaysLine line answer
       → (HasPayload answer × WritesLine (Err Memory) old new status) ⊎ WritesLine answer old new status

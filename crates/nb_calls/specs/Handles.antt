@@ -14,9 +14,9 @@ IsHere = InBlock
 abbrev pub IsNone : Ptr → Type 0
 IsNone at = at ≡ null_ptr
 
--- IsTold at at' value value' is_none: what is told of a station is whether it is none, and it stays
-abbrev pub IsTold : Ptr → Ptr → Kept → Kept → Bool → Type 0
-IsTold at at' value value' is_none = (at' ≡ at) × (value' ≡ value) × MatchBool is_none (IsNone at) (IsHere at)
+-- IsLookedAt at at' value value' is_none: what is answered of a station is whether it is none, and it stays
+abbrev pub IsLookedAt : Ptr → Ptr → Kept → Kept → Bool → Type 0
+IsLookedAt at at' value value' is_none = (at' ≡ at) × (value' ≡ value) × MatchBool is_none (IsNone at) (IsHere at)
 
 -- ---- how a proof stores what is kept for a station
 

@@ -12,8 +12,8 @@ use Rattle.nb_session.specs.declared.fault.SessionFault.{SessionFault}
 use Rattle.nb_session.specs.declared.fault.SessionFault.TheVariants as sessions
 use Rattle.nb_service.specs.declared.fault.ServiceFault.{ServiceFault}
 use Rattle.nb_service.specs.declared.fault.ServiceFault.TheVariants as services
-use Rattle.nb_member.specs.declared.line.LineFault.{LineFault}
-use Rattle.nb_member.specs.declared.line.LineFault.TheVariants as lines
+use Rattle.nb_capture.specs.declared.fault.LineFault.{LineFault}
+use Rattle.nb_capture.specs.declared.fault.LineFault.TheVariants as lines
 pub use Rattle.nb_calls.specs.declared.output.Refusal.{Refusal}
 pub use Rattle.nb_calls.specs.declared.output.Refusal.TheVariants.{Memory, Fault, FaultAt}
 use Rattle.nb_calls.specs.declared.statuses.TheConstants as statuses

@@ -10,7 +10,7 @@ use crate::tables::loaded;
 use nb_datagram::{Datagram, Datagrams, Key};
 use nb_member::Member;
 use nb_member::laws::a_preview_is_what_is_handed_over;
-use nb_names::{Bytes, NoMemory};
+use nb_streams::{Bytes, NoMemory};
 use nb_table::Table;
 use std::alloc::Global;
 

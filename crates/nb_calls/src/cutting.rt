@@ -15,7 +15,8 @@ use nb_datagram::limits::{DIRECT_HEADER_LENGTH, MAX_LENGTH};
 use nb_datagram::{
     Datagram, ErrorPacket, Fragment, Key, Kind, Packet, Pieces, QueryKind, QueryPacket, cut, encode,
 };
-use nb_names::{Bytes, Name, NoMemory, TextFault};
+use nb_names::{Name, TextFault};
+use nb_streams::{Bytes, NoMemory};
 use std::alloc::Global;
 
 /// How a datagram is sent: what its packets say but for the names, and the most data of each.

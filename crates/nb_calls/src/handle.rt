@@ -3,7 +3,7 @@ ghost use Rattle.std.specs.Prelude.{◌≡◌, MatchOption};
 ghost use Rattle.std.specs.declared.alloc.Global.{Global as Heap};
 ghost use Rattle.std.specs.Box.Ownership.{box_owns};
 ghost use Rattle.nb_calls.specs.declared.handle.Kept.{Kept};
-ghost use Rattle.nb_calls.specs.Handles.{kept_code, IsHere, IsNone, IsTold};
+ghost use Rattle.nb_calls.specs.Handles.{kept_code, IsHere, IsNone, IsLookedAt};
 
 use nb_member::Member;
 use std::alloc::{Allocator, Global};
@@ -80,8 +80,8 @@ pub fn let_go(station: NbtStation)
 }
 
 /// The station, and whether it is none.
-fn told(station: NbtStation) -> (NbtStation, bool)
-    ensures { IsTold station.at result.0.at station.value result.0.value result.1 }
+fn looked_at(station: NbtStation) -> (NbtStation, bool)
+    ensures { IsLookedAt station.at result.0.at station.value result.0.value result.1 }
 {
     let NbtStation { at } = station;
     let is_none = at.is_null();
@@ -94,7 +94,7 @@ pub fn taken(alloc: Global, station: &mut NbtStation) -> Option<Box<Kept>>
     ensures given { MatchOption result (IsNone station.old.at)
         (λ kept. IsHere station.old.at × (kept.value ≡ station.old.value)) }
 {
-    let (was, is_none) = told(mem::replace(station, none()));
+    let (was, is_none) = looked_at(mem::replace(station, none()));
     if is_none {
         let_go(was);
         return None;

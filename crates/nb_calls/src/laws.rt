@@ -6,7 +6,7 @@ ghost use Rattle.nb_names.specs.declared.fault.NameFault.{NameFault};
 ghost use Rattle.nb_names.specs.declared.fault.NameFault.TheVariants as names;
 ghost use Rattle.nb_names.specs.declared.fault.TextFault.{TextFault};
 ghost use Rattle.nb_names.specs.declared.fault.TextFault.TheVariants as texts;
-ghost use Rattle.nb_names.specs.Labels.{StandsAt};
+ghost use Rattle.nb_streams.specs.Places.{StandsAt};
 ghost use Rattle.nb_names.specs.Name.{NetbiosName};
 ghost use Rattle.nb_service.specs.Requests.{query_packet, status_packet, registration_packet, refresh_packet, release_packet};
 ghost use Rattle.nb_service.specs.declared.fault.ServiceFault.TheVariants as services;
@@ -25,10 +25,10 @@ ghost use Rattle.nb_datagram.specs.Fronts.{HasFront};
 ghost use Rattle.nb_datagram.specs.Packet.{QueryPacket, IsPacket, name_bytes};
 ghost use Rattle.nb_datagram.specs.Header.{IsKey};
 ghost use Rattle.nb_datagram.specs.Pieces.{piece};
-ghost use Rattle.nb_member.specs.declared.line.LineFault.TheVariants as lines;
-ghost use Rattle.nb_member.specs.declared.line.Line.TheVariants.{Packet, Tick};
+ghost use Rattle.nb_capture.specs.declared.fault.LineFault.TheVariants as lines;
+ghost use Rattle.nb_capture.specs.declared.line.Line.TheVariants.{Packet, Tick};
 ghost use Rattle.nb_calls.specs.Absorbing.{heard_bytes};
-ghost use Rattle.nb_calls.specs.Captures.{line_told};
+ghost use Rattle.nb_calls.specs.Captures.{line_parts};
 ghost use Rattle.nb_calls.specs.declared.showing.TheConstants.{BLANK, PACKET, TICK};
 ghost use Rattle.nb_calls.specs.Cutting.{are_long, packet_of};
 ghost use Rattle.nb_calls.specs.declared.tables.NbtDifference.{NbtDifference};
@@ -103,14 +103,14 @@ pub fn a_datagram_in_bytes()
 /// What a line of a capture says, as numbers and bytes: 0 and zeros of one that says nothing;
 /// 1, the port, the moment and the payload of a packet; 2 and what the clock shows of a tick.
 pub fn a_line_in_numbers()
-    ensures nothing { line_told None
+    ensures nothing { line_parts None
         ≡ record { numbers = record { kind = 0; port = 0; moment = 0 }; payload = [] } }
     ensures packet { (port moment : ℕ) (payload : List ℕ) →
-        line_told (Some (Packet port moment payload)) ≡ record {
+        line_parts (Some (Packet port moment payload)) ≡ record {
           numbers = record { kind = 1; port = port; moment = moment };
           payload = payload;
         } }
-    ensures tick { (now : ℕ) → line_told (Some (Tick now))
+    ensures tick { (now : ℕ) → line_parts (Some (Tick now))
         ≡ record { numbers = record { kind = 2; port = 0; moment = now }; payload = [] } }
 {}
 

@@ -15,9 +15,10 @@ use crate::statuses::{NAME_TRAILING_BYTES, NO_ROLE};
 use nb_names::laws::{labels_tell_the_name, one_netbios_fault, one_reading};
 use nb_names::limits::{LETTERS, MAX_SPELLING};
 use nb_names::{
-    Bytes, DomainName, Name, NameReader, NoMemory, Pointers, Skipped, TextFault, name_from_text,
-    name_text, read_name, write_domain,
+    DomainName, Name, NameReader, Pointers, Skipped, TextFault, name_from_text, name_text,
+    read_name, write_domain,
 };
+use nb_streams::{Bytes, NoMemory};
 use std::alloc::Global;
 
 /// The spelling of a name, if one was read.
@@ -122,8 +123,8 @@ pub(crate) fn spell_domain(
     }
 }
 
-/// Fills in the spelling of the domain name at an offset of a packet, along the runs in which its
-/// labels stand. It is out of line, so that others don't pay for the room of a name, and given no
+/// Fills in the spelling of the domain name at an offset of a packet, along the stretches in which
+/// its labels stand. It is out of line, so that others don't pay for the room of a name, and given no
 /// more than it needs, so that nothing is kept for it.
 #[inline(never)]
 fn spell_along(names: &NameReader<'_, '_>, at: usize, into: &mut [u8; MAX_SPELLING])

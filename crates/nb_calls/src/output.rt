@@ -11,11 +11,12 @@ use crate::statuses::{
     SECOND, SOURCE, TABLE_BAD_MAGIC, TABLE_FULL, TABLE_FULL_SOURCE, TABLE_LONG,
     TABLE_NOT_CANONICAL, TABLE_TRUNCATED, TRAILING_BYTES, TRUNCATED, UNKNOWN_TYPE,
 };
+use nb_capture::LineFault;
 use nb_datagram::DatagramFault;
-use nb_member::LineFault;
-use nb_names::{Bytes, NameFault, NoMemory, TextFault};
+use nb_names::{NameFault, TextFault};
 use nb_service::ServiceFault;
 use nb_session::SessionFault;
+use nb_streams::{Bytes, NoMemory};
 use nb_table::{LoadFault, TableFault};
 
 /// Copies the bytes to the front of a buffer, where they fit.

@@ -11,13 +11,14 @@ use crate::names::name_of_text;
 use crate::output::{Refusal, answer_of, name_refusal, text_refusal};
 use crate::statuses::{LONG_DATA, NAME_TRAILING_BYTES, NO_ROLE, UNKNOWN_REQUEST};
 use nb_names::laws::{one_fault, one_name, one_reading, one_text_fault};
-use nb_names::{Bytes, DomainName, Name, NoMemory, Pointers, TextFault, read_domain};
+use nb_names::{DomainName, Name, Pointers, TextFault, read_domain};
 use nb_service::classes::IN;
 use nb_service::limits::ENTRY_LENGTH;
 use nb_service::{
     AddressEntry, Packet, Record, RecordFault, encode, node_status_request, query, refresh,
     registration, release, response,
 };
+use nb_streams::{Bytes, NoMemory};
 use std::alloc::Global;
 
 /// The number of the last request.

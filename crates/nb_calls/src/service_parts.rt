@@ -8,7 +8,6 @@ ghost use Rattle.nb_calls.specs.ServiceParts.{ReadsAddress, ReadsDomain, ReadsNo
 
 use crate::output::{Refusal, name_refusal, put, refuse};
 use crate::statuses::{NAME_RDATA, NO_PART, NO_ROLE, OTHER_RDATA, TRUNCATED};
-use nb_names::laws::{one_fault, one_reading};
 use nb_names::limits::NAME_LENGTH;
 use nb_names::{DomainName, NameReader, Pointers};
 use nb_service::limits::UNIT_ID_LENGTH;
@@ -127,9 +126,6 @@ pub(crate) fn domain_by(
 ) -> Result<DomainName, Refusal>
     ensures { Alone (List ℕ) (ReadsDomain names.now place length) (spelled_answer result) }
 {
-    // For the clause: at a place stands one name, or it has one fault. The calls do nothing.
-    one_reading();
-    one_fault();
     match names.read_domain(place, Pointers::Followed) {
         Ok((domain, next)) => {
             if next.checked_sub(place) != Some(length) {

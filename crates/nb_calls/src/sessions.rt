@@ -11,11 +11,12 @@ ghost use Rattle.nb_calls.specs.declared.sessions.NbtSessionRetarget.{NbtSession
 use crate::names::spelled_in_place;
 use crate::output::{Refusal, session_refusal};
 use crate::statuses::{BAD_LENGTH, MORE, OTHER_TYPE, UNKNOWN_TYPE};
+use nb_names::LentName;
 use nb_names::limits::MAX_SPELLING;
-use nb_names::{Bytes, LentName, NoMemory};
 use nb_session::laws::one_header;
 use nb_session::limits::{HEADER_LENGTH, MAX_MESSAGE};
 use nb_session::{Header, Kind, LentPacket, Packet, Parsed, front_header, parse_lent};
+use nb_streams::{Bytes, NoMemory};
 use std::alloc::Global;
 
 /// A packet of the session service: its type, and where its body stands.

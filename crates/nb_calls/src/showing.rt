@@ -7,8 +7,8 @@ ghost use Rattle.nb_calls.specs.Captures.{WritesLine, line_answer, line_lent};
 
 use crate::output::{line_refusal, put, status_of};
 use crate::statuses::NO_MEMORY;
-use nb_member::{Line, LineFault};
-use nb_names::{Bytes, NoMemory};
+use nb_capture::{Line, LineFault};
+use nb_streams::{Bytes, NoMemory};
 use nb_telling::JsonRoom;
 use nb_text::{push_brief, push_packet};
 use std::alloc::Global;

@@ -12,7 +12,7 @@ use crate::stations::LONGEST;
 use crate::statuses::{NO_ROLE, SECOND};
 use nb_datagram::Key;
 use nb_member::{list_keys, list_objects};
-use nb_names::{Bytes, NoMemory};
+use nb_streams::{Bytes, NoMemory};
 use nb_table::laws::{an_input_is_read_as_one_table, saved_bytes_have_one_reading};
 use nb_table::{LoadFault, Table, load};
 use std::alloc::Global;

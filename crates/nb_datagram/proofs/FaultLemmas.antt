@@ -1,24 +1,13 @@
 -- Where bytes have a fault they begin with no packet, and have no other fault.
-use Rattle.std.proofs.Common.{◌≡◌, ℕ, ◌+◌, ◌≤◌, inl, inr, List, [], ◌∷◌, ◌++◌, length, take, refl, ap, sym, subst, ◌∙◌, arith, append_assoc, length-append}
+use Rattle.nb_datagram.proofs.Common.{◌≡◌, ℕ, ◌+◌, ◌≤◌, inl, inr, List, [], ◌∷◌, ◌++◌, length, take, refl, ap, sym, subst, ◌∙◌, arith, append_assoc, length-append, take_at, w16, to_be_bytes, Refused, StandsAt, NumberAt, NameAt, NetbiosName, IsName, labels_of_name, one_number_16, one_reading, spelling_read, stands_before, stands_behind, FragmentParts, named_length, type_of, Packet, name_bytes, direct_bytes, packet_bytes, IsPacket, header_bytes, IsKey, error_type, query_type, IsUnknownType, NamesFail, in_source, in_destination, DirectFails, no_fields, no_data, in_names, PacketFails, no_header, no_type, direct_fails, no_code, query_fails}
 use Rattle.std.proofs.Math.Seq.{take-append_seam}
-use Rattle.std.proofs.lemmas.List.{take_at}
-use Rattle.std.specs.Int.{w16, to_be_bytes}
 use Rattle.std.specs.Prelude.{Result, Ok, Err, IfOk, IfErr, IsOkAnd}
-use Rattle.nb_names.specs.declared.reading.Pointers.TheVariants.{Refused}
-use Rattle.nb_names.specs.Labels.{StandsAt, NameAt, NumberAt}
-use Rattle.nb_names.specs.Name.{NetbiosName, IsName, labels_of_name}
 use Rattle.nb_names.specs.NameFaults.{NetbiosFaultAt}
-use Rattle.nb_names.specs.PacketFacts.{one_number_16}
 use Rattle.nb_names.proofs.FaultLemmas.{one_netbios, no_netbios}
-use Rattle.nb_names.proofs.LabelsLemmas.{one_reading, spelling_read, stands_before, stands_behind}
 use Rattle.nb_names.proofs.NameLemmas.{name_domain}
 use Rattle.nb_datagram.specs.declared.fault.DatagramFault.{DatagramFault}
 use Rattle.nb_datagram.specs.declared.fault.DatagramFault.TheVariants.{SourceName, DestinationName}
 use Rattle.nb_datagram.specs.declared.packet.Packet.TheVariants.{Direct, Error, Query}
-use Rattle.nb_datagram.specs.Fragment.{FragmentParts, named_length}
-use Rattle.nb_datagram.specs.Packet.{type_of, Packet, name_bytes, direct_bytes, packet_bytes, IsPacket}
-use Rattle.nb_datagram.specs.Header.{header_bytes, IsKey, error_type, query_type, IsUnknownType}
-use Rattle.nb_datagram.specs.DatagramFaults.{NamesFail, in_source, in_destination, DirectFails, no_fields, no_data, in_names, PacketFails, no_header, no_type, direct_fails, no_code, query_fails}
 use Rattle.nb_datagram.proofs.ReadingLemmas.{header_long, kind_range, query_range}
 use Rattle.nb_datagram.proofs.PacketLemmas.{packet_type, one_type, packet_has_type, one_packet, packet_within}
 

@@ -1,19 +1,13 @@
 -- At the front of bytes stands one thing.
-use Rattle.std.proofs.Common.{◌≡◌, ℕ, ◌+◌, List, take, Option, Some, refl, ap, sym, subst, ◌∙◌}
-use Rattle.nb_names.specs.declared.reading.Pointers.TheVariants.{Refused}
-use Rattle.nb_names.specs.Labels.{NameAt}
-use Rattle.nb_names.specs.Name.{NetbiosName, labels_of_name}
+use Rattle.nb_datagram.proofs.Common.{◌≡◌, ℕ, ◌+◌, List, take, Option, Some, refl, ap, sym, subst, ◌∙◌, Refused, NameAt, NetbiosName, labels_of_name, stands_same, one_number_16, one_reading, header_bytes}
 use Rattle.nb_names.specs.NameFaults.{NetbiosFaultAt}
-use Rattle.nb_names.specs.PacketFacts.{stands_same, one_number_16}
 use Rattle.nb_names.proofs.FaultLemmas.{no_netbios}
-use Rattle.nb_names.proofs.LabelsLemmas.{one_reading}
 use Rattle.nb_names.proofs.NameLemmas.{one_name}
 use Rattle.nb_datagram.specs.declared.front.FragmentFront.{FragmentFront}
 use Rattle.nb_datagram.specs.declared.front.Front.{Front}
 use Rattle.nb_datagram.specs.declared.front.Header.{Header}
 use Rattle.nb_datagram.specs.Code.Reading.{HasHeader}
 use Rattle.nb_datagram.specs.Fronts.{NamesStand, no_name, source_alone, both_names, FragmentStands, RestStands, of_fragment, of_another, HasFront}
-use Rattle.nb_datagram.specs.Header.{header_bytes}
 use Rattle.nb_datagram.proofs.PacketLemmas.{keys_same}
 use Rattle.nb_datagram.proofs.ReadingLemmas.{header_long}
 

@@ -1,6 +1,7 @@
+mod Common
 mod ReadingLemmas
-mod PacketLemmas
-mod FrontLemmas
-mod FaultLemmas
+pub mod PacketLemmas
+pub mod FrontLemmas
+pub mod FaultLemmas
 mod PiecesLemmas
 mod TotalLemmas

@@ -1,24 +1,14 @@
 -- Bytes begin with one packet at most.
-use Rattle.std.proofs.Common.{◌≡◌, ℕ, ◌+◌, ◌<◌, ◌≤◌, ◌^◌, List, [], ◌∷◌, ◌++◌, length, drop, refl, ap, sym, subst, ◌∙◌, arith, append_assoc, length-append}
+use Rattle.nb_datagram.proofs.Common.{◌≡◌, ℕ, ◌+◌, ◌<◌, ◌≤◌, ◌^◌, List, [], ◌∷◌, ◌++◌, length, drop, refl, ap, sym, subst, ◌∙◌, arith, append_assoc, length-append, w16, to_be_bytes, from_be_bytes, Refused, StandsAt, NameAt, NetbiosName, IsName, labels_of_name, stands_same, one_reading, spelling_read, stands_before, FragmentParts, named_length, type_of, kind_of, kind_back, Packet, name_bytes, direct_bytes, packet_bytes, FitsDirect, Fits, IsPacket, header_bytes, IsKey, error_type, query_type, HasType}
 use Rattle.std.proofs.Math.Seq.{take-append_seam}
 use Rattle.std.proofs.lemmas.Nat.{from_be_bytes-to_be_bytes_2}
-use Rattle.std.specs.Int.{w16, to_be_bytes, from_be_bytes}
-use Rattle.nb_names.specs.declared.reading.Pointers.TheVariants.{Refused}
-use Rattle.nb_names.specs.Labels.{StandsAt, NameAt}
-use Rattle.nb_names.specs.Name.{NetbiosName, IsName, labels_of_name}
 use Rattle.nb_names.specs.NameFacts.{fronts_same}
-use Rattle.nb_names.specs.PacketFacts.{stands_same}
-use Rattle.nb_names.proofs.LabelsLemmas.{one_reading, spelling_read, stands_before}
 use Rattle.nb_names.proofs.NameLemmas.{name_domain, one_name}
 use Rattle.nb_datagram.specs.declared.key.Key.{Key}
 use Rattle.nb_datagram.specs.declared.key.Kind.{Kind}
 use Rattle.nb_datagram.specs.declared.packet.Packet.TheVariants.{Direct, Error, Query}
 use Rattle.nb_datagram.specs.declared.packet.QueryKind.{QueryKind}
 use Rattle.nb_datagram.specs.declared.packet.QueryKind.TheVariants.{Request, Positive, Negative}
-use Rattle.nb_datagram.specs.Fragment.{FragmentParts, named_length}
-use Rattle.nb_datagram.specs.Packet.{type_of, kind_of, kind_back, Packet, name_bytes, direct_bytes, packet_bytes, FitsDirect, Fits, IsPacket}
-use Rattle.nb_datagram.specs.Header.{header_bytes, IsKey, error_type, query_type}
-use Rattle.nb_datagram.specs.DatagramFaults.{HasType}
 use Rattle.nb_datagram.proofs.ReadingLemmas.{header_long, kind_range, query_range}
 
 -- ---- what stands in front is one

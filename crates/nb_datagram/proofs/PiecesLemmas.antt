@@ -1,10 +1,9 @@
 -- The pieces of a datagram are parts of it, which cover all its places, and the last of which ends.
-use Rattle.std.proofs.Common.{◌≡◌, ◌==◌, ◌<◌, ◌≤◌, ◌+◌, ◌-◌, ◌*◌, ◌/◌, inl, inr, ℕ, zero, suc, Bool, true, false, cond, min, List, [], ◌∷◌, ◌++◌, map, take, length, slice_get, get_or, drop, nat_lt, Some, refl, sym, ◌∙◌, ap, subst, arith}
+use Rattle.nb_datagram.proofs.Common.{◌≡◌, ◌==◌, ◌<◌, ◌≤◌, ◌+◌, ◌-◌, ◌*◌, ◌/◌, inl, inr, ℕ, zero, suc, Bool, true, false, cond, min, List, [], ◌∷◌, ◌++◌, map, take, length, slice_get, get_or, drop, nat_lt, Some, refl, sym, ◌∙◌, ap, subst, arith, length-take, length-map, get_or-take, get_or-drop, append-nil, take_all, Core, Covers, named_length, cores_of, core_of, has_more, reach, DatagramParts, name_bytes, length-drop}
 use Rattle.std.proofs.Math.ListN.{get_or-map}
 use Rattle.std.proofs.Math.Nat.{add-mul, one-mul, le-div_iff_mul-le, div-lt_iff_lt-mul, div-mul-le_self, lt-div-mul-add}
 use Rattle.std.proofs.lemmas.Bool.{cases_lt}
 use Rattle.std.proofs.lemmas.Bool.Decides.{nat_tests}
-use Rattle.std.proofs.lemmas.List.{length-take, length-drop, length-map, get_or-take, get_or-drop, append-nil, take_all}
 use Rattle.std.proofs.lemmas.Grind.{flat_map-append}
 use Rattle.std.proofs.Math.Seq.{take-add}
 use Rattle.std.proofs.lemmas.List.FromFn.{length-range_with_len, get_or-range_with_len, map-range_with_len_more}
@@ -13,8 +12,6 @@ use Rattle.std.proofs.lemmas.Option.{slice_get-get_or, get_or_from_slice_get, sl
 use Rattle.std.specs.Cmp.{both_ways}
 use Rattle.std.specs.List.{Contains, All, flat_map, range_with_len, slice_range}
 use Rattle.nb_datagram.specs.declared.limits.TheConstants.{MAX_LENGTH, MORE, FIRST}
-use Rattle.nb_datagram.specs.Fragment.{Core, Covers, named_length, cores_of, core_of, has_more, reach, DatagramParts}
-use Rattle.nb_datagram.specs.Packet.{name_bytes}
 use Rattle.nb_datagram.specs.Pieces.{IsPart, piece_count, piece, pieces, AreTooLong}
 
 -- ---- tests of numbers

@@ -1,27 +1,16 @@
 -- What a reading has found makes a packet.
-use Rattle.std.proofs.Common.{◌≡◌, ℕ, ◌+◌, ◌≤◌, List, [], ◌∷◌, ◌++◌, length, take, drop, get_or, ap, sym, subst, ◌∙◌, arith, length-append, length-drop}
-use Rattle.std.proofs.lemmas.List.{length-take-le, take_all, take-append-drop}
-use Rattle.std.specs.Int.{w16, to_be_bytes}
-use Rattle.nb_names.specs.declared.reading.Pointers.TheVariants.{Refused}
-use Rattle.nb_names.specs.Labels.{StandsAt, NameAt, NumberAt}
-use Rattle.nb_names.specs.Name.{NetbiosName, IsName, labels_of_name}
+use Rattle.nb_datagram.proofs.Common.{◌≡◌, ℕ, ◌+◌, ◌≤◌, List, [], ◌∷◌, ◌++◌, length, take, drop, get_or, ap, sym, subst, ◌∙◌, arith, length-append, length-drop, length-take-le, take_all, take-append-drop, w16, to_be_bytes, Refused, StandsAt, NumberAt, NameAt, NetbiosName, IsName, labels_of_name, stands_in_all, stands_joined, stands_before, stands_one, spelled_there, named_length, type_of, name_bytes, IsPacket, header_bytes, error_type, query_type, IsDirectType, IsQueryType, HasType, DirectFails, PacketFails, direct_fails, query_fails}
 use Rattle.nb_names.specs.NameFaults.{NetbiosFaultAt}
-use Rattle.nb_names.specs.PacketFacts.{stands_in_all}
-use Rattle.nb_names.proofs.LabelsLemmas.{stands_joined, stands_before, stands_one, spelled_there}
 use Rattle.nb_names.specs.declared.fault.NameFault.{NameFault}
 use Rattle.nb_datagram.specs.declared.front.Header.{Header}
 use Rattle.nb_datagram.specs.declared.key.Key.{Key}
 use Rattle.nb_datagram.specs.declared.key.Kind.{Kind}
 use Rattle.nb_datagram.specs.declared.packet.Packet.TheVariants as packets
 use Rattle.nb_datagram.specs.declared.packet.QueryKind.{QueryKind}
-use Rattle.nb_datagram.specs.Fragment.{named_length}
-use Rattle.nb_datagram.specs.Packet.{type_of, name_bytes, IsPacket}
-use Rattle.nb_datagram.specs.Header.{header_bytes, error_type, query_type, IsDirectType, IsQueryType}
 use Rattle.nb_datagram.specs.declared.fault.DatagramFault.{DatagramFault}
 use Rattle.nb_datagram.specs.declared.fault.DatagramFault.TheVariants.{DestinationName}
 use Rattle.nb_datagram.specs.declared.key.Kind.TheVariants.{Unique, Group, Broadcast}
 use Rattle.nb_datagram.specs.declared.packet.QueryKind.TheVariants.{Request, Positive, Negative}
-use Rattle.nb_datagram.specs.DatagramFaults.{HasType, DirectFails, PacketFails, direct_fails, query_fails}
 use Rattle.nb_datagram.specs.Code.Reading.{HasHeader}
 
 -- what stands in front, and the rest

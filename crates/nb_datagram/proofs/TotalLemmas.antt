@@ -1,14 +1,8 @@
 -- Each row of bytes begins with a packet or has a fault.
-use Rattle.std.proofs.Common.{◌≡◌, ◌==◌, cond, ◌⊎◌, ℕ, ◌+◌, ◌<◌, ◌≤◌, inl, inr, List, [], ◌∷◌, ◌++◌, length, take, drop, get_or, refl, sym, subst, ◌∙◌, arith}
+use Rattle.nb_datagram.proofs.Common.{◌≡◌, ◌==◌, cond, ◌⊎◌, ℕ, ◌+◌, ◌<◌, ◌≤◌, inl, inr, List, [], ◌∷◌, ◌++◌, length, take, drop, get_or, refl, sym, subst, ◌∙◌, arith, w16, to_be_bytes, Refused, AreBytes, StandsAt, NumberAt, labels_of_name, stands_fits, range_stands, All-take, number_there, stands_joined, stands_one, spelled_there, type_of, Packet, IsPacket, HasType, in_source, in_destination, no_fields, no_data, in_names, PacketFails, no_header, no_type, no_code}
 use Rattle.std.proofs.lemmas.Bool.{cases_lt}
 use Rattle.std.proofs.lemmas.Bool.Decides.{nat_tests}
-use Rattle.std.specs.Int.{w16, to_be_bytes}
-use Rattle.nb_names.specs.declared.reading.Pointers.TheVariants.{Refused}
-use Rattle.nb_names.specs.DomainName.{spelling, AreBytes}
-use Rattle.nb_names.specs.Labels.{StandsAt, NumberAt}
-use Rattle.nb_names.specs.Name.{labels_of_name}
-use Rattle.nb_names.specs.PacketFacts.{stands_fits, range_stands, All-take, number_there}
-use Rattle.nb_names.proofs.LabelsLemmas.{stands_joined, stands_one, spelled_there}
+use Rattle.nb_names.specs.DomainName.{spelling}
 use Rattle.nb_names.proofs.TotalityLemmas.{named_or_fault}
 use Rattle.nb_datagram.specs.declared.fault.DatagramFault.{DatagramFault}
 use Rattle.nb_datagram.specs.declared.fault.DatagramFault.TheVariants.{Truncated, UnknownType, SourceName, DestinationName}
@@ -19,8 +13,6 @@ use Rattle.nb_datagram.specs.declared.key.Key.{Key}
 use Rattle.nb_datagram.specs.declared.key.Kind.{Kind}
 use Rattle.nb_datagram.specs.declared.key.Kind.TheVariants.{Unique, Group, Broadcast}
 use Rattle.nb_datagram.specs.declared.packet.QueryKind.TheVariants.{Request, Positive, Negative}
-use Rattle.nb_datagram.specs.Packet.{type_of, Packet, IsPacket}
-use Rattle.nb_datagram.specs.DatagramFaults.{HasType, in_source, in_destination, no_fields, no_data, in_names, PacketFails, no_header, no_type, no_code}
 use Rattle.nb_datagram.specs.Code.Reading.{number_of, HasHeader}
 use Rattle.nb_datagram.proofs.ReadingLemmas.{header_type, error_there, query_there, fragment_there, query_named, direct_failed}
 

@@ -2,7 +2,7 @@
 use Rattle.std.proofs.Common.{◌≡◌, refl}
 use Rattle.std.specs.Bool.{Decides}
 use Rattle.std.specs.Cmp.{unsigned_Decides}
-use Rattle.nb_names.specs.DecidedFacts.{bytes_decide, decided_both, decided_by_view}
+use Rattle.nb_streams.specs.DecidedFacts.{bytes_decide, decided_both, decided_by_view}
 use Rattle.nb_names.specs.NameFacts.{name_eq_decides}
 use Rattle.nb_datagram.specs.declared.key.Key.{Key}
 use Rattle.nb_datagram.specs.declared.key.Kind.{Kind}

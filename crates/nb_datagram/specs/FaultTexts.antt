@@ -6,8 +6,8 @@ use Rattle.nb_datagram.specs.declared.fault.DatagramFault.TheVariants.{Truncated
 use Rattle.nb_datagram.specs.declared.fault.CutFault.{CutFault}
 use Rattle.nb_datagram.specs.declared.fault.CutFault.TheVariants as cuts
 use Rattle.std.specs.Fmt.{decimal}
-use Rattle.nb_names.specs.Addresses.{address_text}
-use Rattle.nb_names.specs.Hexadecimal.{word_text}
+use Rattle.nb_streams.specs.Addresses.{address_text}
+use Rattle.nb_streams.specs.Hexadecimal.{word_text}
 use Rattle.nb_datagram.specs.declared.key.Key.{Key}
 use Rattle.nb_datagram.specs.declared.key.Kind.{Kind}
 use Rattle.nb_datagram.specs.declared.key.Kind.TheVariants.{Unique, Group, Broadcast}

@@ -1,16 +1,20 @@
 //! Whole datagrams, their data, and the pieces into which they are cut.
-ghost use Rattle.std.specs.Prelude.{◌≡◌, ◌≤◌, ◌<◌, length, MatchResult, ◌↔◌, ◌+◌, min, IfOk, IsErrOf};
-ghost use Rattle.nb_datagram.specs.Fragment.{datagram_by};
+ghost use Rattle.std.specs.Prelude.{◌≡◌, ◌≤◌, ◌<◌, length, MatchResult, ◌↔◌, ◌+◌, min, IfOk, IsErrOf, List, ℕ};
+ghost use Rattle.nb_datagram.specs.Fragment.{datagram_by, DatagramParts};
 ghost use Rattle.nb_datagram.specs.declared.limits.TheConstants.{MAX_LENGTH};
 ghost use Rattle.nb_datagram.specs.Packet.{name_bytes};
 ghost use Rattle.nb_datagram.specs.Pieces.{piece_count, piece as piece_of, pieces as pieces_of, AreTooLong};
+ghost use Rattle.std.specs.Cmp.{decided, partial_equiv_from_equiv};
+ghost use Rattle.nb_datagram.specs.Equality.{datagram_eq};
+ghost use Rattle.nb_datagram.specs.EqualityFacts.{datagram_eq_decides};
 
 use crate::fault::{CutFault, TooLong};
 use crate::fragment::{Fragment, LentFragment};
 use crate::key::{Key, Kind};
 use crate::limits::{FIRST, MAX_LENGTH, MORE};
 use crate::packet::Pieces;
-use nb_names::{Bytes, LentName, Name, NameForm};
+use nb_names::{LentName, Name, NameForm};
+use nb_streams::Bytes;
 use std::alloc::Global;
 use std::marker::Model;
 
@@ -25,8 +29,6 @@ pub struct Datagram {
 }
 
 impl Model for Datagram {
-    ghost use Rattle.nb_datagram.specs.Fragment.{DatagramParts};
-
     ghost Value = { DatagramParts };
 
     ghost view = { λ d. record {
@@ -145,11 +147,6 @@ impl Datagram {
 }
 
 impl PartialEq for Datagram {
-    ghost use Rattle.std.specs.Prelude.{◌≡◌};
-    ghost use Rattle.std.specs.Cmp.{decided, partial_equiv_from_equiv};
-    ghost use Rattle.nb_datagram.specs.Equality.{datagram_eq};
-    ghost use Rattle.nb_datagram.specs.EqualityFacts.{datagram_eq_decides};
-
     ghost eq = { datagram_eq };
 
     ghost laws = { partial_equiv_from_equiv (decided datagram_eq datagram_eq_decides) };
@@ -166,10 +163,6 @@ impl PartialEq for Datagram {
 }
 
 impl Eq for Datagram {
-    ghost use Rattle.std.specs.Cmp.{decided};
-    ghost use Rattle.nb_datagram.specs.Equality.{datagram_eq};
-    ghost use Rattle.nb_datagram.specs.EqualityFacts.{datagram_eq_decides};
-
     ghost laws = { decided datagram_eq datagram_eq_decides };
 }
 
@@ -180,9 +173,6 @@ pub struct UserData {
 }
 
 impl Model for UserData {
-    ghost use Rattle.std.specs.Prelude.{List, ℕ, ◌≤◌, length};
-    ghost use Rattle.nb_datagram.specs.declared.limits.TheConstants.{MAX_LENGTH};
-
     ghost Value = { List ℕ };
 
     ghost view = { λ d. d.bytes };

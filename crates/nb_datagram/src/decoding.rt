@@ -15,8 +15,8 @@ use crate::limits::{
     HEADER_LENGTH, NEGATIVE_RESPONSE, POSITIVE_RESPONSE, QUERY_REQUEST,
 };
 use crate::packet::{ErrorPacket, LentPacket, LentQuery, Packet, QueryKind};
-use nb_names::numbers::number_16;
 use nb_names::read_lent_name;
+use nb_streams::numbers::number_16;
 
 /// Decodes the packet at the front of bytes, and how many of them it takes up.
 ///

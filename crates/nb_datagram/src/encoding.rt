@@ -1,13 +1,16 @@
 //! Packets, encoded.
-ghost use Rattle.std.specs.Prelude.{◌≡◌, ◌∷◌, ◌++◌, ℕ, List, length, IfOk, OnOk};
+ghost use Rattle.std.specs.Prelude.{◌≡◌, ◌++◌, ℕ, List, length, IfOk, OnOk};
+ghost use Rattle.nb_datagram.specs.declared.packet.Packet.TheVariants.{Direct};
 ghost use Rattle.nb_datagram.specs.Header.{header_bytes, IsKey};
-ghost use Rattle.nb_datagram.specs.Packet.{name_bytes, direct_bytes, packet_bytes, IsPacket, Fits, FitsDirect};
+ghost use Rattle.nb_names.specs.Name.{IsName};
+ghost use Rattle.nb_datagram.specs.Packet.{name_bytes, packet_bytes, IsPacket, Fits, FitsDirect};
 
 use crate::fragment::Fragment;
 use crate::key::Key;
 use crate::limits::ERROR_TYPE;
 use crate::packet::Packet;
-use nb_names::{Bytes, Name, NoMemory};
+use nb_names::Name;
+use nb_streams::{Bytes, NoMemory};
 use std::alloc::Global;
 
 /// Encodes a packet: the bytes that are decoded as it.
@@ -26,15 +29,14 @@ pub fn encode(alloc: Global, packet: &Packet<'_>) -> Result<Bytes, NoMemory>
     ensures read_again { IfOk result (λ bytes. (rest : List ℕ) →
         IsPacket (bytes ++ rest) packet.now (length bytes)) }
 {
-    // For the clause `read_again`; the call does nothing.
-    packet_fits(packet);
     Ok(Bytes::from_vec(write_packet(alloc, packet)?))
 }
 
 /// Adds a header after the bytes.
 fn push_header(bytes: &mut Vec<u8>, message_type: u8, flags: u8, key: Key) -> Result<(), NoMemory>
-    ensures { OnOk result (bytes.new.items ≡
+    ensures added { OnOk result (bytes.new.items ≡
         bytes.old.items ++ header_bytes message_type flags key) }
+    ensures fits { IsKey key }
 {
     bytes.push(message_type)?;
     bytes.push(flags)?;
@@ -46,16 +48,23 @@ fn push_header(bytes: &mut Vec<u8>, message_type: u8, flags: u8, key: Key) -> Re
 
 /// Adds a name after the bytes, as it is spelled.
 fn push_name(bytes: &mut Vec<u8>, name: &Name) -> Result<(), NoMemory>
-    ensures { OnOk result (bytes.new.items ≡ bytes.old.items ++ name_bytes name.now) }
+    ensures added { OnOk result (bytes.new.items ≡ bytes.old.items ++ name_bytes name.now) }
+    ensures fits { IsName name.now }
 {
+    // For the clause `fits`; the call does nothing.
+    let _ = name.bytes();
     bytes.extend_from_slice(name.to_domain().spelling())?;
     Ok(())
 }
 
-/// Adds what stands after the header of a fragment's packet.
+/// Adds a fragment's packet after the bytes.
 fn push_direct(bytes: &mut Vec<u8>, fragment: &Fragment<'_>) -> Result<(), NoMemory>
-    ensures { OnOk result (bytes.new.items ≡ bytes.old.items ++ direct_bytes fragment.now) }
+    ensures added { OnOk result (bytes.new.items ≡
+        bytes.old.items ++ packet_bytes (Direct fragment.now)) }
+    ensures fits { OnOk result (FitsDirect fragment.now) }
 {
+    let message_type = fragment.kind().message_type();
+    push_header(bytes, message_type, fragment.flags(), fragment.key())?;
     bytes.extend_from_slice(&fragment.named_length().to_be_bytes())?;
     bytes.extend_from_slice(&fragment.offset().to_be_bytes())?;
     push_name(bytes, fragment.source())?;
@@ -64,60 +73,23 @@ fn push_direct(bytes: &mut Vec<u8>, fragment: &Fragment<'_>) -> Result<(), NoMem
     Ok(())
 }
 
-/// The bytes of a packet, in a vector.
+/// The bytes of a packet, in a vector. The packet's fields have room for it.
 fn write_packet(alloc: Global, packet: &Packet<'_>) -> Result<Vec<u8>, NoMemory>
-    ensures { IfOk result (λ bytes. bytes.items ≡ packet_bytes packet.now) }
+    ensures written { IfOk result (λ bytes. bytes.items ≡ packet_bytes packet.now) }
+    ensures fits { OnOk result (Fits packet.now) }
 {
     let mut bytes = Vec::new(alloc);
     match packet {
-        Packet::Direct(fragment) => {
-            let message_type = fragment.kind().message_type();
-            push_header(&mut bytes, message_type, fragment.flags(), fragment.key())?;
-            push_direct(&mut bytes, fragment)?;
-        }
+        Packet::Direct(fragment) => push_direct(&mut bytes, fragment)?,
         Packet::Error(error) => {
             push_header(&mut bytes, ERROR_TYPE, error.flags, error.key)?;
             bytes.push(error.code)?;
         }
         Packet::Query(query) => {
-            push_header(
-                &mut bytes,
-                query.kind.message_type(),
-                query.flags,
-                query.key,
-            )?;
+            let message_type = query.kind.message_type();
+            push_header(&mut bytes, message_type, query.flags, query.key)?;
             push_name(&mut bytes, &query.destination)?;
         }
     }
     Ok(bytes)
-}
-
-/// A key's fields have room for it: for proofs, as the two below; a call does nothing.
-fn key_fits(_key: Key)
-    ensures { IsKey _key }
-{}
-
-/// A fragment's fields have room for it.
-fn fragment_fits(fragment: &Fragment<'_>)
-    ensures { FitsDirect fragment.now }
-{
-    let _ = fragment.offset();
-    let _ = fragment.bytes();
-    let _ = fragment.source().bytes();
-    let _ = fragment.destination().bytes();
-    key_fits(fragment.key());
-}
-
-/// A packet's fields have room for it.
-pub(crate) fn packet_fits(packet: &Packet<'_>)
-    ensures { Fits packet.now }
-{
-    match packet {
-        Packet::Direct(fragment) => fragment_fits(fragment),
-        Packet::Error(error) => key_fits(error.key),
-        Packet::Query(query) => {
-            let _ = query.destination.bytes();
-            key_fits(query.key);
-        }
-    }
 }

@@ -1,6 +1,7 @@
 //! Why bytes begin with no packet, and why a fragment or datagram isn't made or cut.
-ghost use Rattle.std.specs.Prelude.{◌≡◌};
-ghost use Rattle.nb_datagram.specs.FaultTexts.{datagram_fault_place, datagram_fault_subject, datagram_fault_words};
+ghost use Rattle.std.specs.Prelude.{◌≡◌, Some, codes};
+ghost use Rattle.nb_datagram.specs.FaultTexts.{datagram_fault_place, datagram_fault_subject, datagram_fault_words, datagram_fault_text, cut_fault_text};
+ghost use Rattle.nb_datagram.specs.declared.fault.CutFault.TheVariants.{NoMemory};
 
 use nb_names::NameFault;
 use std::alloc::AllocFailed;
@@ -65,9 +66,6 @@ impl DatagramFault {
 }
 
 impl fmt::Display for DatagramFault {
-    ghost use Rattle.std.specs.Prelude.{Some};
-    ghost use Rattle.nb_datagram.specs.FaultTexts.{datagram_fault_text};
-
     ghost output = { λ fault. Some (datagram_fault_text fault) };
 
     fn fmt<W: fmt::Write>(&self, f: &mut fmt::Formatter<W>) -> fmt::Result {
@@ -94,9 +92,6 @@ pub enum CutFault {
 }
 
 impl fmt::Display for CutFault {
-    ghost use Rattle.std.specs.Prelude.{Some};
-    ghost use Rattle.nb_datagram.specs.FaultTexts.{cut_fault_text};
-
     ghost output = { λ fault. Some (cut_fault_text fault) };
 
     fn fmt<W: fmt::Write>(&self, f: &mut fmt::Formatter<W>) -> fmt::Result {
@@ -111,9 +106,6 @@ impl fmt::Display for CutFault {
 impl Error for CutFault {}
 
 impl<T: Drop> From<AllocFailed<T>> for CutFault {
-    ghost use Rattle.std.specs.Prelude.{◌≡◌};
-    ghost use Rattle.nb_datagram.specs.declared.fault.CutFault.TheVariants.{NoMemory};
-
     ghost from_gives = { λ _ fault. fault ≡ NoMemory };
 
     fn from(_e: AllocFailed<T>) -> CutFault {
@@ -126,8 +118,6 @@ impl<T: Drop> From<AllocFailed<T>> for CutFault {
 pub struct TooLong;
 
 impl fmt::Display for TooLong {
-    ghost use Rattle.std.specs.Prelude.{Some, codes};
-
     ghost output = { λ _. Some (codes "too long") };
 
     fn fmt<W: fmt::Write>(&self, f: &mut fmt::Formatter<W>) -> fmt::Result {

@@ -2,6 +2,9 @@
 ghost use Rattle.std.specs.Prelude.{◌≡◌, ◌≤◌, ◌<◌, ◌+◌, length, MatchResult};
 ghost use Rattle.nb_datagram.specs.Fragment.{named_length, has_more, is_first};
 ghost use Rattle.nb_datagram.specs.declared.limits.TheConstants.{MAX_LENGTH};
+ghost use Rattle.std.specs.Cmp.{decided, partial_equiv_from_equiv};
+ghost use Rattle.nb_datagram.specs.Equality.{fragment_eq};
+ghost use Rattle.nb_datagram.specs.EqualityFacts.{fragment_eq_decides};
 
 use crate::fault::TooLong;
 use crate::key::{Key, Kind};
@@ -80,9 +83,6 @@ impl<'a, N: NameForm> Fragment<'a, N> {
             (λ _. MAX_LENGTH
             < named_length (N.name source) (N.name destination) bytes.entry.now) }
     {
-        if bytes.len() > MAX_LENGTH {
-            return Err(TooLong);
-        }
         if source.spelled_len() + destination.spelled_len() + bytes.len() > MAX_LENGTH {
             return Err(TooLong);
         }
@@ -237,11 +237,6 @@ impl<'a, N: NameForm> Fragment<'a, N> {
 }
 
 impl<N: NameForm> PartialEq for Fragment<'_, N> {
-    ghost use Rattle.std.specs.Prelude.{◌≡◌};
-    ghost use Rattle.std.specs.Cmp.{decided, partial_equiv_from_equiv};
-    ghost use Rattle.nb_datagram.specs.Equality.{fragment_eq};
-    ghost use Rattle.nb_datagram.specs.EqualityFacts.{fragment_eq_decides};
-
     ghost eq = { fragment_eq };
 
     ghost laws = { partial_equiv_from_equiv (decided fragment_eq fragment_eq_decides) };
@@ -260,9 +255,5 @@ impl<N: NameForm> PartialEq for Fragment<'_, N> {
 }
 
 impl<N: NameForm> Eq for Fragment<'_, N> {
-    ghost use Rattle.std.specs.Cmp.{decided};
-    ghost use Rattle.nb_datagram.specs.Equality.{fragment_eq};
-    ghost use Rattle.nb_datagram.specs.EqualityFacts.{fragment_eq_decides};
-
     ghost laws = { decided fragment_eq fragment_eq_decides };
 }

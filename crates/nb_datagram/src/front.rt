@@ -9,8 +9,8 @@ ghost use Rattle.nb_datagram.specs.Code.Reading.{HasHeader};
 
 use crate::key::Key;
 use crate::limits::{BROADCAST, DIRECT_HEADER_LENGTH, DIRECT_UNIQUE, HEADER_LENGTH};
-use nb_names::numbers::number_16;
 use nb_names::{LentName, read_lent_name};
+use nb_streams::numbers::number_16;
 
 /// What stands at the front of bytes, whether or not they begin with a packet.
 #[derive(Drop)]
@@ -92,10 +92,7 @@ fn read_fragment<'a>(bytes: &'a [u8]) -> Option<FragmentFront<'a>>
 fn front_of<'a>(bytes: &'a [u8], count: usize) -> &'a [u8]
     ensures { result.now ≡ take count bytes.now }
 {
-    if bytes.len() < count {
-        return bytes;
-    }
-    &bytes[..count]
+    &bytes[..count.min(bytes.len())]
 }
 
 /// The names that stand whole after the header of a fragment's packet.

@@ -1,13 +1,18 @@
 //! Keys and kinds of datagrams, and their texts.
-#![tactic(auto, using(nb_names::specs::Growth::front_stays))]
+#![tactic(auto, using(nb_streams::specs::Growth::front_stays))]
 
 ghost use Rattle.std.specs.Prelude.{◌≡◌, ◌++◌, OnOk, string_bytes};
-ghost use Rattle.nb_names.specs.Growth.{OnlyAdds};
+ghost use Rattle.nb_streams.specs.Growth.{OnlyAdds};
 ghost use Rattle.nb_datagram.specs.Packet.{type_of};
 ghost use Rattle.nb_datagram.specs.FaultTexts.{key_text, kind_text};
+ghost use Rattle.std.proofs.Common.{rules};
+ghost use Rattle.std.specs.Cmp.Rules.{comparing};
+ghost use Rattle.nb_datagram.specs.Key.{key_cmp};
+ghost use Rattle.std.specs.Cmp.{partial_order_from_own_ties};
+ghost use Rattle.std.specs.Ordering.{as_partial_cmp};
 
 use crate::limits::{BROADCAST, DIRECT_GROUP, DIRECT_UNIQUE};
-use nb_names::{NoMemory, push_address, push_decimal, push_word_digits};
+use nb_streams::{NoMemory, push_address, push_decimal, push_word_digits};
 use std::cmp::Ordering;
 
 /// Which datagram a packet is of: its sender's address and port, and the identifier that the sender
@@ -27,10 +32,6 @@ pub struct Key {
 }
 
 impl Ord for Key {
-    ghost use Rattle.std.proofs.Common.{rules};
-    ghost use Rattle.std.specs.Cmp.Rules.{comparing};
-    ghost use Rattle.nb_datagram.specs.Key.{key_cmp};
-
     ghost cmp = { key_cmp };
 
     ghost total = { Prim.search (comparing, rules) };
@@ -49,12 +50,6 @@ impl Ord for Key {
 }
 
 impl PartialOrd for Key {
-    ghost use Rattle.std.proofs.Common.{rules};
-    ghost use Rattle.std.specs.Cmp.Rules.{comparing};
-    ghost use Rattle.std.specs.Cmp.{partial_order_from_own_ties};
-    ghost use Rattle.std.specs.Ordering.{as_partial_cmp};
-    ghost use Rattle.nb_datagram.specs.Key.{key_cmp};
-
     ghost partial_cmp = { as_partial_cmp key_cmp };
 
     ghost laws = { partial_order_from_own_ties (Prim.search (comparing, rules))

@@ -3,7 +3,7 @@ ghost use Rattle.std.specs.Prelude.{◌≡◌, ◌↔◌, ◌⊎◌, ◌≤◌, 
 ghost use Rattle.std.specs.Cmp.{IsTotalOrder};
 ghost use Rattle.std.specs.List.{flat_map};
 ghost use Rattle.std.specs.declared.cmp.Ordering.TheVariants.{Equal};
-ghost use Rattle.nb_names.specs.DomainName.{AreBytes};
+ghost use Rattle.nb_streams.specs.Places.{AreBytes};
 ghost use Rattle.nb_datagram.specs.declared.error_codes.TheConstants.{DESTINATION_NAME_NOT_PRESENT, INVALID_SOURCE_NAME_FORMAT, INVALID_DESTINATION_NAME_FORMAT};
 ghost use Rattle.nb_datagram.specs.declared.fault.DatagramFault.{DatagramFault};
 ghost use Rattle.nb_datagram.specs.declared.key.Kind.TheVariants.{Unique, Group, Broadcast};

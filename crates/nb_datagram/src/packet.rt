@@ -6,7 +6,8 @@ use crate::datagram::Datagram;
 use crate::fragment::Fragment;
 use crate::key::Key;
 use crate::limits::{NEGATIVE_RESPONSE, POSITIVE_RESPONSE, QUERY_REQUEST};
-use nb_names::{Items, LentName, Name, NameForm};
+use nb_names::{LentName, Name, NameForm};
+use nb_streams::Items;
 
 /// A packet of the datagram service (RFC 1002 section 4.4). Its names stand in the form `N`.
 ///

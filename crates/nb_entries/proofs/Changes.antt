@@ -1,19 +1,10 @@
 -- What facts that grow change at their key.
-use Rattle.std.proofs.Common.{◌≡◌, ◌≢◌, ◌≤◌, ℕ, List, length, Option, Some, None, refl, sym, ◌∙◌, ap, arith, cond}
+use Rattle.nb_entries.proofs.Common.{◌≡◌, ◌≢◌, ◌≤◌, ℕ, List, length, Option, Some, None, refl, sym, ◌∙◌, ap, arith, cond, DatagramParts, FragmentParts, Spoilt, Held, CoverFacts, EntryFacts, EntryValue, FactsFit, facts_together, join_entry, facts_agree_of, Holds, bytes_to, datagram_with, datagram_of, newly, together_held, below_found}
 use Rattle.nb_datagram.specs.declared.key.Key.{Key}
-use Rattle.nb_datagram.specs.Fragment.{DatagramParts, FragmentParts}
-use Rattle.nb_entries.specs.Maps.{Spoilt, Held}
-use Rattle.nb_entries.specs.Cover.{CoverFacts}
-use Rattle.nb_entries.specs.Entry.{EntryFacts, EntryValue, FactsFit, facts_together, join_entry}
-use Rattle.nb_entries.specs.Shared.EntryLemmas.{facts_agree_of}
-use Rattle.nb_entries.specs.Code.CoverFacts.{Holds}
-use Rattle.nb_entries.specs.Whole.{bytes_to, datagram_with, datagram_of, newly}
 use Rattle.nb_entries.specs.declared.outline.Handing.{Handing}
 use Rattle.nb_entries.specs.declared.outline.Handing.TheVariants.{Over, Kept}
 use Rattle.nb_entries.specs.declared.outline.Change.TheVariants.{Whole}
 use Rattle.nb_entries.specs.Change.{KeyChange, made_by, grown_to, handed_by, told_by}
-use Rattle.nb_entries.specs.Shared.CoverLemmas.{together_held}
-use Rattle.nb_entries.specs.Shared.WholeLemmas.{below_found}
 use Rattle.nb_entries.proofs.Covers.{together_holds}
 
 -- facts that are held add nothing

@@ -1,27 +1,8 @@
 -- Where a promise lies: past the places that its fragment covers.
-use Rattle.std.proofs.Common.{◌<◌, ◌≤◌, ◌-◌, inl, inr, ℕ, get_or, sym, subst, arith, ◌≡◌, ◌+◌, slice_get, List, [], ◌∷◌, Bool, true, false, cond, Option, Some, None, refl, ◌∙◌, ap, ◌==◌, ◌||◌, suc, length, append-nil}
-use Rattle.std.proofs.lemmas.Bool.{cases_lt, lt-leb, eqb-true, eq-eqb}
-use Rattle.std.proofs.lemmas.Option.{slice_get-get_or}
-use Rattle.nb_datagram.specs.Fragment.{Core, Covers, reach}
-use Rattle.nb_entries.specs.Marks.{GoesOnFrom, Promises, marks_of, marks_together, same_where}
-use Rattle.nb_entries.specs.Cover.{placed, CoverFacts, CoversFit, AreCoverFacts, IsCover, cover_of, bytes_agree, bytes_lie_below, covers_together}
-use Rattle.nb_entries.specs.Shared.PlacedLemmas.{covers_below, find-placed}
-use Rattle.std.specs.Ordering.{nat_cmp, eq_by_cmp}
-use Rattle.std.specs.Cmp.{nat_cmp_total, both_ways}
+use Rattle.nb_entries.proofs.Common.{◌<◌, ◌≤◌, ◌-◌, inl, inr, ℕ, get_or, sym, subst, arith, ◌≡◌, ◌+◌, slice_get, List, [], ◌∷◌, Bool, true, false, cond, Option, Some, None, refl, ◌∙◌, ap, ◌==◌, ◌||◌, suc, length, cases_lt, lt-leb, eqb-true, eq-eqb, slice_get-get_or, Core, Covers, reach, GoesOnFrom, Promises, marks_of, marks_together, same_where, placed, CoverFacts, CoversFit, AreCoverFacts, IsCover, cover_of, bytes_agree, bytes_lie_below, covers_together, covers_below, find-placed, nat_cmp, eq_by_cmp, nat_cmp_total, both_ways, first_of, Spoilt, Held, with_bytes, Holds, is_there, one_key, all_entries_found, all_entries_from, sorted_entries, nat_tests, T, nat_le, nat_lt, list_all, in_union, same_cover, agree_of, same_at, at_same, either_first, first_alone, run_below, sorted_placed, join_cover_formed, append-nil}
 use Rattle.std.specs.FinMap as maps
 use Rattle.std.specs.FinMap.{nat_cmp-IsAntisymmetric, is_sorted}
 use Rattle.std.specs.Option.{option_or}
-use Rattle.nb_entries.specs.Maps.{first_of, Spoilt, Held}
-use Rattle.nb_entries.specs.Code.CoverFacts.{with_bytes, Holds, is_there}
-use Rattle.nb_entries.specs.Shared.MapsLemmas.{one_key, all_entries_found, all_entries_from, sorted_entries}
-use Rattle.std.proofs.lemmas.Bool.Decides.{nat_tests}
-use Rattle.std.specs.Prelude.{T, nat_le, nat_lt}
-use Rattle.std.specs.List.{list_all}
-use Rattle.nb_entries.specs.Shared.CoverLemmas.{in_union, same_cover, agree_of}
-use Rattle.nb_entries.specs.Shared.MarksLemmas.{same_at, at_same, either_first, first_alone}
-use Rattle.nb_entries.specs.Shared.RowLemmas.{run_below}
-use Rattle.nb_entries.specs.Shared.RunsLemmas.{sorted_placed}
-use Rattle.nb_entries.specs.Shared.EntryLemmas.{join_cover_formed}
 
 -- all places up to its reach are covered
 pub up_to_reach : (f : Core) (i : ℕ) → f.offset ≤ i → i < reach f → (x : ℕ) × Covers f i x

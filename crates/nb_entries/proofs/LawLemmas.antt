@@ -1,10 +1,6 @@
 -- The lemmas of which the laws of joins and of agreement are made.
-use Rattle.std.proofs.Common.{◌≡◌, Decides}
-use Rattle.nb_entries.specs.Cover.{CoverValue, join_cover, IsCover}
-use Rattle.nb_entries.specs.Entry.{EntryFacts, FactsFit, facts_agree}
+use Rattle.nb_entries.proofs.Common.{◌≡◌, Decides, CoverValue, join_cover, IsCover, EntryFacts, FactsFit, facts_agree, covers_unite, formed_agrees, facts_fit_of, facts_agree_of, join_entry-comm, join_entry-assoc, join_entry-idem}
 use Rattle.nb_entries.specs.Shared.SlotLemmas.{join-comm, join-assoc, idem_formed}
-use Rattle.nb_entries.specs.Shared.CoverLemmas.{covers_unite, formed_agrees}
-use Rattle.nb_entries.specs.Shared.EntryLemmas.{facts_fit_of, facts_agree_of, join_entry-comm, join_entry-assoc, join_entry-idem}
 
 pub facts_agree_decides : (a b : EntryFacts) → Decides (facts_agree a b) (FactsFit a b)
 facts_agree_decides a b = (facts_fit_of a b, facts_agree_of a b)

@@ -1,3 +1,4 @@
+mod Common
 mod Changes
 mod Covers
 mod KeptRuns

@@ -1,25 +1,9 @@
 -- The ranges of a map of bytes are apart, have its places and no other, and no other row of ranges does so.
-use Rattle.std.proofs.Common.{◌≡◌, ◌<◌, ◌≤◌, ℕ, List, [], ◌∷◌, map, Some, None, Option, inl, inr, refl, sym, ◌∙◌, ap, ap₂, arith, Bool, true, cond, ◌+◌, suc, length, ◌^◌, subst}
-use Rattle.std.proofs.lemmas.Bool.{cases_lt}
-use Rattle.std.specs.Ordering.{nat_cmp}
+use Rattle.nb_entries.proofs.Common.{◌≡◌, ◌<◌, ◌≤◌, ℕ, List, [], ◌∷◌, map, Some, None, Option, inl, inr, refl, sym, ◌∙◌, ap, ap₂, arith, Bool, true, cond, ◌+◌, suc, length, ◌^◌, subst, cases_lt, nat_cmp, first_of, OneHas, StartPast, RangesApart, AreRangesOf, range_of, ranges_of_map, RunValue, run_end, StartsPast, AreApart, runs_of_map, places_of, map_of_runs, byte_in, look_in, held_in, EndBy, first_either, bytes_below_decides, given_back, runs_apart, places-runs, no_marks, CoverFacts, bytes_lie_below, placed, BytesBelow, IsAwaited, awaited_of, taken, same_Some, places_in_map, MAX_LENGTH, length-append}
 use Rattle.std.specs.FinMap as maps
 use Rattle.nb_entries.specs.declared.ranges.PlaceRange.{PlaceRange}
-use Rattle.nb_entries.specs.Maps.{first_of}
-use Rattle.nb_entries.specs.Runs.{OneHas, StartPast, RangesApart, AreRangesOf, range_of, ranges_of_map, RunValue, run_end, StartsPast, AreApart, runs_of_map, places_of, map_of_runs}
-use Rattle.nb_entries.specs.Code.Rows.{byte_in, look_in, held_in, EndBy}
-use Rattle.nb_entries.specs.Shared.MarksLemmas.{first_either}
-use Rattle.nb_entries.specs.Shared.CoverLemmas.{bytes_below_decides}
-use Rattle.nb_entries.specs.Shared.RunsLemmas.{given_back, runs_apart, places-runs}
 use Rattle.nb_entries.proofs.KeptRuns.RunRowLemmas.{get-runs, has_below, has_from, byte_within}
 use Rattle.std.specs.Option.{option_and_then}
-use Rattle.nb_entries.specs.Marks.{no_marks}
-use Rattle.nb_entries.specs.Cover.{CoverFacts, bytes_lie_below, placed, BytesBelow}
-use Rattle.nb_entries.specs.Whole.{IsAwaited, awaited_of}
-use Rattle.nb_entries.specs.Shared.PlacedLemmas.{taken}
-use Rattle.std.proofs.lemmas.Option.{same_Some}
-use Rattle.std.proofs.lemmas.List.{length-append}
-use Rattle.nb_entries.specs.Shared.RowLemmas.{places_in_map}
-use Rattle.nb_datagram.specs.declared.limits.TheConstants.{MAX_LENGTH}
 use Rattle.nb_entries.specs.Shared.SavedLemmas.{few_runs, places_below, runs_end}
 
 -- ---- the ranges of runs

@@ -1,14 +1,11 @@
 -- Rows of runs, read one after the other.
-use Rattle.std.proofs.Common.{◌≡◌, ◌+◌, ◌-◌, ◌<◌, ℕ, suc, List, Option, Some, [], ◌∷◌, ◌++◌, Ok, Err, refl, sym, subst, arith, append_assoc, append-nil}
-use Rattle.std.proofs.lemmas.Option.{same_Some}
-use Rattle.std.proofs.lemmas.Result.{err_from_is_err_and}
+use Rattle.nb_entries.proofs.Common.{◌≡◌, ◌+◌, ◌-◌, ◌<◌, ℕ, suc, List, Option, Some, [], ◌∷◌, ◌++◌, Ok, Err, refl, sym, subst, arith, append_assoc, same_Some, err_from_is_err_and, RunValue, run_end, Outcome, Then, cut, whole, is_0, is_1, is_neither, gives, stops, goes_on, good, bad, PromisesBelow, end_at, promise_at, row_at, append-nil}
 use Rattle.std.specs.Result.{IsErrAnd}
 use Rattle.nb_names.proofs.LabelsLemmas.{stands_one}
 use Rattle.nb_entries.specs.declared.saved.LoadFault.{LoadFault}
 use Rattle.nb_entries.specs.declared.saved.LoadFault.TheVariants.{NotCanonical}
 use Rattle.nb_entries.specs.declared.saved.SavedForm.TheVariants.{Second}
-use Rattle.nb_entries.specs.Runs.{RunValue, run_end}
-use Rattle.nb_entries.specs.SavedReading.{Outcome, Then, cut, whole, is_0, is_1, is_neither, gives, stops, goes_on, good, bad, PromisesBelow, end_at, promise_at, run_at, row_at}
+use Rattle.nb_entries.specs.SavedReading.{run_at}
 
 -- ---- how readings end
 

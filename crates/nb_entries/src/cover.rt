@@ -6,13 +6,16 @@ ghost use Rattle.std.specs.FinMap as maps;
 ghost use Rattle.nb_datagram.specs.Fragment.{core_of};
 ghost use Rattle.nb_entries.specs.Maps.{Held};
 ghost use Rattle.nb_datagram.specs.declared.limits.TheConstants.{MAX_LENGTH};
-ghost use Rattle.nb_entries.specs.Cover.{BytesBelow, CoversFit, cover_of, covers_agree, covers_together, is_below_end, bytes_lie_below, AreCoverFacts};
+ghost use Rattle.nb_entries.specs.Cover.{BytesBelow, CoversFit, cover_of, covers_agree, covers_together, is_below_end, bytes_lie_below, AreCoverFacts, CoverFacts};
 ghost use Rattle.nb_entries.specs.Code.CoverFacts.{Holds};
 ghost use Rattle.nb_entries.specs.Runs.{runs_of_map, ranges_of_map, map_of_runs};
 ghost use Rattle.nb_entries.specs.Whole.{bytes_to, IsWholeCover, awaited_of};
 ghost use Rattle.nb_entries.specs.Sinks.{Puts};
 ghost use Rattle.nb_entries.specs.Saved.{cover_bytes};
 ghost use Rattle.nb_entries.specs.declared.saved.SavedForm.TheVariants.{Second};
+ghost use Rattle.nb_entries.specs.Codes.{cover_facts_code};
+ghost use Rattle.nb_entries.specs.Shared.EqualLemmas.{cover_facts_per, cover_facts_equiv};
+ghost use Rattle.nb_entries.specs.Equal.{same_cover_facts};
 
 pub(crate) mod marks;
 pub(crate) mod runs;
@@ -25,7 +28,7 @@ use crate::saved::runs::SavedRuns;
 use crate::slot::Slot;
 use marks::{Marks, is_below};
 use nb_datagram::{Fragment, LentFragment};
-use nb_names::{Bytes, NoMemory};
+use nb_streams::{Bytes, NoMemory};
 use runs::Runs;
 use std::alloc::Global;
 use std::marker::Model;
@@ -41,9 +44,6 @@ pub struct CoverFacts {
 }
 
 impl Model for CoverFacts {
-    ghost use Rattle.nb_entries.specs.Codes.{cover_facts_code};
-    ghost use Rattle.nb_entries.specs.Cover.{CoverFacts, AreCoverFacts};
-
     ghost Value = { CoverFacts };
 
     ghost coded = { cover_facts_code };
@@ -242,9 +242,6 @@ impl CoverFacts {
 }
 
 impl PartialEq for CoverFacts {
-    ghost use Rattle.nb_entries.specs.Shared.EqualLemmas.{cover_facts_per};
-    ghost use Rattle.nb_entries.specs.Equal.{same_cover_facts};
-
     ghost eq = { same_cover_facts };
 
     ghost laws = { cover_facts_per };
@@ -255,7 +252,5 @@ impl PartialEq for CoverFacts {
 }
 
 impl Eq for CoverFacts {
-    ghost use Rattle.nb_entries.specs.Shared.EqualLemmas.{cover_facts_equiv};
-
     ghost laws = { cover_facts_equiv };
 }

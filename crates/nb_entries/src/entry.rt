@@ -1,13 +1,17 @@
 //! Entries: what is known of one datagram.
-ghost use Rattle.std.specs.Prelude.{◌≡◌, ◌≢◌, ◌↔◌, ◌≤◌, ℕ, IfOk, OnOk, OnErr, IsTrue, Some, None, length, Ok};
+ghost use Rattle.std.specs.Prelude.{◌≡◌, ◌≢◌, ◌↔◌, ◌≤◌, ℕ, IfOk, OnOk, OnErr, IsTrue, Some, None, Ok, box_value};
 ghost use Rattle.nb_datagram.specs.Fragment.{core_of, reach};
 ghost use Rattle.nb_datagram.specs.declared.limits.TheConstants.{MAX_LENGTH};
 ghost use Rattle.nb_entries.specs.Maps.{Spoilt, Held};
-ghost use Rattle.nb_entries.specs.Entry.{facts_agree, facts_of, join_entry, AreShort, IsShort};
-ghost use Rattle.nb_entries.specs.Runs.{runs_of_map, entry_run_count};
+ghost use Rattle.nb_entries.specs.Entry.{facts_agree, facts_of, join_entry, IsShort, EntryFacts};
+ghost use Rattle.nb_entries.specs.Runs.{entry_run_count};
 ghost use Rattle.nb_entries.specs.Whole.{IsWholeCover, bytes_to};
 ghost use Rattle.nb_entries.specs.Change.{Tells};
 ghost use Rattle.nb_entries.specs.EntryState.{IsEntryState};
+ghost use Rattle.nb_entries.specs.Codes.{entry_facts_code};
+ghost use Rattle.nb_entries.specs.Cover.{AreCoverFacts};
+ghost use Rattle.nb_entries.specs.Shared.EqualLemmas.{entry_facts_per, entry_facts_equiv};
+ghost use Rattle.nb_entries.specs.Equal.{same_entry_facts};
 
 mod growing;
 mod joining;
@@ -16,8 +20,10 @@ mod reading;
 use crate::cover::CoverFacts;
 use crate::outline::{Change, Handing, State};
 use crate::slot::Slot;
+use growing::grown_to;
 use nb_datagram::{Fragment, Kind, LentFragment, UserData};
-use nb_names::{KeptName, LentName, NoMemory};
+use nb_names::{KeptName, LentName};
+use nb_streams::NoMemory;
 use std::alloc::Global;
 use std::marker::Model;
 
@@ -38,15 +44,9 @@ pub struct EntryFacts {
 }
 
 impl Model for EntryFacts {
-    ghost use Rattle.nb_entries.specs.Entry.{EntryFacts};
-    ghost use Rattle.nb_entries.specs.Codes.{entry_facts_code};
-    ghost use Rattle.nb_entries.specs.Cover.{AreCoverFacts};
-
     ghost Value = { EntryFacts };
 
     ghost coded = { entry_facts_code };
-
-    ghost use Rattle.std.specs.Prelude.{box_value};
 
     ghost view = { λ f. record {
       kind = (box_value f.known).kind;
@@ -147,14 +147,6 @@ impl EntryFacts {
         }
     }
 
-    /// How many runs the bytes make up.
-    pub(crate) fn run_count(&self) -> u32
-        requires { AreShort MAX_LENGTH self.now }
-        ensures { result ≡ length (runs_of_map self.now.cover.bytes) }
-    {
-        self.known.cover.run_count()
-    }
-
     /// Whether the end and each byte before it are known.
     pub(crate) fn is_whole(&self) -> bool
         ensures { IsTrue result ↔ IsWholeCover self.now.cover }
@@ -164,9 +156,6 @@ impl EntryFacts {
 }
 
 impl PartialEq for EntryFacts {
-    ghost use Rattle.nb_entries.specs.Shared.EqualLemmas.{entry_facts_per};
-    ghost use Rattle.nb_entries.specs.Equal.{same_entry_facts};
-
     ghost eq = { same_entry_facts };
 
     ghost laws = { entry_facts_per };
@@ -180,8 +169,6 @@ impl PartialEq for EntryFacts {
 }
 
 impl Eq for EntryFacts {
-    ghost use Rattle.nb_entries.specs.Shared.EqualLemmas.{entry_facts_equiv};
-
     ghost laws = { entry_facts_equiv };
 }
 
@@ -217,8 +204,9 @@ impl Slot<EntryFacts> {
         ensures change { IfOk result (λ made.
             Tells handing fragment.now None (Some made.0) made.1) }
     {
-        let (facts, change) = EntryFacts::first(alloc, fragment, handing)?;
-        Ok((Slot::Held(facts), change))
+        let facts = EntryFacts::of(alloc, fragment)?;
+        let bytes = facts.first_data(alloc, handing)?;
+        Ok((Slot::Held(facts), grown_to(bytes)))
     }
 
     /// Inserts a fragment in place. All memory is taken before anything changes, and none where the
@@ -262,7 +250,7 @@ impl Slot<EntryFacts> {
         ensures { result ≡ entry_run_count self.now }
     {
         match self {
-            Slot::Held(facts) => Some(facts.run_count()),
+            Slot::Held(facts) => Some(facts.cover().run_count()),
             Slot::Spoilt => None,
         }
     }

@@ -1,8 +1,10 @@
 //! Ranges of places: where the bytes of a datagram's data are known.
-ghost use Rattle.std.specs.Prelude.{◌≡◌, ◌≤◌, [], map};
+ghost use Rattle.std.specs.Prelude.{◌≡◌, ◌≤◌, [], map, List};
 ghost use Rattle.nb_datagram.specs.declared.limits.TheConstants.{MAX_LENGTH};
 ghost use Rattle.nb_entries.specs.Runs.{range_of, run_end};
 ghost use Rattle.nb_entries.specs.Code.Rows.{EndBy, value_of, values_of};
+ghost use Rattle.nb_entries.specs.declared.ranges.PlaceRange.{PlaceRange};
+ghost use Rattle.std.specs.Iterator.{YieldsFirst, item_count};
 
 use crate::cover::runs::{EachRun, Run};
 use std::marker::Model;
@@ -24,12 +26,6 @@ pub struct Ranges<'a> {
 }
 
 impl<'a> Model for Ranges<'a> {
-    ghost use Rattle.std.specs.Prelude.{List, map};
-    ghost use Rattle.nb_datagram.specs.declared.limits.TheConstants.{MAX_LENGTH};
-    ghost use Rattle.nb_entries.specs.declared.ranges.PlaceRange.{PlaceRange};
-    ghost use Rattle.nb_entries.specs.Runs.{range_of};
-    ghost use Rattle.nb_entries.specs.Code.Rows.{EndBy, values_of};
-
     ghost Value = { List PlaceRange };
 
     ghost view = { λ r. map range_of (values_of r.runs) };
@@ -69,8 +65,6 @@ fn places_of(run: &Run) -> PlaceRange
 
 impl<'a> Iterator for Ranges<'a> {
     type Item = PlaceRange;
-
-    ghost use Rattle.std.specs.Iterator.{YieldsFirst, item_count};
 
     ghost next_gives = { YieldsFirst (λ r. r) };
 

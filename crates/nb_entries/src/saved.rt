@@ -2,8 +2,12 @@
 //! in a file of saved/.
 //!
 //! An input is judged where it stands, before any memory is taken.
-ghost use Rattle.std.specs.Prelude.{ℕ, List};
+ghost use Rattle.std.specs.Prelude.{ℕ, List, ◌≡◌, ◌++◌, ⊤, Some};
 ghost use Rattle.nb_entries.specs.Sinks.{SinkLaws, Puts};
+ghost use Rattle.std.proofs.Common.{sym, ap, ◌∙◌};
+ghost use Rattle.std.proofs.lemmas.List.{append_assoc, append-nil};
+ghost use Rattle.nb_entries.specs.FaultTexts.{load_fault_text};
+ghost use Rattle.nb_entries.specs.declared.saved.LoadFault.TheVariants.{NoMemory};
 
 mod facts;
 pub(crate) mod fields;
@@ -11,7 +15,7 @@ pub(crate) mod runs;
 
 pub use facts::{SavedEntry, SavedFacts, read_entry};
 pub use fields::{put_four_bytes, read_count};
-use nb_names::NoMemory;
+use nb_streams::NoMemory;
 use std::error::Error;
 use std::fmt;
 
@@ -49,10 +53,6 @@ pub trait ByteSink {
 
 impl ByteSink for Vec<u8> {
     type Fault = NoMemory;
-
-    ghost use Rattle.std.specs.Prelude.{◌≡◌, ◌++◌, ⊤};
-    ghost use Rattle.std.proofs.Common.{sym, ap, ◌∙◌};
-    ghost use Rattle.std.proofs.lemmas.List.{append_assoc, append-nil};
 
     ghost takes = { λ old new bytes. new.items ≡ old.items ++ bytes };
 
@@ -96,9 +96,6 @@ pub enum LoadFault {
 }
 
 impl fmt::Display for LoadFault {
-    ghost use Rattle.std.specs.Prelude.{Some};
-    ghost use Rattle.nb_entries.specs.FaultTexts.{load_fault_text};
-
     ghost output = { λ fault. Some (load_fault_text fault) };
 
     fn fmt<W: fmt::Write>(&self, f: &mut fmt::Formatter<W>) -> fmt::Result {
@@ -117,9 +114,6 @@ impl fmt::Display for LoadFault {
 impl Error for LoadFault {}
 
 impl From<NoMemory> for LoadFault {
-    ghost use Rattle.std.specs.Prelude.{◌≡◌};
-    ghost use Rattle.nb_entries.specs.declared.saved.LoadFault.TheVariants.{NoMemory};
-
     ghost from_gives = { λ _ fault. fault ≡ NoMemory };
 
     fn from(_fault: NoMemory) -> LoadFault {

@@ -2,8 +2,10 @@
 ghost use Rattle.std.specs.Prelude.{◌≡◌, Bool, true, IfOk, OnErr};
 ghost use Rattle.nb_entries.specs.Shared.SlotLemmas.{Unites};
 ghost use Rattle.nb_entries.specs.Maps.{OnHeld, join_slot};
+ghost use Rattle.nb_entries.specs.Equal.{same_slot};
+ghost use Rattle.nb_entries.specs.Shared.EqualLemmas.{slot_per, slot_equiv};
 
-use nb_names::NoMemory;
+use nb_streams::NoMemory;
 
 /// Facts that may contradict each other, and are united where they don't: those of a cover, and
 /// those of an entry.
@@ -47,9 +49,6 @@ pub enum Slot<F> {
 }
 
 impl<F: PartialEq> PartialEq for Slot<F> {
-    ghost use Rattle.nb_entries.specs.Equal.{same_slot};
-    ghost use Rattle.nb_entries.specs.Shared.EqualLemmas.{slot_per};
-
     ghost eq = { same_slot F.eq };
 
     ghost laws = { slot_per F.laws };
@@ -64,8 +63,6 @@ impl<F: PartialEq> PartialEq for Slot<F> {
 }
 
 impl<F: Eq> Eq for Slot<F> {
-    ghost use Rattle.nb_entries.specs.Shared.EqualLemmas.{slot_equiv};
-
     ghost laws = { slot_equiv F.Eq.laws };
 }
 

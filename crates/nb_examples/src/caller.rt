@@ -4,7 +4,7 @@
 use nb_datagram::{Datagram, Packet, decode};
 use nb_examples_packets::fragments::say_datagram;
 use nb_examples_words::line::Line;
-use nb_names::Bytes;
+use nb_streams::Bytes;
 use nb_table::{Change, Table};
 use std::alloc::Global;
 

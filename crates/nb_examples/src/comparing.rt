@@ -4,7 +4,7 @@ use crate::steps::{lent, step_of};
 use nb_datagram::Fragment;
 use nb_examples_words::asked;
 use nb_examples_words::line::{Line, cut};
-use nb_names::NoMemory;
+use nb_streams::NoMemory;
 use nb_table::{Cover, Entry, Join, TableFault};
 use std::alloc::Global;
 

@@ -5,7 +5,7 @@ use nb_datagram::{Datagrams, ErrorPacket, ErrorPackets, Packet, encode};
 use nb_examples_packets::fragments::{say_datagram, say_key};
 use nb_examples_words::line::Line;
 use nb_member::{Event, Member, Pair, RunReport, RunStop, run, two_members};
-use nb_names::Bytes;
+use nb_streams::Bytes;
 
 /// `run STATION EVENT, EVENT ..`: what comes of a run of a new member. An event is
 /// `take MOMENT PAYLOAD` or `tick NOW`.

@@ -1,11 +1,11 @@
 //! Lines of captures: what one says, and the lines of an input, read one after another.
 
-use nb_examples_words::devices::Source;
-use nb_examples_words::line::Line;
-use nb_member::{
+use nb_capture::{
     Line as CaptureLine, LineFault, LineReadFault, LineRoom, capture_line, next_from, next_line,
 };
-use nb_names::Counted;
+use nb_examples_words::devices::Source;
+use nb_examples_words::line::Line;
+use nb_streams::Counted;
 
 /// `line BYTES`: the port, the moment and the payload that a line of a capture says, or what the
 /// clock shows, or `nothing`.

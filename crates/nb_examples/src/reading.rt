@@ -4,7 +4,7 @@ use crate::steps::{rest_table, say_keys, say_saved, two_tables};
 use nb_examples_packets::fragments::{kind_word, next_key, say_datagram};
 use nb_examples_words::devices::Sink;
 use nb_examples_words::line::Line;
-use nb_names::Counted;
+use nb_streams::Counted;
 use nb_table::{LoadFault, Outline, Table, load};
 
 /// For how many digits a writer has room, so that writing them wants no memory.

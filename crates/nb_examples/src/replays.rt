@@ -1,15 +1,13 @@
 //! Replays of captures, and a report's text of a datagram.
 
 use crate::stations::member_of;
+use nb_capture::{CaptureOptions, Comments, push_comment};
 use nb_datagram::Datagram;
 use nb_examples_packets::datagrams::datagram_of;
 use nb_examples_words::devices::{Conduct, Sink, Source, WILLING};
 use nb_examples_words::line::Line;
-use nb_member::{
-    CaptureOptions, Comments, Member, ReplayFault, push_comment, push_parts, replay, replay_with,
-    replay_within,
-};
-use nb_names::{Counted, NoMemory};
+use nb_member::{Member, ReplayFault, push_parts, replay, replay_with};
+use nb_streams::{Counted, NoMemory};
 use std::alloc::Global;
 
 /// For how many bytes a writer has room, so that writing a report wants no memory.
@@ -24,10 +22,8 @@ const WITH_COMMENTS: CaptureOptions = CaptureOptions {
 /// How a capture is replayed.
 #[derive(Clone, Copy)]
 struct Way {
-    /// How many bytes the input may have, if that is said.
-    most: Option<u64>,
-    /// Whether its comments are in the report.
-    is_commented: bool,
+    /// What is asked of the call, if that is said.
+    options: Option<CaptureOptions>,
     reading: Conduct,
     writing: Conduct,
     /// Whether what was written is said as bytes.
@@ -54,15 +50,19 @@ pub fn replayed(line: &mut Line<'_>, call: &str) {
 /// How a call replays.
 fn way_of(line: &mut Line<'_>, call: &str) -> Way {
     let mut way = Way {
-        most: None,
-        is_commented: false,
+        options: None,
         reading: WILLING,
         writing: WILLING,
         is_bytes: false,
     };
     match call {
-        "within" => way.most = Some(line.number()),
-        "commented" => way.is_commented = true,
+        "within" => {
+            way.options = Some(CaptureOptions {
+                most: line.number(),
+                comments: Comments::LeftOut,
+            });
+        }
+        "commented" => way.options = Some(WITH_COMMENTS),
         "over" => {
             way.reading = line.conduct();
             way.writing = line.conduct();
@@ -110,11 +110,8 @@ fn replay_by(
 ) -> Result<u64, ReplayFault> {
     let reader = &mut Counted::new(Source::new(capture, way.reading));
     let writer = &mut Counted::new(sink);
-    if way.is_commented {
-        return replay_with(alloc, reader, writer, member, WITH_COMMENTS);
-    }
-    match way.most {
-        Some(most) => replay_within(alloc, reader, writer, member, most),
+    match way.options {
+        Some(options) => replay_with(alloc, options, reader, writer, member),
         None => replay(alloc, reader, writer, member),
     }
 }

@@ -2,8 +2,8 @@
 
 ghost use Rattle.std.specs.Prelude.{◌≡◌, ◌≤◌, ◌+◌, min};
 
-use nb_names::NoMemory;
-use nb_telling::{FieldKey, Flag, Shows, Sink};
+use nb_streams::NoMemory;
+use nb_telling::{FieldTag, Flag, Shows, Sink};
 use std::fmt::Display;
 
 /// A sink that counts the fields that are reported, and keeps nothing else of them.
@@ -41,35 +41,35 @@ impl Sink for CountingSink {
 
     ghost is_front = { λ front whole. front ≤ whole };
 
-    fn text(&mut self, _key: FieldKey, _value: &str) -> Result<(), NoMemory> {
+    fn text(&mut self, _key: FieldTag, _value: &str) -> Result<(), NoMemory> {
         self.add()
     }
 
-    fn shown<T: Shows>(&mut self, _key: FieldKey, _value: &T) -> Result<(), NoMemory> {
+    fn shown<T: Shows>(&mut self, _key: FieldTag, _value: &T) -> Result<(), NoMemory> {
         self.add()
     }
 
-    fn displayed<D: Display + Drop>(&mut self, _key: FieldKey, _value: D) -> Result<(), NoMemory> {
+    fn displayed<D: Display + Drop>(&mut self, _key: FieldTag, _value: D) -> Result<(), NoMemory> {
         self.add()
     }
 
-    fn number(&mut self, _key: FieldKey, _value: u64) -> Result<(), NoMemory> {
+    fn number(&mut self, _key: FieldTag, _value: u64) -> Result<(), NoMemory> {
         self.add()
     }
 
-    fn digits(&mut self, _key: FieldKey, _value: &[u8]) -> Result<(), NoMemory> {
+    fn digits(&mut self, _key: FieldTag, _value: &[u8]) -> Result<(), NoMemory> {
         self.add()
     }
 
-    fn data(&mut self, _key: FieldKey, _value: &[u8]) -> Result<(), NoMemory> {
+    fn data(&mut self, _key: FieldTag, _value: &[u8]) -> Result<(), NoMemory> {
         self.add()
     }
 
-    fn set(&mut self, _key: FieldKey, _flags: &[Flag]) -> Result<(), NoMemory> {
+    fn set(&mut self, _key: FieldTag, _flags: &[Flag]) -> Result<(), NoMemory> {
         self.add()
     }
 
-    fn known(&mut self, _key: FieldKey, _value: Option<u64>) -> Result<(), NoMemory> {
+    fn known(&mut self, _key: FieldTag, _value: Option<u64>) -> Result<(), NoMemory> {
         self.add()
     }
 

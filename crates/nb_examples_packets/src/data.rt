@@ -1,7 +1,7 @@
 //! Data as texts have them.
 
 use nb_examples_words::line::Line;
-use nb_names::{DigitsFault, bytes_of_digits, data_in, data_of_text};
+use nb_streams::{DigitsFault, bytes_of_digits, data_in, data_of_text};
 use std::alloc::AllocError;
 
 /// `data_in ROOM BYTES ..`: the bytes that texts stand for, or why they stand for none. They are

@@ -6,7 +6,8 @@ use nb_datagram::{
     read_front,
 };
 use nb_examples_words::line::Line;
-use nb_names::{Bytes, LentName};
+use nb_names::LentName;
+use nb_streams::Bytes;
 
 /// `decode BYTES`: the packet at the front, and how many bytes it takes up.
 ///

@@ -2,9 +2,9 @@
 
 use nb_examples_words::devices::{Sink, Source};
 use nb_examples_words::line::Line;
-use nb_names::input::{Input, read_input, read_some};
-use nb_names::output::{write_digits, write_some, write_whole};
-use nb_names::{Counted, DeviceFault};
+use nb_streams::input::{Input, read_input, read_some};
+use nb_streams::output::{write_digits, write_some, write_whole};
+use nb_streams::{Counted, DeviceFault};
 
 /// For how many bytes a writer has room, so that writing them wants no memory.
 const ROOM: usize = 1_000;

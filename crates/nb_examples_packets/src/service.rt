@@ -3,10 +3,11 @@
 use crate::service_texts::say_packet;
 use nb_examples_words::asked;
 use nb_examples_words::line::Line;
-use nb_names::{Bytes, DomainName};
+use nb_names::DomainName;
 use nb_service::{
     Packet, PushFault, Question, Rdata, Record, Section, ServiceFault, decode, encode,
 };
+use nb_streams::Bytes;
 
 /// `decode BYTES`: the packet that the bytes begin with, part by part, and how many bytes it takes
 /// up. Of a list with more than four items only their number is said.

@@ -4,11 +4,12 @@ use crate::service::{copy_of_question, copy_of_record, front};
 use crate::service_texts::{say_question, say_record};
 use crate::values::relisted;
 use nb_examples_words::line::Line;
-use nb_names::{Name, NoMemory};
+use nb_names::Name;
 use nb_service::{
     AddressEntry, Packet, Question, Record, encode, node_status_request, query, refresh,
     registration, release, response,
 };
+use nb_streams::NoMemory;
 use std::alloc::Global;
 
 /// What a request says besides its name: whether it is broadcast, for how long, and the entry.

@@ -3,11 +3,11 @@
 use crate::streams::lacks;
 use nb_examples_words::devices::{Source, WILLING};
 use nb_examples_words::line::Line;
-use nb_names::Counted;
 use nb_session::{
     Kind, MessageData, Packet, Parsed, ReadFault, Room, Stream, encode, front_header, parse,
     parse_lent, read_packet,
 };
+use nb_streams::Counted;
 
 /// Says a packet.
 pub fn say_packet(line: &mut Line<'_>, packet: &Packet<'_>) {

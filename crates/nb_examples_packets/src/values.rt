@@ -2,10 +2,12 @@
 
 use crate::labels::domain_of;
 use nb_examples_words::line::Line;
-use nb_names::lines::split_line;
 use nb_names::{
-    Bytes, Items, LentName, Name, NoMemory, push_address, push_data, push_decimal, push_digits,
-    push_domain, push_lent_name, push_name, push_word_digits, read_lent_name, write_domain,
+    LentName, Name, push_domain, push_lent_name, push_name, read_lent_name, write_domain,
+};
+use nb_streams::lines::split_line;
+use nb_streams::{
+    Bytes, Items, NoMemory, push_address, push_data, push_decimal, push_digits, push_word_digits,
 };
 
 /// `copy_bytes BYTES`: a copy of the bytes.

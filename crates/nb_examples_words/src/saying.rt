@@ -2,7 +2,8 @@
 
 use crate::byte_text::say_bytes;
 use crate::line::Line;
-use nb_names::{Bytes, Name, name_text};
+use nb_names::{Name, name_text};
+use nb_streams::Bytes;
 use std::fmt::{Debug, Display};
 
 impl Line<'_> {

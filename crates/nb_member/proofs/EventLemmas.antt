@@ -17,7 +17,7 @@ use Rattle.nb_member.specs.Events.{limits_of, Saying, came, refused, another, cl
 use Rattle.nb_member.specs.Hearing.{refusal}
 use Rattle.std.specs.List.{AllByRecursion}
 use Rattle.std.proofs.lemmas.Bool.{cases_lt, false≢true}
-use Rattle.nb_names.specs.DomainName.{AreBytes}
+use Rattle.nb_streams.specs.Places.{AreBytes}
 
 -- what the packets in bytes are known to be
 pub record PacketsKnown : Type 0 where

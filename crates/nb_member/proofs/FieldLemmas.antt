@@ -4,7 +4,7 @@ use Rattle.std.specs.Fmt.{decimal}
 use Rattle.std.proofs.lemmas.Grind.{flat_map-append}
 use Rattle.std.proofs.lemmas.List.{append_assoc, append-nil}
 use Rattle.std.specs.List.{AllByRecursion}
-use Rattle.nb_names.specs.Hexadecimal.{digits_text}
+use Rattle.nb_streams.specs.Hexadecimal.{digits_text}
 use Rattle.nb_names.specs.NameText.{written}
 use Rattle.nb_datagram.specs.declared.key.Key.{Key}
 use Rattle.nb_datagram.specs.declared.packet.ErrorPacket.{ErrorPacket}
@@ -27,7 +27,7 @@ use Rattle.nb_member.specs.Listing.{end_text, key_line, known_text, more_ranges_
 use Rattle.nb_member.specs.ListingFields.{further_range, key_fields, known_fields, more_fields, outline_fields, places_fields, ranges_fields}
 use Rattle.nb_member.specs.Report.{error_text, parts_text, result_text}
 use Rattle.nb_member.specs.ReportFields.{dropped_fields, error_fields, parts_fields, result_fields, outcome_fields, passed_fields}
-use Rattle.nb_member.specs.Keys.{listed_key, refused_key, state_key, outcome_key, key_key}
+use Rattle.nb_member.specs.Tags.{listed_tag, refused_tag, state_tag, outcome_tag, key_tag}
 use Rattle.nb_telling.specs.Texts as telling
 
 -- ---- the text of the fields of a report and of a listing is that of the report and of the listing
@@ -145,11 +145,11 @@ result_members (Ok (Kept k)) = all_members (outcome_fields (Kept k)) (tt, (tt, t
 result_members (Ok (Spoilt k)) = all_members (outcome_fields (Spoilt k)) (tt, (tt, tt))
 result_members (Ok (Delivered d)) = all_members (outcome_fields (Delivered d)) (tt, (tt, (tt, (tt, (tt, (tt, tt))))))
 result_members (Ok (Unheard k e)) =
-    both (Text outcome_key (codes "unheard") ∷ Text key_key (key_text k) ∷ []) (error_fields e)
+    both (Text outcome_tag (codes "unheard") ∷ Text key_tag (key_text k) ∷ []) (error_fields e)
     (all_members _ (tt, (tt, tt))) (error_members e)
 result_members (Ok Other) = all_members (outcome_fields Other) (tt, tt)
 result_members (Err fault) =
-    both (Text refused_key (member_fault_text fault) ∷ []) _ (all_members _ (tt, tt))
+    both (Text refused_tag (member_fault_text fault) ∷ []) _ (all_members _ (tt, tt))
     (both (place_fields (member_fault_place fault)) (error_fields (error_of fault))
     (place_members (member_fault_place fault)) (error_members (error_of fault)))
 
@@ -177,13 +177,13 @@ more_members (Some place) = all_members (more_fields (Some place)) (tt, tt)
 known_members : (d : Option DatagramParts) (o : Option Outline) (rs : List PlaceRange) → AreMembers 1 (known_fields d o rs)
 known_members (Some d) o rs = all_members (known_fields (Some d) o rs) (tt, (tt, (tt, (tt, (tt, tt)))))
 known_members None (Some o) rs =
-    both (Text state_key (codes "partial") ∷ outline_fields o) (places_fields rs ++ more_fields o.awaited)
+    both (Text state_tag (codes "partial") ∷ outline_fields o) (places_fields rs ++ more_fields o.awaited)
     (all_members _ (tt, (tt, (tt, (tt, (tt, (tt, (tt, tt))))))))
     (both (places_fields rs) (more_fields o.awaited) (list (codes "places") (ranges_fields rs) (ranges_parts rs)) (more_members o.awaited))
 known_members None None rs = all_members (known_fields None None rs) (tt, tt)
 
 pub key_members : (t : Contents) (k : Key) → AreMembers 1 (key_fields t k)
 key_members t k =
-    both (Text listed_key (key_text k) ∷ []) _ (all_members _ (tt, tt))
+    both (Text listed_tag (key_text k) ∷ []) _ (all_members _ (tt, tt))
     (both (known_fields (datagram_at t k) (outline_at t k) (ranges_at t k)) (LineEnds ∷ [])
     (known_members (datagram_at t k) (outline_at t k) (ranges_at t k)) (all_members (LineEnds ∷ []) (tt, tt)))

@@ -1,4 +1,4 @@
 -- Replays of captures, line by line.
 pub mod LineReports
-pub mod ReplaySoFar
+pub mod LinesInRow
 pub mod ReplayEnds

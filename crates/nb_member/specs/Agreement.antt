@@ -19,8 +19,8 @@ use Rattle.nb_table.specs.Conflict.{IsSpoilt}
 use Rattle.nb_table.specs.Sender.{HasPartsAlone, HasAll}
 use Rattle.nb_member.specs.declared.settings.Settings.{Settings}
 use Rattle.nb_member.specs.declared.outcome.Event.{Event}
-use Rattle.nb_member.specs.declared.runs.RunReport.{RunReport}
-use Rattle.nb_member.specs.declared.runs.RunStop.TheVariants.{NoMemory}
+use Rattle.nb_member.specs.declared.event_taking.RunReport.{RunReport}
+use Rattle.nb_member.specs.declared.event_taking.RunStop.TheVariants.{NoMemory}
 use Rattle.nb_member.specs.declared.pair.Pair.{Pair}
 use Rattle.nb_member.specs.Events.{Saying, came, refused, another, clock, Say}
 use Rattle.nb_member.specs.Live.{Timed, cores, live_after}
@@ -76,11 +76,11 @@ pub record AreGivenTheSame (settings : Settings) (events_a events_b : List Event
 
 -- ---- the same table
 
--- the run stopped for want of memory
+-- not all events were taken, since memory ran out
 abbrev pub StoppedForMemory : RunReport → Type 0
 StoppedForMemory report = report.stop ≡ Some NoMemory
 
--- TookAll events report: the run took all of the events, and didn't stop
+-- TookAll events report: all of the events were taken
 pub record TookAll (events : List Event) (report : RunReport) : Type 0 where
   pub all : report.taken ≡ length events
   pub no_stop : report.stop ≡ None
@@ -97,7 +97,7 @@ pub record Agree (events_a events_b : List Event) (pair : Pair) : Type 0 where
 abbrev pub of_key : Key → List DatagramParts → List DatagramParts
 of_key k ds = filter (λ d. same_key k d.key) ds
 
--- heard names ds: the datagrams among ds that a station with these names hears, in order
+-- heard names ds: the datagrams among ds that a member with these names hears, in order
 abbrev pub heard : List NetbiosName → List DatagramParts → List DatagramParts
 heard names ds = filter (hears names) ds
 
@@ -106,7 +106,7 @@ abbrev pub whole_of : List Core → Key → List DatagramParts
 whole_of L k = option_to_list (datagram_at (table_of L) k)
 
 -- HandsOverOnce names L ds: for each key that isn't spoilt, ds has exactly one datagram where the key is
--- whole and a station with these names hears it, and none otherwise
+-- whole and a member with these names hears it, and none otherwise
 abbrev pub HandsOverOnce : List NetbiosName → List Core → List DatagramParts → Type 0
 HandsOverOnce names L ds = (k : Key) → (IsSpoilt L k → ⊥) → of_key k ds ≡ heard names (whole_of L k)
 

@@ -2,7 +2,4 @@
 -- against the definitions by a contract.
 pub mod Members
 pub mod Outcomes
-pub mod RunEvents
-pub mod ReplayLines
-pub mod LineSteps
-pub mod LineTurns
+pub mod EventTurns

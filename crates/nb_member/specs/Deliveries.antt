@@ -1,4 +1,4 @@
--- The datagrams that events make whole, those that a station hears of them, and the error packets that it answers
+-- The datagrams that events make whole, those that a member hears of them, and the error packets that it answers
 -- (RFC 1002 section 5.3); and what an answer shows of both.
 use Rattle.std.specs.Prelude.{List, [], Option, None, cond, ◌∷◌, ◌++◌, filter, Result, Ok, Err}
 use Rattle.std.specs.Option.{option_to_list}
@@ -31,7 +31,7 @@ abbrev pub error_of : MemberFault → Option ErrorPacket
 error_of (Packet fault error) = error
 error_of (Table fault) = None
 
--- errors_by settings names L s: the error packet that a station with these names answers, if it does
+-- errors_by settings names L s: the error packet that a member with these names answers, if it does
 abbrev pub errors_by : Settings → List NetbiosName → List Timed → Saying → List ErrorPacket
 errors_by settings names L (came moment f) =
     flat_map (λ d. cond (hears names d) [] (option_to_list (unheard settings d))) (made_by settings L (came moment f))
@@ -44,11 +44,11 @@ abbrev pub made : Settings → List Timed → List Saying → List DatagramParts
 made settings L [] = []
 made settings L (s ∷ S) = made_by settings L s ++ made settings (live_after settings L s) S
 
--- deliveries settings names L S: those of them that a station with these names hears, in order
+-- deliveries settings names L S: those of them that a member with these names hears, in order
 abbrev pub deliveries : Settings → List NetbiosName → List Timed → List Saying → List DatagramParts
 deliveries settings names L S = filter (hears names) (made settings L S)
 
--- errors settings names L S: the error packets that a station with these names answers, in order
+-- errors settings names L S: the error packets that a member with these names answers, in order
 abbrev pub errors : Settings → List NetbiosName → List Timed → List Saying → List ErrorPacket
 errors settings names L [] = []
 errors settings names L (s ∷ S) = errors_by settings names L s ++ errors settings names (live_after settings L s) S

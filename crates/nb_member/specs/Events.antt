@@ -5,7 +5,7 @@
 -- them: its flag F is set exactly at offset 0, and it doesn't reach past the longest datagram. The flag is
 -- judged first. What follows a packet is left unread.
 use Rattle.std.specs.Prelude.{ℕ, ◌≡◌, ◌==◌, ◌<◌, List, [], ◌∷◌}
-use Rattle.nb_names.specs.DomainName.{AreBytes}
+use Rattle.nb_streams.specs.Places.{AreBytes}
 use Rattle.nb_datagram.specs.declared.fault.DatagramFault.{DatagramFault}
 use Rattle.nb_datagram.specs.declared.packet.ErrorPacket.{ErrorPacket}
 use Rattle.nb_datagram.specs.declared.packet.Packet.TheVariants.{Direct, Error, Query}

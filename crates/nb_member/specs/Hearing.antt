@@ -1,10 +1,10 @@
--- The names that a station holds, the datagrams that it hears by them, and the error packets that it answers
+-- The names that a member holds, the datagrams that it hears by them, and the error packets that it answers
 -- with (RFC 1002 sections 4.4 and 5.3).
 --
 -- Our choice: a datagram to a unique or a group name is heard by whoever holds the name, whichever of the two
 -- types it came by. A broadcast is heard by whoever holds a name of its destination's scope. Error packets
 -- are sent for direct unique datagrams alone: where one is whole and isn't heard, and where a payload that
--- begins as one has a bad name. They have the flags 02, the datagram's identifier, and the station's own
+-- begins as one has a bad name. They have the flags 02, the datagram's identifier, and the member's own
 -- address and port.
 use Rattle.std.specs.Prelude.{◌≡◌, ◌<◌, ◌≤◌, ◌++◌, List, [], ◌∷◌, length, Contains, Result, Ok, Err, Bool, ℕ, Option, Some, None, ◌==◌, ◌&&◌, nat_le, slice_index, cond}
 use Rattle.std.specs.List.{list_any}
@@ -44,13 +44,13 @@ holds_scope names scope = list_any (λ held. domain_eq held.scope scope) names
 
 -- ---- what is heard
 
--- hears_as names kind destination: a station with these names hears what is sent so
+-- hears_as names kind destination: a member with these names hears what is sent so
 abbrev pub hears_as : List NetbiosName → Kind → NetbiosName → Bool
 hears_as names Unique destination = holds names destination
 hears_as names Group destination = holds names destination
 hears_as names Broadcast destination = holds_scope names destination.scope
 
--- hears names d: a station with these names hears the datagram d
+-- hears names d: a member with these names hears the datagram d
 abbrev pub hears : List NetbiosName → DatagramParts → Bool
 hears names d = hears_as names d.kind d.destination
 
@@ -60,13 +60,13 @@ hears names d = hears_as names d.kind d.destination
 abbrev pub HoldsScope : List NetbiosName → List (List ℕ) → Type 0
 HoldsScope names scope = (name : NetbiosName) × Contains names name × (name.scope ≡ scope)
 
--- HearsAs names kind destination: a station with these names hears what is sent so
+-- HearsAs names kind destination: a member with these names hears what is sent so
 abbrev pub HearsAs : List NetbiosName → Kind → NetbiosName → Type 0
 HearsAs names Unique destination = Contains names destination
 HearsAs names Group destination = Contains names destination
 HearsAs names Broadcast destination = HoldsScope names destination.scope
 
--- Hears names d: a station with these names hears the datagram d
+-- Hears names d: a member with these names hears the datagram d
 abbrev pub Hears : List NetbiosName → DatagramParts → Type 0
 Hears names d = HearsAs names d.kind d.destination
 

@@ -1,4 +1,3 @@
-pub mod Capture
 pub mod FaultTexts
 pub mod Hearing
 pub mod Events
@@ -6,16 +5,12 @@ pub mod Live
 pub mod Member
 pub mod Taking
 pub mod Deliveries
-pub mod Running
+pub mod EventTaking
 pub mod Agreement
 pub mod Report
 pub mod Listing
-pub mod Keys
+pub mod Tags
 pub mod ReportFields
 pub mod ListingFields
-pub mod LineReading
 pub mod Replaying
-pub mod LinesCame
-pub mod LineTaking
 pub mod Code
-pub mod Shared

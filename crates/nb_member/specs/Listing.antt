@@ -11,7 +11,7 @@ use Rattle.nb_entries.specs.declared.ranges.PlaceRange.{PlaceRange}
 use Rattle.nb_table.specs.Contents.{Contents, outline_at, ranges_at, datagram_at}
 use Rattle.nb_datagram.specs.FaultTexts.{key_text, kind_text}
 use Rattle.nb_member.specs.Report.{parts_text}
-use Rattle.nb_member.specs.Capture.{line_feed}
+use Rattle.nb_capture.specs.Capture.{line_feed}
 
 -- how many bytes the data has, or `?`
 abbrev pub end_text : Option ℕ → List ℕ

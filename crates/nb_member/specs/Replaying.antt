@@ -1,45 +1,18 @@
 -- What a replay makes of a reader's bytes, a writer, and a member (our choice).
-use Rattle.std.specs.Prelude.{ℕ, List, take, ◌≤◌, length, Option, ◌+◌, ◌<◌, ◌++◌, ◌∷◌, ◌≡◌, Result, Ok, Err}
-use Rattle.std.specs.Io.KnownBytes.{IsAtEnd, Appends, Consumes}
-use Rattle.nb_member.specs.declared.limits.TheConstants.{MAX_LINE}
-use Rattle.nb_member.specs.declared.comment_writing.Comments.{Comments}
+use Rattle.std.specs.Prelude.{ℕ, List, ◌≤◌, length, Option, ◌+◌, ◌++◌, ◌≡◌, Result, Ok, Err}
+use Rattle.std.specs.Io.KnownBytes.{Appends, Consumes}
+use Rattle.nb_capture.specs.declared.limits.TheConstants.{MAX_LINE}
+use Rattle.nb_capture.specs.declared.comment_writing.Comments.{Comments}
 use Rattle.nb_member.specs.declared.outcome.Event.{Event}
-use Rattle.nb_member.specs.declared.replaying.ReplayFault.{ReplayFault}
-use Rattle.nb_member.specs.declared.replaying.ReplayFault.TheVariants.{Line, Read, Write, NoMemory}
-use Rattle.nb_names.specs.Counted.{Counts}
-use Rattle.nb_names.specs.Devices.{ShowsUnread}
-use Rattle.nb_names.specs.Lines.{CutInto, with_rest}
-use Rattle.nb_member.specs.Capture.{IsMalformed}
+use Rattle.nb_capture.specs.declared.fault.PrintFault.{PrintFault}
+use Rattle.nb_capture.specs.declared.fault.PrintFault.TheVariants.{Line, Read, Write, NoMemory}
+use Rattle.nb_streams.specs.Counted.{Counts}
+use Rattle.nb_streams.specs.Devices.{ShowsUnread}
+use Rattle.nb_streams.specs.Lines.{CutInto, with_rest}
 use Rattle.nb_member.specs.Live.{Timed, live}
 use Rattle.nb_member.specs.Member.{MemberValue, Stands}
 use Rattle.nb_member.specs.Report.{ReportOf}
-
--- ---- the lines among the bytes that came
-
--- the bytes that are looked at, where an input may have so many
-abbrev pub looked_at : ℕ → List ℕ → List ℕ
-looked_at most bytes = take most bytes
-
--- the bytes are the whole input: no byte is left, and they are within the limit
-pub record IsWhole (most : ℕ) (bytes : List ℕ) (left : Option (List ℕ)) : Type 0 where
-  pub at_end : IsAtEnd left
-  pub within : length bytes ≤ most
-
--- AreLines most bytes left lines: these are the lines to act on: the finished ones, and the rest where the input
--- ends with it
-pub data AreLines (most : ℕ) (bytes : List ℕ) (left : Option (List ℕ)) : List (List ℕ) → Type 0 where
-  finished : (lines : List (List ℕ)) (rest : List ℕ) → CutInto (looked_at most bytes) lines rest
-      → AreLines most bytes left lines
-  whole : (lines : List (List ℕ)) (rest : List ℕ) → CutInto (looked_at most bytes) lines rest → IsWhole most bytes left
-      → AreLines most bytes left (with_rest lines rest)
-
--- ComesMalformed most bytes left lines: after these lines comes a malformed one. Of one that neither a line
--- feed nor the input's end has ended, the length alone is judged
-pub data ComesMalformed (most : ℕ) (bytes : List ℕ) (left : Option (List ℕ)) : List (List ℕ) → Type 0 where
-  ended : (lines more : List (List ℕ)) (line : List ℕ) → AreLines most bytes left (lines ++ line ∷ more)
-      → IsMalformed line → ComesMalformed most bytes left lines
-  too_long : (lines : List (List ℕ)) (rest : List ℕ) → CutInto (looked_at most bytes) lines rest → MAX_LINE < length rest
-      → ComesMalformed most bytes left lines
+use Rattle.nb_capture.specs.CaptureLines.{AreLines, ComesMalformed, IsWhole, looked_at}
 
 -- ---- what was acted on
 
@@ -75,7 +48,7 @@ pub record Stops (comments : Comments) (most : ℕ) (m : MemberValue) (H : List 
 -- Replays comments most m H L bytes left new before after result: what is answered where these bytes came from the
 -- reader, with those left, an input may have so many, and the report has comments or not
 abbrev pub Replays : Comments → ℕ → MemberValue → List Event → List Timed → List ℕ → Option (List ℕ) → MemberValue → Option (List ℕ) → Option (List ℕ)
-    → Result ℕ ReplayFault → Type 0
+    → Result ℕ PrintFault → Type 0
 Replays comments most m H L bytes left new before after (Ok n) =
     (lines : List (List ℕ)) × (rest : List ℕ) × CutInto bytes lines rest × IsWhole most bytes left
     × (n ≡ length (with_rest lines rest)) × Writes comments m H L (with_rest lines rest) new before after
@@ -91,7 +64,7 @@ Replays comments most m H L bytes left new before after (Err NoMemory) = Stops c
 -- ReplaysInput comments most m new old_in new_in reads later before after result: these bytes came from the reader, whose calls
 -- show why where the input wasn't read to its end, and m, whatever events it stands for, replayed them and became new
 abbrev pub ReplaysInput : Comments → ℕ → MemberValue → MemberValue → Option (List ℕ) → Option (List ℕ) → Counts → Counts
-    → Option (List ℕ) → Option (List ℕ) → Result ℕ ReplayFault → Type 0
+    → Option (List ℕ) → Option (List ℕ) → Result ℕ PrintFault → Type 0
 ReplaysInput comments most m new old_in new_in reads later before after result =
     (bytes : List ℕ) × Consumes old_in new_in bytes
     × ((result ≡ Err Read → ShowsUnread most bytes reads later)

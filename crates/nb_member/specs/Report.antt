@@ -6,7 +6,7 @@
 use Rattle.std.specs.Prelude.{ℕ, List, ◌++◌, codes, [], ◌∷◌, Option, Some, None, Result, Ok, Err, ◌-◌, ◌≢◌, ◌+◌}
 use Rattle.std.specs.Fmt.{decimal}
 use Rattle.std.specs.FinMap as maps
-use Rattle.nb_names.specs.Hexadecimal.{data_text, digits_text}
+use Rattle.nb_streams.specs.Hexadecimal.{data_text, digits_text}
 use Rattle.nb_names.specs.NameText.{written}
 use Rattle.nb_names.specs.Name.{NetbiosName}
 use Rattle.nb_datagram.specs.declared.packet.ErrorPacket.{ErrorPacket}
@@ -14,20 +14,20 @@ use Rattle.nb_datagram.specs.declared.packet.Packet.TheVariants.{Error}
 use Rattle.nb_datagram.specs.Fragment.{DatagramParts}
 use Rattle.nb_datagram.specs.FaultTexts.{key_text, kind_text}
 use Rattle.nb_datagram.specs.Packet.{packet_bytes}
-use Rattle.nb_member.specs.declared.comment_writing.Comments.{Comments}
+use Rattle.nb_capture.specs.declared.comment_writing.Comments.{Comments}
 use Rattle.nb_member.specs.declared.outcome.Outcome.{Outcome}
 use Rattle.nb_member.specs.declared.outcome.Outcome.TheVariants.{Kept, Spoilt, Delivered, Unheard, Other}
 use Rattle.nb_member.specs.declared.outcome.MemberFault.{MemberFault}
 use Rattle.nb_member.specs.declared.settings.Settings.{Settings}
 use Rattle.nb_member.specs.declared.outcome.Event.{Event}
 use Rattle.nb_member.specs.declared.outcome.Event.TheVariants as event
-use Rattle.nb_member.specs.declared.line.Line.TheVariants.{Packet, Tick}
+use Rattle.nb_capture.specs.declared.line.Line.TheVariants.{Packet, Tick}
 use Rattle.nb_member.specs.FaultTexts.{member_fault_text}
 use Rattle.nb_member.specs.Deliveries.{error_of}
 use Rattle.nb_member.specs.Events.{clock, Saying, Says}
 use Rattle.nb_member.specs.Live.{Timed, table_from, live_after}
 use Rattle.nb_member.specs.Taking.{Answers}
-use Rattle.nb_member.specs.Capture.{blank_text, line_feed, space, HasValue, SaysNothing}
+use Rattle.nb_capture.specs.Capture.{blank_text, line_feed, space, HasValue, SaysNothing}
 
 -- ---- texts of values
 
@@ -71,8 +71,8 @@ numbered n text = decimal n ++ space ∷ (text ++ line_feed ∷ [])
 abbrev pub dropped : Settings → List Timed → ℕ → ℕ
 dropped settings L now = maps.len (table_from L) - maps.len (table_from (live_after settings L (clock now)))
 
--- ReportOfLine comments settings names n L line events text after: where L are live in a station with these names, line n
--- of the capture is these events of the station, text is its line in the report, if it has one, and after
+-- ReportOfLine comments settings names n L line events text after: where L are live in a member with these names, line n
+-- of the capture is these events of the member, text is its line in the report, if it has one, and after
 -- it these are live
 pub data ReportOfLine (comments : Comments) (settings : Settings) (names : List NetbiosName) (n : ℕ) (L : List Timed) : List ℕ → List Event → List ℕ → List Timed → Type 0 where
   nothing : (line : List ℕ) → SaysNothing line → ReportOfLine comments settings names n L line [] (blank_text comments line) L

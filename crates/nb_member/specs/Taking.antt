@@ -90,7 +90,7 @@ AnswersFragment settings names L s f (Ok outcome) = IsAnswered settings names L 
 AnswersFragment settings names L s f (Err fault) =
     (is_full settings L f.key ≡ true) × (fault ≡ Table (full_fault settings L f.key))
 
--- Answers settings names L s result: what a station with these settings and names answers to a payload that
+-- Answers settings names L s result: what a member with these settings and names answers to a payload that
 -- says s, where L are live before
 abbrev pub Answers : Settings → List NetbiosName → List Timed → Saying → Result Outcome MemberFault → Type 0
 Answers settings names L (came moment f) result = AnswersFragment settings names L (came moment f) f result

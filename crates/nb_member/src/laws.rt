@@ -1,5 +1,5 @@
 //! Laws of the definitions that the contracts cite. Each is proved; a call does nothing.
-ghost use Rattle.std.specs.Prelude.{◌≡◌, ◌≢◌, ◌⊎◌, ℕ, List, [], filter, Result, Err, ◌++◌, codes};
+ghost use Rattle.std.specs.Prelude.{◌≡◌, ◌≢◌, ℕ, List, [], filter, Result, Err, ◌++◌, codes};
 ghost use Rattle.std.specs.List.{AllByRecursion};
 ghost use Rattle.std.specs.Fmt.{decimal};
 ghost use Rattle.nb_names.specs.Name.{NetbiosName};
@@ -9,15 +9,15 @@ ghost use Rattle.nb_table.specs.Contents.{Contents};
 ghost use Rattle.nb_table.specs.Join.{join};
 ghost use Rattle.nb_telling.specs.Members.{AreMembers};
 ghost use Rattle.nb_telling.specs.Texts.{text_of};
-ghost use Rattle.nb_member.specs.declared.limits.TheConstants.{MAX_LINE, MAX_READ, MAX_HELD, MAX_MOMENT_DIGITS, FRAGMENT_TIMEOUT, MAX_NAMES};
-ghost use Rattle.nb_member.specs.declared.line.Line.{Line};
+ghost use Rattle.nb_capture.specs.declared.comment_writing.Comments.{Comments};
+ghost use Rattle.nb_capture.specs.LinePrinting.{ShowsLines, TellsLine};
+ghost use Rattle.nb_member.specs.declared.limits.TheConstants.{FRAGMENT_TIMEOUT, MAX_NAMES};
 ghost use Rattle.nb_member.specs.declared.settings.Settings.{Settings};
 ghost use Rattle.nb_member.specs.declared.outcome.Event.{Event};
 ghost use Rattle.nb_member.specs.declared.outcome.Event.TheVariants.{Packet};
 ghost use Rattle.nb_member.specs.declared.outcome.MemberFault.{MemberFault};
 ghost use Rattle.nb_member.specs.declared.outcome.MemberFault.TheVariants.{Table};
 ghost use Rattle.nb_member.specs.declared.outcome.Outcome.{Outcome};
-ghost use Rattle.nb_member.specs.Capture.{line_feed, space, number_sign, HasValue, SaysNothing, IsMalformed};
 ghost use Rattle.nb_member.specs.Events.{Says, Say, Saying, clock, HasBytes};
 ghost use Rattle.nb_member.specs.Live.{Timed, cores, HasRoom, NoneFull, live, live_after, table_from};
 ghost use Rattle.nb_member.specs.Hearing.{hears};
@@ -28,8 +28,8 @@ ghost use Rattle.nb_member.specs.Agreement.{valid, NoneDropped, GiveTheSame};
 ghost use Rattle.nb_member.specs.Listing.{key_line};
 ghost use Rattle.nb_member.specs.ListingFields.{key_fields};
 ghost use Rattle.nb_member.specs.Report.{parts_text, result_text};
-ghost use Rattle.nb_member.specs.ReportFields.{dropped_fields, parts_fields, passed_fields, result_fields};
-ghost use Rattle.nb_member.specs.LineReading.{ManyCalls, RoomValue, nothing_within};
+ghost use Rattle.nb_member.specs.ReportFields.{ReportSaid, dropped_fields, parts_fields, passed_fields, result_fields};
+ghost use Rattle.nb_member.specs.Replaying.{Replayed};
 ghost use Rattle.nb_table.specs.declared.fault.TableFault.TheVariants as table_fault;
 
 mod deliveries;
@@ -44,21 +44,6 @@ use nb_table::laws::{
     same_cores_make_the_same_table, table_has_the_entry_of_its_list,
     table_of_two_lists_is_the_join,
 };
-
-/// A line of a capture says one thing at most, and none that says nothing.
-pub fn a_line_has_one_value()
-    ensures one { (line : List ℕ) (value other : Line) →
-        HasValue line value → HasValue line other → value ≡ other }
-    ensures alone { (line : List ℕ) (value : Line) →
-        HasValue line value → ¬ SaysNothing line }
-{}
-
-/// Any bytes are a line that says nothing, one that has a value, or a malformed one.
-#[tactic(auto, using(crate::proofs::CaptureLemmas::LineValues::one_of_three))]
-pub fn a_line_is_one_of_three()
-    ensures { (line : List ℕ) →
-        SaysNothing line ⊎ (((value : Line) × HasValue line value) ⊎ IsMalformed line) }
-{}
 
 /// An event says one thing at most, and so do events in a row.
 pub fn an_event_says_one_thing()
@@ -134,17 +119,10 @@ pub fn the_same_fragments_make_the_same_table()
     same_cores_make_the_same_table();
 }
 
-/// The limits, and the characters of a capture's lines, as numbers.
+/// The limits, as numbers.
 pub fn limits_are_these_numbers()
-    ensures line { MAX_LINE ≡ 262200 }
-    ensures read { MAX_READ ≡ 4096 }
-    ensures held { MAX_HELD ≡ 266296 }
-    ensures digits { MAX_MOMENT_DIGITS ≡ 20 }
     ensures timeout { FRAGMENT_TIMEOUT ≡ 2000 }
     ensures names { MAX_NAMES ≡ 254 }
-    ensures line_feed { line_feed ≡ 10 }
-    ensures space { space ≡ 32 }
-    ensures number_sign { number_sign ≡ 35 }
 {}
 
 /// Each event says something, and so do events in a row. By
@@ -169,6 +147,18 @@ pub fn texts_of_reports()
         text_of (dropped_fields keys) ≡ codes "dropped " ++ decimal keys }
 {}
 
+/// What a member makes of lines, one after another, by its fields, is the report of the events that
+/// the lines say: whatever events the member stands for, it stands for these after them.
+pub fn a_report_is_of_events()
+    ensures { (comments : Comments) (m new : MemberValue) (H : List Event) (s : Stands m H)
+        (lines : List (List ℕ)) (text : List ℕ) →
+        ShowsLines (TellsLine (ReportSaid comments)) 1 lines m new text →
+        Replayed comments m H (live m.settings s.sayings) lines new text }
+{
+    a_member_does_what_is_said();
+    a_member_drops_what_the_clock_ends();
+}
+
 /// The text of the fields of a key is its line in a listing.
 #[tactic(auto, using(crate::proofs::FieldLemmas::key_same))]
 pub fn texts_of_listings()
@@ -183,13 +173,6 @@ pub fn fields_are_members()
     ensures passed { AreMembers 1 passed_fields }
     ensures dropped { (keys : ℕ) → AreMembers 1 (dropped_fields keys) }
     ensures keys { (table : Contents) (key : Key) → AreMembers 1 (key_fields table key) }
-{}
-
-/// What calls for lines got from a reader is what they handed out, and then what the room still
-/// holds: no byte is lost, and none is handed out twice.
-pub fn what_came_is_handed_out_or_held()
-    ensures { (most : ℕ) (handed got : List ℕ) (room : RoomValue) →
-        ManyCalls (nothing_within most) handed got room → got ≡ handed ++ room.rest }
 {}
 
 /// A new member stands for no event.

@@ -1,22 +1,16 @@
 //! What a member does with one line of a capture, and what is reported of it.
-ghost use Rattle.std.specs.Prelude.{◌≡◌, ◌≢◌, ◌++◌, ◌∷◌, [], Ok, Err, IsOk, OnOk, OnErr, fold, List, string_bytes};
+ghost use Rattle.std.specs.Prelude.{◌≡◌, ◌≢◌, ◌++◌, ◌∷◌, [], Err, IsOk, OnOk, OnErr, fold, string_bytes};
 ghost use Rattle.std.specs.Fmt.{decimal};
 ghost use Rattle.nb_telling.specs.Telling.{Grows};
-ghost use Rattle.nb_member.specs.Capture.{Reads, space, blank_text};
-ghost use Rattle.nb_member.specs.Code.ReplayLines.{ReportsLine, MayReportLine, WritesOutcome};
-ghost use Rattle.nb_member.specs.Code.Members.{KeepsStation};
+ghost use Rattle.nb_capture.specs.Capture.{space, blank_text};
 ghost use Rattle.nb_member.specs.Code.Outcomes.{answer_of};
-ghost use Rattle.nb_member.specs.Live.{Timed};
-ghost use Rattle.nb_member.specs.Member.{StandsOver};
-ghost use Rattle.nb_member.specs.ReportFields.{MayAct, TellsOutcome, result_fields};
+ghost use Rattle.nb_member.specs.ReportFields.{MayAct, MayLeave, ReportSaid, ReportsOutcome, TellsOutcome, result_fields};
 
-use crate::comment_writing::{Comments, push_comment};
-use crate::laws;
-use crate::line::Line;
 use crate::member::Member;
 use crate::outcome::{LentOutcome, MemberFault};
 use crate::report::{tell_delivered, tell_dropped, tell_outcome, tell_passed, tell_refused};
-use nb_names::{NoMemory, push_decimal};
+use nb_capture::{Comments, Line, push_comment};
+use nb_streams::{NoMemory, push_decimal};
 use nb_table::TableFault;
 use nb_telling::Sink;
 use std::alloc::Global;
@@ -90,7 +84,7 @@ fn tell_taken<S: Sink>(
 /// # Errors
 ///
 /// [`NoMemory`] where memory ran out, before the line was acted on or after.
-pub fn act_on(
+pub(crate) fn act_on(
     number: u64,
     line: &[u8],
     said: &Option<Line>,
@@ -98,16 +92,10 @@ pub fn act_on(
     member: &mut Member,
     text: &mut String,
 ) -> Result<(), NoMemory>
-    ensures acted { OnOk result (Reads line.now (Ok said.now) → (L : List Timed) →
-        StandsOver member.old L →
-        ReportsLine comments member.old L number line.now member.new (string_bytes text.new)) }
-    ensures fault { OnErr result (Reads line.now (Ok said.now) → (L : List Timed) →
-        StandsOver member.old L → MayReportLine comments member.old L number line.now member.new) }
-    ensures kept { KeepsStation member.old member.new }
+    ensures made { OnOk result (ReportSaid comments number line.now said.now
+        member.old member.new (string_bytes text.new)) }
+    ensures left { OnErr result (MayLeave said.now member.old member.new) }
 {
-    // The laws of what a member does; the calls do nothing.
-    laws::a_member_does_what_is_said();
-    laws::a_member_drops_what_the_clock_ends();
     match said {
         None => comment_line(comments, line, text),
         Some(said) => outcome_line(number, said, member, text),
@@ -126,7 +114,7 @@ fn outcome_line(
     text: &mut String,
 ) -> Result<(), NoMemory>
     ensures written { OnOk result
-        (WritesOutcome number said.now member.old member.new (string_bytes text.new)) }
+        (ReportsOutcome number said.now member.old member.new (string_bytes text.new)) }
     ensures acted { MayAct said.now member.old member.new }
 {
     begin_line(number, text)?;

@@ -1,19 +1,20 @@
 //! What a table knows of its keys, a line for each: as text, and as JSON objects.
-#![tactic(auto, using(nb_names::specs::Growth::front_stays, nb_telling::proofs::FoldLemmas::told_both))]
+#![tactic(auto, using(nb_streams::specs::Growth::front_stays, nb_telling::proofs::FoldLemmas::told_both))]
 
 ghost use Rattle.std.specs.Prelude.{◌≡◌, ◌++◌, [], IfOk, IsOk, OnOk, string_bytes, fold, map};
 ghost use Rattle.std.specs.FinMap as maps;
-ghost use Rattle.nb_names.specs.Growth.{OnlyAdds};
+ghost use Rattle.nb_streams.specs.Growth.{OnlyAdds};
 ghost use Rattle.nb_telling.specs.Telling.{Grows};
+ghost use Rattle.nb_telling.specs.ObjectLines.{IsObject};
 ghost use Rattle.nb_table.specs.Contents.{outline_at, ranges_at, datagram_at};
 ghost use Rattle.nb_member.specs.Listing.{key_line, listing};
-ghost use Rattle.nb_member.specs.ListingFields.{key_fields, IsObject, listed_objects, further_range, known_fields, more_fields, outline_fields, places_fields, ranges_fields};
+ghost use Rattle.nb_member.specs.ListingFields.{key_fields, listed_objects, further_range, known_fields, more_fields, outline_fields, places_fields, ranges_fields};
 
-use crate::keys::{DESTINATION, END, HELD, KIND, LISTED, MORE, RUNS, SOURCE, STATE};
 use crate::laws::{fields_are_members, texts_of_listings};
 use crate::report::tell_parts;
+use crate::tags::{DESTINATION, END, HELD, KIND, LISTED, MORE, RUNS, SOURCE, STATE};
 use nb_datagram::{Key, kind_name};
-use nb_names::NoMemory;
+use nb_streams::NoMemory;
 use nb_table::{Outline, Ranges, Table};
 use nb_telling::{JsonRoom, JsonSink, Sink};
 use std::alloc::Global;

@@ -1,4 +1,4 @@
-//! The names of a station.
+//! The names of a member.
 ghost use Rattle.std.specs.Prelude.{◌≡◌, [], ◌≤◌, length, Contains, IsTrue, ◌↔◌};
 ghost use Rattle.nb_member.specs.declared.limits.TheConstants.{MAX_NAMES};
 ghost use Rattle.nb_member.specs.Hearing.{Adds, holds, holds_scope, hears, hears_as, HoldsScope, Hears};
@@ -39,7 +39,7 @@ impl fmt::Display for AddFault {
 
 impl Error for AddFault {}
 
-/// The names that a station holds: at most [`MAX_NAMES`], a limit of our choice.
+/// The names that a member holds: at most [`MAX_NAMES`], a limit of our choice.
 #[derive(Debug, Drop)]
 pub struct LocalNames {
     names: Vec<Name>,
@@ -95,7 +95,7 @@ impl LocalNames {
         ensures value { result ≡ holds self.now name.now }
         ensures held { IsTrue result ↔ Contains self.now name.now }
 
-        // What holds of each station's names.
+        // What holds of each member's names.
         ensures within { length self.now ≤ MAX_NAMES }
     {
         is_among(&self.names, &name.lent())
@@ -109,7 +109,7 @@ impl LocalNames {
         is_scope_among(&self.names, scope)
     }
 
-    /// Whether a station with these names hears the datagram. No memory is taken.
+    /// Whether a member with these names hears the datagram. No memory is taken.
     ///
     /// A unique or group datagram is heard where one of the names is its destination, a broadcast
     /// where one has its destination's scope. A member asks this of each datagram that becomes
@@ -122,7 +122,7 @@ impl LocalNames {
         self.hears_as(datagram.kind(), &datagram.destination().lent())
     }
 
-    /// Whether a station with these names hears what is sent so.
+    /// Whether a member with these names hears what is sent so.
     pub(crate) fn hears_as(&self, kind: Kind, destination: &LentName<'_>) -> bool
         ensures { result ≡ hears_as self.now kind destination.now }
     {

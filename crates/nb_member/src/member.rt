@@ -11,11 +11,11 @@ ghost use Rattle.nb_member.specs.Taking.{Absorbs, Previews, Takes, TakesFragment
 ghost use Rattle.nb_member.specs.Code.Members.{MeetsFull, BeginsFull, limit_of};
 ghost use Rattle.nb_member.specs.Code.Outcomes.{made_of, answer_of};
 ghost use Rattle.nb_member.specs.declared.outcome.Outcome.{Outcome};
-ghost use Rattle.nb_member.specs.declared.runs.RunStop.{RunStop};
+ghost use Rattle.nb_member.specs.declared.event_taking.RunStop.{RunStop};
 
+use crate::event_taking::RunStop;
 use crate::local_names::LocalNames;
 use crate::outcome::{Dropped, LentOutcome, MemberFault, Outcome};
-use crate::runs::RunStop;
 use crate::settings::Settings;
 use crate::timed_table::TimedTable;
 use nb_datagram::{Datagrams, LentFragment, LentPacket, UserData, decode_lent};
@@ -23,8 +23,9 @@ use nb_table::{Change, Handing, Table, TableFault};
 use std::alloc::Global;
 use std::marker::Model;
 
-/// A station. What it knows of datagrams stands in a table, which payloads fill and the clock
-/// empties; a datagram that becomes whole is handed over if one of the station's names hears it.
+/// A member, which takes payloads as a station of the network takes those of its port 138. What it
+/// knows of datagrams stands in a table, which payloads fill and the clock empties; a datagram that
+/// becomes whole is handed over if one of the member's names hears it.
 #[derive(Drop)]
 pub struct Member {
     settings: Settings,
@@ -272,7 +273,7 @@ fn handed<'a>(
     LentOutcome::Unheard(fragment.key(), settings.unheard(&fragment))
 }
 
-/// Those of the datagrams that a station with these names hears, in order. No memory is taken.
+/// Those of the datagrams that a member with these names hears, in order. No memory is taken.
 fn heard_of(names: &LocalNames, datagrams: Datagrams) -> Datagrams
     ensures { result ≡ filter (hears names.now) datagrams }
 {

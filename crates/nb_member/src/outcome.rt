@@ -4,7 +4,7 @@ ghost use Rattle.nb_member.specs.Code.Outcomes.{made_of};
 ghost use Rattle.nb_member.specs.FaultTexts.{member_fault_place};
 
 use nb_datagram::{Datagram, DatagramFault, ErrorPacket, Key, LentFragment, UserData};
-use nb_names::Bytes;
+use nb_streams::Bytes;
 use nb_table::TableFault;
 use std::error::Error;
 use std::fmt;

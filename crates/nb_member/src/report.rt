@@ -4,22 +4,23 @@
 
 ghost use Rattle.std.specs.Prelude.{◌≡◌, ◌∷◌, ◌++◌, [], OnOk, fold, string_bytes};
 ghost use Rattle.nb_names.specs.NameText.{written};
-ghost use Rattle.nb_names.specs.Growth.{OnlyAdds};
+ghost use Rattle.nb_streams.specs.Growth.{OnlyAdds};
 ghost use Rattle.nb_datagram.specs.Fragment.{datagram_by};
 ghost use Rattle.nb_datagram.specs.FaultTexts.{key_text, kind_text};
 ghost use Rattle.nb_telling.specs.Telling.{Grows, Text, Data};
-ghost use Rattle.nb_member.specs.Keys.{outcome_key, key_key, kind_key, source_key, destination_key, data_key};
+ghost use Rattle.nb_member.specs.Tags.{outcome_tag, key_tag, kind_tag, source_tag, destination_tag, data_tag};
 ghost use Rattle.nb_member.specs.declared.outcome.Outcome.TheVariants.{Delivered, Unheard};
 ghost use Rattle.nb_member.specs.Report.{parts_text};
 ghost use Rattle.nb_member.specs.ReportFields.{dropped_fields, error_fields, outcome_fields, parts_fields, passed_fields, refused_fields};
 
-use crate::keys::{COUNT, DATA, DESTINATION, ERROR, KEY, KIND, OUTCOME, REFUSED, SOURCE};
 use crate::laws::texts_of_reports;
 use crate::outcome::{Dropped, MemberFault, Outcome};
+use crate::tags::{COUNT, DATA, DESTINATION, ERROR, KEY, KIND, OUTCOME, REFUSED, SOURCE};
 use nb_datagram::{
     Datagram, ErrorPacket, Key, Kind, LentFragment, Packet, UserData, encode, kind_name,
 };
-use nb_names::{LentName, NoMemory};
+use nb_names::LentName;
+use nb_streams::NoMemory;
 use nb_telling::{Sink, tell_place};
 use std::alloc::Global;
 
@@ -65,7 +66,7 @@ pub(crate) fn tell_outcome<S: Sink>(
 #[inline(always)]
 fn tell_of<S: Sink>(word: &str, key: Key, sink: &mut S) -> Result<(), NoMemory>
     ensures told { OnOk result (S.seen sink.new ≡ fold S.after (S.seen sink.old)
-        (Text outcome_key word.now ∷ Text key_key (key_text key) ∷ [])) }
+        (Text outcome_tag word.now ∷ Text key_tag (key_text key) ∷ [])) }
     ensures front { Grows S.is_front (S.seen sink.old) (S.seen sink.new) }
 {
     sink.text(OUTCOME, word)?;
@@ -141,8 +142,8 @@ fn tell_lent<S: Sink>(
     sink: &mut S,
 ) -> Result<(), NoMemory>
     ensures told { OnOk result (S.seen sink.new ≡ fold S.after (S.seen sink.old)
-        (Text kind_key (kind_text kind) ∷ Text source_key (written source.now)
-        ∷ Text destination_key (written destination.now) ∷ Data data_key bytes.now ∷ [])) }
+        (Text kind_tag (kind_text kind) ∷ Text source_tag (written source.now)
+        ∷ Text destination_tag (written destination.now) ∷ Data data_tag bytes.now ∷ [])) }
     ensures front { Grows S.is_front (S.seen sink.old) (S.seen sink.new) }
 {
     sink.text(KIND, kind_name(kind))?;
@@ -194,7 +195,7 @@ fn tell_error<S: Sink>(
 /// # Errors
 ///
 /// `NoMemory` where memory ran out. What stood in the text is still its front.
-#[tactic(auto, using(nb_names::specs::Growth::front_stays))]
+#[tactic(auto, using(nb_streams::specs::Growth::front_stays))]
 pub fn push_parts(datagram: &Datagram, text: &mut String) -> Result<(), NoMemory>
     ensures added { OnOk result
         (string_bytes text.new ≡ string_bytes text.old ++ parts_text datagram.now) }

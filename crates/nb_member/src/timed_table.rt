@@ -13,7 +13,7 @@ ghost use Rattle.nb_member.specs.Code.Members.{begun_each, HaveOneSetOfKeys, Sta
 
 use crate::limits::FRAGMENT_TIMEOUT;
 use nb_datagram::{Datagrams, Key, LentFragment, UserData};
-use nb_names::NoMemory;
+use nb_streams::NoMemory;
 use nb_table::{Change, Handing, State, Table, TableFault};
 use std::alloc::Global;
 use std::marker::Model;

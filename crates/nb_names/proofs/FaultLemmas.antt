@@ -7,7 +7,8 @@ use Rattle.nb_names.specs.declared.reading.Pointers.TheVariants.{Followed, Refus
 use Rattle.nb_names.specs.declared.fault.NameFault.{NameFault}
 use Rattle.nb_names.specs.declared.fault.NameFault.TheVariants.{Truncated, ReservedLabel, PointerNotAllowed, BadPointer, TooLong, NotNetbios}
 use Rattle.nb_names.specs.DomainName.{spelling, IsLabel}
-use Rattle.nb_names.specs.Labels.{StandsAt, IsPointer, LabelsAt, ends, goes_on, leads_to, NameAt}
+use Rattle.nb_streams.specs.Places.{StandsAt}
+use Rattle.nb_names.specs.Labels.{IsPointer, LabelsAt, ends, goes_on, leads_to, NameAt}
 use Rattle.nb_names.specs.NameFaults.{OnWay, begins, behind_label, along_pointer, IsCut, no_length_byte, short_label, half_pointer, IsReserved, FaultHere, cut, reserved, not_allowed, not_below, too_long, FaultAt, NetbiosFaultAt, on_way, not_netbios}
 use Rattle.nb_names.specs.FirstLevel.{IsFirstNonLetter}
 use Rattle.nb_names.specs.Name.{NetbiosName, IsName, IsNoName, no_label, wrong_length, non_letter, labels_of_name}
@@ -15,7 +16,7 @@ use Rattle.std.proofs.lemmas.Bool.{cases_lt}
 use Rattle.nb_names.proofs.NameLemmas.{name_length, name_letters}
 use Rattle.nb_names.proofs.SpellingLemmas.{length-spelling-snoc}
 use Rattle.nb_names.specs.NameFacts.{spelling-some}
-use Rattle.nb_names.specs.PacketFacts.{stands_same, stands_fits}
+use Rattle.nb_streams.specs.PacketFacts.{stands_same, stands_fits}
 use Rattle.nb_names.proofs.LabelsLemmas.{stands_first, one_target, pointer_first, IsDomain-read, one_reading}
 
 -- ---- what a length byte begins is one thing

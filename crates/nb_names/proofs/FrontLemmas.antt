@@ -5,14 +5,15 @@ use Rattle.nb_names.specs.declared.text_steps.Stage.{Stage}
 use Rattle.nb_names.specs.declared.text_steps.Stage.TheVariants.{Front, FrontEscape, FrontDigit, Suffix, SuffixDigit, SuffixEnd, Closed, LabelStart, Label, LabelEscape, LabelDigit}
 use Rattle.nb_names.specs.declared.text_steps.Added.{Added}
 use Rattle.nb_names.specs.declared.text_steps.Added.TheVariants.{FrontByte, Last, LabelByte, LabelEnd}
-use Rattle.nb_names.specs.NameText.{IsHexDigit, byte_of, Parts, IsFormed, IsFront, IsBad, IsText, IsFaultOf}
+use Rattle.nb_streams.specs.Hexadecimal.{IsHexDigit, byte_of}
+use Rattle.nb_names.specs.NameText.{Parts, IsFormed, IsFront, IsBad, IsText, IsFaultOf}
 use Rattle.nb_names.specs.Name.{NetbiosName}
 use Rattle.nb_names.specs.declared.fault.TextFault.{TextFault}
 use Rattle.nb_names.specs.declared.fault.TextFault.TheVariants.{BadText, TooLong}
-use Rattle.nb_names.specs.Hexadecimal.{pair_byte}
-use Rattle.nb_names.specs.Code.TextSteps.{Taken, nothing_taken, takes, second_digit, step, run, parts_of, finish, parts_read}
-use Rattle.nb_names.proofs.TextRunLemmas.{ended, run-append, run_on, second_digit-hex, parts_read-form}
-use Rattle.nb_names.proofs.TextReachLemmas.{Reached, start_reached, run_reached, form-parts_read}
+use Rattle.nb_streams.specs.Hexadecimal.{pair_byte}
+use Rattle.nb_names.specs.Code.TextSteps.{Taken, nothing_taken, takes, second_digit, step, steps, parts_of, finish, parts_read}
+use Rattle.nb_names.proofs.TextStepLemmas.{ended, steps-append, steps_on, second_digit-hex, parts_read-form}
+use Rattle.nb_names.proofs.TextReachLemmas.{Reached, start_reached, steps_reached, form-parts_read}
 
 -- what completes a text from a stage
 completion : Stage → List ℕ
@@ -52,11 +53,11 @@ has_digit LabelEscape t done r = tt
 -- a zero ends an escape, or the byte after `<`
 zero_behind : (high : ℕ) (t : Taken) (next : Stage) (adds : ℕ → Added) (rest : List ℕ) (s : Stage) → IsHexDigit high
     → step s 48 ≡ second_digit (pair_byte high 48) next adds
-    → run s t (48 ∷ rest) ≡ run next (takes t (adds (byte_of high 48))) rest
+    → steps s t (48 ∷ rest) ≡ steps next (takes t (adds (byte_of high 48))) rest
 zero_behind high t next adds rest s digit is =
-    run_on s t 48 rest (next, adds (byte_of high 48)) (is ∙ second_digit-hex high 48 next adds digit (omega arith))
+    steps_on s t 48 rest (next, adds (byte_of high 48)) (is ∙ second_digit-hex high 48 next adds digit (omega arith))
 
-completes : (s : Stage) (t : Taken) → HasDigit s → (parts : Parts) × (ended (run s t (completion s)) ≡ Some parts)
+completes : (s : Stage) (t : Taken) → HasDigit s → (parts : Parts) × (ended (steps s t (completion s)) ≡ Some parts)
 unfolding completion HasDigit
 completes Front t h = (_, refl)
 completes FrontEscape t h = (_, refl)
@@ -78,22 +79,22 @@ formed_if_read text parts e = (parts, form-parts_read parts text e)
 pub unformed_unless_read : (text : List ℕ) → parts_read text ≡ None → ¬ IsFormed text
 unformed_unless_read text e (parts, form) = absurd (let is : Some parts ≡ None = sym (parts_read-form parts text form) ∙ e in cc)
 
-read_behind : (s : Stage) (t : Taken) (front rest : List ℕ) → run Front nothing_taken front ≡ Some (s, t) → parts_read (front ++ rest) ≡ ended (run s t rest)
-read_behind s t front rest e = ap ended (run-append Front nothing_taken front rest ∙ ap (option_and_then (λ (end : Stage × Taken). run end.0 end.1 rest)) e)
+read_behind : (s : Stage) (t : Taken) (front rest : List ℕ) → steps Front nothing_taken front ≡ Some (s, t) → parts_read (front ++ rest) ≡ ended (steps s t rest)
+read_behind s t front rest e = ap ended (steps-append Front nothing_taken front rest ∙ ap (option_and_then (λ (end : Stage × Taken). steps end.0 end.1 rest)) e)
 
-none_behind : (front rest : List ℕ) → run Front nothing_taken front ≡ None → parts_read (front ++ rest) ≡ None
-none_behind front rest e = ap ended (run-append Front nothing_taken front rest ∙ ap (option_and_then (λ (end : Stage × Taken). run end.0 end.1 rest)) e)
+none_behind : (front rest : List ℕ) → steps Front nothing_taken front ≡ None → parts_read (front ++ rest) ≡ None
+none_behind front rest e = ap ended (steps-append Front nothing_taken front rest ∙ ap (option_and_then (λ (end : Stage × Taken). steps end.0 end.1 rest)) e)
 
 -- some text of the form begins with what the steps read
-pub front_if_run : (text : List ℕ) (count : ℕ) (s : Stage) (t : Taken) → run Front nothing_taken (take count text) ≡ Some (s, t) → IsFront text count
-front_if_run text count s t e =
-    let reached = run_reached Front nothing_taken [] (take count text) start_reached in
+pub front_if_steps : (text : List ℕ) (count : ℕ) (s : Stage) (t : Taken) → steps Front nothing_taken (take count text) ≡ Some (s, t) → IsFront text count
+front_if_steps text count s t e =
+    let reached = steps_reached Front nothing_taken [] (take count text) start_reached in
     let digit = has_digit s t (take count text) (rw e at reached) in
     let whole = completes s t digit in
     (completion s, formed_if_read (take count text ++ completion s) whole.0 (read_behind s t (take count text) (completion s) e ∙ whole.1))
 
 -- no text of the form begins with what they refuse, or with more
-pub no_front : (text : List ℕ) (dead count : ℕ) → run Front nothing_taken (take dead text) ≡ None → dead ≤ count → ¬ IsFront text count
+pub no_front : (text : List ℕ) (dead count : ℕ) → steps Front nothing_taken (take dead text) ≡ None → dead ≤ count → ¬ IsFront text count
 no_front text dead count e h (rest, formed) =
     let two : take count text ≡ take dead text ++ drop dead (take count text) =
     sym (take-append-drop dead (take count text)) ∙ ap (λ (front : List ℕ). front ++ drop dead (take count text)) (take-take dead count text h) in
@@ -103,34 +104,34 @@ no_front text dead count e h (rest, formed) =
 
 -- ---- the turns and ends of a loop over a text
 
--- the run over one more byte
-pub run_more : (text : List ℕ) (i : ℕ) (s : Stage) (t : Taken) → i < length text → run Front nothing_taken (take i text) ≡ Some (s, t) → run Front nothing_taken (take (i + 1) text) ≡ option_and_then (λ next. Some (next.0, takes t next.1)) (step s (get_or text i 0))
-run_more text i s t h e =
-    ap (run Front nothing_taken) (take_more text i 0 h)
-    ∙ run-append Front nothing_taken (take i text) (get_or text i 0 ∷ [])
-    ∙ ap (option_and_then (λ (end : Stage × Taken). run end.0 end.1 (get_or text i 0 ∷ []))) e
+-- the steps over one more byte
+pub steps_more : (text : List ℕ) (i : ℕ) (s : Stage) (t : Taken) → i < length text → steps Front nothing_taken (take i text) ≡ Some (s, t) → steps Front nothing_taken (take (i + 1) text) ≡ option_and_then (λ next. Some (next.0, takes t next.1)) (step s (get_or text i 0))
+steps_more text i s t h e =
+    ap (steps Front nothing_taken) (take_more text i 0 h)
+    ∙ steps-append Front nothing_taken (take i text) (get_or text i 0 ∷ [])
+    ∙ ap (option_and_then (λ (end : Stage × Taken). steps end.0 end.1 (get_or text i 0 ∷ []))) e
 
-pub run_turn : (text : List ℕ) (i : ℕ) (s : Stage) (t : Taken) (next : Stage × Added) → i < length text → run Front nothing_taken (take i text) ≡ Some (s, t) → step s (get_or text i 0) ≡ Some next → run Front nothing_taken (take (i + 1) text) ≡ Some (next.0, takes t next.1)
-run_turn text i s t next h e f = run_more text i s t h e ∙ ap (option_and_then (λ (n : Stage × Added). Some (n.0, takes t n.1))) f
+pub steps_turn : (text : List ℕ) (i : ℕ) (s : Stage) (t : Taken) (next : Stage × Added) → i < length text → steps Front nothing_taken (take i text) ≡ Some (s, t) → step s (get_or text i 0) ≡ Some next → steps Front nothing_taken (take (i + 1) text) ≡ Some (next.0, takes t next.1)
+steps_turn text i s t next h e f = steps_more text i s t h e ∙ ap (option_and_then (λ (n : Stage × Added). Some (n.0, takes t n.1))) f
 
 -- where the steps refuse a byte, the text is bad at its place
-pub bad_inside : (text : List ℕ) (i : ℕ) (s : Stage) (t : Taken) → i < length text → run Front nothing_taken (take i text) ≡ Some (s, t) → step s (get_or text i 0) ≡ None → (¬ IsFormed text) × IsBad text i
+pub bad_inside : (text : List ℕ) (i : ℕ) (s : Stage) (t : Taken) → i < length text → steps Front nothing_taken (take i text) ≡ Some (s, t) → step s (get_or text i 0) ≡ None → (¬ IsFormed text) × IsBad text i
 bad_inside text i s t h e f =
-    let dead : run Front nothing_taken (take (i + 1) text) ≡ None = run_more text i s t h e ∙ ap (option_and_then (λ (n : Stage × Added). Some (n.0, takes t n.1))) f in (
+    let dead : steps Front nothing_taken (take (i + 1) text) ≡ None = steps_more text i s t h e ∙ ap (option_and_then (λ (n : Stage × Added). Some (n.0, takes t n.1))) f in (
       unformed_unless_read text (ap parts_read (sym (take-append-drop (i + 1) text)) ∙ none_behind (take (i + 1) text) (drop (i + 1) text) dead),
-      record { within = omega arith; front = front_if_run text i s t e; longest = λ count above in_text. no_front text (i + 1) count dead (omega arith) },
+      record { within = omega arith; front = front_if_steps text i s t e; longest = λ count above in_text. no_front text (i + 1) count dead (omega arith) },
     )
 
 -- where the text stops too early, it is bad at its end
-pub bad_at_end : (text : List ℕ) (i : ℕ) (s : Stage) (t : Taken) → length text ≤ i → run Front nothing_taken (take i text) ≡ Some (s, t) → finish s t ≡ None → (¬ IsFormed text) × IsBad text (length text)
+pub bad_at_end : (text : List ℕ) (i : ℕ) (s : Stage) (t : Taken) → length text ≤ i → steps Front nothing_taken (take i text) ≡ Some (s, t) → finish s t ≡ None → (¬ IsFormed text) × IsBad text (length text)
 bad_at_end text i s t h e f =
-    let whole : run Front nothing_taken text ≡ Some (s, t) = ap (run Front nothing_taken) (sym (take_all i text h)) ∙ e in (
+    let whole : steps Front nothing_taken text ≡ Some (s, t) = ap (steps Front nothing_taken) (sym (take_all i text h)) ∙ e in (
       unformed_unless_read text (ap ended whole ∙ f),
-      record { within = omega arith; front = front_if_run text (length text) s t (ap (run Front nothing_taken) (take_all (length text) text (omega arith)) ∙ whole); longest = λ count above in_text. absurd (omega arith) },
+      record { within = omega arith; front = front_if_steps text (length text) s t (ap (steps Front nothing_taken) (take_all (length text) text (omega arith)) ∙ whole); longest = λ count above in_text. absurd (omega arith) },
     )
 
 -- where it may end, it has the form
-pub parts_at_end : (text : List ℕ) (i : ℕ) (s : Stage) (t : Taken) (parts : Parts) → length text ≤ i → run Front nothing_taken (take i text) ≡ Some (s, t) → finish s t ≡ Some parts → parts_read text ≡ Some parts
+pub parts_at_end : (text : List ℕ) (i : ℕ) (s : Stage) (t : Taken) (parts : Parts) → length text ≤ i → steps Front nothing_taken (take i text) ≡ Some (s, t) → finish s t ≡ Some parts → parts_read text ≡ Some parts
 parts_at_end text i s t parts h e f = ap parts_read (sym (take_all i text h)) ∙ ap ended e ∙ f
 
 -- elsewhere than after `>` or a label no text ends
@@ -148,7 +149,7 @@ not_ended LabelEscape t c l = refl
 not_ended (LabelDigit _) t c l = refl
 
 -- after `>` or a label a text may end
-pub formed_at_end : (text : List ℕ) (i : ℕ) (s : Stage) (t : Taken) → length text ≤ i → run Front nothing_taken (take i text) ≡ Some (s, t) → (s ≡ Closed) ⊎ (s ≡ Label) → IsFormed text
+pub formed_at_end : (text : List ℕ) (i : ℕ) (s : Stage) (t : Taken) → length text ≤ i → steps Front nothing_taken (take i text) ≡ Some (s, t) → (s ≡ Closed) ⊎ (s ≡ Label) → IsFormed text
 formed_at_end text i s t h e (inl is) =
     formed_if_read text _ (parts_at_end text i s t (parts_of t) h e (ap (λ (s : Stage). finish s t) is))
 formed_at_end text i s t h e (inr is) =

@@ -5,8 +5,9 @@ use Rattle.std.proofs.lemmas.List.{take-append-drop, length-take-le, drop_more, 
 use Rattle.nb_names.specs.declared.reading.Pointers.{Pointers}
 use Rattle.nb_names.specs.declared.reading.Pointers.TheVariants.{Refused}
 use Rattle.nb_names.specs.DomainName.{spelling, IsDomain}
-use Rattle.nb_names.specs.PacketFacts.{stands_same, stands_fits}
-use Rattle.nb_names.specs.Labels.{StandsAt, pointer_bytes, IsPointer, LabelsAt, ends, goes_on, leads_to}
+use Rattle.nb_streams.specs.PacketFacts.{stands_same, stands_fits}
+use Rattle.nb_streams.specs.Places.{StandsAt}
+use Rattle.nb_names.specs.Labels.{pointer_bytes, IsPointer, LabelsAt, ends, goes_on, leads_to}
 
 -- ---- bytes that stand in a packet
 

@@ -7,12 +7,9 @@ pub mod ReadingLemmas
 pub mod SkippedLemmas
 pub mod ChainLemmas
 pub mod TotalityLemmas
-pub mod TextRunLemmas
+pub mod TextStepLemmas
 pub mod TextReachLemmas
 pub mod FrontLemmas
 pub mod PartsLemmas
 pub mod WrittenLemmas
-pub mod DeviceLemmas
-pub mod LineLawLemmas
-pub mod HexadecimalLemmas
 pub mod PushingLemmas

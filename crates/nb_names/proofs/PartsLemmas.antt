@@ -12,11 +12,11 @@ use Rattle.nb_names.specs.declared.fault.TextFault.{TextFault}
 use Rattle.nb_names.specs.DomainName.{IsLabel}
 use Rattle.nb_names.specs.Name.{NetbiosName, IsScope}
 use Rattle.nb_names.specs.NameText.{Parts, FitsLimits, filled, name_of, IsText, IsFormed}
-use Rattle.nb_names.specs.Code.TextSteps.{Taken, nothing_taken, step, takes, run, parts_of, finish}
+use Rattle.nb_names.specs.Code.TextSteps.{Taken, nothing_taken, step, takes, steps, parts_of, finish}
 use Rattle.nb_names.specs.Code.Kept.{FitsSoFar}
 use Rattle.nb_names.proofs.SpellingLemmas.{length-spelling-snoc}
-use Rattle.nb_names.proofs.TextRunLemmas.{run-append, parts_read-form}
-use Rattle.nb_names.proofs.TextReachLemmas.{Reached, run_reached, start_reached, form-parts_read}
+use Rattle.nb_names.proofs.TextStepLemmas.{steps-append, parts_read-form}
+use Rattle.nb_names.proofs.TextReachLemmas.{Reached, steps_reached, start_reached, form-parts_read}
 use Rattle.nb_names.proofs.FrontLemmas.{parts_at_end}
 
 -- sixteen spaces, with the bytes at their front and one at their end
@@ -52,10 +52,10 @@ fits_before t (Last b) f = record { front_fits = f.front_fits; label_fits = f.la
 fits_before t (LabelByte b) f = record { front_fits = f.front_fits; label_fits = omega (arith, f.label_fits, length-append t.label (b ∷ [])); scope_fits = f.scope_fits }
 fits_before t LabelEnd f = record { front_fits = f.front_fits; label_fits = (All-last t.scope t.label f.scope_fits.domain.each).1; scope_fits = IsScope-front t.scope t.label f.scope_fits }
 
-fits_all_along : (s : Stage) (t : Taken) (text : List ℕ) (end : Stage × Taken) → run s t text ≡ Some end → FitsSoFar end.1 → FitsSoFar t
+fits_all_along : (s : Stage) (t : Taken) (text : List ℕ) (end : Stage × Taken) → steps s t text ≡ Some end → FitsSoFar end.1 → FitsSoFar t
 fits_all_along s t [] end e f = let same : end.1 ≡ t = cc in rw same at f
 fits_all_along s t (c ∷ text) end e f =
-    option_and_then_some (λ next. run next.0 (takes t next.1) text) (step s c) end e
+    option_and_then_some (λ next. steps next.0 (takes t next.1) text) (step s c) end e
     (λ next is rest. fits_before t next.1 (fits_all_along next.0 (takes t next.1) text end rest f))
 
 -- where a text ends with parts within the limits, what is taken is
@@ -85,18 +85,18 @@ pub no_name_unformed : (text : List ℕ) → ¬ IsFormed text → (name : Netbio
 no_name_unformed text h name is = h (is.parts, is.form)
 
 -- a text is a name's only if its parts are within the limits at each place
-pub no_name_past_limits : (text : List ℕ) (i : ℕ) (s : Stage) (t : Taken) → run Front nothing_taken (take i text) ≡ Some (s, t) → ¬ FitsSoFar t → (name : NetbiosName) → ¬ IsText name text
+pub no_name_past_limits : (text : List ℕ) (i : ℕ) (s : Stage) (t : Taken) → steps Front nothing_taken (take i text) ≡ Some (s, t) → ¬ FitsSoFar t → (name : NetbiosName) → ¬ IsText name text
 no_name_past_limits text i s t e h name is =
-    let whole : run Front nothing_taken text ≡ run s t (drop i text) =
-    ap (run Front nothing_taken) (sym (take-append-drop i text)) ∙ run-append Front nothing_taken (take i text) (drop i text)
-    ∙ ap (option_and_then (λ (end : Stage × Taken). run end.0 end.1 (drop i text))) e in
-    option_and_then_some (λ end. finish end.0 end.1) (run Front nothing_taken text) is.parts (parts_read-form is.parts text is.form)
+    let whole : steps Front nothing_taken text ≡ steps s t (drop i text) =
+    ap (steps Front nothing_taken) (sym (take-append-drop i text)) ∙ steps-append Front nothing_taken (take i text) (drop i text)
+    ∙ ap (option_and_then (λ (end : Stage × Taken). steps end.0 end.1 (drop i text))) e in
+    option_and_then_some (λ end. finish end.0 end.1) (steps Front nothing_taken text) is.parts (parts_read-form is.parts text is.form)
     (λ end there done.
-    let reached : Reached end.0 end.1 text = rw there at (run_reached Front nothing_taken [] text start_reached) in
+    let reached : Reached end.0 end.1 text = rw there at (steps_reached Front nothing_taken [] text start_reached) in
     h (fits_all_along s t (drop i text) end (sym whole ∙ there) (end_fits end.0 end.1 text is.parts reached done is.limits)))
 
 -- nor if the scope has no room for its last label
-pub no_name_past_label : (text : List ℕ) (i : ℕ) (t : Taken) → length text ≤ i → run Front nothing_taken (take i text) ≡ Some (Label, t) → ¬ FitsSoFar (takes t LabelEnd) → (name : NetbiosName) → ¬ IsText name text
+pub no_name_past_label : (text : List ℕ) (i : ℕ) (t : Taken) → length text ≤ i → steps Front nothing_taken (take i text) ≡ Some (Label, t) → ¬ FitsSoFar (takes t LabelEnd) → (name : NetbiosName) → ¬ IsText name text
 no_name_past_label text i t short e h name is =
     let read = sym (parts_read-form is.parts text is.form) ∙ parts_at_end text i Label t (parts_of (takes t LabelEnd)) short e refl in
     let same : is.parts ≡ parts_of (takes t LabelEnd) = cc in
@@ -104,7 +104,7 @@ no_name_past_label text i t short e h name is =
     h (record { front_fits = f.front; label_fits = omega arith; scope_fits = f.scope })
 
 -- where a text may end, it is the text of the name of what is taken
-pub text_at_end : (text : List ℕ) (i : ℕ) (s : Stage) (t : Taken) (parts : Parts) (name : NetbiosName) → length text ≤ i → run Front nothing_taken (take i text) ≡ Some (s, t) → finish s t ≡ Some parts → FitsLimits parts → name ≡ name_of parts → IsText name text
+pub text_at_end : (text : List ℕ) (i : ℕ) (s : Stage) (t : Taken) (parts : Parts) (name : NetbiosName) → length text ≤ i → steps Front nothing_taken (take i text) ≡ Some (s, t) → finish s t ≡ Some parts → FitsLimits parts → name ≡ name_of parts → IsText name text
 text_at_end text i s t parts name short e done limits is =
     record { parts = parts; form = form-parts_read parts text (parts_at_end text i s t parts short e done); limits = limits; exact = is }
 

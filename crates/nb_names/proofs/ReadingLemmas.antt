@@ -8,7 +8,8 @@ use Rattle.nb_names.specs.declared.fault.LabelFault.{LabelFault}
 use Rattle.nb_names.specs.declared.fault.LabelFault.TheVariants.{EmptyLabel, LabelTooLong, TooLong as PastLimit}
 use Rattle.nb_names.specs.DomainName.{spelling, IsLabel, IsRefused}
 use Rattle.nb_names.specs.Code.Kept.{HasLabel}
-use Rattle.nb_names.specs.Labels.{StandsAt, IsPointer, LabelsAt, ends, goes_on, leads_to, NameAt}
+use Rattle.nb_streams.specs.Places.{StandsAt}
+use Rattle.nb_names.specs.Labels.{IsPointer, LabelsAt, ends, goes_on, leads_to, NameAt}
 use Rattle.nb_names.specs.NameFaults.{OnWay, begins, behind_label, along_pointer, FaultHere, too_long, FaultAt}
 use Rattle.nb_names.specs.NameFacts.{spelling-some}
 use Rattle.nb_names.proofs.LabelsLemmas.{stands_label}

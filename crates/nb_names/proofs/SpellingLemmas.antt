@@ -1,7 +1,8 @@
 -- Spellings: what stands at a place, the labels that are spelled, and the limit of a scope.
 use Rattle.std.proofs.Common.{◌≡◌, ℕ, ◌<◌, ◌≤◌, List, [], ◌∷◌, length, drop, zero, suc, refl, arith, Some, None, slice_get, ◌+◌, ◌-◌, ◌++◌, take, ◌∙◌, ap, append_assoc, length-append, append-nil, ◌⊎◌, ◌≢◌, Option, Result, Ok, Err}
 use Rattle.std.specs.List.{AllByRecursion}
-use Rattle.nb_names.specs.DomainName.{IsLabel, spelling, AreBytes, AreByteLabels, IsDomain, Pushes}
+use Rattle.nb_names.specs.DomainName.{IsLabel, spelling, AreByteLabels, IsDomain, Pushes}
+use Rattle.nb_streams.specs.Places.{AreBytes}
 use Rattle.std.specs.Option.{MatchOption}
 use Rattle.std.proofs.Math.Seq.{take-append_seam, drop-append_seam}
 use Rattle.nb_names.specs.Code.Kept.{labels_within, labels_of, IsSpelled, BeginsWith}

@@ -8,9 +8,10 @@ use Rattle.nb_names.specs.declared.text_steps.Stage.{Stage}
 use Rattle.nb_names.specs.declared.text_steps.Stage.TheVariants.{Front, FrontEscape, FrontDigit, Suffix, SuffixDigit, SuffixEnd, Closed, LabelStart, Label, LabelEscape, LabelDigit}
 use Rattle.nb_names.specs.declared.text_steps.Added.{Added}
 use Rattle.nb_names.specs.declared.text_steps.Added.TheVariants.{Nothing, FrontByte, Last, LabelByte, LabelEnd}
-use Rattle.nb_names.specs.NameText.{is_plain, IsHexDigit, byte_of, Item, plain, escaped, Items, no_item, more_items, ScopeText, no_label, more_labels, Parts, HasForm}
-use Rattle.nb_names.specs.Hexadecimal.{pair_byte}
-use Rattle.nb_names.specs.Code.TextSteps.{first_digit, second_digit, step, step_in_front, step_in_label, Taken, nothing_taken, takes, run, parts_of, finish, parts_read}
+use Rattle.nb_names.specs.NameText.{is_plain, Item, plain, escaped, Items, no_item, more_items, ScopeText, no_label, more_labels, Parts, HasForm}
+use Rattle.nb_streams.specs.Hexadecimal.{IsHexDigit, byte_of}
+use Rattle.nb_streams.specs.Hexadecimal.{pair_byte}
+use Rattle.nb_names.specs.Code.TextSteps.{first_digit, second_digit, step, step_in_front, step_in_label, Taken, nothing_taken, takes, steps, parts_of, finish, parts_read}
 
 -- ---- items and labels at an end
 
@@ -167,17 +168,17 @@ reached_step (LabelDigit high) t done c (d, l, digit, e) =
     some_second (After t done c) high c Label LabelByte (λ hex.
     rw (further d done (92 ∷ high ∷ []) (c ∷ []) e) (label_item t d l (byte_of high c) (92 ∷ high ∷ c ∷ []) (escaped high c digit hex)))
 
--- ---- runs
+-- ---- steps
 
 some_bind : {X Y : Type 0} (P : X → Type 0) (Q : Y → Type 0) (f : X → Option Y) (o : Option X) → IfSome o P → ((x : X) → P x → IfSome (f x) Q) → IfSome (option_and_then f o) Q
 some_bind P Q f None p g = tt
 some_bind P Q f (Some x) p g = g x p
 
-pub run_reached : (s : Stage) (t : Taken) (done text : List ℕ) → Reached s t done → IfSome (run s t text) (λ end. Reached end.0 end.1 (done ++ text))
-run_reached s t done [] r = rw append-nil r
-run_reached s t done (c ∷ text) r =
-    some_bind (After t done c) (λ end. Reached end.0 end.1 (done ++ c ∷ text)) (λ next. run next.0 (takes t next.1) text) (step s c) (reached_step s t done c r)
-    (λ next there. rw (append_assoc done (c ∷ []) text) at (run_reached next.0 (takes t next.1) (done ++ c ∷ []) text there))
+pub steps_reached : (s : Stage) (t : Taken) (done text : List ℕ) → Reached s t done → IfSome (steps s t text) (λ end. Reached end.0 end.1 (done ++ text))
+steps_reached s t done [] r = rw append-nil r
+steps_reached s t done (c ∷ text) r =
+    some_bind (After t done c) (λ end. Reached end.0 end.1 (done ++ c ∷ text)) (λ next. steps next.0 (takes t next.1) text) (step s c) (reached_step s t done c r)
+    (λ next there. rw (append_assoc done (c ∷ []) text) at (steps_reached next.0 (takes t next.1) (done ++ c ∷ []) text there))
 
 -- where a reading may end, the text has the form
 finish_reached : (s : Stage) (t : Taken) (done : List ℕ) → Reached s t done → IfSome (finish s t) (λ parts. HasForm parts done)
@@ -199,8 +200,8 @@ start_reached = record { items = no_item; scope = refl; label = refl }
 -- what is read as parts has the form with them
 parts_read-reached : (text : List ℕ) → IfSome (parts_read text) (λ parts. HasForm parts text)
 parts_read-reached text =
-    some_bind (λ end. Reached end.0 end.1 text) (λ parts. HasForm parts text) (λ end. finish end.0 end.1) (run Front nothing_taken text)
-    (run_reached Front nothing_taken [] text start_reached) (λ end there. finish_reached end.0 end.1 text there)
+    some_bind (λ end. Reached end.0 end.1 text) (λ parts. HasForm parts text) (λ end. finish end.0 end.1) (steps Front nothing_taken text)
+    (steps_reached Front nothing_taken [] text start_reached) (λ end there. finish_reached end.0 end.1 text there)
 
 pub form-parts_read : (parts : Parts) (text : List ℕ) → parts_read text ≡ Some parts → HasForm parts text
 form-parts_read parts text e = let has = parts_read-reached text in rw e at has

@@ -8,13 +8,15 @@ use Rattle.nb_names.specs.declared.fault.NameFault.TheVariants.{Truncated, Reser
 use Rattle.nb_names.specs.declared.length_byte.LengthByte.{LengthByte}
 use Rattle.nb_names.specs.declared.limits.TheConstants.{MAX_LABEL}
 use Rattle.nb_names.specs.declared.length_byte.LengthByte.TheVariants.{Cut, End, Label, Reserved, Pointer}
-use Rattle.nb_names.specs.DomainName.{spelling, AreBytes, IsDomain}
+use Rattle.nb_names.specs.DomainName.{spelling, IsDomain}
+use Rattle.nb_streams.specs.Places.{AreBytes}
 use Rattle.nb_names.specs.FirstLevel.{letter, letters, IsLetter, IsFirstNonLetter}
 use Rattle.nb_names.specs.Name.{NetbiosName, IsName, IsNoName, no_label, wrong_length, non_letter, labels_of_name}
-use Rattle.nb_names.specs.Labels.{StandsAt, NameAt}
+use Rattle.nb_streams.specs.Places.{StandsAt}
+use Rattle.nb_names.specs.Labels.{NameAt}
 use Rattle.nb_names.specs.Code.Kept.{HasLabel, Begins}
 use Rattle.nb_names.specs.NameFaults.{short_label, half_pointer, no_length_byte, cut, reserved, not_allowed, not_below, too_long, FaultAt, NetbiosFaultAt, on_way, not_netbios}
-use Rattle.nb_names.specs.PacketFacts.{byte_below}
+use Rattle.nb_streams.specs.PacketFacts.{byte_below}
 use Rattle.nb_names.proofs.SpellingLemmas.{length-spelling-snoc}
 use Rattle.nb_names.proofs.LabelsLemmas.{stands_one, pointer_made, IsDomain-read}
 use Rattle.nb_names.proofs.NameLemmas.{IsScope-rest}

@@ -7,8 +7,9 @@ use Rattle.std.proofs.lemmas.Bool.Decides.{nat_tests}
 use Rattle.std.proofs.lemmas.List.{take_more, take_all, length-take, length-append, length-replicate}
 use Rattle.nb_names.specs.DomainName.{IsLabel, AreByteLabels}
 use Rattle.nb_names.specs.Name.{NetbiosName, IsName, IsByteName}
-use Rattle.nb_names.specs.PacketFacts.{All-take, byte_below}
-use Rattle.nb_names.specs.NameText.{is_plain, byte_of, Item, plain, escaped, Items, no_item, more_items, ScopeText, no_label, more_labels, Parts, filled, IsText, digits_of, item_of, items_of, scope_text_of, kept_before, trimmed, written}
+use Rattle.nb_streams.specs.PacketFacts.{All-take, byte_below}
+use Rattle.nb_names.specs.NameText.{is_plain, Item, plain, escaped, Items, no_item, more_items, ScopeText, no_label, more_labels, Parts, filled, IsText, item_of, items_of, scope_text_of, kept_before, trimmed, written}
+use Rattle.nb_streams.specs.Hexadecimal.{byte_of, digits_of}
 
 -- ---- spaces at the end
 

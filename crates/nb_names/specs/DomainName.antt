@@ -1,10 +1,11 @@
 -- Domain names as lists of labels, and how they are spelled (RFC 1001 section 14.2, RFC 1002
 -- section 4.1). Lengths are in bytes, and a spelling's length counts its zero byte.
-use Rattle.std.specs.Prelude.{◌≡◌, ℕ, ◌<◌, ◌≤◌, ◌^◌, ◌++◌, ◌==◌, Bool, List, [], ◌∷◌, length, Result, Ok, Err}
+use Rattle.std.specs.Prelude.{◌≡◌, ℕ, ◌<◌, ◌≤◌, ◌++◌, ◌==◌, Bool, List, [], ◌∷◌, length, Result, Ok, Err}
 use Rattle.std.specs.List.{AllByRecursion}
 use Rattle.std.specs.Ordering.{nat_cmp, on}
 use Rattle.std.specs.Cmp.Lexicographic.{pointwise, slice_cmp}
 use Rattle.std.specs.declared.cmp.Ordering.{Ordering}
+use Rattle.nb_streams.specs.Places.{AreBytes}
 use Rattle.nb_names.specs.declared.limits.TheConstants.{MAX_LABEL, MAX_SPELLING}
 use Rattle.nb_names.specs.declared.fault.LabelFault.{LabelFault}
 use Rattle.nb_names.specs.declared.fault.LabelFault.TheVariants.{EmptyLabel, LabelTooLong, TooLong}
@@ -22,10 +23,6 @@ IsLabel label = (0 < length label) × (length label ≤ MAX_LABEL)
 pub record IsDomain (labels : List (List ℕ)) : Type 0 where
   pub each : AllByRecursion IsLabel labels
   pub short : length (spelling labels) ≤ MAX_SPELLING
-
--- each has eight bits
-abbrev pub AreBytes : List ℕ → Type 0
-AreBytes = AllByRecursion (λ byte. byte < 2 ^ 8)
 
 -- each label is of bytes
 abbrev pub AreByteLabels : List (List ℕ) → Type 0

@@ -1,7 +1,7 @@
 -- The letters that spell the bytes of a NetBIOS name (RFC 1001 section 14.1): each byte becomes two,
 -- its high half first, as 'A' plus the half.
 use Rattle.std.specs.Prelude.{ℕ, ◌+◌, ◌/◌, ◌%◌, ◌<◌, ◌≤◌, List, [], ◌∷◌, length, slice_index}
-use Rattle.nb_names.specs.Ascii.{letter_a, letter_p}
+use Rattle.nb_streams.specs.Ascii.{letter_a, letter_p}
 
 -- the letter of a half byte
 abbrev pub letter : ℕ → ℕ

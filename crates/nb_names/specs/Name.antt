@@ -6,7 +6,8 @@ use Rattle.std.specs.Cmp.Lexicographic.{pointwise, slice_cmp}
 use Rattle.std.specs.Coded.{Coded, code_by, coded×, coded_ℕ, coded_list}
 use Rattle.std.specs.declared.cmp.Ordering.{Ordering}
 use Rattle.nb_names.specs.declared.limits.TheConstants.{NAME_LENGTH, LETTERS, MAX_SCOPE}
-use Rattle.nb_names.specs.DomainName.{spelling, AreBytes, AreByteLabels, IsDomain, domain_eq, domain_cmp}
+use Rattle.nb_names.specs.DomainName.{spelling, AreByteLabels, IsDomain, domain_eq, domain_cmp}
+use Rattle.nb_streams.specs.Places.{AreBytes}
 use Rattle.nb_names.specs.FirstLevel.{letters, IsFirstNonLetter}
 
 -- a NetBIOS name: its sixteen bytes, of which the last is the suffix, and the labels of its scope

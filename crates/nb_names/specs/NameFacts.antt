@@ -1,7 +1,7 @@
 -- Lemmas on names, for the laws of traits and for proofs in the crates above: when two are equal.
 use Rattle.std.proofs.Common.{◌≡◌, ℕ, ◌<◌, List, [], ◌∷◌, ◌++◌, length, refl, ap, arith, length-append}
 use Rattle.std.specs.Bool.{Decides}
-use Rattle.nb_names.specs.DecidedFacts.{bytes_decide, decided_both, decided_by_view}
+use Rattle.nb_streams.specs.DecidedFacts.{bytes_decide, decided_both, decided_by_view}
 use Rattle.nb_names.specs.DomainName.{spelling, domain_eq}
 use Rattle.nb_names.specs.Name.{NetbiosName, name_eq}
 

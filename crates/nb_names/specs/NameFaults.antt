@@ -12,10 +12,11 @@ use Rattle.nb_names.specs.declared.fault.NameFault.{NameFault}
 use Rattle.nb_names.specs.declared.fault.NameFault.TheVariants.{Truncated, ReservedLabel, PointerNotAllowed, BadPointer, TooLong, NotNetbios}
 use Rattle.nb_names.specs.DomainName.{spelling, IsLabel}
 use Rattle.nb_names.specs.Name.{IsNoName}
-use Rattle.nb_names.specs.Labels.{StandsAt, IsPointer, NameAt}
+use Rattle.nb_streams.specs.Places.{StandsAt}
+use Rattle.nb_names.specs.Labels.{IsPointer, NameAt}
 
 -- OnWay packet pointers at start here labels: a reading from `at` comes to the length byte at `here`,
--- in the run that began at `start`, with these labels read, and no fault applied before it
+-- in the stretch that began at `start`, with these labels read, and no fault applied before it
 pub data OnWay (packet : List ℕ) (pointers : Pointers) (at : ℕ) : ℕ → ℕ → List (List ℕ) → Type 0 where
   begins : OnWay packet pointers at at at []
   behind_label : {start here : ℕ} {labels : List (List ℕ)} (label : List ℕ)
@@ -45,7 +46,7 @@ pub record IsReserved (packet : List ℕ) (here : ℕ) : Type 0 where
   pub high : first < 192
 
 -- FaultHere packet pointers at start here labels fault: at the length byte at `here`, to which a
--- reading from `at` comes, in the run that began at `start`, with these labels read, this fault applies
+-- reading from `at` comes, in the stretch that began at `start`, with these labels read, this fault applies
 pub data FaultHere (packet : List ℕ) (pointers : Pointers) (at start here : ℕ) (labels : List (List ℕ)) : NameFault → Type 0 where
   cut : IsCut packet here → FaultHere packet pointers at start here labels (Truncated (max at (length packet)))
   reserved : IsReserved packet here → FaultHere packet pointers at start here labels (ReservedLabel here)

@@ -3,13 +3,14 @@
 --
 -- Std's `digit_value` has the value of a digit or a letter of either case, and its `digit_char` the
 -- digit, in lower case, of a value.
-use Rattle.std.specs.Prelude.{◌≡◌, ◌==◌, ◌||◌, ◌&&◌, ℕ, ◌+◌, ◌-◌, ◌*◌, ◌/◌, ◌%◌, ◌<◌, ◌≤◌, Bool, false, nat_le, IsTrue, List, [], ◌∷◌, ◌++◌, length, take, replicate, if◌then◌else◌, slice_index, Option, Some, None}
+use Rattle.std.specs.Prelude.{◌≡◌, ◌==◌, ◌||◌, ◌&&◌, ℕ, ◌+◌, ◌-◌, ◌*◌, ◌<◌, ◌≤◌, Bool, false, nat_le, IsTrue, List, [], ◌∷◌, ◌++◌, length, take, replicate, if◌then◌else◌, slice_index, Option, Some, None}
 use Rattle.std.specs.List.{flat_map, list_all}
-use Rattle.std.specs.Char.{digit_value, digit_char, is_ascii_graphic}
+use Rattle.std.specs.Char.{is_ascii_graphic}
+use Rattle.nb_streams.specs.Hexadecimal.{IsHexDigit, byte_of, digits_of}
 use Rattle.nb_names.specs.declared.limits.TheConstants.{FRONT_LENGTH, LETTERS}
 use Rattle.nb_names.specs.declared.fault.TextFault.{TextFault}
 use Rattle.nb_names.specs.declared.fault.TextFault.TheVariants.{BadText, TooLong}
-use Rattle.nb_names.specs.Ascii.{space, dot, less_than, greater_than, letter_a, letter_p, backslash}
+use Rattle.nb_streams.specs.Ascii.{space, dot, less_than, greater_than, letter_a, letter_p, backslash}
 use Rattle.nb_names.specs.Name.{NetbiosName, IsScope}
 
 -- ---- the form
@@ -18,14 +19,6 @@ use Rattle.nb_names.specs.Name.{NetbiosName, IsScope}
 abbrev pub is_plain : ℕ → Bool
 is_plain byte =
     if byte == dot || byte == less_than || byte == greater_than || byte == backslash then false else is_ascii_graphic byte
-
--- a hexadecimal digit, in either case
-abbrev pub IsHexDigit : ℕ → Type 0
-IsHexDigit digit = digit_value digit < 16
-
--- the byte that two hexadecimal digits give, the high half first
-abbrev pub byte_of : ℕ → ℕ → ℕ
-byte_of high low = digit_value high * 16 + digit_value low
 
 -- Item byte text: the text is an item that stands for the byte: the byte itself, or its escape
 pub data Item : ℕ → List ℕ → Type 0 where
@@ -109,10 +102,6 @@ IsFaultOf text (BadText place) = (¬ IsFormed text) × IsBad text place
 IsFaultOf text TooLong = IsFormed text × ((name : NetbiosName) → ¬ IsText name text)
 
 -- ---- the written form
-
--- the two digits of a byte, in lower case
-abbrev pub digits_of : ℕ → List ℕ
-digits_of byte = digit_char (byte / 16) ∷ digit_char (byte % 16) ∷ []
 
 -- the item of a byte: a plain byte itself, else its escape
 abbrev pub item_of : ℕ → List ℕ

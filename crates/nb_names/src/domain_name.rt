@@ -5,14 +5,15 @@ ghost use Rattle.std.specs.Cmp.{partial_order_from_own_ties};
 ghost use Rattle.std.specs.Cmp.Rules.{comparing};
 ghost use Rattle.std.specs.Ordering.{as_partial_cmp};
 ghost use Rattle.nb_names.specs.Code.Kept.{labels_of, IsSpelled};
-ghost use Rattle.nb_names.specs.DomainName.{spelling, domain_eq, domain_cmp, AreBytes, AreByteLabels, IsLabel, IsDomain, Pushes};
+ghost use Rattle.nb_names.specs.DomainName.{spelling, domain_eq, domain_cmp, AreByteLabels, IsLabel, IsDomain, Pushes};
+ghost use Rattle.nb_streams.specs.Places.{AreBytes};
 ghost use Rattle.nb_names.specs.declared.limits.TheConstants.{MAX_SPELLING};
 
-use crate::bytes::{Bytes, NoMemory};
 use crate::fault::LabelFault;
 use crate::limits::{MAX_LABEL, MAX_SPELLING};
 use crate::spellings::{count_labels, each_is_a_byte, label_at, split_label};
 use arrayvec::ArrayVec;
+use nb_streams::{Bytes, NoMemory};
 use std::alloc::Global;
 use std::cmp::Ordering;
 use std::marker::Model;

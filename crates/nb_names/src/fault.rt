@@ -1,4 +1,4 @@
-//! Why labels, names and texts were refused, and why a device is given up.
+//! Why labels, names and texts were refused.
 ghost use Rattle.std.specs.Prelude.{◌≡◌};
 ghost use Rattle.nb_names.specs.FaultTexts.{name_fault_place, name_fault_words};
 
@@ -21,7 +21,7 @@ pub enum NameFault {
     ReservedLabel(usize),
     /// The length byte here begins a pointer, and pointers are refused.
     PointerNotAllowed(usize),
-    /// The pointer here doesn't go back before the run that holds it (our choice).
+    /// The pointer here doesn't go back before the stretch that holds it (our choice).
     BadPointer(usize),
     /// The label here makes the spelling longer than 255 bytes, counted with its zero byte.
     TooLong(usize),
@@ -117,8 +117,3 @@ impl fmt::Display for TextFault {
 }
 
 impl Error for TextFault {}
-
-/// A call of a device failed, a write took no byte, or 1,024 calls in a row were interrupted.
-#[derive(Clone, Copy, Debug, PartialEq, Eq, Error)]
-#[error("device")]
-pub struct DeviceFault;

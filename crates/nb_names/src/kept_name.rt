@@ -3,9 +3,9 @@ ghost use Rattle.std.specs.Prelude.{◌≡◌, IfOk};
 ghost use Rattle.nb_names.specs.Code.Kept.{KeepsScope};
 ghost use Rattle.nb_names.specs.Name.{IsByteName};
 
-use crate::bytes::NoMemory;
 use crate::lent_name::{LentName, NameForm};
 use crate::limits::NAME_LENGTH;
+use nb_streams::NoMemory;
 use std::alloc::Global;
 use std::marker::Model;
 

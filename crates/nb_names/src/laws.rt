@@ -1,20 +1,19 @@
 //! Laws of the definitions that the contracts cite. Each is proved; a call does nothing.
-ghost use Rattle.std.specs.Prelude.{◌≡◌, ◌≢◌, ◌↔◌, ◌⊎◌, ℕ, ◌+◌, ◌*◌, ◌/◌, ◌%◌, ◌<◌, ◌≤◌, List, [], ◌∷◌, ◌++◌, length, slice_index, IsTrue};
-ghost use Rattle.std.specs.List.{flat_map};
+ghost use Rattle.std.specs.Prelude.{◌≡◌, ◌≢◌, ◌↔◌, ◌⊎◌, ℕ, ◌+◌, ◌*◌, ◌/◌, ◌%◌, ◌<◌, ◌≤◌, List, ◌++◌, length, slice_index, IsTrue};
 ghost use Rattle.std.specs.Int.{w16, to_be_bytes};
 ghost use Rattle.nb_names.specs.declared.fault.NameFault.{NameFault};
 ghost use Rattle.nb_names.specs.declared.fault.NameFault.TheVariants.{Truncated};
-ghost use Rattle.nb_names.specs.declared.limits.TheConstants.{MAX_LABEL, MAX_SPELLING, MAX_SCOPE, NAME_LENGTH, FRONT_LENGTH, LETTERS, POINTED_OFFSETS, MAX_INPUT, MAX_INTERRUPTS};
+ghost use Rattle.nb_names.specs.declared.limits.TheConstants.{MAX_LABEL, MAX_SPELLING, MAX_SCOPE, NAME_LENGTH, FRONT_LENGTH, LETTERS, POINTED_OFFSETS};
 ghost use Rattle.nb_names.specs.declared.reading.Pointers.{Pointers};
-ghost use Rattle.nb_names.specs.DomainName.{spelling, AreBytes, IsDomain};
+ghost use Rattle.nb_names.specs.DomainName.{spelling, IsDomain};
+ghost use Rattle.nb_streams.specs.Places.{AreBytes};
 ghost use Rattle.nb_names.specs.FirstLevel.{letters, IsLetter};
-ghost use Rattle.nb_names.specs.Labels.{NameAt, StandsAt, pointer_bytes};
+ghost use Rattle.nb_names.specs.Labels.{NameAt, pointer_bytes};
+ghost use Rattle.nb_streams.specs.Places.{StandsAt};
 ghost use Rattle.nb_names.specs.Name.{NetbiosName, IsName, IsNoName, labels_of_name};
 ghost use Rattle.nb_names.specs.NameFaults.{FaultAt, NetbiosFaultAt};
 ghost use Rattle.nb_names.specs.Skipped.{IsSkipped};
 ghost use Rattle.nb_names.specs.declared.reading.Skipped.{Skipped};
-ghost use Rattle.nb_names.specs.Lines.{HasLines};
-ghost use Rattle.nb_names.specs.Growth.{IsFrontOf, OnlyAdds};
 ghost use Rattle.nb_names.specs.NameText.{IsText, IsFaultOf, is_plain};
 ghost use Rattle.nb_names.specs.declared.fault.TextFault.{TextFault};
 
@@ -27,9 +26,6 @@ pub fn numbers()
     ensures front { FRONT_LENGTH ≡ 15 }
     ensures letters { LETTERS ≡ 32 }
     ensures pointed { POINTED_OFFSETS ≡ 16384 }
-    ensures input { MAX_INPUT ≡ 16777216 }
-    ensures interrupts { MAX_INTERRUPTS ≡ 1024 }
-    ensures byte { (byte : ℕ) → AreBytes (byte ∷ []) ↔ (byte < 256) }
 {}
 
 /// Where labels stand they make a domain name, and no other labels and no other offset stand there.
@@ -72,15 +68,16 @@ pub fn spelling_is_read()
         labels (length front + length (spelling labels)) }
 {}
 
-/// The last run of a name lies in its packet. Where it is as long as the spelling of the name's
+/// The last stretch of a name lies in its packet. Where it is as long as the spelling of the name's
 /// labels, that spelling stands there.
-pub fn spelled_in_one_run()
+pub fn spelled_in_one_stretch()
     ensures within { (packet : List ℕ) (pointers : Pointers) (at : ℕ) (labels : List (List ℕ))
         (seen : Skipped) → IsSkipped packet pointers at labels seen →
-        (seen.run < seen.run_end) × (seen.run_end ≤ length packet) }
+        (seen.stretch < seen.stretch_end) × (seen.stretch_end ≤ length packet) }
     ensures stands { (packet : List ℕ) (pointers : Pointers) (at : ℕ) (labels : List (List ℕ))
         (seen : Skipped) → IsSkipped packet pointers at labels seen →
-        seen.run + seen.spelled_len ≡ seen.run_end → StandsAt packet seen.run (spelling labels) }
+        seen.stretch + seen.spelled_len ≡ seen.stretch_end →
+        StandsAt packet seen.stretch (spelling labels) }
 {}
 
 /// At each offset of a packet labels stand or there is a fault, for domain names and for NetBIOS
@@ -138,17 +135,6 @@ pub fn labels_tell_the_name()
         name ≡ other }
 {}
 
-/// A text has its lines in exactly one way. With a line feed after each they make the text, or the
-/// text with the line feed that its last line lacks.
-pub fn text_has_its_lines()
-    ensures lines { (text : List ℕ) → (lines : List (List ℕ)) × HasLines text lines }
-    ensures one { (text : List ℕ) (lines more : List (List ℕ)) →
-        HasLines text lines → HasLines text more → lines ≡ more }
-    ensures joined { (text : List ℕ) (lines : List (List ℕ)) → HasLines text lines →
-        (flat_map (λ line. line ++ 10 ∷ []) lines ≡ text)
-        ⊎ (flat_map (λ line. line ++ 10 ∷ []) lines ≡ text ++ 10 ∷ []) }
-{}
-
 /// A text is the text of one name.
 pub fn one_name()
     ensures { (text : List ℕ) (a b : NetbiosName) → IsText a text → IsText b text → a ≡ b }
@@ -166,11 +152,4 @@ pub fn one_text_fault()
 pub fn plain_bytes()
     ensures { (byte : ℕ) → IsTrue (is_plain byte) ↔ ((33 ≤ byte) × (byte ≤ 126)
         × (byte ≢ 46) × (byte ≢ 60) × (byte ≢ 62) × (byte ≢ 92)) }
-{}
-
-/// What only adds to a text leaves the text itself as a front of what it is then, and such a text
-/// was only added to.
-pub fn what_only_adds_keeps_the_text()
-    ensures kept { (old new : List ℕ) → OnlyAdds old new → IsFrontOf old new }
-    ensures only { (old new : List ℕ) → IsFrontOf old new → OnlyAdds old new }
 {}

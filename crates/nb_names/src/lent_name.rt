@@ -1,10 +1,10 @@
 //! NetBIOS names whose scopes are lent, and what the forms of a name have in common.
-#![tactic(auto, using(crate::specs::Growth::front_stays))]
+#![tactic(auto, using(nb_streams::specs::Growth::front_stays))]
 
 ghost use Rattle.std.specs.Prelude.{◌≡◌, ◌↔◌, ◌≤◌, ◌++◌, ℕ, length, string_bytes, IfOk, IfErr, IsOkAnd, IsTrue, OnOk};
 ghost use Rattle.std.proofs.Common.{rules};
 ghost use Rattle.std.specs.Cmp.Rules.{comparing};
-ghost use Rattle.nb_names.specs.Growth.{OnlyAdds};
+ghost use Rattle.nb_streams.specs.Growth.{OnlyAdds};
 ghost use Rattle.nb_names.specs.Code.Kept.{labels_of, IsSpelled};
 ghost use Rattle.nb_names.specs.DomainName.{spelling};
 ghost use Rattle.nb_names.specs.Labels.{NameAt};
@@ -13,7 +13,6 @@ ghost use Rattle.nb_names.specs.NameFaults.{NetbiosFaultAt};
 ghost use Rattle.nb_names.specs.NameText.{written};
 ghost use Rattle.nb_names.specs.declared.reading.Pointers.TheVariants.{Refused};
 
-use crate::bytes::NoMemory;
 use crate::domain_name::DomainName;
 use crate::fault::NameFault;
 use crate::limits::{LETTERS, NAME_LENGTH};
@@ -22,6 +21,7 @@ use crate::reading::Pointers;
 use crate::spellings::{bytes_of, each_is_a_byte, split_label};
 use crate::text_writing::push_parts;
 use crate::walking::{Passed, walk};
+use nb_streams::NoMemory;
 use std::marker::Model;
 
 /// A NetBIOS name whose scope is lent, as its spelling. It takes a few words, where a [`Name`] has

@@ -1,4 +1,4 @@
-//! The limits of names and of devices, each with its unit.
+//! The limits of names, each with its unit.
 
 /// The longest label, in bytes (RFC 1002 section 4.1: six bits of length).
 pub const MAX_LABEL: usize = 63;
@@ -20,9 +20,3 @@ pub const MAX_SCOPE: usize = 222;
 
 /// The offsets to which a pointer can lead, from 0 on (RFC 1002 section 4.1: 14 bits).
 pub const POINTED_OFFSETS: usize = 16_384;
-
-/// The most bytes of an input that are looked at: 16 MiB (our choice).
-pub const MAX_INPUT: usize = 16_777_216;
-
-/// The interrupts in a row after which a reader or a writer is given up (our choice).
-pub const MAX_INTERRUPTS: u32 = 1_024;

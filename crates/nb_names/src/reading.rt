@@ -22,8 +22,8 @@ use std::marker::Model;
 ///
 /// The first fault on the way, as [`NameFault`] orders them; never `NotNetbios`.
 ///
-/// RFC 1002 section 4.1. Which pointers are good is our choice: those that go back before the run
-/// that holds them.
+/// RFC 1002 section 4.1. Which pointers are good is our choice: those that go back before the
+/// stretch that holds them.
 pub fn read_domain(
     packet: &[u8],
     at: usize,
@@ -147,9 +147,9 @@ impl<'a, 'r> NameReader<'a, 'r> {
     /// Where the domain name stands that is at an offset of the packet, and how long its spelling
     /// is. The name is judged as by [`NameReader::read_domain`], and not made.
     ///
-    /// Where its last run is as long as its spelling, all of its labels stand there
-    /// ([`spelled_in_one_run`](crate::laws::spelled_in_one_run)): so it is where no label comes
-    /// before a pointer.
+    /// Where its last stretch is as long as its spelling, all of its labels stand there
+    /// ([`spelled_in_one_stretch`](crate::laws::spelled_in_one_stretch)): so it is where no label
+    /// comes before a pointer.
     ///
     /// # Errors
     ///
@@ -170,20 +170,21 @@ impl<'a, 'r> NameReader<'a, 'r> {
         walk(self.packet, self.ends, at, pointers, &mut Passed)
     }
 
-    /// The name at an offset that was judged so, lent from the packet; none where its last run is
-    /// shorter than its spelling: it then stands in several. No memory is taken.
+    /// The name at an offset that was judged so, lent from the packet; none where its last stretch
+    /// is shorter than its spelling: it then stands in several. No memory is taken.
     #[inline]
     pub fn lent_at(&self, at: usize, pointers: Pointers, seen: &Skipped) -> Option<LentDomain<'a>>
         requires { (labels : List (List ℕ)) × IsSkipped self.now pointers at labels seen.now }
-        ensures { MatchOption result (seen.now.run_end - seen.now.run ≢ seen.now.spelled_len)
+        ensures { MatchOption result
+            (seen.now.stretch_end - seen.now.stretch ≢ seen.now.spelled_len)
             (λ name. (labels : List (List ℕ)) →
             IsSkipped self.now pointers at labels seen.now → name ≡ labels) }
     {
         let packet = self.packet();
-        if seen.run_end - seen.run != seen.spelled_len {
+        if seen.stretch_end - seen.stretch != seen.spelled_len {
             return None;
         }
-        Some(LentDomain::of_spelling(&packet[seen.run..seen.run_end]))
+        Some(LentDomain::of_spelling(&packet[seen.stretch..seen.stretch_end]))
     }
 
     /// The name at an offset that was judged so: a copy of the one lent, or else its labels, read
@@ -215,8 +216,8 @@ pub enum Pointers {
 
 /// Where a name stands that was judged and not made. Offsets count from the packet's first byte.
 ///
-/// A name is read in runs of labels: a pointer ends each of them but the last, which ends in a zero
-/// byte.
+/// A name is read in stretches of labels: a pointer ends each of them but the last, which ends in a
+/// zero byte.
 ///
 /// RFC 1002 section 4.1.
 #[derive(Clone, Copy, Debug, PartialEq, Eq)]
@@ -225,8 +226,8 @@ pub struct Skipped {
     pub next: usize,
     /// How many bytes the spelling of its labels has, its zero byte included.
     pub spelled_len: usize,
-    /// Where the last run begins: at the name itself, where no pointer is in it.
-    pub run: usize,
-    /// The offset after the zero byte of the last run.
-    pub run_end: usize,
+    /// Where the last stretch begins: at the name itself, where no pointer is in it.
+    pub stretch: usize,
+    /// The offset after the zero byte of the last stretch.
+    pub stretch_end: usize,
 }

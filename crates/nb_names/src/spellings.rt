@@ -2,7 +2,8 @@
 //! name.
 ghost use Rattle.std.specs.Prelude.{◌≡◌, ◌<◌, IfSome, ℕ, List, [], length, option_map, slice_get, MatchOption, slice_index, IfOk, IfErr, IsTrue};
 ghost use Rattle.std.specs.List.{AllByRecursion};
-ghost use Rattle.nb_names.specs.DomainName.{spelling, AreBytes, IsLabel};
+ghost use Rattle.nb_names.specs.DomainName.{spelling, IsLabel};
+ghost use Rattle.nb_streams.specs.Places.{AreBytes};
 ghost use Rattle.nb_names.specs.Code.Kept.{BeginsWith};
 ghost use Rattle.nb_names.specs.FirstLevel.{letter, letters as letters_of_bytes, IsLetter, IsFirstNonLetter};
 ghost use Rattle.nb_names.specs.declared.limits.TheConstants.{LETTERS, NAME_LENGTH};

@@ -3,7 +3,7 @@ ghost use Rattle.std.specs.Prelude.{◌≡◌};
 ghost use Rattle.nb_names.specs.NameText.{is_plain as is_plain_byte};
 ghost use Rattle.nb_names.specs.Code.TextSteps.{step, step_in_front, step_in_label, first_digit};
 
-use crate::hexadecimal::byte_of_pair;
+use nb_streams::byte_of_pair;
 
 /// Where a reading stands: what the bytes read so far end in.
 #[derive(Clone, Copy)]

@@ -1,23 +1,24 @@
 //! Writing names as text.
-#![tactic(auto, using(crate::specs::Growth::front_stays))]
+#![tactic(auto, using(nb_streams::specs::Growth::front_stays))]
 
 ghost use Rattle.std.specs.Prelude.{◌≡◌, ◌++◌, ◌∷◌, [], ℕ, List, IfOk, OnOk, IsTrue, length, string_bytes};
 ghost use Rattle.std.specs.List.{AllByRecursion, list_all};
 ghost use Rattle.std.specs.Str.{IsAscii};
 ghost use Rattle.nb_names.specs.declared.limits.TheConstants.{NAME_LENGTH};
-ghost use Rattle.nb_names.specs.Growth.{OnlyAdds};
-ghost use Rattle.nb_names.specs.Ascii.{dot, less_than, greater_than};
-ghost use Rattle.nb_names.specs.DomainName.{AreBytes, IsLabel, spelling};
-ghost use Rattle.nb_names.specs.NameText.{IsText, written, bytes_written, domain_written, trimmed, digits_of, item_of, items_of, scope_text_of, labels_written, is_plain as is_plain_byte};
+ghost use Rattle.nb_streams.specs.Growth.{OnlyAdds};
+ghost use Rattle.nb_streams.specs.Ascii.{dot, less_than, greater_than};
+ghost use Rattle.nb_streams.specs.Places.{AreBytes};
+ghost use Rattle.nb_names.specs.DomainName.{IsLabel, spelling};
+ghost use Rattle.nb_names.specs.NameText.{IsText, written, bytes_written, domain_written, trimmed, item_of, items_of, scope_text_of, labels_written, is_plain as is_plain_byte};
+ghost use Rattle.nb_streams.specs.Hexadecimal.{digits_of};
 
-use crate::bytes::NoMemory;
 use crate::domain_name::{DomainName, LentDomain};
 use crate::limits::{FRONT_LENGTH, LETTERS, MAX_SPELLING, NAME_LENGTH};
 use crate::name::Name;
-use crate::parts_writing::{pair_of, push_ascii};
 use crate::spellings::{bytes_of, split_label};
 use crate::text_steps::is_plain;
 use arrayvec::ArrayVec;
+use nb_streams::{NoMemory, pair_of, push_ascii};
 use std::alloc::Global;
 
 /// The text of a name, as it is written: the spaces at the end of its first fifteen bytes are left

@@ -46,8 +46,8 @@ pub(crate) fn walk<T: Takes>(
                 return Ok(Skipped {
                     next: next.unwrap_or(here + 1),
                     spelled_len: spelled,
-                    run: start,
-                    run_end: here + 1,
+                    stretch: start,
+                    stretch_end: here + 1,
                 });
             }
             LengthByte::Label(size) => {

@@ -1,4 +1,5 @@
 pub mod SectionLemmas
+pub mod RowWalks
 pub mod ItemLemmas
 pub mod PacketLemmas
 pub mod EncodingLemmas

@@ -1,7 +1,7 @@
 -- Items of a packet by their numbers, and lists of them.
-use Rattle.std.proofs.Common.{◌≡◌, ◌<◌, ◌≤◌, inl, inr, ℕ, ◌+◌, List, [], ◌∷◌, ◌++◌, length, map, refl, ap, sym, subst, ◌∙◌, arith, length-append}
+use Rattle.std.proofs.Common.{◌≡◌, ◌<◌, ◌≤◌, inl, inr, ℕ, ◌+◌, List, [], ◌∷◌, ◌++◌, length, map, take, drop, zero, suc, refl, ap, sym, subst, ◌∙◌, arith, length-append, length-drop}
 use Rattle.std.proofs.lemmas.Bool.{cases_lt}
-use Rattle.std.proofs.lemmas.List.{length-map}
+use Rattle.std.proofs.lemmas.List.{length-map, length-take-le}
 use Rattle.nb_service.specs.declared.record.Extent.{Extent}
 use Rattle.nb_service.specs.declared.fault.ServiceFault.{ServiceFault}
 use Rattle.nb_service.specs.declared.limits.TheConstants.{HEADER_LENGTH}
@@ -11,9 +11,10 @@ use Rattle.nb_service.specs.declared.packet.Section.TheVariants.{Answer, Authori
 use Rattle.nb_service.specs.Header.{PacketHeader, HasHeader}
 use Rattle.nb_service.specs.Items.{PacketItem, asked, told, IsRecordOf, ItemAt, question_there, record_there, ItemFails, question_fails, record_fails, IsExtent, ItemsAt, no_item, one_more, HasItems, items_of}
 use Rattle.nb_service.specs.Record.{ResourceRecord}
+use Rattle.nb_service.specs.Code.Steps.{RowOf}
 use Rattle.nb_service.specs.Packet.{QuestionAt, RecordAt, Row, none, more, ServicePacket, header_of, IsPacket}
 use Rattle.nb_service.specs.ServiceFaults.{item_count, PacketFails, cut_header, in_questions, in_records}
-use Rattle.nb_service.proofs.ItemLemmas.{NameLaws, one_question, question_no_fault, one_question_fault, one_record, record_no_fault, one_record_fault, one_begin}
+use Rattle.nb_service.proofs.ItemLemmas.{one_question, question_no_fault, one_question_fault, one_record, record_no_fault, one_record_fault, one_begin}
 use Rattle.nb_service.proofs.PacketLemmas.{one_header, header_within}
 use Rattle.nb_service.proofs.SectionLemmas.{sections}
 
@@ -51,35 +52,35 @@ some_section h k late few = elim (cases_lt k (h.questions + h.answers)) [
 
 -- ---- one item
 
-pub one_item : (b : List ℕ) → NameLaws b → (h : PacketHeader) (k at : ℕ) (x y : PacketItem) (m n : ℕ) → ItemAt b h k at x m → ItemAt b h k at y n → (x ≡ y) × (m ≡ n)
-one_item b laws h k at x y m n (question_there q a low s) (question_there r c few t) =
-    let same = one_question b laws at q r a c s t in (ap asked same.0, same.1)
-one_item b laws h k at x y m n (question_there q a low s) (record_there u e c is t) = absurd (omega (arith, record_late h k u is, low))
-one_item b laws h k at x y m n (record_there u e a is s) (question_there q c low t) = absurd (omega (arith, record_late h k u is, low))
-one_item b laws h k at x y m n (record_there u e a is s) (record_there v d c are t) =
-    let same = one_record b laws at e d a c s t in (cc (one_section h k u v is are, same.0), same.1)
+pub one_item : (b : List ℕ) (h : PacketHeader) (k at : ℕ) (x y : PacketItem) (m n : ℕ) → ItemAt b h k at x m → ItemAt b h k at y n → (x ≡ y) × (m ≡ n)
+one_item b h k at x y m n (question_there q a low s) (question_there r c few t) =
+    let same = one_question b at q r a c s t in (ap asked same.0, same.1)
+one_item b h k at x y m n (question_there q a low s) (record_there u e c is t) = absurd (omega (arith, record_late h k u is, low))
+one_item b h k at x y m n (record_there u e a is s) (question_there q c low t) = absurd (omega (arith, record_late h k u is, low))
+one_item b h k at x y m n (record_there u e a is s) (record_there v d c are t) =
+    let same = one_record b at e d a c s t in (cc (one_section h k u v is are, same.0), same.1)
 
-pub item_no_fault : (b : List ℕ) → NameLaws b → (h : PacketHeader) (k at : ℕ) (x : PacketItem) (n : ℕ) (f : ServiceFault) → ItemAt b h k at x n → ItemFails b h k at f → ⊥
-item_no_fault b laws h k at x n f (question_there q a low s) (question_fails few t) = question_no_fault b laws at q a f s t
-item_no_fault b laws h k at x n f (question_there q a low s) (record_fails late few t) = omega (arith, low, late)
-item_no_fault b laws h k at x n f (record_there u e a is s) (question_fails few t) = omega (arith, record_late h k u is, few)
-item_no_fault b laws h k at x n f (record_there u e a is s) (record_fails late few t) = record_no_fault b laws at e a f s t
+pub item_no_fault : (b : List ℕ) (h : PacketHeader) (k at : ℕ) (x : PacketItem) (n : ℕ) (f : ServiceFault) → ItemAt b h k at x n → ItemFails b h k at f → ⊥
+item_no_fault b h k at x n f (question_there q a low s) (question_fails few t) = question_no_fault b at q a f s t
+item_no_fault b h k at x n f (question_there q a low s) (record_fails late few t) = omega (arith, low, late)
+item_no_fault b h k at x n f (record_there u e a is s) (question_fails few t) = omega (arith, record_late h k u is, few)
+item_no_fault b h k at x n f (record_there u e a is s) (record_fails late few t) = record_no_fault b at e a f s t
 
-pub one_item_fault : (b : List ℕ) → NameLaws b → (h : PacketHeader) (k at : ℕ) (f g : ServiceFault) → ItemFails b h k at f → ItemFails b h k at g → f ≡ g
-one_item_fault b laws h k at f g (question_fails low s) (question_fails few t) = one_question_fault b laws at f g s t
-one_item_fault b laws h k at f g (question_fails low s) (record_fails late few t) = absurd (omega (arith, low, late))
-one_item_fault b laws h k at f g (record_fails late few s) (question_fails low t) = absurd (omega (arith, low, late))
-one_item_fault b laws h k at f g (record_fails late few s) (record_fails after less t) = one_record_fault b laws at f g s t
+pub one_item_fault : (b : List ℕ) (h : PacketHeader) (k at : ℕ) (f g : ServiceFault) → ItemFails b h k at f → ItemFails b h k at g → f ≡ g
+one_item_fault b h k at f g (question_fails low s) (question_fails few t) = one_question_fault b at f g s t
+one_item_fault b h k at f g (question_fails low s) (record_fails late few t) = absurd (omega (arith, low, late))
+one_item_fault b h k at f g (record_fails late few s) (question_fails low t) = absurd (omega (arith, low, late))
+one_item_fault b h k at f g (record_fails late few s) (record_fails after less t) = one_record_fault b at f g s t
 
 pub item_counted : (b : List ℕ) (h : PacketHeader) (k at : ℕ) (x : PacketItem) (n : ℕ) → ItemAt b h k at x n → k < item_count h
 item_counted b h k at x n (question_there q a low s) = omega (arith, low)
 item_counted b h k at x n (record_there u e a is s) = record_counted h k u is
 
 -- an item reaches so far in one way
-pub one_extent : (b : List ℕ) → NameLaws b → (at : ℕ) (x : PacketItem) (e d : Extent) → IsExtent b at x e → IsExtent b at x d → e.next ≡ d.next → e ≡ d
-one_extent b laws at (asked q) e d i j same = λ k. record { rdata = (i ∙ same ∙ sym j) k; next = same k }
-one_extent b laws at (told s r) e d i j same =
-    let one = one_begin b laws at r.kind i.0 e.rdata r.kind j.0 d.rdata i.1 j.1 in λ k. record { rdata = one.1 k; next = same k }
+pub one_extent : (b : List ℕ) (at : ℕ) (x : PacketItem) (e d : Extent) → IsExtent b at x e → IsExtent b at x d → e.next ≡ d.next → e ≡ d
+one_extent b at (asked q) e d i j same = λ k. record { rdata = (i ∙ same ∙ sym j) k; next = same k }
+one_extent b at (told s r) e d i j same =
+    let one = one_begin b at r.kind i.0 e.rdata r.kind j.0 d.rdata i.1 j.1 in λ k. record { rdata = one.1 k; next = same k }
 
 -- ---- one list of items
 
@@ -90,23 +91,23 @@ NoItem b h k at = (x : PacketItem) (n : ℕ) → ¬ ItemAt b h k at x n
 no_item_moved : (b : List ℕ) (h : PacketHeader) (j k at : ℕ) → j ≡ k → NoItem b h j at → NoItem b h k at
 no_item_moved b h j k at e void = subst (λ (q : ℕ). NoItem b h q at) e void
 
-one_list : (b : List ℕ) → NameLaws b → (h : PacketHeader) (k at m n : ℕ) (xs ys : List PacketItem) → ItemsAt b h k at xs m → ItemsAt b h k at ys n →
+one_list : (b : List ℕ) (h : PacketHeader) (k at m n : ℕ) (xs ys : List PacketItem) → ItemsAt b h k at xs m → ItemsAt b h k at ys n →
     NoItem b h (k + length xs) m → NoItem b h (k + length ys) n → (xs ≡ ys) × (m ≡ n)
-one_list b laws h k at m n [] [] no_item no_item void idle = (refl, refl)
-one_list b laws h k at m n [] (y ∷ ys) no_item (one_more c z zs i r) void idle = absurd (no_item_moved b h (k + 0) k at (omega arith) void z c i)
-one_list b laws h k at m n (x ∷ xs) [] (one_more c z zs i r) no_item void idle = absurd (no_item_moved b h (k + 0) k at (omega arith) idle z c i)
-one_list b laws h k at m n (x ∷ xs) (y ∷ ys) (one_more c u us i r) (one_more d v vs j t) void idle =
-    let same = one_item b laws h k at u v c d i j in
-    let rest = one_list b laws h (k + 1) c m n us vs r (subst (λ (z : ℕ). ItemsAt b h (k + 1) z vs n) (sym same.1) t)
+one_list b h k at m n [] [] no_item no_item void idle = (refl, refl)
+one_list b h k at m n [] (y ∷ ys) no_item (one_more c z zs i r) void idle = absurd (no_item_moved b h (k + 0) k at (omega arith) void z c i)
+one_list b h k at m n (x ∷ xs) [] (one_more c z zs i r) no_item void idle = absurd (no_item_moved b h (k + 0) k at (omega arith) idle z c i)
+one_list b h k at m n (x ∷ xs) (y ∷ ys) (one_more c u us i r) (one_more d v vs j t) void idle =
+    let same = one_item b h k at u v c d i j in
+    let rest = one_list b h (k + 1) c m n us vs r (subst (λ (z : ℕ). ItemsAt b h (k + 1) z vs n) (sym same.1) t)
     (no_item_moved b h (k + length (u ∷ us)) (k + 1 + length us) m (omega arith) void)
     (no_item_moved b h (k + length (v ∷ vs)) (k + 1 + length vs) n (omega arith) idle) in
     (cc (same.0, rest.0), rest.1)
 
-pub one_items : (b : List ℕ) → NameLaws b → (h g : PacketHeader) (xs ys : List PacketItem) (m n : ℕ) → HasItems b h xs m → HasItems b g ys n → (h ≡ g) × (xs ≡ ys) × (m ≡ n)
-one_items b laws h g xs ys m n x y =
+pub one_items : (b : List ℕ) (h g : PacketHeader) (xs ys : List PacketItem) (m n : ℕ) → HasItems b h xs m → HasItems b g ys n → (h ≡ g) × (xs ≡ ys) × (m ≡ n)
+one_items b h g xs ys m n x y =
     let same : h ≡ g = one_header b h g x.header_there y.header_there in
     let moved : HasItems b h ys n = subst (λ (k : PacketHeader). HasItems b k ys n) (sym same) y in
-    let lists = one_list b laws h 0 HEADER_LENGTH m n xs ys x.items_there moved.items_there
+    let lists = one_list b h 0 HEADER_LENGTH m n xs ys x.items_there moved.items_there
     (no_item_moved b h (length xs) (0 + length xs) m (omega arith) x.no_further)
     (no_item_moved b h (length ys) (0 + length ys) n (omega arith) moved.no_further) in
     (same, lists.0, lists.1)
@@ -182,23 +183,23 @@ numbered b h k at n (e ∷ es) (more c d ds i t) late few =
 abbrev pub ItemsBefore : List ℕ → PacketHeader → ServiceFault → Type 0
 ItemsBefore b h f = (xs : List PacketItem) × (n : ℕ) × HasItems b h xs n × ItemFails b h (length xs) n f
 
-stopped : (b : List ℕ) → NameLaws b → (h : PacketHeader) (xs : List PacketItem) (n : ℕ) (f : ServiceFault) → HasHeader b h → ItemsAt b h 0 HEADER_LENGTH xs n → ItemFails b h (length xs) n f → ItemsBefore b h f
-stopped b laws h xs n f there items fails = (
+stopped : (b : List ℕ) (h : PacketHeader) (xs : List PacketItem) (n : ℕ) (f : ServiceFault) → HasHeader b h → ItemsAt b h 0 HEADER_LENGTH xs n → ItemFails b h (length xs) n f → ItemsBefore b h f
+stopped b h xs n f there items fails = (
   xs,
   n,
-  record { header_there = there; items_there = items; no_further = λ item after stands. item_no_fault b laws h (length xs) n item after f stands fails },
+  record { header_there = there; items_there = items; no_further = λ item after stands. item_no_fault b h (length xs) n item after f stands fails },
   fails,
 )
 
-pub items_before : (b : List ℕ) → NameLaws b → (h : PacketHeader) (f : ServiceFault) → HasHeader b h → PacketFails b f → ItemsBefore b h f
-items_before b laws h f there (cut_header low) = absurd (omega (arith, header_within b h there, low))
-items_before b laws h f there (in_questions g y r) =
+pub items_before : (b : List ℕ) (h : PacketHeader) (f : ServiceFault) → HasHeader b h → PacketFails b f → ItemsBefore b h f
+items_before b h f there (cut_header low) = absurd (omega (arith, header_within b h there, low))
+items_before b h f there (in_questions g y r) =
     let few : g.questions ≡ h.questions = ap (λ (z : PacketHeader). z.questions) (one_header b g h y there) in
     let xs : List PacketItem = map asked r.items in
     let long : length xs ≡ length r.items = length-map r.items asked in
-    stopped b laws h xs r.here f there (asked_row b h 0 HEADER_LENGTH r.here r.items r.before (omega (arith, r.fewer, few)))
+    stopped b h xs r.here f there (asked_row b h 0 HEADER_LENGTH r.here r.items r.before (omega (arith, r.fewer, few)))
     (question_fails (omega (arith, r.fewer, few, long)) r.fails)
-items_before b laws h f there (in_records g qs m y before count r) =
+items_before b h f there (in_records g qs m y before count r) =
     let same : g ≡ h = one_header b g h y there in
     let few : g.questions ≡ h.questions = ap (λ (z : PacketHeader). z.questions) same in
     let all : item_count g ≡ item_count h = ap item_count same in
@@ -206,18 +207,28 @@ items_before b laws h f there (in_records g qs m y before count r) =
     let long : length xs ≡ length qs = length-map qs asked in
     let rest = numbered b h (0 + length xs) m r.here r.items r.before (omega (arith, long, count, few)) (omega (arith, long, count, few, all, r.fewer)) in
     let whole : length (xs ++ rest.0) ≡ length xs + length rest.0 = length-append xs rest.0 in
-    stopped b laws h (xs ++ rest.0) r.here f there
+    stopped b h (xs ++ rest.0) r.here f there
     (items-append b h 0 HEADER_LENGTH m r.here xs rest.0 (asked_row b h 0 HEADER_LENGTH m qs before (omega (arith, count, few))) rest.2)
     (record_fails (omega (arith, whole, long, count, few)) (omega (arith, whole, long, count, few, all, rest.1, r.fewer)) r.fails)
 
 -- ---- a fault after items
 
-questions_row : (b : List ℕ) (h : PacketHeader) (k at n : ℕ) (xs : List PacketItem) → ItemsAt b h k at xs n → k + length xs ≤ h.questions →
-    (qs : List Question) × (length qs ≡ length xs) × Row (QuestionAt b) at qs n
-questions_row b h k at n [] no_item low = ([], refl, none)
-questions_row b h k at n (x ∷ xs) (one_more c y ys (question_there q d few i) r) low =
-    let rest = questions_row b h (k + 1) c n ys r (omega (arith, low)) in (q ∷ rest.0, omega (arith, rest.1), more c q rest.0 i rest.2)
-questions_row b h k at n (x ∷ xs) (one_more c y ys (record_there s e d is i) r) low = absurd (omega (arith, record_late h k s is, low))
+-- the first of some items, and the others
+pub items_split : (b : List ℕ) (h : PacketHeader) (k at n m : ℕ) (xs : List PacketItem) → ItemsAt b h k at xs n → m ≤ length xs →
+    (mid : ℕ) × ItemsAt b h k at (take m xs) mid × ItemsAt b h (k + m) mid (drop m xs) n
+items_split b h k at n zero xs r low = (at, no_item, subst (λ (q : ℕ). ItemsAt b h q at xs n) (omega arith) r)
+items_split b h k at n (suc m) [] no_item low = absurd (omega (arith, low))
+items_split b h k at n (suc m) (x ∷ xs) (one_more c y ys i r) low =
+    let rest = items_split b h (k + 1) c n m ys r (omega (arith, low)) in
+    (rest.0, one_more c y (take m ys) i rest.1, subst (λ (q : ℕ). ItemsAt b h q rest.0 (drop m ys) n) (omega arith) rest.2)
+
+pub asked_all : (b : List ℕ) (h : PacketHeader) (k at n : ℕ) (xs : List PacketItem) → ItemsAt b h k at xs n → k + length xs ≤ h.questions →
+    (qs : List Question) × (map asked qs ≡ xs) × RowOf (QuestionAt b) at (length xs) qs n
+asked_all b h k at n [] no_item low = ([], refl, record { row = none; counted = refl })
+asked_all b h k at n (x ∷ xs) (one_more c y ys (question_there q d few i) r) low =
+    let rest = asked_all b h (k + 1) c n ys r (omega (arith, low)) in
+    (q ∷ rest.0, ap (λ (z : List PacketItem). asked q ∷ z) rest.1, record { row = more c q rest.0 i rest.2.row; counted = omega (arith, rest.2.counted) })
+asked_all b h k at n (x ∷ xs) (one_more c y ys (record_there s e d is i) r) low = absurd (omega (arith, record_late h k s is, low))
 
 records_row : (b : List ℕ) (h : PacketHeader) (k at n : ℕ) (xs : List PacketItem) → ItemsAt b h k at xs n → h.questions ≤ k →
     (rs : List ResourceRecord) × (length rs ≡ length xs) × Row (RecordAt b) at rs n
@@ -226,48 +237,18 @@ records_row b h k at n (x ∷ xs) (one_more c y ys (record_there s e d is i) r) 
     let rest = records_row b h (k + 1) c n ys r (omega (arith, late)) in (e ∷ rest.0, omega (arith, rest.1), more c e rest.0 i rest.2)
 records_row b h k at n (x ∷ xs) (one_more c y ys (question_there q d few i) r) late = absurd (omega (arith, few, late))
 
--- rows of questions and of records that are these items from the one of this number on
-pub record Rows (b : List ℕ) (h : PacketHeader) (k at count n : ℕ) : Type 0 where
-  pub questions : List Question
-  pub between : ℕ
-  pub records : List ResourceRecord
-  pub asked_there : Row (QuestionAt b) at questions between
-  pub told_there : Row (RecordAt b) between records n
-  pub all_asked : k + length questions ≡ h.questions
-  pub all_told : k + count ≡ h.questions + length records
-
-rows : (b : List ℕ) (h : PacketHeader) (k at n : ℕ) (xs : List PacketItem) → ItemsAt b h k at xs n → k ≤ h.questions → h.questions ≤ k + length xs → Rows b h k at (length xs) n
-rows b h k at n [] no_item low high =
-    record { questions = []; between = at; records = []; asked_there = none; told_there = none; all_asked = omega (arith, low, high); all_told = omega (arith, low, high) }
-rows b h k at n (x ∷ xs) (one_more c y ys (question_there q d few i) r) low high =
-    let rest = rows b h (k + 1) c n ys r (omega (arith, few)) (omega (arith, high)) in
-    record {
-      questions = q ∷ rest.questions;
-      between = rest.between;
-      records = rest.records;
-      asked_there = more c q rest.questions i rest.asked_there;
-      told_there = rest.told_there;
-      all_asked = omega (arith, rest.all_asked);
-      all_told = omega (arith, rest.all_told);
-    }
-rows b h k at n (x ∷ xs) (one_more c y ys (record_there s e d is i) r) low high =
-    let late : h.questions ≤ k = record_late h k s is in
-    let rest = records_row b h (k + 1) c n ys r (omega (arith, late)) in
-    record {
-      questions = [];
-      between = at;
-      records = e ∷ rest.0;
-      asked_there = none;
-      told_there = more c e rest.0 i rest.2;
-      all_asked = omega (arith, late, low);
-      all_told = omega (arith, late, low, rest.1);
-    }
-
 pub refused_after : (b : List ℕ) (h : PacketHeader) (xs : List PacketItem) (n : ℕ) (f : ServiceFault) → HasHeader b h → ItemsAt b h 0 HEADER_LENGTH xs n → ItemFails b h (length xs) n f → PacketFails b f
 refused_after b h xs n f there items (question_fails low fails) =
-    let qs = questions_row b h 0 HEADER_LENGTH n xs items (omega (arith, low)) in
-    in_questions h there (record { items = qs.0; here = n; before = qs.2; fewer = omega (arith, qs.1, low); fails = fails })
+    let qs = asked_all b h 0 HEADER_LENGTH n xs items (omega (arith, low)) in
+    in_questions h there (record { items = qs.0; here = n; before = qs.2.row; fewer = omega (arith, qs.2.counted, low); fails = fails })
 refused_after b h xs n f there items (record_fails late low fails) =
-    let both = rows b h 0 HEADER_LENGTH n xs items (omega arith) (omega (arith, late)) in
-    in_records h both.questions both.between there both.asked_there (omega (arith, both.all_asked))
-    (record { items = both.records; here = n; before = both.told_there; fewer = omega (arith, both.all_told, low); fails = fails })
+    let split = items_split b h 0 HEADER_LENGTH n h.questions xs items late in
+    let long : length (take h.questions xs) ≡ h.questions = length-take-le h.questions xs late in
+    let qs = asked_all b h 0 HEADER_LENGTH split.0 (take h.questions xs) split.1 (omega (arith, long)) in
+    let rs = records_row b h (0 + h.questions) split.0 n (drop h.questions xs) split.2 (omega arith) in
+    in_records h qs.0 split.0 there qs.2.row (omega (arith, qs.2.counted, long))
+    (record { items = rs.0; here = n; before = rs.2; fewer = omega (arith, rs.1, length-drop h.questions xs, low, late); fails = fails })
+
+pub ruleset item_laws = (one_item, item_counted, one_extent)
+
+pub ruleset fault_items = (items_before, refused_after)

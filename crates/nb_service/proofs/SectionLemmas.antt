@@ -1,10 +1,9 @@
 -- Rows of questions and records, what stands, and the sections of a packet.
-use Rattle.std.proofs.Common.{◌≡◌, ℕ, ◌<◌, List, [], ◌∷◌, ◌++◌, length, refl, sym, subst, arith, ◌+◌, ◌≤◌, take, drop, ap, ◌∙◌, append_assoc, length-append}
+use Rattle.std.proofs.Common.{◌≡◌, ℕ, ◌<◌, List, [], ◌∷◌, ◌++◌, length, refl, sym, subst, arith, ◌+◌}
 use Rattle.nb_service.specs.declared.fault.ServiceFault.{ServiceFault}
 use Rattle.nb_service.specs.Packet.{Row, none, more, RdataAt, bytes_there, domain_there, RecordAt, ServicePacket, IsPacket, HasSections}
 use Rattle.nb_service.specs.ServiceFaults.{RowFails}
-use Rattle.std.proofs.lemmas.List.{take-append-drop, take-take, take_at, drop_at, drop-drop}
-use Rattle.nb_names.specs.Labels.{StandsAt, NameAt}
+use Rattle.nb_names.specs.Labels.{NameAt}
 use Rattle.nb_names.specs.declared.reading.Pointers.TheVariants.{Followed}
 use Rattle.nb_service.specs.Record.{ResourceData, of_domain, ResourceRecord}
 
@@ -51,22 +50,6 @@ one_fault_after S F s at m n (x ∷ xs) (y ∷ ys) f g (more b k ks j r) (more c
 
 pub one_row_fault : {A : Type 0} (S : ℕ → A → ℕ → Type 0) (F : ℕ → ServiceFault → Type 0) → Single S F → (at m n : ℕ) (f g : ServiceFault) → RowFails S F at m f → RowFails S F at n g → f ≡ g
 one_row_fault S F s at m n f g a b = one_fault_after S F s at a.here b.here a.items b.items f g a.before b.before a.fails b.fails
-
--- the front of what stands at an offset stands there
-pub stands_before : (packet : List ℕ) (at : ℕ) (bytes behind : List ℕ) → StandsAt packet at (bytes ++ behind) → StandsAt packet at bytes
-stands_before packet at bytes behind h =
-    let fits : length bytes ≤ length (bytes ++ behind) = omega (arith, length-append bytes behind) in
-    sym (take-take (length bytes) (length (bytes ++ behind)) (drop at packet) fits) ∙ ap (λ (r : List ℕ). take (length bytes) r) h ∙ take_at bytes behind (length bytes) refl
-
--- what follows it stands after it
-pub stands_after : (packet : List ℕ) (at : ℕ) (bytes behind : List ℕ) → StandsAt packet at (bytes ++ behind) → StandsAt packet (at + length bytes) behind
-stands_after packet at bytes behind h =
-    let rest : List ℕ = drop (length (bytes ++ behind)) (drop at packet) in
-    let whole : drop at packet ≡ (bytes ++ behind) ++ rest =
-    sym (take-append-drop (length (bytes ++ behind)) (drop at packet)) ∙ ap (λ (r : List ℕ). r ++ rest) h in
-    let moved : drop (at + length bytes) packet ≡ behind ++ rest =
-    sym (drop-drop (length bytes) at packet) ∙ ap (λ (r : List ℕ). drop (length bytes) r) (whole ∙ append_assoc bytes behind rest) ∙ drop_at bytes (behind ++ rest) (length bytes) refl in
-    ap (λ (r : List ℕ). take (length behind) r) moved ∙ take_at behind rest (length behind) refl
 
 -- a row of two lists is two rows
 pub row_split : {A : Type 0} (S : ℕ → A → ℕ → Type 0) (at n : ℕ) (xs ys : List A) → Row S at (xs ++ ys) n → (m : ℕ) × Row S at xs m × Row S m ys n

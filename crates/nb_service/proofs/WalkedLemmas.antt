@@ -1,19 +1,18 @@
 -- How far the items of bytes stand, section by section.
-use Rattle.std.proofs.Common.{◌≡◌, ℕ, zero, suc, ◌+◌, ◌-◌, ◌<◌, ◌≤◌, min, List, [], ◌∷◌, ◌++◌, length, map, take, drop, Option, Some, None, refl, ap, subst, arith, length-drop}
+use Rattle.std.proofs.Common.{◌≡◌, ℕ, ◌+◌, ◌-◌, ◌<◌, ◌≤◌, min, List, [], ◌∷◌, ◌++◌, length, map, take, drop, Option, Some, None, refl, subst, arith, length-drop}
 use Rattle.std.proofs.lemmas.List.{take-append-drop, length-take-le}
 use Rattle.nb_service.specs.declared.fault.ServiceFault.{ServiceFault}
 use Rattle.nb_service.specs.declared.limits.TheConstants.{HEADER_LENGTH}
-use Rattle.nb_service.specs.declared.record.Question.{Question}
 use Rattle.nb_service.specs.declared.packet.Section.{Section}
 use Rattle.nb_service.specs.declared.packet.Section.TheVariants.{Answer, Authority, Additional}
 use Rattle.nb_service.specs.declared.seeing.Walked.{Walked}
 use Rattle.nb_service.specs.Code.Steps.{RowOf}
 use Rattle.nb_service.specs.Header.{PacketHeader, HasHeader}
-use Rattle.nb_service.specs.Items.{PacketItem, asked, told, IsRecordOf, ItemAt, question_there, record_there, ItemFails, question_fails, record_fails, ItemsAt, no_item, one_more, items_of, Walks, EndsWith, walked_of}
+use Rattle.nb_service.specs.Items.{PacketItem, told, IsRecordOf, ItemAt, question_there, record_there, ItemFails, question_fails, record_fails, ItemsAt, no_item, one_more, items_of, Walks, EndsWith, walked_of}
 use Rattle.nb_service.specs.Packet.{QuestionAt, RecordAt, none, more, ServicePacket, header_of}
 use Rattle.nb_service.specs.Record.{ResourceRecord}
 use Rattle.nb_service.specs.ServiceFaults.{item_count}
-use Rattle.nb_service.proofs.NumberedLemmas.{record_late, one_section, items-append, refused_after}
+use Rattle.nb_service.proofs.NumberedLemmas.{record_late, one_section, items-append, items_split, asked_all, refused_after}
 use Rattle.nb_service.proofs.SectionLemmas.{row-append}
 
 module _ (b : List ℕ) (h : PacketHeader) where
@@ -26,23 +25,6 @@ module _ (b : List ℕ) (h : PacketHeader) where
   fails_counted k at f (record_fails late low fails) = low
 
   -- ---- the items of a section
-
-  -- the first of some items, and the others
-  items_split : (k at n m : ℕ) (xs : List PacketItem) → ItemsAt b h k at xs n → m ≤ length xs →
-      (mid : ℕ) × ItemsAt b h k at (take m xs) mid × ItemsAt b h (k + m) mid (drop m xs) n
-  items_split k at n zero xs r low = (at, no_item, subst (λ (q : ℕ). ItemsAt b h q at xs n) (omega arith) r)
-  items_split k at n (suc m) [] no_item low = absurd (omega (arith, low))
-  items_split k at n (suc m) (x ∷ xs) (one_more c y ys i r) low =
-      let rest = items_split (k + 1) c n m ys r (omega (arith, low)) in
-      (rest.0, one_more c y (take m ys) i rest.1, subst (λ (q : ℕ). ItemsAt b h q rest.0 (drop m ys) n) (omega arith) rest.2)
-
-  asked_all : (k at n : ℕ) (xs : List PacketItem) → ItemsAt b h k at xs n → k + length xs ≤ h.questions →
-      (qs : List Question) × (map asked qs ≡ xs) × RowOf (QuestionAt b) at (length xs) qs n
-  asked_all k at n [] no_item low = ([], refl, record { row = none; counted = refl })
-  asked_all k at n (x ∷ xs) (one_more c y ys (question_there q d few i) r) low =
-      let rest = asked_all (k + 1) c n ys r (omega (arith, low)) in
-      (q ∷ rest.0, ap (λ (z : List PacketItem). asked q ∷ z) rest.1, record { row = more c q rest.0 i rest.2.row; counted = omega (arith, rest.2.counted) })
-  asked_all k at n (x ∷ xs) (one_more c y ys (record_there s e d is i) r) low = absurd (omega (arith, record_late h k s is, low))
 
   told_all : (s : Section) (k at n : ℕ) (xs : List PacketItem) → ItemsAt b h k at xs n → ((j : ℕ) → k ≤ j → j < k + length xs → IsRecordOf h j s) →
       (rs : List ResourceRecord) × (map (told s) rs ≡ xs) × RowOf (RecordAt b) at (length xs) rs n
@@ -79,13 +61,13 @@ module _ (b : List ℕ) (h : PacketHeader) where
       let long : length behind ≡ length xs - q = length-drop q xs in
       let less : length rest ≡ length xs - q - a = omega (arith, length-drop a behind, long) in
       let last : length (drop u rest) ≡ d = omega (arith, length-drop u rest, less, ed) in
-      let one = items_split 0 HEADER_LENGTH n q xs items (omega (arith, eq)) in
-      let two = items_split (0 + q) one.0 n a behind one.2 (omega (arith, ea, long)) in
-      let three = items_split (0 + q + a) two.0 n u rest two.2 (omega (arith, eu, less)) in
+      let one = items_split b h 0 HEADER_LENGTH n q xs items (omega (arith, eq)) in
+      let two = items_split b h (0 + q) one.0 n a behind one.2 (omega (arith, ea, long)) in
+      let three = items_split b h (0 + q + a) two.0 n u rest two.2 (omega (arith, eu, less)) in
       let size_q : length (take q xs) ≡ q = length-take-le q xs (omega (arith, eq)) in
       let size_a : length (take a behind) ≡ a = length-take-le a behind (omega (arith, ea, long)) in
       let size_u : length (take u rest) ≡ u = length-take-le u rest (omega (arith, eu, less)) in
-      let qs = asked_all 0 HEADER_LENGTH one.0 (take q xs) one.1 (omega (arith, size_q, eq)) in
+      let qs = asked_all b h 0 HEADER_LENGTH one.0 (take q xs) one.1 (omega (arith, size_q, eq)) in
       let rs = told_all Answer (0 + q) one.0 two.0 (take a behind) two.1 (λ j high low. (omega (arith, high, low, size_a, eq, ea), omega (arith, high, low, size_a, eq, ea))) in
       let us = told_all Authority (0 + q + a) two.0 three.0 (take u rest) three.1 (λ j high low. (omega (arith, high, low, size_u, eq, ea, eu), omega (arith, high, low, size_u, eq, ea, eu))) in
       let ds = told_all Additional (0 + q + a + u) three.0 n (drop u rest) three.2 (λ j high low. (omega (arith, high, low, last, eq, ea, eu, ed), omega (arith, high, low, last, eq, ea, eu, ed, few))) in

@@ -4,7 +4,7 @@
 --   at 8  NSCOUNT 2 · at 10  ARCOUNT 2
 use Rattle.std.specs.Prelude.{ℕ, List, ◌+◌, ◌/◌, ◌%◌, ◌^◌}
 use Rattle.std.specs.Int.{w16}
-use Rattle.nb_names.specs.Labels.{NumberAt}
+use Rattle.nb_streams.specs.Places.{NumberAt}
 use Rattle.nb_service.specs.declared.header.Header.{Header}
 use Rattle.std.specs.Int.RustNames.{bit_and}
 use Rattle.nb_service.specs.declared.flags.NmFlags.{NmFlags}

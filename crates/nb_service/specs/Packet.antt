@@ -11,7 +11,8 @@
 use Rattle.std.specs.Prelude.{◌≡◌, ◌≢◌, ℕ, ◌+◌, ◌≤◌, List, [], ◌∷◌, ◌++◌, length}
 use Rattle.std.specs.Int.{w16, w32}
 use Rattle.nb_names.specs.declared.reading.Pointers.TheVariants.{Followed}
-use Rattle.nb_names.specs.Labels.{StandsAt, NameAt, NumberAt}
+use Rattle.nb_streams.specs.Places.{StandsAt, NumberAt}
+use Rattle.nb_names.specs.Labels.{NameAt}
 use Rattle.nb_service.specs.declared.kinds.TheConstants.{NS}
 use Rattle.nb_service.specs.declared.limits.TheConstants.{HEADER_LENGTH}
 use Rattle.nb_service.specs.declared.record.Question.{Question}

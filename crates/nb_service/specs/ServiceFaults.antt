@@ -7,7 +7,8 @@ use Rattle.std.specs.Prelude.{◌≡◌, ◌≢◌, ℕ, ◌+◌, ◌<◌, ◌�
 use Rattle.std.specs.Int.{w16}
 use Rattle.nb_names.specs.declared.reading.Pointers.TheVariants.{Followed}
 use Rattle.nb_names.specs.declared.fault.NameFault.{NameFault}
-use Rattle.nb_names.specs.Labels.{NameAt, NumberAt}
+use Rattle.nb_names.specs.Labels.{NameAt}
+use Rattle.nb_streams.specs.Places.{NumberAt}
 use Rattle.nb_names.specs.NameFaults.{FaultAt}
 use Rattle.nb_service.specs.declared.fault.ServiceFault.{ServiceFault}
 use Rattle.nb_service.specs.declared.fault.ServiceFault.TheVariants.{Truncated, Name, NameRdata, NoMemory}

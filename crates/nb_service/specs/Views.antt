@@ -11,8 +11,7 @@ use Rattle.std.specs.List.{flat_map, AllByRecursion}
 pub use Rattle.nb_service.specs.Parts.{parts}
 use Rattle.nb_service.specs.Parts.{AreSmall, AreWritten, length-flat, parts-flat, small_drop, small_take}
 use Rattle.nb_service.specs.declared.kinds.TheConstants.{NB, NBSTAT}
-use Rattle.nb_service.specs.declared.views.TheConstants.{ENTRY_LENGTH}
-use Rattle.nb_service.specs.declared.views.TheConstants.{NODE_NAME_LENGTH}
+use Rattle.nb_service.specs.declared.views.TheConstants.{ENTRY_LENGTH, NODE_NAME_LENGTH}
 use Rattle.nb_service.specs.declared.views.AddressEntry.{AddressEntry}
 use Rattle.nb_service.specs.declared.views.NodeName.{NodeName}
 use Rattle.nb_service.specs.Record.{ResourceData, of_bytes, of_domain, ResourceRecord}

@@ -1,13 +1,14 @@
 //! Packets that are built: requests, and responses to one.
-ghost use Rattle.std.specs.Prelude.{◌≡◌, [], ◌∷◌, IfOk};
-ghost use Rattle.nb_service.specs.Requests.{asking, inquiry, claim, query_packet, status_packet, registration_packet, refresh_packet, release_packet, one_answer};
+ghost use Rattle.std.specs.Prelude.{◌≡◌, IfOk};
+ghost use Rattle.nb_service.specs.Requests.{inquiry, claim, query_packet, status_packet, registration_packet, refresh_packet, release_packet, one_answer};
 
 use crate::classes::IN;
 use crate::kinds::{NB, NBSTAT};
 use crate::limits::ENTRY_LENGTH;
-use crate::packet::{Packet, Questions, no_item, one_item};
+use crate::packet::{Packet, one_item};
 use crate::record::{Question, Rdata, Record};
-use nb_names::{Name, NoMemory};
+use nb_names::Name;
+use nb_streams::NoMemory;
 use std::alloc::Global;
 
 /// A query for a name's addresses. `broadcast` sets B.
@@ -130,29 +131,10 @@ pub fn response<'a>(
 ) -> Result<Packet<'a>, NoMemory>
     ensures { IfOk result (λ packet. packet ≡ one_answer id word answer.entry) }
 {
-    let answers = one_item(alloc, answer)?;
-    let additional = no_item(alloc);
-    Ok(Packet::with_lists(
-        id,
-        word,
-        no_item(alloc),
-        answers,
-        no_item(alloc),
-        additional,
-    ))
-}
-
-/// A question about a name, alone in a list.
-#[inline]
-fn ask(alloc: Global, kind: u16, name: &Name) -> Result<Questions, NoMemory>
-    ensures { IfOk result (λ questions. questions ≡ asking kind name.now ∷ []) }
-{
-    let question = Question {
-        name: name.to_domain(),
-        kind,
-        class: IN,
-    };
-    one_item(alloc, question)
+    Ok(Packet {
+        answers: one_item(alloc, answer)?,
+        ..Packet::new(alloc, id, word)
+    })
 }
 
 /// A packet with one question, about a name.
@@ -165,15 +147,15 @@ fn build_inquiry<'a>(
 ) -> Result<Packet<'a>, NoMemory>
     ensures { IfOk result (λ packet. packet ≡ inquiry id word kind name.now) }
 {
-    let questions = ask(alloc, kind, name)?;
-    Ok(Packet::with_lists(
-        id,
-        word,
-        questions,
-        no_item(alloc),
-        no_item(alloc),
-        no_item(alloc),
-    ))
+    let question = Question {
+        name: name.to_domain(),
+        kind,
+        class: IN,
+    };
+    Ok(Packet {
+        questions: one_item(alloc, question)?,
+        ..Packet::new(alloc, id, word)
+    })
 }
 
 /// A packet with one question, about a name, and one additional record, the name's.
@@ -187,15 +169,9 @@ fn build_claim<'a>(
 ) -> Result<Packet<'a>, NoMemory>
     ensures { IfOk result (λ packet. packet ≡ claim id word name.now ttl entry.entry.now) }
 {
-    let questions = ask(alloc, NB, name)?;
     let record = Record::new(name.to_domain(), NB, IN, ttl, Rdata::Bytes(entry));
-    let additional = one_item(alloc, record)?;
-    Ok(Packet::with_lists(
-        id,
-        word,
-        questions,
-        no_item(alloc),
-        no_item(alloc),
-        additional,
-    ))
+    Ok(Packet {
+        additional: one_item(alloc, record)?,
+        ..build_inquiry(alloc, id, word, NB, name)?
+    })
 }

@@ -14,8 +14,9 @@ use crate::laws::{one_packet, one_service_fault, sections_in_order};
 use crate::limits::{HEADER_LENGTH, SHORT_PACKET};
 use crate::packet::{Packet, Questions, Records};
 use crate::seeing::{Walked, see_question, see_record, walk};
+use nb_names::NameReader;
 use nb_names::limits::POINTED_OFFSETS;
-use nb_names::{NameReader, NoMemory};
+use nb_streams::NoMemory;
 use std::alloc::Global;
 
 /// Decodes the packet at the front of bytes, and how many of them it takes up.
@@ -102,14 +103,14 @@ fn build<'a>(
     let (answers, at) = list_records(alloc, names, at, walked.answers)?;
     let (authorities, at) = list_records(alloc, names, at, walked.authorities)?;
     let (additional, next) = list_records(alloc, names, at, walked.additional)?;
-    let packet = Packet::with_lists(
-        header.id,
-        header.word,
+    let packet = Packet {
+        id: header.id,
+        word: header.word,
         questions,
         answers,
         authorities,
         additional,
-    );
+    };
     Ok((packet, next))
 }
 

@@ -1,6 +1,6 @@
 //! Packets, encoded.
 ghost use Rattle.std.specs.Prelude.{◌≡◌, ◌++◌, ◌<◌, ◌^◌, ℕ, List, length, OnOk, IfOk};
-ghost use Rattle.std.specs.Int.{w16, w32, to_be_bytes};
+ghost use Rattle.std.specs.Int.{w16, to_be_bytes};
 ghost use Rattle.std.specs.List.{AllByRecursion, flat_map};
 ghost use Rattle.nb_names.specs.DomainName.{IsDomain};
 ghost use Rattle.nb_service.specs.Encoding.{header_bytes, packet_bytes, is_pointed, name_bytes, question_bytes, record_bytes, IsQuestion, IsRecord};
@@ -10,7 +10,8 @@ use crate::laws::encoding_is_read;
 use crate::limits::HEADER_LENGTH;
 use crate::packet::Packet;
 use crate::record::{Question, Rdata, Record};
-use nb_names::{Bytes, DomainName, NoMemory};
+use nb_names::DomainName;
+use nb_streams::{Bytes, NoMemory};
 use std::alloc::Global;
 
 /// Encodes a packet.
@@ -79,15 +80,8 @@ fn write_bytes(bytes: &mut Vec<u8>, more: &[u8]) -> Result<(), NoMemory>
 }
 
 /// Writes a number of two bytes.
-pub(crate) fn write_16(bytes: &mut Vec<u8>, number: u16) -> Result<(), NoMemory>
+fn write_16(bytes: &mut Vec<u8>, number: u16) -> Result<(), NoMemory>
     ensures { OnOk result (bytes.new.items ≡ bytes.old.items ++ to_be_bytes w16 number) }
-{
-    write_bytes(bytes, &number.to_be_bytes())
-}
-
-/// Writes a number of four bytes.
-fn write_32(bytes: &mut Vec<u8>, number: u32) -> Result<(), NoMemory>
-    ensures { OnOk result (bytes.new.items ≡ bytes.old.items ++ to_be_bytes w32 number) }
 {
     write_bytes(bytes, &number.to_be_bytes())
 }
@@ -134,7 +128,7 @@ fn write_record(
     write_name(bytes, questions, entry.name())?;
     write_16(bytes, entry.kind())?;
     write_16(bytes, entry.class())?;
-    write_32(bytes, entry.ttl())?;
+    write_bytes(bytes, &entry.ttl().to_be_bytes())?;
     let rdata = match entry.rdata() {
         Rdata::Bytes(rdata) => rdata,
         Rdata::Domain(name) => name.spelling(),
@@ -144,7 +138,7 @@ fn write_record(
 }
 
 /// Writes questions, one after the other.
-pub(crate) fn write_questions(bytes: &mut Vec<u8>, questions: &[Question]) -> Result<(), NoMemory>
+fn write_questions(bytes: &mut Vec<u8>, questions: &[Question]) -> Result<(), NoMemory>
     ensures written { OnOk result
         (bytes.new.items ≡ bytes.old.items ++ flat_map question_bytes questions.now) }
     ensures formed { OnOk result (AllByRecursion IsQuestion questions.now) }
@@ -156,7 +150,7 @@ pub(crate) fn write_questions(bytes: &mut Vec<u8>, questions: &[Question]) -> Re
 }
 
 /// Writes records of a packet with these questions, one after the other.
-pub(crate) fn write_records(
+fn write_records(
     bytes: &mut Vec<u8>,
     questions: &[Question],
     records: &[Record<'_>],

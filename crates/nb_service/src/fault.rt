@@ -2,7 +2,8 @@
 ghost use Rattle.std.specs.Prelude.{◌≡◌};
 ghost use Rattle.nb_service.specs.FaultTexts.{service_fault_place, service_fault_subject, service_fault_words};
 
-use nb_names::{NameFault, NoMemory};
+use nb_names::NameFault;
+use nb_streams::NoMemory;
 use std::error::Error;
 use std::fmt;
 

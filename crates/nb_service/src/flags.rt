@@ -1,6 +1,6 @@
 //! Flags of packets, and of a node's names.
 ghost use Rattle.std.specs.Prelude.{⊤, ◌≡◌, [], ◌∷◌, codes};
-ghost use Rattle.nb_service.specs.Header.{opcode_of, rcode_of, ont_of, nm_bits, nm_bits_of, node_bits, node_bits_of};
+ghost use Rattle.nb_service.specs.Header.{opcode_of, rcode_of, ont_of};
 
 use bitflags::{Flag, Flags, bitflag_items};
 
@@ -86,20 +86,6 @@ impl Flags for NodeFlags {
     fn from_bits_retain(bits: u16) -> NodeFlags {
         NodeFlags(bits)
     }
-}
-
-/// The flags NM_FLAGS of a flag word.
-pub(crate) fn nm_flags_of(word: u16) -> NmFlags
-    ensures { nm_bits result ≡ nm_bits_of word }
-{
-    NmFlags::from_bits_truncate(word)
-}
-
-/// The flags of one of a node's names, by its word.
-pub(crate) fn node_flags_of(word: u16) -> NodeFlags
-    ensures { node_bits result ≡ node_bits_of word }
-{
-    NodeFlags::from_bits_truncate(word)
 }
 
 /// The operation in a flag word, OPCODE; any number from 0 to 15.

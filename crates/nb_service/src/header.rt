@@ -7,7 +7,7 @@ ghost use Rattle.nb_service.specs.Header.{HasHeader, PacketHeader, header_value}
 use crate::fault::ServiceFault;
 use crate::laws::one_header;
 use crate::limits::HEADER_LENGTH;
-use nb_names::numbers::number_16;
+use nb_streams::numbers::number_16;
 
 /// The fields of a header (RFC 1002 section 4.2.1.1).
 #[derive(Clone, Copy, Debug, PartialEq, Eq)]

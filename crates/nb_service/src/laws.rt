@@ -23,8 +23,6 @@ ghost use Rattle.nb_service.specs.Record.{ResourceRecord, of_bytes, of_domain};
 ghost use Rattle.nb_service.specs.ServiceFaults.{item_count, QuestionFails, RecordFails, PacketFails};
 ghost use Rattle.nb_service.specs.Views.{StatusParts, entries_in, entry_bytes, node_name_bytes, status_in};
 
-use nb_names::laws::{one_fault, one_reading, spelling_is_read};
-
 /// The numbers that the definitions cite, those of flags by their bits in a packet's flag word (RFC
 /// 1002 section 4.2.1.1) and in the word of one of a node's names (section 4.2.18).
 pub fn numbers()
@@ -128,21 +126,16 @@ pub fn one_packet()
     ensures { (bytes : List ℕ) (packet other : ServicePacket) (used after : ℕ) →
         IsPacket bytes packet used → IsPacket bytes other after →
         (packet ≡ other) × (used ≡ after) }
-{
-    one_reading();
-    one_fault();
-}
+{}
 
 /// Where bytes have a fault, they begin with no packet, and have no other fault.
+#[tactic(auto, using(crate::proofs::PacketLemmas::one_packet_fault))]
 pub fn one_service_fault()
     ensures alone { (bytes : List ℕ) (fault : ServiceFault) (packet : ServicePacket) (used : ℕ) →
         PacketFails bytes fault → ¬ IsPacket bytes packet used }
     ensures one { (bytes : List ℕ) (fault other : ServiceFault) →
         PacketFails bytes fault → PacketFails bytes other → fault ≡ other }
-{
-    one_reading();
-    one_fault();
-}
+{}
 
 /// At an offset stands one question at most; where one stands, it has no fault.
 pub fn one_question()
@@ -151,10 +144,7 @@ pub fn one_question()
         (question ≡ other) × (next ≡ after) }
     ensures alone { (bytes : List ℕ) (at : ℕ) (fault : ServiceFault) (question : Question)
         (next : ℕ) → QuestionFails bytes at fault → ¬ QuestionAt bytes at question next }
-{
-    one_reading();
-    one_fault();
-}
+{}
 
 /// At an offset stands one record at most; where one stands, it has no fault.
 pub fn one_record()
@@ -163,10 +153,7 @@ pub fn one_record()
         (entry ≡ other) × (next ≡ after) }
     ensures alone { (bytes : List ℕ) (at : ℕ) (fault : ServiceFault) (entry : ResourceRecord)
         (next : ℕ) → RecordFails bytes at fault → ¬ RecordAt bytes at entry next }
-{
-    one_reading();
-    one_fault();
-}
+{}
 
 /// Bytes begin with one header at most, and with one only where there are twelve of them.
 #[tactic(auto, using(crate::proofs::PacketLemmas::header_laws))]
@@ -180,6 +167,7 @@ pub fn one_header()
 /// At an offset stands one item of a number at most, which reaches so far in one way. Where one
 /// stands, it has no fault, and the header counts it; where none does for a fault, that is the only
 /// one.
+#[tactic(auto, using(crate::proofs::NumberedLemmas::item_laws))]
 pub fn one_item()
     ensures one { (bytes : List ℕ) (header : PacketHeader) (number at : ℕ)
         (item other : PacketItem) (next after : ℕ) → ItemAt bytes header number at item next →
@@ -196,20 +184,15 @@ pub fn one_item()
     ensures extent { (bytes : List ℕ) (at : ℕ) (item : PacketItem) (extent other : Extent) →
         IsExtent bytes at item extent → IsExtent bytes at item other →
         extent.next ≡ other.next → extent ≡ other }
-{
-    one_reading();
-    one_fault();
-}
+{}
 
 /// Bytes have one list of items at most, which is as long as it can be.
+#[tactic(auto, using(crate::proofs::NumberedLemmas::one_items))]
 pub fn one_list_of_items()
     ensures { (bytes : List ℕ) (header other : PacketHeader) (items others : List PacketItem)
         (next after : ℕ) → HasItems bytes header items next → HasItems bytes other others after →
         (header ≡ other) × (items ≡ others) × (next ≡ after) }
-{
-    one_reading();
-    one_fault();
-}
+{}
 
 /// The items of bytes that begin with a packet are its questions and its records, all of them.
 pub fn items_of_a_packet()
@@ -219,6 +202,7 @@ pub fn items_of_a_packet()
 
 /// Bytes that begin with a header and with no packet have items, up to the one in which the fault
 /// stands. The fault of the item that comes after some is that of the bytes.
+#[tactic(auto, using(crate::proofs::NumberedLemmas::fault_items))]
 pub fn items_before_a_fault()
     ensures items { (bytes : List ℕ) (header : PacketHeader) (fault : ServiceFault) →
         HasHeader bytes header → PacketFails bytes fault →
@@ -227,17 +211,11 @@ pub fn items_before_a_fault()
     ensures fault { (bytes : List ℕ) (header : PacketHeader) (items : List PacketItem) (next : ℕ)
         (fault : ServiceFault) → HasHeader bytes header → ItemsAt bytes header 0 12 items next →
         ItemFails bytes header (length items) next fault → PacketFails bytes fault }
-{
-    one_reading();
-    one_fault();
-}
+{}
 
 /// The bytes of a packet, whatever follows them, begin with that packet, which takes up all of
 /// them.
 pub fn encoding_is_read()
     ensures { (packet : ServicePacket) (rest : List ℕ) → IsWritable packet →
         IsPacket (packet_bytes packet ++ rest) packet (length (packet_bytes packet)) }
-{
-    one_reading();
-    spelling_is_read();
-}
+{}

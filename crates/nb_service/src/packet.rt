@@ -1,13 +1,14 @@
 //! Name service packets, and their lists of questions and of records.
 ghost use Rattle.std.specs.Prelude.{◌≡◌, ◌↔◌, OnOk, OnErr, IsErrOf, ◌<◌, [], ◌∷◌, ◌++◌, length, IfOk};
-ghost use Rattle.nb_service.specs.Requests.{packet_of, empty_packet, IsCounted, with_question, with_record, section_of, IsFull};
+ghost use Rattle.nb_service.specs.Requests.{empty_packet, IsCounted, with_question, with_record, section_of, IsFull};
 ghost use Rattle.nb_service.specs.Header.{opcode_of, rcode_of, nm_bits, nm_bits_of};
 
 use crate::fault::PushFault;
-use crate::flags::{NmFlags, nm_flags_of, opcode, rcode};
+use crate::flags::{NmFlags, opcode, rcode};
 use crate::limits::MAX_ENTRIES;
 use crate::record::{Question, Record};
-use nb_names::{Items, NoMemory};
+use bitflags::Flags;
+use nb_streams::{Items, NoMemory};
 use std::alloc::Global;
 use std::marker::Model;
 
@@ -16,12 +17,12 @@ use std::marker::Model;
 /// Each of its four lists has at most 65,535 items. The RDATA of its records is borrowed.
 #[derive(Debug, Drop)]
 pub struct Packet<'a> {
-    id: u16,
-    word: u16,
-    questions: Questions,
-    answers: Records<'a>,
-    authorities: Records<'a>,
-    additional: Records<'a>,
+    pub(crate) id: u16,
+    pub(crate) word: u16,
+    pub(crate) questions: Questions,
+    pub(crate) answers: Records<'a>,
+    pub(crate) authorities: Records<'a>,
+    pub(crate) additional: Records<'a>,
 }
 
 impl<'a> Model for Packet<'a> {
@@ -37,38 +38,18 @@ impl<'a> Model for Packet<'a> {
 }
 
 impl<'a> Packet<'a> {
-    /// A packet of these parts.
-    pub(crate) fn with_lists(
-        id: u16,
-        word: u16,
-        questions: Questions,
-        answers: Records<'a>,
-        authorities: Records<'a>,
-        additional: Records<'a>,
-    ) -> Packet<'a>
-        requires { IsCounted (packet_of id word questions answers authorities additional) }
-        ensures { result ≡
-            packet_of id word questions answers.entry authorities.entry additional.entry }
-    {
-        Packet {
-            id,
-            word,
-            questions,
-            answers,
-            authorities,
-            additional,
-        }
-    }
-
     /// A packet without questions and records. No memory is taken.
     pub fn new(alloc: Global, id: u16, word: u16) -> Packet<'a>
         ensures { result ≡ empty_packet id word }
     {
-        let questions = no_item(alloc);
-        let answers = no_item(alloc);
-        let authorities = no_item(alloc);
-        let additional = no_item(alloc);
-        Packet::with_lists(id, word, questions, answers, authorities, additional)
+        Packet {
+            id,
+            word,
+            questions: Items::from_vec(Vec::new(alloc)),
+            answers: Items::from_vec(Vec::new(alloc)),
+            authorities: Items::from_vec(Vec::new(alloc)),
+            additional: Items::from_vec(Vec::new(alloc)),
+        }
     }
 
     /// The identifier, NAME_TRN_ID.
@@ -109,7 +90,7 @@ impl<'a> Packet<'a> {
     pub fn nm_flags(&self) -> NmFlags
         ensures { nm_bits result ≡ nm_bits_of self.now.word }
     {
-        nm_flags_of(self.word)
+        NmFlags::from_bits_truncate(self.word)
     }
 
     /// The questions.
@@ -212,14 +193,6 @@ pub type Questions = Items<Question>;
 
 /// A list of records, whose RDATA is lent.
 pub type Records<'a> = Items<Record<'a>>;
-
-/// A list without items.
-#[inline]
-pub(crate) fn no_item<T>(alloc: Global) -> Items<T>
-    ensures { result ≡ [] }
-{
-    Items::from_vec(Vec::new(alloc))
-}
 
 /// A list of one item.
 #[inline]

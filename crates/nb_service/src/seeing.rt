@@ -16,8 +16,8 @@ use crate::limits::HEADER_LENGTH;
 use crate::packet::Section;
 use crate::record::{Extent, Fields};
 use crate::seen::{Seen, see_plain_question};
-use nb_names::numbers::{number_16, number_32};
 use nb_names::{NameReader, Pointers};
+use nb_streams::numbers::{number_16, number_32};
 
 /// The bytes of a question after its name: QUESTION_TYPE, QUESTION_CLASS.
 pub(crate) const QUESTION_FIELDS: usize = 4;

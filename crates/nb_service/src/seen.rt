@@ -10,8 +10,8 @@ use crate::limits::HEADER_LENGTH;
 use crate::record::{Extent, Fields, Question, Rdata, Record};
 use crate::seeing::QUESTION_FIELDS;
 use nb_names::limits::LETTERS;
-use nb_names::numbers::number_16;
 use nb_names::{NameReader, Pointers, Skipped};
+use nb_streams::numbers::number_16;
 
 /// What was seen of a question or a record that stands in a packet. It was judged whole, its names
 /// with it, and not made.
@@ -94,8 +94,8 @@ pub(crate) fn see_plain_question(packet: &[u8]) -> Option<Seen>
     let name = Skipped {
         next: FIRST_FIELDS,
         spelled_len: FIRST_FIELDS - HEADER_LENGTH,
-        run: HEADER_LENGTH,
-        run_end: FIRST_FIELDS,
+        stretch: HEADER_LENGTH,
+        stretch_end: FIRST_FIELDS,
     };
     let fields = Fields {
         kind: number_16(packet, FIRST_FIELDS),

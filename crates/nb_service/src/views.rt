@@ -5,10 +5,11 @@ ghost use Rattle.nb_service.specs.Record.{of_bytes};
 ghost use Rattle.nb_service.specs.Views.{AreEntries, HasEntries, entry_bytes, entries_in, entries_of_data, HasStatus, IsStatus, after_count, node_name_bytes, no_status, status_in, status_of_data};
 ghost use Rattle.nb_service.specs.Header.{node_bits, node_bits_of};
 
-use crate::flags::{NodeFlags, node_flags_of};
+use crate::flags::NodeFlags;
 use crate::kinds::{NB, NBSTAT};
 use crate::parts::{Part, Parts};
 use crate::record::{Rdata, Record};
+use bitflags::Flags;
 use nb_names::limits::NAME_LENGTH;
 use std::marker::Model;
 
@@ -127,14 +128,13 @@ impl NodeName {
     pub fn node_flags(&self) -> NodeFlags
         ensures { node_bits result ≡ node_bits_of self.now.flags }
     {
-        node_flags_of(self.flags)
+        NodeFlags::from_bits_truncate(self.flags)
     }
 }
 
 impl Part for NodeName {
     ghost use Rattle.nb_service.specs.declared.views.TheConstants.{NODE_NAME_LENGTH};
-    ghost use Rattle.nb_service.specs.Views.{node_name_of, node_name_bytes};
-    ghost use Rattle.nb_service.specs.Views.{node_name_some, node_name_given_back};
+    ghost use Rattle.nb_service.specs.Views.{node_name_of, node_name_bytes, node_name_some, node_name_given_back};
 
     ghost LENGTH = { NODE_NAME_LENGTH };
 

@@ -1,9 +1,9 @@
 -- The header that bytes begin with: there is one, and it says kind and length.
 use Rattle.std.proofs.Common.{◌≡◌, ℕ, ◌+◌, ◌≤◌, List, ◌∷◌, length, take, drop, refl, ap, sym, ◌∙◌, arith, length-drop, ◌==◌, cond, ◌*◌, ◌/◌, ◌%◌, ◌<◌, []}
 use Rattle.std.proofs.lemmas.List.{take_all}
-use Rattle.nb_names.specs.Labels.{StandsAt}
+use Rattle.nb_streams.specs.Places.{StandsAt}
 use Rattle.std.specs.Int.{w16, to_be_bytes}
-use Rattle.nb_names.specs.PacketFacts.{stands_same, stands_in_all, stands_in_front, one_number_16, within_16}
+use Rattle.nb_streams.specs.PacketFacts.{stands_same, stands_in_all, stands_in_front, one_number_16, within_16}
 use Rattle.nb_names.proofs.LabelsLemmas.{stands_joined}
 use Rattle.nb_session.specs.declared.parsing.Header.{Header}
 use Rattle.nb_session.specs.declared.packet.Kind.{Kind}

@@ -1,6 +1,6 @@
-mod HeaderLemmas
+pub mod HeaderLemmas
 mod PacketLemmas
-mod ParsingLemmas
+pub mod ParsingLemmas
 mod PacketReadingLemmas
 mod CuttingLemmas
 mod TotalityLemmas

@@ -4,7 +4,8 @@ use Rattle.std.specs.Int.{w16, to_be_bytes, from_be_bytes}
 use Rattle.nb_names.specs.declared.reading.Pointers.TheVariants.{Refused}
 use Rattle.nb_names.specs.DomainName.{spelling}
 use Rattle.nb_names.specs.FirstLevel.{letters}
-use Rattle.nb_names.specs.Labels.{StandsAt, NameAt}
+use Rattle.nb_streams.specs.Places.{StandsAt}
+use Rattle.nb_names.specs.Labels.{NameAt}
 use Rattle.nb_names.specs.Name.{NetbiosName, IsName, labels_of_name}
 use Rattle.nb_names.specs.NameFacts.{spelling-some, fronts_same}
 use Rattle.nb_names.proofs.FirstLevelLemmas.{length-letters}

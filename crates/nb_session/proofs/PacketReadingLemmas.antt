@@ -15,8 +15,8 @@ use Rattle.nb_session.specs.Parsing.{Lacks, HeaderFails, RequestFails, Parses, h
 use Rattle.nb_session.proofs.HeaderLemmas.{header_in_all}
 use Rattle.nb_session.proofs.ParsingLemmas.{short_lacks, packet_judged, header_judged}
 use Rattle.std.proofs.Math.Seq.{take-append-add}
-use Rattle.nb_names.specs.declared.counted.Told.TheVariants.{Bytes}
-use Rattle.nb_names.specs.Counted.{Counts, with_call}
+use Rattle.nb_streams.specs.declared.counted.Told.TheVariants.{Bytes}
+use Rattle.nb_streams.specs.Counted.{Counts, with_call}
 use borrow.Rule.Slice.PartMut.{post_of, put_mid}
 
 -- so many bytes were taken, and lack some

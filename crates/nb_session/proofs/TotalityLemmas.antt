@@ -4,11 +4,10 @@ use Rattle.std.proofs.lemmas.Bool.{cases_lt, cases_eq}
 use Rattle.std.proofs.lemmas.List.{length-take-le, take_all, take-append-drop, drop_more}
 use Rattle.std.specs.Int.{w16, to_be_bytes}
 use Rattle.nb_names.specs.declared.reading.Pointers.TheVariants.{Refused as refused}
-use Rattle.nb_names.specs.DomainName.{AreBytes}
-use Rattle.nb_names.specs.PacketFacts.{All-take, All-drop, number_there}
+use Rattle.nb_streams.specs.Places.{AreBytes, StandsAt}
+use Rattle.nb_streams.specs.PacketFacts.{All-take, All-drop, number_there}
 use Rattle.nb_names.proofs.LabelsLemmas.{next_within, stands_joined}
 use Rattle.nb_names.proofs.TotalityLemmas.{named_or_fault}
-use Rattle.nb_names.specs.Labels.{StandsAt}
 use Rattle.nb_names.specs.Name.{labels_of_name}
 use Rattle.nb_session.specs.declared.fault.SessionFault.{SessionFault}
 use Rattle.nb_session.specs.declared.fault.SessionFault.TheVariants.{UnknownType, ReservedFlags, BadLength, Name, TrailingBytes}

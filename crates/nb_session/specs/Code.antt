@@ -1,7 +1,7 @@
 -- What filling a buffer took from a reader, and how its calls of the reader are counted.
 use Rattle.std.specs.Prelude.{◌≡◌, ℕ, ◌+◌, ◌≤◌, ◌<◌, List, length, take, Option}
 use Rattle.std.specs.Io.KnownBytes.{Consumes, IsAtEnd}
-use Rattle.nb_names.specs.Counted.{Counts}
+use Rattle.nb_streams.specs.Counted.{Counts}
 use Rattle.nb_session.specs.declared.packet_reading.Fill.{Fill}
 use Rattle.nb_session.specs.declared.packet_reading.Fill.TheVariants.{Whole, End, Device, TooManyInterrupts}
 use Rattle.nb_session.specs.declared.limits.TheConstants.{MAX_INTERRUPTS}

@@ -4,7 +4,7 @@
 -- The body's length has 17 bits: LENGTH, and the lowest bit of FLAGS above it.
 use Rattle.std.specs.Prelude.{◌≡◌, ℕ, ◌+◌, ◌*◌, ◌/◌, ◌%◌, ◌≤◌, List, [], ◌∷◌, ◌++◌, ⊤}
 use Rattle.std.specs.Int.{w16, to_be_bytes}
-use Rattle.nb_names.specs.Labels.{StandsAt, NumberAt}
+use Rattle.nb_streams.specs.Places.{StandsAt, NumberAt}
 use Rattle.nb_session.specs.declared.parsing.Header.{Header}
 use Rattle.nb_session.specs.declared.packet.Kind.{Kind}
 use Rattle.nb_session.specs.declared.packet.Kind.TheVariants.{Message, Request, Positive, Negative, Retarget, Keepalive}

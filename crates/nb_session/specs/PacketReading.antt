@@ -1,7 +1,7 @@
 -- What reading one packet from a reader takes from it, and how its calls of the reader are counted.
 use Rattle.std.specs.Prelude.{◌≡◌, ℕ, ◌+◌, ◌≤◌, ◌<◌, List, [], length, take, Option, Some, None, Result, Ok, Err}
 use Rattle.std.specs.Io.KnownBytes.{IsAtEnd}
-use Rattle.nb_names.specs.Counted.{Counts}
+use Rattle.nb_streams.specs.Counted.{Counts}
 use Rattle.nb_session.specs.declared.parsing.Header.{Header}
 use Rattle.nb_session.specs.declared.packet.Kind.{Kind}
 use Rattle.nb_session.specs.declared.limits.TheConstants.{HEADER_LENGTH, MAX_PACKET, MAX_INTERRUPTS}

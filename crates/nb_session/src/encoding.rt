@@ -6,7 +6,8 @@ ghost use Rattle.nb_session.specs.Packet.{IsPacket};
 
 use crate::limits::HEADER_LENGTH;
 use crate::packet::{Kind, Packet};
-use nb_names::{Bytes, Name, NoMemory};
+use nb_names::Name;
+use nb_streams::{Bytes, NoMemory};
 use std::alloc::Global;
 
 /// What one bit of FLAGS adds to the length of the body.

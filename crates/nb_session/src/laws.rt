@@ -1,6 +1,6 @@
 //! Laws of the definitions that the contracts cite. Each is proved; a call does nothing.
 ghost use Rattle.std.specs.Prelude.{◌≡◌, ◌-◌, ◌<◌, ◌≤◌, ℕ, List, ◌++◌, length, take};
-ghost use Rattle.nb_names.specs.DomainName.{AreBytes};
+ghost use Rattle.nb_streams.specs.Places.{AreBytes};
 ghost use Rattle.nb_session.specs.declared.fault.SessionFault.{SessionFault};
 ghost use Rattle.nb_session.specs.declared.parsing.Header.{Header};
 ghost use Rattle.nb_session.specs.declared.packet.Kind.TheVariants.{Message, Request, Positive, Negative, Retarget, Keepalive};

@@ -1,7 +1,7 @@
 //! One packet, read from a reader.
 ghost use Rattle.std.specs.Prelude.{◌≡◌, ◌<◌, ◌≤◌, ℕ, List, length, [], take, OnOk};
 ghost use Rattle.std.specs.Io.KnownBytes.{Consumes};
-ghost use Rattle.nb_names.specs.Counted.{between};
+ghost use Rattle.nb_streams.specs.Counted.{between};
 ghost use Rattle.nb_session.specs.PacketReading.{Reads, Tells};
 ghost use Rattle.nb_session.specs.Code.{Fills, Shows};
 ghost use Rattle.nb_session.specs.declared.limits.TheConstants.{HEADER_LENGTH, MAX_PACKET};
@@ -10,7 +10,7 @@ use crate::fault::SessionFault;
 use crate::limits::{HEADER_LENGTH, MAX_INTERRUPTS};
 use crate::packet::{LentPacket, Packet};
 use crate::parsing::{read_header, read_packet_of};
-use nb_names::{Counted, Told};
+use nb_streams::{Counted, Told};
 use std::alloc::{AllocError, Global};
 use std::io::Read;
 use std::marker::Model;

@@ -13,8 +13,8 @@ use crate::fault::SessionFault;
 use crate::laws::{one_answer, one_header};
 use crate::limits::HEADER_LENGTH;
 use crate::packet::{Kind, LentPacket, MessageData, Packet};
-use nb_names::numbers::number_16;
 use nb_names::{LentName, Name, NameForm, read_lent_name};
+use nb_streams::numbers::number_16;
 
 /// What stands at the front of bytes. The names of a packet stand in the form `N`.
 #[derive(Debug, Drop, PartialEq, Eq)]

@@ -1,38 +1,23 @@
 -- A change is one, and so is a state: their conditions exclude one another.
-use Rattle.std.proofs.Common.{◌≡◌, Option, Some, None, refl, sym, ◌∙◌, ap, subst, option_and_then, ◌≢◌, ◌<◌, ◌≤◌, ℕ, ◌+◌, Bool, true, false, cond, [], ◌∷◌, arith, is_some, inl, inr, Result, Ok, Err, IfErr, OnErr, IsOk, not}
+use Rattle.nb_table.proofs.Common.{◌≡◌, Option, Some, None, refl, sym, ◌∙◌, ap, subst, option_and_then, ◌≢◌, ◌<◌, ◌≤◌, ℕ, ◌+◌, Bool, true, false, cond, [], ◌∷◌, arith, is_some, inl, inr, Result, Ok, Err, IfErr, OnErr, IsOk, not, Key, DatagramParts, FragmentParts, Core, core_of, reach, Spoilt, Held, EntryFacts, EntryValue, FactsFit, facts_agree, facts_of, facts_together, join_entry, AreShort, IsShort, Contents, table_of, IsWholeAt, datagram_at, newly_whole, IsWhole, datagram_of, newly, Change, KeyChange, same_Some, booleans_Decides, same_key, key_cmp_total, key_cmp_exact, same_key_decides, joined_onto, IsTable, TableValue, IsFull, IsFullSource, KeepsLimits, held_keys, of_source, NeedsNoMemory, spoilt, contradicts, held, Refuses, join_formed, join_one, insert_at, needs_new, cases_lt, not-false}
 use Rattle.std.specs.FinMap as maps
-use Rattle.nb_datagram.specs.declared.key.Key.{Key}
-use Rattle.nb_datagram.specs.Fragment.{DatagramParts, FragmentParts, Core, core_of, reach}
 use Rattle.nb_entries.specs.declared.outline.Change.TheVariants.{Whole, Same, Grown, Spoilt as Spoils}
 use Rattle.nb_entries.specs.declared.outline.State.{State}
 use Rattle.nb_entries.specs.declared.outline.State.TheVariants.{Absent, Partial, Spoilt as IsSpoilt, Whole as IsWholly}
-use Rattle.nb_entries.specs.declared.slot.Slot.TheVariants.{Spoilt, Held}
-use Rattle.nb_entries.specs.Entry.{EntryFacts, EntryValue, FactsFit, facts_agree, facts_of, facts_together, join_entry, AreShort, IsShort}
-use Rattle.nb_table.specs.Contents.{Contents, table_of, IsWholeAt, datagram_at, newly_whole}
-use Rattle.nb_entries.specs.Whole.{IsWhole, datagram_of, newly}
-use Rattle.nb_entries.specs.Change.{Change, KeyChange}
 use Rattle.nb_table.specs.Change.{IsChange, IsSpoiltAt, BecomesSpoilt}
 use Rattle.nb_table.specs.State.{IsState, IsPartialAt}
 use Rattle.nb_entries.specs.Shared.WholeLemmas.{newly_none, newly_same}
-use Rattle.std.proofs.lemmas.Option.{same_Some}
 use Rattle.std.specs.Bool.{beq}
-use Rattle.std.specs.Cmp.{booleans_Decides}
 use Rattle.std.specs.Result.{IsErrAnd}
 use Rattle.nb_table.specs.declared.fault.TableFault.{TableFault}
 use Rattle.nb_table.specs.declared.fault.TableFault.TheVariants.{MisplacedFirst, TooLong, FullSource, Full, NoMemory}
-use Rattle.nb_datagram.specs.Key.{same_key, key_cmp_total, key_cmp_exact, same_key_decides}
-use Rattle.nb_entries.specs.Maps.{joined_onto}
-use Rattle.nb_table.specs.Join.{IsTable}
-use Rattle.nb_table.specs.Limits.{TableValue, IsFull, IsFullSource, KeepsLimits, held_keys, of_source}
 use Rattle.nb_table.proofs.Limits.GroupLemmas.{few_insert}
-use Rattle.nb_table.specs.Insert.{NeedsNoMemory, spoilt, contradicts, held, Passes, Refuses}
+use Rattle.nb_table.specs.Insert.{Passes}
 use Rattle.nb_entries.specs.Shared.MarksLemmas.{up_to_reach, up_to_both, up_to_more}
 use Rattle.nb_entries.specs.Shared.CoverLemmas.{bytes_below_both}
 use Rattle.nb_entries.specs.Shared.PlacedLemmas.{below_by_reach}
 use Rattle.nb_entries.specs.Shared.EntryLemmas.{facts_fit_of}
-use Rattle.nb_table.specs.Shared.TableLemmas.{join_formed, join_one, insert_at, needs_new}
 use Rattle.nb_table.specs.Shared.ContentsLemmas.{table_of_formed}
-use Rattle.std.proofs.lemmas.Bool.{cases_lt, not-false}
 
 -- a spoilt key isn't whole
 spoilt_whole : (a b : Contents) (k : Key) (d : DatagramParts) → BecomesSpoilt a b k → newly_whole a b k ≡ Some d → ⊥

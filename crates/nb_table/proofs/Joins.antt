@@ -1,20 +1,7 @@
 -- The entries of one finite map joined into another one after the other, in the order of their keys.
-use Rattle.std.proofs.Common.{◌≡◌, ℕ, ◌+◌, List, [], ◌∷◌, Bool, true, false, cond, filter, length, Option, Some, None, is_some, is_none, refl, sym, ◌∙◌, ap, ap₂, arith, ◌++◌, map, option_and_then, suc, zero, take, drop, slice_get, subst}
-use Rattle.std.specs.Prelude.{T}
-use Rattle.std.specs.declared.cmp.Ordering.{Ordering}
-use Rattle.std.specs.Ordering.{eq_by_cmp, is_lt}
-use Rattle.std.specs.Cmp.{IsTotalOrder, eq_by_cmp_equiv}
-use Rattle.std.specs.FinMap.{is_sorted}
-use Rattle.std.specs.FinMap.Entries.{below_all, same_entries}
-use Rattle.nb_entries.specs.Maps.{joined_at, joined_onto, joined, first_of}
-use Rattle.nb_table.specs.Code.Each.{joined_each, with_each, put_back, taken_back}
+use Rattle.nb_table.proofs.Common.{◌≡◌, ℕ, ◌+◌, List, [], ◌∷◌, Bool, true, false, cond, filter, length, Option, Some, None, is_some, is_none, refl, sym, ◌∙◌, ap, ap₂, arith, ◌++◌, map, option_and_then, suc, zero, take, drop, slice_get, subst, T, Ordering, eq_by_cmp, is_lt, IsTotalOrder, eq_by_cmp_equiv, is_sorted, below_all, same_entries, joined_at, joined_onto, joined, first_of, joined_each, with_each, put_back, taken_back, one_key, get-joined, below_none, lt_not_eq, T_left, T_right, tied_self, T_both, at-none, at-some, filter_map, cons_option, none-some, same_Some, slice_get_within, get_or_from_slice_get, map_more, joined_all, AreTaken}
 use Rattle.nb_entries.specs.Shared.MarksLemmas.{first_alone}
-use Rattle.nb_entries.specs.Shared.MapsLemmas.{one_key, get-joined, below_none, lt_not_eq, T_left, T_right, tied_self, T_both, at-none, at-some}
 use Rattle.std.specs.FinMap as maps
-use Rattle.std.specs.List.{filter_map, cons_option}
-use Rattle.std.proofs.lemmas.Option.{none-some, same_Some, slice_get_within, get_or_from_slice_get}
-use Rattle.std.proofs.lemmas.List.{map_more}
-use Rattle.nb_table.specs.Join.{joined_all, AreTaken}
 
 pub get-joined_each : {K X : Type 0} {R : K → K → Ordering} (o : IsTotalOrder R) (exact : maps.IsAntisymmetric R) (f : X → X → X) (m : maps.FinMap R X) (es : List (K × X)) → T (is_sorted R es) → (q : K) → maps.get (joined_each f m es) q ≡ joined_at f (maps.get m q) (maps.find R q es)
 get-joined_each o exact f m [] s q = at-none f (maps.get m q)

@@ -1,24 +1,15 @@
 -- The lemmas that are laws as they stand, and the one of tables without a key.
-use Rattle.std.proofs.Common.{◌≡◌, Bool, true, false, cond, not, List, Option, None, sym, ◌∙◌, ap}
-use Rattle.std.specs.Cmp.{both_ways}
+use Rattle.nb_table.proofs.Common.{◌≡◌, Bool, true, false, cond, not, List, Option, None, sym, ◌∙◌, ap, both_ways, Key, same_key, key_cmp_total, same_key_decides, Core, EntryValue, Contents, table_of, at_promise_conflicts, is_spoilt_decides, past_promise_fits, spoilt_exactly, table_is, get-table_of, get-join, get_kept, join-comm, join-assoc, join-idem, join_formed, same_table}
 use Rattle.std.specs.FinMap as maps
-use Rattle.nb_datagram.specs.declared.key.Key.{Key}
-use Rattle.nb_datagram.specs.Key.{same_key, key_cmp_total, same_key_decides}
-use Rattle.nb_datagram.specs.Fragment.{Core}
-use Rattle.nb_entries.specs.Entry.{EntryValue}
 use Rattle.nb_table.specs.Conflict.{without_key}
-use Rattle.nb_table.specs.Contents.{Contents, table_of}
 use Rattle.nb_table.proofs.Changes.{one_change, one_state}
-use Rattle.nb_table.specs.Shared.ConflictLemmas.{at_promise_conflicts, is_spoilt_decides, past_promise_fits}
 use Rattle.nb_table.specs.Shared.ContentsLemmas.{retain-table_of, same_cores-same_table, table_of_formed, table_of-append}
-use Rattle.nb_table.specs.Shared.SayingLemmas.{spoilt_exactly, table_is}
 use Rattle.nb_table.proofs.Limits.GroupLemmas.{keys_fit_exactly}
 use Rattle.nb_table.proofs.SavedBytes.{saved_example, saved_example_first, short_fits}
 use Rattle.nb_table.proofs.SavedReading.FoundLemmas.{one_read}
 use Rattle.nb_table.proofs.SavedReading.LoadLemmas.{one_table}
 use Rattle.nb_table.proofs.SavedReading.LoadedLemmas.{read_back, read_back_first, read_saved, read_entries, read_formed}
 use Rattle.nb_table.proofs.Wholeness.{gives_where_all}
-use Rattle.nb_table.specs.Shared.TableLemmas.{get-table_of, get-join, get_kept, join-comm, join-assoc, join-idem, join_formed, same_table}
 
 -- a table without a key is the table of its other keys
 remove_retains : (t : Contents) (k : Key) → maps.remove t k ≡ maps.retain_keys t (λ q. not (same_key k q))

@@ -1,3 +1,4 @@
+mod Common
 mod Wholeness
 mod Changes
 mod Limits

@@ -1,43 +1,20 @@
 -- Tables within the limits fit the fields of a saved table.
-use Rattle.std.proofs.Common.{◌≡◌, ◌<◌, ◌≤◌, ◌^◌, length, Some, sym, ◌∙◌, arith, Bool, true, false, cond, List, [], ◌∷◌, inl, inr, Ok, ℕ, refl, subst, ◌++◌, Option, None, ap, drop, append_assoc, append-nil, take}
-use Rattle.std.specs.List.{AllByRecursion}
+use Rattle.nb_table.proofs.Common.{◌≡◌, ◌<◌, ◌≤◌, ◌^◌, length, Some, sym, ◌∙◌, arith, Bool, true, false, cond, List, [], ◌∷◌, inl, inr, Ok, ℕ, refl, subst, ◌++◌, Option, None, ap, drop, append_assoc, append-nil, take, AllByRecursion, Key, MAX_LENGTH, OnHeld, EntryValue, Contents, IsTable, TableValue, KeepsLimits, IsReadAs, IsSaved, saved, saved_first, entries_bytes, key_bytes, magic, saved_as, keyed_bytes, IsRead, FitsSaved, FitsKeyed, AllShort, IsNamed, runs_bytes, entry_bytes, HasNames, key_cmp_total, key_cmp_exact, key_cmp, none-some, same_Some, eq_by_cmp, one_key, w32, to_be_bytes, w16, from_be_bytes, SavedForm, First, Second, Held, take-append-drop, nil_from_length, Passes, Breaks, passes_wider, breaks_wider, passes_on, breaks_on}
 use Rattle.std.specs.FinMap as maps
-use Rattle.nb_datagram.specs.declared.key.Key.{Key}
-use Rattle.nb_datagram.specs.declared.limits.TheConstants.{MAX_LENGTH}
 use Rattle.nb_datagram.specs.Header.{IsKey}
-use Rattle.nb_entries.specs.Maps.{OnHeld}
-use Rattle.nb_entries.specs.Entry.{EntryValue}
-use Rattle.nb_table.specs.Contents.{Contents}
-use Rattle.nb_table.specs.Join.{IsTable}
-use Rattle.nb_table.specs.Limits.{TableValue, KeepsLimits}
-use Rattle.nb_table.specs.Saved.{IsReadAs, IsSaved, saved, saved_first, entries_bytes, key_bytes, magic, saved_as, keyed_bytes, IsRead, FitsSaved, FitsKeyed}
-use Rattle.nb_table.specs.Merging.{AllShort}
 use Rattle.nb_entries.specs.Marks.{marks_bytes}
-use Rattle.nb_entries.specs.Saved.{IsNamed, runs_bytes, entry_bytes}
-use Rattle.nb_table.specs.Code.SavedTables.{HasNames}
-use Rattle.nb_datagram.specs.Key.{key_cmp_total, key_cmp_exact, key_cmp}
 use Rattle.nb_table.proofs.Changes.{short_more}
 use Rattle.nb_table.proofs.SavedReading.LoadedLemmas.{read_back, read_back_first}
 use Rattle.nb_entries.specs.Shared.SavedLemmas.{entry_fits, NameLaws, each_found, each_same, entry_same, fronts_same, numbers_same}
-use Rattle.std.proofs.lemmas.Option.{none-some, same_Some}
-use Rattle.std.specs.Ordering.{eq_by_cmp}
-use Rattle.nb_entries.specs.Shared.MapsLemmas.{one_key}
-use Rattle.std.specs.Int.{w32, to_be_bytes, w16, from_be_bytes}
 use Rattle.nb_datagram.specs.declared.key.Kind.TheVariants.{Group}
 use Rattle.nb_datagram.specs.Packet.{type_of, name_bytes}
-use Rattle.nb_entries.specs.declared.saved.SavedForm.{SavedForm}
-use Rattle.nb_entries.specs.declared.saved.SavedForm.TheVariants.{First, Second}
-use Rattle.nb_entries.specs.declared.slot.Slot.TheVariants.{Held}
 use Rattle.nb_entries.specs.Runs.{RunValue, map_of_runs, runs_of_map}
 use Rattle.nb_table.specs.SavedExample.{example_facts, example_key, example_runs, example_saved, example_saved_first, example_table}
 use Rattle.nb_entries.specs.Shared.RunsLemmas.{runs_back}
 use Rattle.std.proofs.lemmas.Nat.{from_be_bytes-to_be_bytes_4}
-use Rattle.std.proofs.lemmas.List.{take-append-drop, nil_from_length}
 use Rattle.std.specs.Io.KnownBytes.{Appends}
-use Rattle.nb_names.specs.Counted.{CountedOf}
-use Rattle.nb_names.specs.Hexadecimal.{digits_text}
-use Rattle.nb_table.specs.Code.Each.{Passes, Breaks}
-use Rattle.nb_table.specs.Shared.TableLemmas.{passes_wider, breaks_wider, passes_on, breaks_on}
+use Rattle.nb_streams.specs.Counted.{CountedOf}
+use Rattle.nb_streams.specs.Hexadecimal.{digits_text}
 
 -- what holds of each entry holds of what a look-up finds
 pub each_held : (P : Key × EntryValue → Type 0) (es : List (Key × EntryValue)) → AllByRecursion P es → (k : Key) (e : EntryValue) → maps.find key_cmp k es ≡ Some e → P (k, e)

@@ -1,22 +1,14 @@
 -- What reads of a table answer, and a table without a key.
-use Rattle.std.proofs.Common.{◌≡◌, ◌↔◌, Bool, true, false, cond, not, IsTrue, Option, Some, None, is_some, sym, ◌∙◌, ap, subst, arith, ◌&&◌, List, Decides}
-use Rattle.std.proofs.lemmas.Option.{none-some, same_Some}
+use Rattle.nb_table.proofs.Common.{◌≡◌, ◌↔◌, Bool, true, false, cond, not, IsTrue, Option, Some, None, is_some, sym, ◌∙◌, ap, subst, arith, ◌&&◌, List, Decides, none-some, same_Some, Key, same_key, key_cmp_total, Held, Spoilt as Clashed, EntryValue, Contents, TableValue, KeepsLimits, pointwise, pointwise_decides}
 use Rattle.std.specs.FinMap as maps
-use Rattle.nb_datagram.specs.declared.key.Key.{Key}
-use Rattle.nb_datagram.specs.Key.{same_key, key_cmp_total}
 use Rattle.nb_entries.specs.declared.outline.State.{State}
 use Rattle.nb_entries.specs.declared.outline.State.TheVariants.{Absent, Partial, Whole, Spoilt}
-use Rattle.nb_entries.specs.declared.slot.Slot.TheVariants.{Held, Spoilt as Clashed}
-use Rattle.nb_entries.specs.Entry.{EntryValue}
-use Rattle.nb_table.specs.Contents.{Contents}
 use Rattle.nb_entries.specs.Equal.{same_entry}
-use Rattle.nb_table.specs.Limits.{TableValue, KeepsLimits}
 use Rattle.nb_table.specs.State.{IsState}
 use Rattle.nb_entries.specs.EntryState.{IsEntryState}
 use Rattle.nb_entries.specs.Shared.EqualLemmas.{entry_decides}
 use Rattle.nb_table.proofs.Limits.GroupLemmas.{few_remove, fewer}
 use Rattle.std.proofs.lemmas.Bool.Decides.{Decides-and}
-use Rattle.std.specs.Cmp.Lexicographic.{pointwise, pointwise_decides}
 use Rattle.nb_datagram.specs.Equality.{key_eq}
 use Rattle.nb_datagram.specs.EqualityFacts.{key_eq_decides}
 

@@ -1,21 +1,11 @@
 -- A key is whole exactly where it has a datagram.
-use Rattle.std.proofs.Common.{◌≡◌, ◌↔◌, option_and_then, Option, Some, None, refl, sym, ◌∙◌, ap, ◌<◌, ◌≤◌, ℕ, Contains, List, length, slice_get, arith, subst}
+use Rattle.nb_table.proofs.Common.{◌≡◌, ◌↔◌, option_and_then, Option, Some, None, refl, sym, ◌∙◌, ap, ◌<◌, ◌≤◌, ℕ, Contains, List, length, slice_get, arith, subst, Key, DatagramParts, Core, Covers, EndsAt, reach, Contents, first_byte, marks_in, table_of, Says, IsWholeAt, datagram_at, datagram_of, IsWholeCover, IsWhole, ltb-true, ltb-false, slice_get_within, get_or_from_slice_get, first_byte_from, first_end_from, absent_exactly, spoilt_exactly, held_says, says_end, first_byte_there, first_end_there, covers, in_with_key, with_key_in, Spoilt, Held, EntryFacts, EntryValue}
 use Rattle.std.specs.FinMap as maps
-use Rattle.nb_datagram.specs.declared.key.Key.{Key}
-use Rattle.nb_datagram.specs.Fragment.{DatagramParts, Core, Covers, EndsAt, reach}
-use Rattle.nb_table.specs.Contents.{Contents, first_byte, marks_in, table_of, Says, IsWholeAt, datagram_at}
-use Rattle.nb_entries.specs.Whole.{datagram_of, IsWholeCover, IsWhole}
 use Rattle.nb_entries.specs.Shared.WholeLemmas.{at_found, whole_found, whole_from, datagram_from}
-use Rattle.std.proofs.lemmas.Bool.{ltb-true, ltb-false}
-use Rattle.std.proofs.lemmas.Option.{slice_get_within, get_or_from_slice_get}
 use Rattle.nb_datagram.specs.Pieces.{IsPart}
 use Rattle.nb_entries.specs.Cover.{BytesBelow, cover_of}
 use Rattle.nb_table.specs.Conflict.{BreaksPromise, Conflict, kinds, sources, destinations, overlap, ends, past_end, past_other_end, breaks, breaks_other, IsSpoilt, with_key}
 use Rattle.nb_table.specs.Sender.{HasPartsAlone, IsOf, HasAll, Gives}
-use Rattle.nb_table.specs.Shared.SayingLemmas.{first_byte_from, first_end_from, absent_exactly, spoilt_exactly, held_says, says_end, first_byte_there, first_end_there}
-use Rattle.nb_table.specs.Shared.ConflictLemmas.{covers, in_with_key, with_key_in}
-use Rattle.nb_entries.specs.declared.slot.Slot.TheVariants.{Spoilt, Held}
-use Rattle.nb_entries.specs.Entry.{EntryFacts, EntryValue}
 
 pub whole_at_exactly : (t : Contents) (k : Key) → IsWholeAt t k ↔ ((d : DatagramParts) × (datagram_at t k ≡ Some d))
 whole_at_exactly t k = (

@@ -15,7 +15,7 @@ use Rattle.nb_entries.specs.Saved.{entry_bytes, FitsFacts}
 use Rattle.nb_datagram.specs.Header.{IsKey}
 use Rattle.nb_entries.specs.Maps.{OnHeld}
 use Rattle.std.specs.declared.cmp.Ordering.TheVariants.{Less}
-use Rattle.nb_names.specs.Labels.{StandsAt, NumberAt}
+use Rattle.nb_streams.specs.Places.{StandsAt, NumberAt}
 use Rattle.nb_datagram.specs.Key.{key_cmp}
 use Rattle.nb_entries.specs.declared.saved.LoadFault.TheVariants.{BadMagic, TooLong, FullSource, Full, NoMemory}
 use Rattle.nb_entries.specs.SavedReading.{Field, Gives, Judged, Outcome, Then, entry_at}

@@ -23,7 +23,7 @@ mod counts;
 pub(crate) use counts::SourceCounts;
 use nb_datagram::{Key, LentFragment, UserData};
 use nb_entries::{Change, Entry, Handing};
-use nb_names::NoMemory;
+use nb_streams::NoMemory;
 use std::alloc::Global;
 use std::collections::{BTreeMap, btree_map};
 use std::marker::Model;

@@ -1,7 +1,10 @@
 //! Why a table refuses.
+ghost use Rattle.std.specs.Prelude.{Some, ◌≡◌};
+ghost use Rattle.nb_table.specs.FaultTexts.{table_fault_text};
+ghost use Rattle.nb_table.specs.declared.fault.TableFault.TheVariants.{NoMemory};
 
 use nb_datagram::Key;
-use nb_names::NoMemory;
+use nb_streams::NoMemory;
 use std::error::Error;
 use std::fmt;
 
@@ -23,9 +26,6 @@ pub enum TableFault {
 }
 
 impl fmt::Display for TableFault {
-    ghost use Rattle.std.specs.Prelude.{Some};
-    ghost use Rattle.nb_table.specs.FaultTexts.{table_fault_text};
-
     ghost output = { λ fault. Some (table_fault_text fault) };
 
     fn fmt<W: fmt::Write>(&self, f: &mut fmt::Formatter<W>) -> fmt::Result {
@@ -42,9 +42,6 @@ impl fmt::Display for TableFault {
 impl Error for TableFault {}
 
 impl From<NoMemory> for TableFault {
-    ghost use Rattle.std.specs.Prelude.{◌≡◌};
-    ghost use Rattle.nb_table.specs.declared.fault.TableFault.TheVariants.{NoMemory};
-
     ghost from_gives = { λ _ fault. fault ≡ NoMemory };
 
     fn from(_fault: NoMemory) -> TableFault {

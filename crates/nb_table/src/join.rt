@@ -1,6 +1,11 @@
 //! Values that join.
 ghost use Rattle.std.specs.Prelude.{◌≡◌, map, take, slice_get, Some, OnOk, OnErr, IfErr};
 ghost use Rattle.nb_table.specs.Join.{joined_all, AreTaken};
+ghost use Rattle.nb_table.specs.declared.fault.TableFault.{TableFault};
+ghost use Rattle.nb_entries.specs.declared.slot.Slot.{Slot as SlotOf};
+ghost use Rattle.nb_entries.specs.Maps.{OnHeld, join_slot};
+ghost use Rattle.nb_entries.specs.Shared.SlotLemmas.{join-comm, join-assoc, idem_formed};
+ghost use Rattle.nb_table.specs.declared.fault.TableFault.TheVariants.{NoMemory};
 
 use crate::fault::TableFault;
 use nb_entries::{Facts, Slot};
@@ -11,8 +16,6 @@ use nb_entries::{Facts, Slot};
 /// repeat and no grouping of joins makes a difference to the content. What a value keeps beside
 /// its content, as a table its limits, stays its own, whatever is joined into it.
 pub trait Join {
-    ghost use Rattle.nb_table.specs.declared.fault.TableFault.{TableFault};
-
     // What joins speak of.
     ghost Content: { Type 0 };
 
@@ -87,12 +90,6 @@ pub fn join_all<J: Join>(first: &mut J, others: &[J]) -> Result<(), (usize, Tabl
 }
 
 impl<F: Facts> Join for Slot<F> {
-    ghost use Rattle.std.specs.Prelude.{◌≡◌};
-    ghost use Rattle.nb_entries.specs.declared.slot.Slot.{Slot as SlotOf};
-    ghost use Rattle.nb_entries.specs.Maps.{OnHeld, join_slot};
-    ghost use Rattle.nb_entries.specs.Shared.SlotLemmas.{join-comm, join-assoc, idem_formed};
-    ghost use Rattle.nb_table.specs.declared.fault.TableFault.TheVariants.{NoMemory};
-
     ghost Content = { SlotOf F };
 
     ghost content = { λ slot. slot };

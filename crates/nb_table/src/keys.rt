@@ -1,5 +1,7 @@
 //! The keys of a table.
-ghost use Rattle.std.specs.Prelude.{◌≡◌};
+ghost use Rattle.std.specs.Prelude.{◌≡◌, List};
+ghost use Rattle.nb_datagram.specs.declared.key.Key.{Key};
+ghost use Rattle.std.specs.Iterator.{YieldsFirst, item_count};
 
 use nb_datagram::Key;
 use nb_entries::Entry;
@@ -13,9 +15,6 @@ pub struct Keys<'a> {
 }
 
 impl<'a> Model for Keys<'a> {
-    ghost use Rattle.std.specs.Prelude.{List};
-    ghost use Rattle.nb_datagram.specs.declared.key.Key.{Key};
-
     ghost Value = { List Key };
 
     ghost view = { λ k. k.keys };
@@ -33,16 +32,11 @@ impl<'a> Keys<'a> {
 impl<'a> Iterator for Keys<'a> {
     type Item = Key;
 
-    ghost use Rattle.std.specs.Iterator.{YieldsFirst, item_count};
-
     ghost next_gives = { YieldsFirst (λ k. k) };
 
     ghost remaining = { item_count (λ k. k) };
 
     fn next(&mut self) -> Option<Key> {
-        match self.keys.next() {
-            Some(key) => Some(*key),
-            None => None,
-        }
+        Some(*self.keys.next()?)
     }
 }

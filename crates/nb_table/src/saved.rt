@@ -1,7 +1,7 @@
 //! Saved tables: their keys, how many of one address come, and digits written a part at a time.
 //!
 //! An input is judged where it stands, before any memory is taken.
-ghost use Rattle.std.specs.Prelude.{◌≡◌, ◌↔◌, IsTrue, ◌≢◌, ◌++◌, [], ◌∷◌, ℕ, List, Some, None, MatchOption, OnOk, OnErr};
+ghost use Rattle.std.specs.Prelude.{◌≡◌, ◌↔◌, IsTrue, ◌≢◌, ◌++◌, [], ◌∷◌, ℕ, List, Some, None, MatchOption, OnOk, OnErr, refl};
 ghost use Rattle.nb_datagram.specs.Header.{IsKey};
 ghost use Rattle.nb_datagram.specs.declared.key.Key.{Key};
 ghost use Rattle.nb_entries.specs.Sinks.{Puts};
@@ -9,6 +9,8 @@ ghost use Rattle.nb_entries.specs.SavedReading.{Field};
 ghost use Rattle.nb_table.specs.Saved.{key_bytes, KeyAt, IsAfter, key_at as key_reading};
 ghost use Rattle.nb_table.specs.Code.SavedTables.{SourcesSoFar};
 ghost use Rattle.nb_table.specs.Code.Each.{Passes, Breaks};
+ghost use Rattle.std.proofs.Common.{◌∙◌};
+ghost use Rattle.nb_table.specs.Shared.TableLemmas.{passes_no_more, passes_more, breaks_first, breaks_later};
 
 pub(crate) mod entries;
 
@@ -16,9 +18,9 @@ use arrayvec::ArrayVec;
 use nb_datagram::Key;
 use nb_entries::LoadFault;
 use nb_entries::saved::ByteSink;
-use nb_names::numbers::number_16;
-use nb_names::output::write_digits;
-use nb_names::{Counted, DeviceFault};
+use nb_streams::numbers::number_16;
+use nb_streams::output::write_digits;
+use nb_streams::{Counted, DeviceFault};
 use std::cmp::Ordering;
 use std::io::Write;
 
@@ -145,12 +147,6 @@ impl<'a, W: Write> DigitsSink<'a, W> {
 
 impl<'a, W: Write> ByteSink for DigitsSink<'a, W> {
     type Fault = DeviceFault;
-
-    ghost use Rattle.std.specs.Prelude.{◌≡◌, ◌++◌, refl};
-    ghost use Rattle.std.proofs.Common.{◌∙◌};
-    ghost use Rattle.nb_table.specs.Code.Each.{Passes, Breaks};
-    ghost use Rattle.nb_table.specs.Shared.TableLemmas.{passes_no_more, passes_more};
-    ghost use Rattle.nb_table.specs.Shared.TableLemmas.{breaks_first, breaks_later};
 
     ghost takes = { λ old new bytes.
         Passes W.contents old.writer.now new.writer.now (old.part.items ++ bytes) new.part.items

@@ -1,12 +1,16 @@
 //! The reassembly table.
-ghost use Rattle.std.specs.Prelude.{◌≡◌, ◌↔◌, IsTrue, IsOk, IfOk, IfErr, OnOk, OnErr, None, Ok};
+ghost use Rattle.std.specs.Prelude.{◌≡◌, ◌↔◌, IsTrue, IsOk, IfOk, IfErr, OnOk, OnErr, None, Ok, Some};
 ghost use Rattle.std.specs.FinMap as maps;
-ghost use Rattle.nb_table.specs.Limits.{KeepsLimits};
+ghost use Rattle.std.specs.Option.{option_copied};
+ghost use Rattle.nb_datagram.specs.declared.limits.TheConstants.{MAX_LENGTH};
+ghost use Rattle.nb_entries.specs.Entry.{EntryValue, IsShort};
+ghost use Rattle.nb_table.specs.Limits.{KeepsLimits, TableValue};
 ghost use Rattle.nb_table.specs.Change.{IsChange, Tells};
 ghost use Rattle.nb_table.specs.State.{IsState};
 ghost use Rattle.nb_table.specs.Contents.{run_count_at, outline_at, ranges_at, datagram_at};
 ghost use Rattle.nb_datagram.specs.Fragment.{core_of};
 ghost use Rattle.nb_table.specs.Insert.{NeedsNoMemory, Passes, Takes, Refuses, with_fragment};
+ghost use Rattle.nb_table.specs.Codes.{table_code};
 
 mod fitting;
 mod loading;
@@ -18,8 +22,8 @@ use crate::keys::Keys;
 pub use loading::load;
 pub use merging::take_in_all;
 use nb_datagram::{Datagram, Fragment, Key, LentFragment, UserData};
-use nb_entries::{Change, Handing, Outline, Ranges, State};
-use nb_names::NoMemory;
+use nb_entries::{Change, Entry, Handing, Outline, Ranges, State};
+use nb_streams::NoMemory;
 use std::alloc::Global;
 use std::marker::Model;
 
@@ -41,9 +45,6 @@ pub struct Table {
 }
 
 impl Model for Table {
-    ghost use Rattle.nb_table.specs.Limits.{TableValue, KeepsLimits};
-    ghost use Rattle.nb_table.specs.Codes.{table_code};
-
     ghost Value = { TableValue };
 
     ghost coded = { table_code };
@@ -163,6 +164,18 @@ impl Table {
         self.entries.remove(key).is_some()
     }
 
+    /// The entry of a key, which reaches no further than a datagram may.
+    fn entry(&self, key: &Key) -> Option<&Entry>
+        ensures value { option_copied result ≡ maps.get self.now.contents key.now }
+        ensures short { (entry : EntryValue) → maps.get self.now.contents key.now ≡ Some entry
+            → IsShort MAX_LENGTH entry }
+    {
+        // For the clause `short`: a limit that is read is a number of its type, and the entry's
+        // bytes lie below it.
+        let _longest = self.longest;
+        self.entries.get(key)
+    }
+
     /// What is known of a key's datagram. No memory is taken.
     pub fn state(&self, key: &Key) -> State
         ensures { IsState self.now.contents key.now result }
@@ -179,10 +192,7 @@ impl Table {
     pub fn run_count(&self, key: &Key) -> Option<u32>
         ensures { result ≡ run_count_at self.now.contents key.now }
     {
-        // For the proof alone: a limit that is read is a number of its type, and the entry's bytes
-        // lie below it.
-        let _longest = self.longest;
-        match self.entries.get(key) {
+        match self.entry(key) {
             Some(entry) => entry.run_count(),
             None => None,
         }
@@ -223,10 +233,7 @@ impl Table {
     pub fn outline(&self, key: &Key) -> Option<Outline>
         ensures { result ≡ outline_at self.now.contents key.now }
     {
-        // For the proof alone: a limit that is read is a number of its type, and the entry's bytes
-        // lie below it.
-        let _longest = self.longest;
-        match self.entries.get(key) {
+        match self.entry(key) {
             Some(entry) => entry.outline(),
             None => None,
         }
@@ -238,10 +245,7 @@ impl Table {
     pub fn ranges(&self, key: &Key) -> Ranges<'_>
         ensures { result ≡ ranges_at self.now.contents key.now }
     {
-        // For the proof alone: a limit that is read is a number of its type, and the entry's bytes
-        // lie below it.
-        let _longest = self.longest;
-        match self.entries.get(key) {
+        match self.entry(key) {
             Some(entry) => entry.ranges(),
             None => Ranges::none(),
         }
@@ -258,10 +262,7 @@ impl Table {
         ensures no_memory_needed { datagram_at self.now.contents key.now ≡ None
             → result ≡ Ok None }
     {
-        // For the proof alone: a limit that is read is a number of its type, and the entry's bytes
-        // lie below it.
-        let _longest = self.longest;
-        match self.entries.get(key) {
+        match self.entry(key) {
             Some(entry) => entry.datagram_of(self.alloc, *key),
             None => Ok(None),
         }

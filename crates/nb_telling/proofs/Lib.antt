@@ -1,3 +1,4 @@
 pub mod FoldLemmas
 pub mod SetLemmas
 pub mod MemberLemmas
+pub mod ObjectLemmas

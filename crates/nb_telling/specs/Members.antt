@@ -1,17 +1,16 @@
 -- Fields that are members of an object: each list, and each part of one, ends where it began.
-use Rattle.std.specs.Prelude.{◌≡◌, ℕ, suc, List, [], ◌∷◌, ◌++◌, Some}
-use Rattle.std.specs.Prelude.{⊤}
+use Rattle.std.specs.Prelude.{◌≡◌, ℕ, suc, List, [], ◌∷◌, ◌++◌, Some, ⊤}
 use Rattle.json.specs.Json.{Json, document}
 use Rattle.nb_telling.specs.Telling.{Field, Text, Number, Digits, Data, Set, Known, Range, Words, At, Begins, Ends, Part, PartEnds, LineEnds}
 
 -- the field is a member by itself, or nothing
 abbrev pub IsMember : Field → Type 0
-IsMember (Text key text) = ⊤
-IsMember (Number key n) = ⊤
-IsMember (Digits key bytes) = ⊤
-IsMember (Data key bytes) = ⊤
-IsMember (Set key names) = ⊤
-IsMember (Known key n) = ⊤
+IsMember (Text tag text) = ⊤
+IsMember (Number tag n) = ⊤
+IsMember (Digits tag bytes) = ⊤
+IsMember (Data tag bytes) = ⊤
+IsMember (Set tag names) = ⊤
+IsMember (Known tag n) = ⊤
 IsMember (Range lead from to) = ⊥
 IsMember (Words words) = ⊤
 IsMember (At n) = ⊤

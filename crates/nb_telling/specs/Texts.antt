@@ -2,7 +2,7 @@
 use Rattle.std.specs.Prelude.{ℕ, List, [], ◌∷◌, ◌++◌, codes, Option, Some, None, if◌then◌else◌}
 use Rattle.std.specs.Fmt.{decimal}
 use Rattle.std.specs.List.{flat_map}
-use Rattle.nb_names.specs.Hexadecimal.{data_text, digits_text}
+use Rattle.nb_streams.specs.Hexadecimal.{data_text, digits_text}
 use Rattle.nb_telling.specs.Telling.{Field, Text, Number, Digits, Data, Set, Known, Range, Words, At, Begins, Ends, Part, PartEnds, LineEnds}
 use Rattle.nb_telling.specs.declared.sink.Flag.{Flag}
 
@@ -29,12 +29,12 @@ known_text (Some n) = decimal n
 
 -- the text of a field
 abbrev pub field_text : Field → List ℕ
-field_text (Text key text) = key.lead ++ text
-field_text (Number key n) = key.lead ++ decimal n
-field_text (Digits key bytes) = key.lead ++ digits_text bytes
-field_text (Data key bytes) = key.lead ++ data_text bytes
-field_text (Set key names) = key.lead ++ joined names
-field_text (Known key n) = key.lead ++ known_text n
+field_text (Text tag text) = tag.lead ++ text
+field_text (Number tag n) = tag.lead ++ decimal n
+field_text (Digits tag bytes) = tag.lead ++ digits_text bytes
+field_text (Data tag bytes) = tag.lead ++ data_text bytes
+field_text (Set tag names) = tag.lead ++ joined names
+field_text (Known tag n) = tag.lead ++ known_text n
 field_text (Range lead from to) = lead ++ (decimal from ++ (codes "-" ++ decimal to))
 field_text (Words words) = words
 field_text (At n) = []

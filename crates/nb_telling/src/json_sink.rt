@@ -8,9 +8,9 @@ ghost use Rattle.nb_telling.specs.Members.{AreMembers, IsJson};
 ghost use Rattle.nb_telling.specs.Texts.{names_of};
 ghost use Rattle.nb_telling.specs.Tokens.{tokens_of};
 
-use crate::sink::{FieldKey, Flag, Shows, Sink};
+use crate::sink::{FieldTag, Flag, Shows, Sink};
 use json::Writer;
-use nb_names::{NoMemory, ascii_str, push_digits, push_shown};
+use nb_streams::{NoMemory, ascii_str, push_digits, push_shown};
 use std::alloc::Global;
 use std::fmt::Display;
 use std::marker::Model;
@@ -175,47 +175,47 @@ impl Sink for JsonSink {
 
     ghost is_front = { λ _ _. ⊤ };
 
-    fn text(&mut self, key: FieldKey, value: &str) -> Result<(), NoMemory> {
-        write_text(key.name, value, &mut self.writer)
+    fn text(&mut self, tag: FieldTag, value: &str) -> Result<(), NoMemory> {
+        write_text(tag.name, value, &mut self.writer)
     }
 
-    fn shown<T: Shows>(&mut self, key: FieldKey, value: &T) -> Result<(), NoMemory> {
+    fn shown<T: Shows>(&mut self, tag: FieldTag, value: &T) -> Result<(), NoMemory> {
         self.scratch.clear();
         value.push_to(&mut self.scratch)?;
-        write_text(key.name, self.scratch.as_str(), &mut self.writer)
+        write_text(tag.name, self.scratch.as_str(), &mut self.writer)
     }
 
-    fn displayed<D: Display + Drop>(&mut self, key: FieldKey, value: D) -> Result<(), NoMemory> {
+    fn displayed<D: Display + Drop>(&mut self, tag: FieldTag, value: D) -> Result<(), NoMemory> {
         self.scratch.clear();
         push_shown(value, &mut self.scratch)?;
-        write_text(key.name, self.scratch.as_str(), &mut self.writer)
+        write_text(tag.name, self.scratch.as_str(), &mut self.writer)
     }
 
-    fn number(&mut self, key: FieldKey, value: u64) -> Result<(), NoMemory> {
-        self.writer.key(key.name)?;
+    fn number(&mut self, tag: FieldTag, value: u64) -> Result<(), NoMemory> {
+        self.writer.key(tag.name)?;
         write_number(value, &mut self.writer)
     }
 
-    fn digits(&mut self, key: FieldKey, value: &[u8]) -> Result<(), NoMemory> {
+    fn digits(&mut self, tag: FieldTag, value: &[u8]) -> Result<(), NoMemory> {
         self.scratch.clear();
         push_digits(value, &mut self.scratch)?;
-        write_text(key.name, self.scratch.as_str(), &mut self.writer)
+        write_text(tag.name, self.scratch.as_str(), &mut self.writer)
     }
 
-    fn data(&mut self, key: FieldKey, value: &[u8]) -> Result<(), NoMemory> {
-        self.digits(key, value)
+    fn data(&mut self, tag: FieldTag, value: &[u8]) -> Result<(), NoMemory> {
+        self.digits(tag, value)
     }
 
-    fn set(&mut self, key: FieldKey, flags: &[Flag]) -> Result<(), NoMemory> {
-        self.writer.key(key.name)?;
+    fn set(&mut self, tag: FieldTag, flags: &[Flag]) -> Result<(), NoMemory> {
+        self.writer.key(tag.name)?;
         self.writer.begin_array()?;
         write_names(flags, &mut self.writer)?;
         self.writer.end_array()?;
         Ok(())
     }
 
-    fn known(&mut self, key: FieldKey, value: Option<u64>) -> Result<(), NoMemory> {
-        self.writer.key(key.name)?;
+    fn known(&mut self, tag: FieldTag, value: Option<u64>) -> Result<(), NoMemory> {
+        self.writer.key(tag.name)?;
         match value {
             Some(value) => write_number(value, &mut self.writer),
             None => {

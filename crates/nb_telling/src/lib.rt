@@ -7,4 +7,4 @@ mod sink;
 mod text_sink;
 
 pub use json_sink::{JsonRoom, JsonSink};
-pub use sink::{FieldKey, Flag, Shows, Sink, tell_place};
+pub use sink::{FieldTag, Flag, Shows, Sink, tell_place};

@@ -1,14 +1,12 @@
-//! What fields are reported to, their keys, flags and places, and values that have a text.
+//! What fields are reported to, their tags, flags and places, and values that have a text.
 ghost use Rattle.std.specs.Prelude.{◌≡◌, IfSome, OnOk, fold, ◌++◌, ℕ, List, string_bytes};
-ghost use Rattle.nb_names.specs.Growth.{OnlyAdds};
-ghost use Rattle.nb_telling.specs.Telling.{Field, Text, Number, Digits, Data, Set, Known, Range, Words, At, Begins, Ends, Part, PartEnds, LineEnds, Grows, key_of, place_fields};
+ghost use Rattle.nb_streams.specs.Growth.{OnlyAdds};
+ghost use Rattle.nb_telling.specs.Telling.{Field, Text, Number, Digits, Data, Set, Known, Range, Words, At, Begins, Ends, Part, PartEnds, LineEnds, Grows, tag_of, place_fields};
 ghost use Rattle.nb_telling.specs.Texts.{names_of};
 
 use nb_datagram::{Key, push_key};
-use nb_names::{
-    DomainName, LentDomain, LentName, Name, NoMemory, push_address, push_domain, push_lent_name,
-    push_name,
-};
+use nb_names::{DomainName, LentDomain, LentName, Name, push_domain, push_lent_name, push_name};
+use nb_streams::{NoMemory, push_address};
 use std::fmt::Display;
 
 /// What fields are reported to, one after the other.
@@ -29,51 +27,51 @@ pub trait Sink {
     ghost is_front: { Self.Seen → Self.Seen → Type 0 };
 
     /// Tells a text.
-    fn text(&mut self, key: FieldKey, value: &str) -> Result<(), NoMemory>
+    fn text(&mut self, tag: FieldTag, value: &str) -> Result<(), NoMemory>
         ensures told { OnOk result
-            (seen self.new ≡ after (seen self.old) (Text (key_of key) value.now)) }
+            (seen self.new ≡ after (seen self.old) (Text (tag_of tag) value.now)) }
         ensures front { Grows is_front (seen self.old) (seen self.new) };
 
     /// Tells the text of a value.
-    fn shown<T: Shows>(&mut self, key: FieldKey, value: &T) -> Result<(), NoMemory>
+    fn shown<T: Shows>(&mut self, tag: FieldTag, value: &T) -> Result<(), NoMemory>
         ensures told { OnOk result
-            (seen self.new ≡ after (seen self.old) (Text (key_of key) (T.shown value.now))) }
+            (seen self.new ≡ after (seen self.old) (Text (tag_of tag) (T.shown value.now))) }
         ensures front { Grows is_front (seen self.old) (seen self.new) };
 
     /// Tells the text that a value is displayed as, of at most 128 bytes, such as a fault's.
-    fn displayed<D: Display + Drop>(&mut self, key: FieldKey, value: D) -> Result<(), NoMemory>
+    fn displayed<D: Display + Drop>(&mut self, tag: FieldTag, value: D) -> Result<(), NoMemory>
         ensures told { OnOk result (IfSome (D.output value) (λ shown.
-            seen self.new ≡ after (seen self.old) (Text (key_of key) shown))) }
+            seen self.new ≡ after (seen self.old) (Text (tag_of tag) shown))) }
         ensures front { Grows is_front (seen self.old) (seen self.new) };
 
     /// Tells a number.
-    fn number(&mut self, key: FieldKey, value: u64) -> Result<(), NoMemory>
+    fn number(&mut self, tag: FieldTag, value: u64) -> Result<(), NoMemory>
         ensures told { OnOk result
-            (seen self.new ≡ after (seen self.old) (Number (key_of key) value)) }
+            (seen self.new ≡ after (seen self.old) (Number (tag_of tag) value)) }
         ensures front { Grows is_front (seen self.old) (seen self.new) };
 
     /// Tells bytes as hexadecimal digits.
-    fn digits(&mut self, key: FieldKey, value: &[u8]) -> Result<(), NoMemory>
+    fn digits(&mut self, tag: FieldTag, value: &[u8]) -> Result<(), NoMemory>
         ensures told { OnOk result
-            (seen self.new ≡ after (seen self.old) (Digits (key_of key) value.now)) }
+            (seen self.new ≡ after (seen self.old) (Digits (tag_of tag) value.now)) }
         ensures front { Grows is_front (seen self.old) (seen self.new) };
 
     /// Tells data, which may have no byte.
-    fn data(&mut self, key: FieldKey, value: &[u8]) -> Result<(), NoMemory>
+    fn data(&mut self, tag: FieldTag, value: &[u8]) -> Result<(), NoMemory>
         ensures told { OnOk result
-            (seen self.new ≡ after (seen self.old) (Data (key_of key) value.now)) }
+            (seen self.new ≡ after (seen self.old) (Data (tag_of tag) value.now)) }
         ensures front { Grows is_front (seen self.old) (seen self.new) };
 
     /// Tells the names of the flags that are set.
-    fn set(&mut self, key: FieldKey, flags: &[Flag]) -> Result<(), NoMemory>
+    fn set(&mut self, tag: FieldTag, flags: &[Flag]) -> Result<(), NoMemory>
         ensures told { OnOk result
-            (seen self.new ≡ after (seen self.old) (Set (key_of key) (names_of flags.now))) }
+            (seen self.new ≡ after (seen self.old) (Set (tag_of tag) (names_of flags.now))) }
         ensures front { Grows is_front (seen self.old) (seen self.new) };
 
     /// Tells a number, where it is known.
-    fn known(&mut self, key: FieldKey, value: Option<u64>) -> Result<(), NoMemory>
+    fn known(&mut self, tag: FieldTag, value: Option<u64>) -> Result<(), NoMemory>
         ensures told { OnOk result
-            (seen self.new ≡ after (seen self.old) (Known (key_of key) value)) }
+            (seen self.new ≡ after (seen self.old) (Known (tag_of tag) value)) }
         ensures front { Grows is_front (seen self.old) (seen self.new) };
 
     /// Tells a part of a list that is two numbers, which begins so in text.
@@ -118,9 +116,9 @@ pub trait Sink {
         ensures front { Grows is_front (seen self.old) (seen self.new) };
 }
 
-/// A key: under which name a field stands in an object, and what stands before its value in text.
+/// A tag: under which name a field stands in an object, and what stands before its value in text.
 #[derive(Clone, Copy, Debug)]
-pub struct FieldKey {
+pub struct FieldTag {
     /// The name.
     pub name: &'static str,
     /// What stands before the value, as ` ttl=`; it may be empty.
@@ -209,7 +207,7 @@ impl<'a> Shows for LentDomain<'a> {
 }
 
 impl Shows for [u8; 4] {
-    ghost use Rattle.nb_names.specs.Addresses.{address_text};
+    ghost use Rattle.nb_streams.specs.Addresses.{address_text};
 
     ghost shown = { address_text };
 

@@ -1,12 +1,12 @@
 //! Fields as text.
-#![tactic(auto, using(nb_names::specs::Growth::front_stays))]
+#![tactic(auto, using(nb_streams::specs::Growth::front_stays))]
 
 ghost use Rattle.std.specs.Prelude.{◌≡◌, ◌++◌, OnOk, string_bytes};
-ghost use Rattle.nb_names.specs.Growth.{OnlyAdds};
+ghost use Rattle.nb_streams.specs.Growth.{OnlyAdds};
 ghost use Rattle.nb_telling.specs.Texts.{joined, names_of};
 
-use crate::sink::{FieldKey, Flag, Shows, Sink};
-use nb_names::{Bytes, NoMemory, push_data, push_decimal, push_digits, push_shown};
+use crate::sink::{FieldTag, Flag, Shows, Sink};
+use nb_streams::{Bytes, NoMemory, push_data, push_decimal, push_digits, push_shown};
 use std::fmt::Display;
 
 /// Adds each field's text. Nothing is there of the places of faults, which the faults' texts have,
@@ -15,7 +15,7 @@ impl Sink for String {
     type Seen = Bytes;
 
     ghost use Rattle.std.specs.Prelude.{◌++◌, string_bytes};
-    ghost use Rattle.nb_names.specs.Growth.{IsFrontOf};
+    ghost use Rattle.nb_streams.specs.Growth.{IsFrontOf};
     ghost use Rattle.nb_telling.specs.Texts.{field_text};
 
     ghost seen = { λ text. string_bytes text };
@@ -24,44 +24,44 @@ impl Sink for String {
 
     ghost is_front = { IsFrontOf };
 
-    fn text(&mut self, key: FieldKey, value: &str) -> Result<(), NoMemory> {
-        self.push_str(key.lead)?;
+    fn text(&mut self, tag: FieldTag, value: &str) -> Result<(), NoMemory> {
+        self.push_str(tag.lead)?;
         self.push_str(value)?;
         Ok(())
     }
 
-    fn shown<T: Shows>(&mut self, key: FieldKey, value: &T) -> Result<(), NoMemory> {
-        self.push_str(key.lead)?;
+    fn shown<T: Shows>(&mut self, tag: FieldTag, value: &T) -> Result<(), NoMemory> {
+        self.push_str(tag.lead)?;
         value.push_to(self)
     }
 
-    fn displayed<D: Display + Drop>(&mut self, key: FieldKey, value: D) -> Result<(), NoMemory> {
-        self.push_str(key.lead)?;
+    fn displayed<D: Display + Drop>(&mut self, tag: FieldTag, value: D) -> Result<(), NoMemory> {
+        self.push_str(tag.lead)?;
         push_shown(value, self)
     }
 
-    fn number(&mut self, key: FieldKey, value: u64) -> Result<(), NoMemory> {
-        self.push_str(key.lead)?;
+    fn number(&mut self, tag: FieldTag, value: u64) -> Result<(), NoMemory> {
+        self.push_str(tag.lead)?;
         push_decimal(value, self)
     }
 
-    fn digits(&mut self, key: FieldKey, value: &[u8]) -> Result<(), NoMemory> {
-        self.push_str(key.lead)?;
+    fn digits(&mut self, tag: FieldTag, value: &[u8]) -> Result<(), NoMemory> {
+        self.push_str(tag.lead)?;
         push_digits(value, self)
     }
 
-    fn data(&mut self, key: FieldKey, value: &[u8]) -> Result<(), NoMemory> {
-        self.push_str(key.lead)?;
+    fn data(&mut self, tag: FieldTag, value: &[u8]) -> Result<(), NoMemory> {
+        self.push_str(tag.lead)?;
         push_data(value, self)
     }
 
-    fn set(&mut self, key: FieldKey, flags: &[Flag]) -> Result<(), NoMemory> {
-        self.push_str(key.lead)?;
+    fn set(&mut self, tag: FieldTag, flags: &[Flag]) -> Result<(), NoMemory> {
+        self.push_str(tag.lead)?;
         push_names(flags, self)
     }
 
-    fn known(&mut self, key: FieldKey, value: Option<u64>) -> Result<(), NoMemory> {
-        self.push_str(key.lead)?;
+    fn known(&mut self, tag: FieldTag, value: Option<u64>) -> Result<(), NoMemory> {
+        self.push_str(tag.lead)?;
         match value {
             Some(value) => push_decimal(value, self),
             None => {

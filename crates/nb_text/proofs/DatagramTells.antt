@@ -1,7 +1,7 @@
 -- The text of a datagram service packet tells the packet.
 use Rattle.std.proofs.Common.{◌≡◌, ℕ, ◌<◌, ◌^◌, List, [], ◌∷◌, ◌++◌, refl, ap, subst, arith, codes}
 use Rattle.std.specs.Int.{w16, to_be_bytes}
-use Rattle.nb_names.specs.DomainName.{AreBytes}
+use Rattle.nb_streams.specs.Places.{AreBytes}
 use Rattle.nb_names.specs.Name.{IsByteName}
 use Rattle.nb_datagram.specs.declared.key.Key.{Key}
 use Rattle.nb_datagram.specs.declared.key.Kind.{Kind}

@@ -7,11 +7,13 @@ use Rattle.std.specs.Int.{w16, to_be_bytes}
 use Rattle.std.proofs.lemmas.Bool.{and_parts}
 use Rattle.std.proofs.lemmas.Bool.Decides.{nat_tests}
 use Rattle.std.proofs.lemmas.List.{length-append}
-use Rattle.nb_names.specs.Addresses.{address_text}
-use Rattle.nb_names.specs.DomainName.{IsLabel, IsDomain, AreBytes, AreByteLabels}
-use Rattle.nb_names.specs.Hexadecimal.{data_text, digits_text, word_text}
+use Rattle.nb_streams.specs.Addresses.{address_text}
+use Rattle.nb_names.specs.DomainName.{IsLabel, IsDomain, AreByteLabels}
+use Rattle.nb_streams.specs.PacketFacts.{All-take, byte_below}
+use Rattle.nb_streams.specs.Places.{AreBytes}
+use Rattle.nb_streams.specs.Hexadecimal.{data_text, digits_text, word_text, digits_of}
 use Rattle.nb_names.specs.Name.{NetbiosName, IsName, IsByteName}
-use Rattle.nb_names.specs.NameText.{is_plain, digits_of, item_of, items_of, scope_text_of, kept_before, trimmed, domain_written, is_letter, are_letters, bytes_of_letters, either_written, labels_written, written}
+use Rattle.nb_names.specs.NameText.{is_plain, item_of, items_of, scope_text_of, kept_before, trimmed, domain_written, is_letter, are_letters, bytes_of_letters, either_written, labels_written, written}
 use Rattle.nb_names.proofs.NameLemmas.{IsScope-rest}
 use Rattle.nb_service.proofs.EncodingLemmas.{all_append}
 use Rattle.nb_datagram.specs.declared.key.Key.{Key}
@@ -40,15 +42,11 @@ pub seen-append : (xs ys : List ℕ) → IsSeen xs → IsSeen ys → IsSeen (xs 
 seen-append xs ys a b = all_append IsVisible xs ys a b
 
 pub bytes-take : (n : ℕ) (xs : List ℕ) → AreBytes xs → AreBytes (take n xs)
-bytes-take zero xs a = tt
-bytes-take (suc n) [] a = tt
-bytes-take (suc n) (x ∷ xs) a = (a.0, bytes-take n xs a.1)
+bytes-take = All-take (λ (b : ℕ). b < 256)
 
 -- a byte, or zero past the end
 pub byte_at : (bytes : List ℕ) (i : ℕ) → AreBytes bytes → slice_index bytes i < 256
-byte_at [] i h = omega arith
-byte_at (b ∷ bytes) zero h = h.0
-byte_at (b ∷ bytes) (suc i) h = byte_at bytes i h.1
+byte_at bytes i h = byte_below bytes h i
 
 pub some-append : (xs ys : List ℕ) → 0 < length ys → 0 < length (xs ++ ys)
 some-append xs ys some = omega (arith, some, length-append xs ys)

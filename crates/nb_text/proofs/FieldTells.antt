@@ -6,11 +6,11 @@ use Rattle.std.specs.Fmt.{decimal}
 use Rattle.std.proofs.lemmas.Bool.Decides.{nat_tests}
 use Rattle.std.proofs.lemmas.Fmt.{decimal_is_IsNumeral, decimal_injective}
 use Rattle.std.proofs.lemmas.Str.{digit_value-digit_char}
-use Rattle.nb_names.specs.Addresses.{address_text}
-use Rattle.nb_names.specs.DomainName.{AreBytes}
-use Rattle.nb_names.specs.Hexadecimal.{data_text, digits_text, word_text}
+use Rattle.nb_streams.specs.Addresses.{address_text}
+use Rattle.nb_streams.specs.Places.{AreBytes}
+use Rattle.nb_streams.specs.Hexadecimal.{data_text, digits_text, word_text, digits_of}
 use Rattle.nb_names.specs.Name.{NetbiosName, IsByteName}
-use Rattle.nb_names.specs.NameText.{IsText, digits_of, written}
+use Rattle.nb_names.specs.NameText.{IsText, written}
 use Rattle.nb_names.proofs.PartsLemmas.{one_name_of}
 use Rattle.nb_names.proofs.WrittenLemmas.{written-text}
 use Rattle.nb_datagram.specs.declared.key.Key.{Key}

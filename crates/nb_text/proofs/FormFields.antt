@@ -18,18 +18,18 @@ use Rattle.nb_session.specs.Parsing.{Parsed}
 use Rattle.nb_session.specs.declared.parsing.Parsed.TheVariants.{Whole, More, Refused}
 use Rattle.nb_session.specs.FaultTexts.{session_fault_place, session_fault_text}
 use Rattle.nb_telling.specs.Members.{AreMembers, nothing, both}
-use Rattle.nb_telling.specs.Telling.{Field, FieldKey, Text, Number, Digits, Set, LineEnds}
+use Rattle.nb_telling.specs.Telling.{Field, FieldTag, Text, Number, Digits, Set, LineEnds}
 use Rattle.nb_text.specs.DatagramFields as datagrams
 use Rattle.nb_text.specs.DatagramText as datagram_texts
 use Rattle.nb_text.specs.Fields.{used_fields, refused_fields, list_fields, word_field}
 use Rattle.nb_text.specs.FrontFields.{indent, names_header_fields, type_field, standing_name, fragment_front_fields}
-use Rattle.nb_text.specs.Keys.{key_named, id_key}
+use Rattle.nb_text.specs.Tags.{tag_named, id_tag}
 use Rattle.nb_text.specs.Lines.{used_text, refused_text}
 use Rattle.nb_text.specs.ServiceFields as services
 use Rattle.nb_text.specs.ServiceText as service_texts
 use Rattle.nb_text.specs.SessionFields as sessions
 use Rattle.nb_text.specs.SessionText as session_texts
-use Rattle.nb_text.specs.Tells as tells
+use Rattle.nb_text.specs.Made as tells
 use Rattle.nb_text.specs.Tells.{Tells}
 use Rattle.nb_text.specs.TellsFront as fronts
 use Rattle.nb_text.specs.TellsFront.{FrontOf, TellsFront}
@@ -71,19 +71,19 @@ datagram_says packet used = both_say (datagram_parts packet) (used_says used)
 
 -- ---- port 137
 
-named_says : {depth : ℕ} (key : FieldKey) (word : Option (List ℕ)) (n : ℕ) → Says depth (services.named_field key word n ∷ []) (key.lead ++ named_text word n)
+named_says : {depth : ℕ} (key : FieldTag) (word : Option (List ℕ)) (n : ℕ) → Says depth (services.named_field key word n ∷ []) (key.lead ++ named_text word n)
 named_says key None n = row (services.named_field key None n ∷ []) _
 named_says key (Some word) n = row (services.named_field key (Some word) n ∷ []) _
 
 state_says : {depth : ℕ} (word : ℕ) → Says depth (services.state_fields word) (service_texts.state_text word)
 state_says word =
-    both_say (named_says (key_named "op") (operation_word (opcode_of word)) (opcode_of word))
-    (both_say (row (Set (key_named "flags") (names_set packet_flags word) ∷ []) _)
-    (named_says (key_named "rcode") (rcode_word (rcode_of word)) (rcode_of word)))
+    both_say (named_says (tag_named "op") (operation_word (opcode_of word)) (opcode_of word))
+    (both_say (row (Set (tag_named "flags") (names_set packet_flags word) ∷ []) _)
+    (named_says (tag_named "rcode") (rcode_word (rcode_of word)) (rcode_of word)))
 
 header_says : {depth : ℕ} (header : PacketHeader) (used : ℕ) → Says depth (services.header_fields header used) (service_texts.header_line header used)
 header_says header used =
-    both_say (row (word_field id_key header.id ∷ word_field (key_named "word") header.word ∷ []) _)
+    both_say (row (word_field id_tag header.id ∷ word_field (tag_named "word") header.word ∷ []) _)
     (both_say (state_says header.word) (both_say (row (services.count_fields header) _) (used_says used)))
 
 question_says : {depth : ℕ} (question : Question) → SaysParts depth (services.question_fields question) (service_texts.question_line question)
@@ -147,32 +147,32 @@ fields_members payload _ _ (tells.session port parsed a b h) = (session_says par
 
 front_header : {depth : ℕ} (header : PacketHeader) → AreMembers depth (names_header_fields header)
 front_header header =
-    both _ _ (singles (indent ∷ word_field id_key header.id ∷ word_field (key_named "word") header.word ∷ []) _)
+    both _ _ (singles (indent ∷ word_field id_tag header.id ∷ word_field (tag_named "word") header.word ∷ []) _)
     (both _ _ (state_says header.word).members (singles (services.count_fields header ++ LineEnds ∷ []) _))
 
 type_member : {depth : ℕ} (word : Option (List ℕ)) (type : ℕ) → AreMembers depth (type_field word type ∷ [])
 type_member None type = singles (type_field None type ∷ []) _
 type_member (Some word) type = singles (type_field (Some word) type ∷ []) _
 
-name_members : {depth : ℕ} (key : FieldKey) (name : Option NetbiosName) → AreMembers depth (standing_name key name)
+name_members : {depth : ℕ} (key : FieldTag) (name : Option NetbiosName) → AreMembers depth (standing_name key name)
 name_members key None = nothing
 name_members key (Some name) = singles (standing_name key (Some name)) _
 
 fragment_members : {depth : ℕ} (fragment : Option FragmentFront) → AreMembers depth (fragment_front_fields fragment)
 fragment_members None = nothing
 fragment_members (Some front) =
-    both _ _ (singles (Number (key_named "offset") front.offset ∷ []) _)
-    (both _ _ (name_members (key_named "source") front.source) (name_members (key_named "destination") front.destination))
+    both _ _ (singles (Number (tag_named "offset") front.offset ∷ []) _)
+    (both _ _ (name_members (tag_named "source") front.source) (name_members (tag_named "destination") front.destination))
 
 front_members : (payload : List ℕ) (port : ℕ) (fields : List Field) → FrontOf payload port fields → AreMembers 2 fields
 front_members payload _ _ (fronts.names_front fault header items next fails h) = both _ _ (front_header header) (lists_say items).members
 front_members payload _ _ (fronts.datagram_front fault front fails h) =
     both _ _ (singles (indent ∷ []) _) (both _ _ (type_member (datagram_word front.message_type) front.message_type)
-    (both _ _ (singles (Digits (key_named "flags") (front.flags ∷ []) ∷ Text (key_named "key") (key_text front.key) ∷ []) _)
+    (both _ _ (singles (Digits (tag_named "flags") (front.flags ∷ []) ∷ Text (tag_named "key") (key_text front.key) ∷ []) _)
     (both _ _ (fragment_members front.fragment) (singles (LineEnds ∷ []) _))))
 front_members payload _ _ (fronts.session_front port parsed header a b h none there) =
     both _ _ (singles (indent ∷ []) _) (both _ _ (type_member (session_word header.packet_type) header.packet_type)
-    (singles (Number (key_named "length") (body_length header) ∷ LineEnds ∷ []) _))
+    (singles (Number (tag_named "length") (body_length header) ∷ LineEnds ∷ []) _))
 front_members payload _ _ stands = nothing
 
 pub told_members : (payload : List ℕ) (port : ℕ) (fields : List Field) → TellsFront payload port fields → AreMembers 2 fields

@@ -13,15 +13,15 @@ use Rattle.std.proofs.lemmas.List.{length-append, append_assoc, append-nil, map-
 use Rattle.nb_service.specs.Record.{ResourceRecord, ResourceData, of_bytes, of_domain}
 use Rattle.nb_service.specs.declared.kinds.TheConstants.{NBSTAT, NS}
 use Rattle.nb_text.specs.declared.brief.form.Ending.{Ending}
-use Rattle.nb_text.specs.declared.brief.told.Told.{Told}
+use Rattle.nb_text.specs.declared.brief.gist.Gist.{Gist}
 use Rattle.nb_text.specs.Forms.{PhraseForm, form_of, is_type, says}
 use Rattle.nb_text.specs.Said.{said_after}
-use Rattle.nb_text.specs.ServiceSaid.{About, IsAbout, about_first, ending_said, name_said, said_of, told_of, type_of, few, first, server_in}
+use Rattle.nb_text.specs.ServiceSaid.{About, IsAbout, about_first, ending_said, name_said, said_of, gist_of, type_of, few, first, server_in}
 use Rattle.nb_text.specs.Views.{flags_by, listed_by, units_by}
 use Rattle.std.specs.List.{flat_map, slice_get}
 use Rattle.std.proofs.lemmas.Grind.{flat_map-append}
-use Rattle.nb_text.specs.declared.brief.told.Few.{Few}
-use Rattle.nb_text.specs.declared.brief.told.Listed.{Listed}
+use Rattle.nb_text.specs.declared.brief.gist.Few.{Few}
+use Rattle.nb_text.specs.declared.brief.gist.Listed.{Listed}
 use Rattle.nb_text.proofs.WalkLemmas.{take_one_more}
 
 -- one question more
@@ -86,15 +86,15 @@ module _ (bytes : List ℕ) (packet : ServicePacket) (used : ℕ) (header : Pack
 
 -- ---- the phrase of a packet, added in parts
 
-pub parts_added : (word : ℕ) (about : Option About) (kind : Option ℕ) (status : Bool) (records : List ResourceRecord) (opening : List ℕ) (ending : Ending) (told : Told)
+pub parts_added : (word : ℕ) (about : Option About) (kind : Option ℕ) (status : Bool) (records : List ResourceRecord) (opening : List ℕ) (ending : Ending) (told : Gist)
     (old begun named new : List ℕ)
-    → kind ≡ type_of about → status ≡ is_type kind NBSTAT → told ≡ told_of status records → says opening ending ≡ form_of word kind
+    → kind ≡ type_of about → status ≡ is_type kind NBSTAT → told ≡ gist_of status records → says opening ending ≡ form_of word kind
     → begun ≡ old ++ opening → named ≡ begun ++ name_said about → new ≡ said_after named (ending_said ending word told)
-    → new ≡ said_after old (said_of word about (told_of (is_type (type_of about) NBSTAT) records))
+    → new ≡ said_after old (said_of word about (gist_of (is_type (type_of about) NBSTAT) records))
 parts_added word about kind status records opening ending told old begun named new of asks is form_is head second last =
     last ∙ ap (λ (t : List ℕ). said_after t (ending_said ending word told)) (second ∙ ap (λ (t : List ℕ). t ++ name_said about) head)
-    ∙ ap₂ (λ (f : PhraseForm) (t : Told). said_after old (f.opening ∷ name_said about ∷ ending_said f.ending word t)) (form_is ∙ ap (form_of word) of)
-    (is ∙ ap (λ (s : Bool). told_of s records) (asks ∙ ap (λ (k : Option ℕ). is_type k NBSTAT) of))
+    ∙ ap₂ (λ (f : PhraseForm) (t : Gist). said_after old (f.opening ∷ name_said about ∷ ending_said f.ending word t)) (form_is ∙ ap (form_of word) of)
+    (is ∙ ap (λ (s : Bool). gist_of s records) (asks ∙ ap (λ (k : Option ℕ). is_type k NBSTAT) of))
 
 -- ---- lists
 
@@ -126,27 +126,27 @@ listed_more listed f xs i x at =
 
 -- what no record tells
 pub told_none : (status : Bool) (listed : Few) → listed ≡ few []
-    → record { ttl = None; flags = None; listed = listed; unit = None; server = None } ≡ told_of status []
+    → record { ttl = None; flags = None; listed = listed; unit = None; server = None } ≡ gist_of status []
 told_none status listed none = λ i. record { ttl = None; flags = None; listed = none i; unit = None; server = None }
 
 -- what one record more tells, part by part
-pub told_more : (status : Bool) (before : List ResourceRecord) (entry : ResourceRecord) (old new : Told) → old ≡ told_of status before
+pub told_more : (status : Bool) (before : List ResourceRecord) (entry : ResourceRecord) (old new : Gist) → old ≡ gist_of status before
     → new.ttl ≡ option_or old.ttl (Some entry.ttl)
     → new.flags ≡ option_or old.flags (first (flags_by entry.kind entry.rdata))
     → ((listed : List Listed) → old.listed ≡ few listed → new.listed ≡ few (listed ++ listed_by status entry.kind entry.rdata))
     → new.unit ≡ option_or old.unit (first (units_by entry.kind entry.rdata))
     → new.server ≡ option_or old.server (first (server_in entry.rdata))
-    → new ≡ told_of status (before ++ entry ∷ [])
+    → new ≡ gist_of status (before ++ entry ∷ [])
 told_more status before entry old new is ttl flags listed unit server =
     let ttls : first (map (λ (e : ResourceRecord). e.ttl) (before ++ entry ∷ [])) ≡ option_or (first (map (λ (e : ResourceRecord). e.ttl) before)) (Some entry.ttl) =
     ap first (map-append (λ (e : ResourceRecord). e.ttl) before (entry ∷ [])) ∙ first_both (map (λ (e : ResourceRecord). e.ttl) before) (entry.ttl ∷ []) in
-    let ttl_is = ttl ∙ ap (λ (t : Told). option_or t.ttl (Some entry.ttl)) is ∙ sym ttls in
-    let flags_is = flags ∙ ap (λ (t : Told). option_or t.flags (first (flags_by entry.kind entry.rdata))) is
+    let ttl_is = ttl ∙ ap (λ (t : Gist). option_or t.ttl (Some entry.ttl)) is ∙ sym ttls in
+    let flags_is = flags ∙ ap (λ (t : Gist). option_or t.flags (first (flags_by entry.kind entry.rdata))) is
     ∙ sym (first_more (λ (e : ResourceRecord). flags_by e.kind e.rdata) before entry) in
-    let listed_is = listed _ (ap (λ (t : Told). t.listed) is) ∙ ap few (sym (flat_more (λ (e : ResourceRecord). listed_by status e.kind e.rdata) before entry)) in
-    let unit_is = unit ∙ ap (λ (t : Told). option_or t.unit (first (units_by entry.kind entry.rdata))) is
+    let listed_is = listed _ (ap (λ (t : Gist). t.listed) is) ∙ ap few (sym (flat_more (λ (e : ResourceRecord). listed_by status e.kind e.rdata) before entry)) in
+    let unit_is = unit ∙ ap (λ (t : Gist). option_or t.unit (first (units_by entry.kind entry.rdata))) is
     ∙ sym (first_more (λ (e : ResourceRecord). units_by e.kind e.rdata) before entry) in
-    let server_is = server ∙ ap (λ (t : Told). option_or t.server (first (server_in entry.rdata))) is
+    let server_is = server ∙ ap (λ (t : Gist). option_or t.server (first (server_in entry.rdata))) is
     ∙ sym (first_more (λ (e : ResourceRecord). server_in e.rdata) before entry) in
     λ i. record { ttl = ttl_is i; flags = flags_is i; listed = listed_is i; unit = unit_is i; server = server_is i }
 
@@ -163,11 +163,11 @@ server_stays None x some = absurd (cc)
 server_stays (Some y) x some = refl
 
 -- a record whose RDATA is bytes
-pub told_bytes : (status : Bool) (before : List ResourceRecord) (entry : ResourceRecord) (old new : Told) (kind : ℕ) (bytes : List ℕ) → old ≡ told_of status before
+pub told_bytes : (status : Bool) (before : List ResourceRecord) (entry : ResourceRecord) (old new : Gist) (kind : ℕ) (bytes : List ℕ) → old ≡ gist_of status before
     → kind ≡ entry.kind → of_bytes bytes ≡ entry.rdata → new.ttl ≡ option_or old.ttl (Some entry.ttl)
     → new.flags ≡ option_or old.flags (first (flags_by kind (of_bytes bytes)))
     → ((listed : List Listed) → old.listed ≡ few listed → new.listed ≡ few (listed ++ listed_by status kind (of_bytes bytes)))
-    → new.unit ≡ option_or old.unit (first (units_by kind (of_bytes bytes))) → new.server ≡ old.server → new ≡ told_of status (before ++ entry ∷ [])
+    → new.unit ≡ option_or old.unit (first (units_by kind (of_bytes bytes))) → new.server ≡ old.server → new ≡ gist_of status (before ++ entry ∷ [])
 told_bytes status before entry old new kind bytes is of same ttl flags listed unit server =
     told_more status before entry old new is ttl
     (flags ∙ ap₂ (λ (k : ℕ) (d : ResourceData). option_or old.flags (first (flags_by k d))) of same)
@@ -176,9 +176,9 @@ told_bytes status before entry old new kind bytes is of same ttl flags listed un
     (server ∙ or_none old.server ∙ ap (λ (d : ResourceData). option_or old.server (first (server_in d))) same)
 
 -- a record whose RDATA is a name
-pub told_domain : (status : Bool) (before : List ResourceRecord) (entry : ResourceRecord) (old new : Told) (labels : List (List ℕ)) → old ≡ told_of status before
+pub told_domain : (status : Bool) (before : List ResourceRecord) (entry : ResourceRecord) (old new : Gist) (labels : List (List ℕ)) → old ≡ gist_of status before
     → entry.kind ≡ NS → of_domain labels ≡ entry.rdata → new.ttl ≡ option_or old.ttl (Some entry.ttl) → new.flags ≡ old.flags → new.listed ≡ old.listed
-    → new.unit ≡ old.unit → new.server ≡ option_or old.server (Some labels) → new ≡ told_of status (before ++ entry ∷ [])
+    → new.unit ≡ old.unit → new.server ≡ option_or old.server (Some labels) → new ≡ gist_of status (before ++ entry ∷ [])
 told_domain status before entry old new labels is of same ttl flags listed unit server =
     told_more status before entry old new is ttl
     (flags ∙ or_none old.flags ∙ ap₂ (λ (k : ℕ) (d : ResourceData). option_or old.flags (first (flags_by k d))) (sym of) same)

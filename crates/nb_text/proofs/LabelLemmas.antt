@@ -5,10 +5,12 @@ use Rattle.std.specs.Char.{digit_char, digit_value}
 use Rattle.std.proofs.lemmas.Bool.{and_parts, ne_eqb}
 use Rattle.std.proofs.lemmas.Bool.Decides.{nat_tests}
 use Rattle.std.proofs.lemmas.Str.{digit_value-digit_char}
-use Rattle.nb_names.specs.DomainName.{IsLabel, IsDomain, AreBytes, AreByteLabels}
+use Rattle.nb_names.specs.DomainName.{IsLabel, IsDomain, AreByteLabels}
+use Rattle.nb_streams.specs.Places.{AreBytes}
 use Rattle.nb_names.specs.FirstLevel.{letter, letters, IsLetter}
 use Rattle.nb_names.specs.Name.{NetbiosName, IsName, labels_of_name, IsNoName, no_label as no_first, wrong_length, non_letter}
-use Rattle.nb_names.specs.NameText.{is_plain, byte_of, Item, plain, escaped, Items, no_item, more_items, ScopeText, no_label, more_labels, digits_of, item_of, items_of, scope_text_of, domain_written, is_letter, are_letters, bytes_of_letters, name_of_labels, either_written, labels_written, written}
+use Rattle.nb_names.specs.NameText.{is_plain, Item, plain, escaped, Items, no_item, more_items, ScopeText, no_label, more_labels, item_of, items_of, scope_text_of, domain_written, is_letter, are_letters, bytes_of_letters, name_of_labels, either_written, labels_written, written}
+use Rattle.nb_streams.specs.Hexadecimal.{byte_of, digits_of}
 use Rattle.nb_names.proofs.FirstLevelLemmas.{length-letters}
 use Rattle.nb_text.proofs.FieldLemmas.{letters_are_a_name}
 use Rattle.nb_text.proofs.LabelTells.{letters_back}

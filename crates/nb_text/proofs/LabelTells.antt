@@ -4,10 +4,12 @@ use Rattle.std.specs.List.{AllByRecursion, list_all}
 use Rattle.std.specs.Char.{digit_char}
 use Rattle.std.proofs.lemmas.Bool.{and_parts}
 use Rattle.std.proofs.lemmas.Bool.Decides.{nat_tests}
-use Rattle.nb_names.specs.DomainName.{IsLabel, AreBytes, AreByteLabels}
+use Rattle.nb_names.specs.DomainName.{IsLabel, AreByteLabels}
+use Rattle.nb_streams.specs.Places.{AreBytes}
 use Rattle.nb_names.specs.FirstLevel.{letter, letters}
 use Rattle.nb_names.specs.Name.{NetbiosName, IsByteName, labels_of_name}
-use Rattle.nb_names.specs.NameText.{is_plain, digits_of, item_of, items_of, scope_text_of, domain_written, is_letter, are_letters, bytes_of_letters, either_written, labels_written, trimmed, written}
+use Rattle.nb_names.specs.NameText.{is_plain, item_of, items_of, scope_text_of, domain_written, is_letter, are_letters, bytes_of_letters, either_written, labels_written, trimmed, written}
+use Rattle.nb_streams.specs.Hexadecimal.{digits_of}
 use Rattle.nb_service.proofs.EncodingLemmas.{all_append}
 use Rattle.nb_text.proofs.FieldLemmas.{all-split, all_flat, some_items, labels_word, letters_name}
 use Rattle.nb_text.proofs.ViewLemmas.{AreLabels}

@@ -2,8 +2,10 @@
 use Rattle.std.proofs.Common.{ℕ, zero, suc, List, [], ◌∷◌, ◌++◌, length, drop, subst, arith, ◌≡◌, ◌<◌, Bool, true, false, if◌then◌else◌, Option, Some, None, refl, sym, ap, ◌∙◌, append_assoc, codes}
 use Rattle.std.specs.List.{AllByRecursion, flat_map, list_all}
 use Rattle.nb_names.specs.declared.reading.Pointers.{Pointers}
-use Rattle.nb_names.specs.DomainName.{spelling, AreBytes, AreByteLabels}
-use Rattle.nb_names.specs.Labels.{StandsAt, LabelsAt, ends, goes_on, leads_to}
+use Rattle.nb_names.specs.DomainName.{spelling, AreByteLabels}
+use Rattle.nb_streams.specs.PacketFacts.{All-drop}
+use Rattle.nb_streams.specs.Places.{AreBytes, StandsAt}
+use Rattle.nb_names.specs.Labels.{LabelsAt, ends, goes_on, leads_to}
 use Rattle.nb_names.specs.Name.{NetbiosName, IsName, IsByteName, labels_of_name}
 use Rattle.nb_names.proofs.SpellingLemmas.{AreByteLabels-spelled}
 use Rattle.std.specs.Fmt.{decimal}
@@ -19,9 +21,7 @@ pub bytes-split : (xs ys : List ℕ) → AreBytes (xs ++ ys) → AreBytes xs × 
 bytes-split xs ys a = all-split (λ (b : ℕ). b < 256) xs ys a
 
 pub bytes-drop : (n : ℕ) (xs : List ℕ) → AreBytes xs → AreBytes (drop n xs)
-bytes-drop zero xs a = a
-bytes-drop (suc n) [] a = tt
-bytes-drop (suc n) (x ∷ xs) a = bytes-drop n xs a.1
+bytes-drop = All-drop (λ (b : ℕ). b < 256)
 
 pub bytes-stand : (packet bytes : List ℕ) (at : ℕ) → AreBytes packet → StandsAt packet at bytes → AreBytes bytes
 bytes-stand packet bytes at a stands =

@@ -24,7 +24,14 @@ use Rattle.nb_text.specs.FrontFields.{names_header_fields, names_front_fields, d
 use Rattle.nb_text.specs.ServiceFields.{lists_fields}
 use Rattle.nb_text.specs.TellsFront as fronts
 use Rattle.nb_text.specs.TellsFront.{FrontOf, TellsFront}
-use Rattle.nb_text.proofs.ShownLemmas.{ByPort, OneFor, one_by_port, one_told}
+use Rattle.nb_service.proofs.PacketLemmas as service_lemmas
+use Rattle.nb_service.proofs.NumberedLemmas.{one_items}
+use Rattle.nb_datagram.proofs.FaultLemmas as datagram_lemmas
+use Rattle.nb_datagram.proofs.FrontLemmas.{one_front}
+use Rattle.nb_session.proofs.HeaderLemmas.{header_within, one_header}
+use Rattle.nb_session.proofs.ParsingLemmas.{one_answer}
+use Rattle.nb_text.specs.Tells.{fields_made}
+use Rattle.nb_text.proofs.ShownLemmas.{ByPort, one_by_port, one_made}
 
 -- ---- items
 
@@ -93,48 +100,33 @@ by_port payload _ _ (fronts.session_front port parsed header a b h none there) =
 
 -- ---- one for each
 
--- FrontLaws payload: the laws that it stands on
-pub record FrontLaws (payload : List ℕ) : Type 0 where
-  pub name_alone : (fault : ServiceFault) (packet : service.ServicePacket) (used : ℕ) → service_faults.PacketFails payload fault
-      → ¬ service.IsPacket payload packet used
-  pub names_long : (header : PacketHeader) → HasHeader payload header → 12 ≤ length payload
-  pub one_items : (header other : PacketHeader) (items others : List PacketItem) (next after : ℕ) → HasItems payload header items next
-      → HasItems payload other others after → (header ≡ other) × (items ≡ others) × (next ≡ after)
-  pub datagram_alone : (fault : DatagramFault) (packet : datagrams.Packet) (used : ℕ) → datagram_faults.PacketFails payload fault
-      → ¬ datagrams.IsPacket payload packet used
-  pub one_front : (front other : Front) → HasFront payload front → HasFront payload other → front ≡ other
-  pub lacks : (front : Front) → LacksHeader payload → ¬ HasFront payload front
-  pub one_parsed : (parsed other : Parsed) → Parses payload parsed → Parses payload other → parsed ≡ other
-  pub one_header : (header other : Header) → sessions.HasHeader payload header → sessions.HasHeader payload other → header ≡ other
-  pub session_long : (header : Header) → sessions.HasHeader payload header → 4 ≤ length payload
-
-module _ (payload : List ℕ) (laws : FrontLaws payload) where
+module _ (payload : List ℕ) (lacks : (front : Front) → LacksHeader payload → ¬ HasFront payload front) where
   one_names : (x y : List Field) → NamesFront payload x → NamesFront payload y → x ≡ y
   one_names _ _ (names_whole p u h) (names_whole q v g) = refl
   one_names _ _ (names_whole p u h) (names_short low) = refl
-  one_names _ _ (names_whole p u h) (names_part f k part next fails g) = absurd (laws.name_alone f p u fails h)
+  one_names _ _ (names_whole p u h) (names_part f k part next fails g) = absurd (service_lemmas.no_packet payload p u f h fails)
   one_names _ _ (names_short low) (names_whole q v g) = refl
   one_names _ _ (names_short low) (names_short few) = refl
-  one_names _ _ (names_short low) (names_part f k part next fails g) = let long = laws.names_long k g.header_there in absurd (omega (arith, low, long))
-  one_names _ _ (names_part f k part next fails g) (names_whole q v h) = absurd (laws.name_alone f q v fails h)
-  one_names _ _ (names_part f k part next fails g) (names_short low) = let long = laws.names_long k g.header_there in absurd (omega (arith, low, long))
+  one_names _ _ (names_short low) (names_part f k part next fails g) = let long = service_lemmas.header_within payload k g.header_there in absurd (omega (arith, low, long))
+  one_names _ _ (names_part f k part next fails g) (names_whole q v h) = absurd (service_lemmas.no_packet payload q v f h fails)
+  one_names _ _ (names_part f k part next fails g) (names_short low) = let long = service_lemmas.header_within payload k g.header_there in absurd (omega (arith, low, long))
   one_names _ _ (names_part f k part next fails g) (names_part e l other after fail h) =
-      let same = laws.one_items k l (items_of part) (items_of other) next after g h in
+      let same = one_items payload k l (items_of part) (items_of other) next after g h in
       ap₂ (λ (header : PacketHeader) (fields : List Field). names_header_fields header ++ fields) same.0 (same_lists part other same.1)
 
   one_datagram : (x y : List Field) → DatagramFront payload x → DatagramFront payload y → x ≡ y
   one_datagram _ _ (datagram_whole p u h) (datagram_whole q v g) = refl
   one_datagram _ _ (datagram_whole p u h) (datagram_short low) = refl
-  one_datagram _ _ (datagram_whole p u h) (datagram_part f front fails g) = absurd (laws.datagram_alone f p u fails h)
+  one_datagram _ _ (datagram_whole p u h) (datagram_part f front fails g) = absurd (datagram_lemmas.no_packet payload p u f h fails)
   one_datagram _ _ (datagram_short low) (datagram_whole q v g) = refl
   one_datagram _ _ (datagram_short low) (datagram_short few) = refl
-  one_datagram _ _ (datagram_short low) (datagram_part f front fails g) = absurd (laws.lacks front low g)
-  one_datagram _ _ (datagram_part f front fails g) (datagram_whole q v h) = absurd (laws.datagram_alone f q v fails h)
-  one_datagram _ _ (datagram_part f front fails g) (datagram_short low) = absurd (laws.lacks front low g)
-  one_datagram _ _ (datagram_part f front fails g) (datagram_part e other fail h) = ap datagram_front_fields (laws.one_front front other g h)
+  one_datagram _ _ (datagram_short low) (datagram_part f front fails g) = absurd (lacks front low g)
+  one_datagram _ _ (datagram_part f front fails g) (datagram_whole q v h) = absurd (datagram_lemmas.no_packet payload q v f h fails)
+  one_datagram _ _ (datagram_part f front fails g) (datagram_short low) = absurd (lacks front low g)
+  one_datagram _ _ (datagram_part f front fails g) (datagram_part e other fail h) = ap datagram_front_fields (one_front payload front other g h)
 
   not_whole : (packet : SessionPacket) (used : ℕ) (parsed : Parsed) → Parses payload (Whole packet used) → Parses payload parsed → taken_by parsed ≡ None → ⊥
-  not_whole packet used parsed h g none = let same = ap taken_by (laws.one_parsed (Whole packet used) parsed h g) in absurd (cc (same, none))
+  not_whole packet used parsed h g none = let same = ap taken_by (one_answer payload (Whole packet used) parsed h g) in absurd (cc (same, none))
 
   one_session : (x y : List Field) → SessionFront payload x → SessionFront payload y → x ≡ y
   one_session _ _ (session_whole p u h) (session_whole q v g) = refl
@@ -142,16 +134,16 @@ module _ (payload : List ℕ) (laws : FrontLaws payload) where
   one_session _ _ (session_whole p u h) (session_part parsed header g none there) = absurd (not_whole p u parsed h g none)
   one_session _ _ (session_short low) (session_whole q v g) = refl
   one_session _ _ (session_short low) (session_short few) = refl
-  one_session _ _ (session_short low) (session_part parsed header g none there) = let long = laws.session_long header there in absurd (omega (arith, low, long))
+  one_session _ _ (session_short low) (session_part parsed header g none there) = let long = header_within payload header there in absurd (omega (arith, low, long))
   one_session _ _ (session_part parsed header g none there) (session_whole q v h) = absurd (not_whole q v parsed h g none)
-  one_session _ _ (session_part parsed header g none there) (session_short low) = let long = laws.session_long header there in absurd (omega (arith, low, long))
+  one_session _ _ (session_part parsed header g none there) (session_short low) = let long = header_within payload header there in absurd (omega (arith, low, long))
   one_session _ _ (session_part parsed header g none there) (session_part other again h void stands) =
-      ap session_front_fields (laws.one_header header again there stands)
+      ap session_front_fields (one_header payload header again there stands)
 
-  pub one_told_front : (port : ℕ) (fields others : List Field) → OneFor payload → TellsFront payload port fields → TellsFront payload port others
+  pub one_told_front : (port : ℕ) (fields others : List Field) → TellsFront payload port fields → TellsFront payload port others
       → fields ≡ others
-  one_told_front port fields others for a b =
-      let first = one_told payload port a.told b.told for a.tells b.tells in
+  one_told_front port fields others a b =
+      let first = one_made fields_made payload port a.told b.told a.tells b.tells in
       let more = one_by_port (NamesFront payload) (DatagramFront payload) (SessionFront payload) one_names one_datagram one_session port
       a.more b.more (by_port payload port a.more a.stands) (by_port payload port b.more b.stands) in
       a.are ∙ ap₂ (λ (x y : List Field). x ++ y) first more ∙ sym b.are

@@ -5,7 +5,7 @@ use Rattle.std.specs.List.{AllByRecursion, list_all}
 use Rattle.std.specs.Char.{is_ascii_graphic}
 use Rattle.std.specs.Fmt.{decimal}
 use Rattle.std.proofs.lemmas.Bool.{and_parts}
-use Rattle.nb_names.specs.Hexadecimal.{data_text, digits_text}
+use Rattle.nb_streams.specs.Hexadecimal.{data_text, digits_text}
 use Rattle.nb_telling.specs.Telling.{Field, Text, Number, Digits, Data, Set}
 use Rattle.nb_telling.specs.Texts.{joined}
 use Rattle.nb_text.specs.Fields.{IsWord}

@@ -9,7 +9,7 @@ use Rattle.nb_text.specs.SaysPacket.{AddsSaid, IsSaid}
 use Rattle.std.specs.Fmt.{decimal}
 use Rattle.std.specs.Int.{w16, from_be_bytes, to_be_bytes}
 use Rattle.std.proofs.lemmas.Nat.{from_be_bytes-to_be_bytes_2}
-use Rattle.nb_names.specs.Addresses.{address_text}
+use Rattle.nb_streams.specs.Addresses.{address_text}
 use Rattle.nb_names.specs.Name.{NetbiosName, IsName, labels_of_name}
 use Rattle.nb_names.specs.NameText.{labels_written, written}
 use Rattle.nb_datagram.specs.Fragment.{FragmentParts, has_more}
@@ -22,7 +22,7 @@ use Rattle.nb_session.specs.declared.parsing.Parsed.TheVariants.{Whole}
 use Rattle.nb_text.proofs.LabelLemmas.{name_written}
 use Rattle.nb_text.specs.Forms.{form_of, is_type}
 use Rattle.nb_text.specs.Sentences.{claimed, entry_for, holder, lasting, sent}
-use Rattle.nb_text.specs.ServiceSaid.{about_first, ending_said, said_of, service_said, told_of, type_of}
+use Rattle.nb_text.specs.ServiceSaid.{about_first, ending_said, said_of, service_said, gist_of, type_of}
 use Rattle.nb_text.specs.Words.{is_set}
 
 -- a piece, and then others
@@ -116,9 +116,9 @@ pub first_said : (packet : ServicePacket) (question : Question) (questions : Lis
     → (behind : List ℕ) × (phrase (service_said packet) ≡ (form_of packet.word (Some question.kind)).opening ++ (labels_written question.name ++ behind))
 first_said packet question questions is =
     let asked = λ (qs : List Question). let about = about_first qs (records_of packet) in
-    said_of packet.word about (told_of (is_type (type_of about) NBSTAT) (records_of packet)) in
+    said_of packet.word about (gist_of (is_type (type_of about) NBSTAT) (records_of packet)) in
     let form = form_of packet.word (Some question.kind) in
-    let rest = ending_said form.ending packet.word (told_of (is_type (Some question.kind) NBSTAT) (records_of packet)) in (
+    let rest = ending_said form.ending packet.word (gist_of (is_type (Some question.kind) NBSTAT) (records_of packet)) in (
       phrase rest,
       ap (λ (qs : List Question). phrase (asked qs)) is ∙ ap (λ (t : List ℕ). form.opening ++ t) (phrase_more (labels_written question.name) rest),
     )

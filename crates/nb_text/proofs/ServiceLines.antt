@@ -2,8 +2,8 @@
 use Rattle.std.proofs.Common.{◌≡◌, ◌==◌, ℕ, ◌+◌, ◌<◌, ◌^◌, true, List, [], ◌∷◌, ◌++◌, length, Option, Some, None, refl, arith, codes}
 use Rattle.std.specs.List.{AllByRecursion, flat_map, list_all}
 use Rattle.std.proofs.lemmas.Bool.{and_parts}
-use Rattle.nb_names.specs.DomainName.{AreBytes}
-use Rattle.nb_names.specs.Hexadecimal.{data_text, word_text}
+use Rattle.nb_streams.specs.Places.{AreBytes}
+use Rattle.nb_streams.specs.Hexadecimal.{data_text, word_text}
 use Rattle.nb_names.specs.Labels.{NameAt}
 use Rattle.nb_names.specs.NameText.{labels_written}
 use Rattle.nb_names.specs.declared.reading.Pointers.TheVariants.{Followed}

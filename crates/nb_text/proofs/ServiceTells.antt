@@ -3,8 +3,8 @@ use Rattle.std.proofs.Common.{◌≡◌, ℕ, ◌<◌, ◌^◌, List, [], ◌++�
 use Rattle.std.specs.List.{AllByRecursion, flat_map}
 use Rattle.std.specs.Fmt.{decimal}
 use Rattle.std.proofs.lemmas.Fmt.{decimal_injective}
-use Rattle.nb_names.specs.DomainName.{AreBytes}
-use Rattle.nb_names.specs.Hexadecimal.{word_text}
+use Rattle.nb_streams.specs.Places.{AreBytes}
+use Rattle.nb_streams.specs.Hexadecimal.{word_text}
 use Rattle.nb_service.specs.declared.record.Question.{Question}
 use Rattle.nb_service.specs.Packet.{ServicePacket, header_of, IsPacket}
 use Rattle.nb_service.specs.Record.{ResourceData, of_bytes, of_domain, ResourceRecord}

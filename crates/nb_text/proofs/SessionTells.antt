@@ -1,7 +1,8 @@
 -- The text of a session packet tells the packet.
 use Rattle.std.proofs.Common.{◌≡◌, ℕ, ◌<◌, ◌≤◌, ◌^◌, List, length, take, refl, ap, ap₂, subst, arith, codes}
 use Rattle.std.specs.Int.{w16, to_be_bytes}
-use Rattle.nb_names.specs.DomainName.{spelling, AreBytes}
+use Rattle.nb_names.specs.DomainName.{spelling}
+use Rattle.nb_streams.specs.Places.{AreBytes}
 use Rattle.nb_names.specs.Name.{NetbiosName, IsName, labels_of_name}
 use Rattle.nb_session.specs.declared.packet.Packet.TheVariants.{Message, Request, Positive, Negative, Retarget, Keepalive}
 use Rattle.nb_session.specs.declared.parsing.Parsed.TheVariants.{Whole}

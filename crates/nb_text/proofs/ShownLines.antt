@@ -2,12 +2,13 @@
 use Rattle.std.proofs.Common.{◌≡◌, ℕ, ◌<◌, true, List, [], ◌∷◌, ◌++◌, refl, codes, length}
 use Rattle.std.specs.Fmt.{decimal}
 use Rattle.std.specs.List.{flat_map, list_all}
-use Rattle.nb_names.specs.Addresses.{address_text}
-use Rattle.nb_names.specs.DomainName.{AreBytes, spelling}
+use Rattle.nb_streams.specs.Addresses.{address_text}
+use Rattle.nb_streams.specs.Places.{AreBytes}
+use Rattle.nb_names.specs.DomainName.{spelling}
 use Rattle.nb_names.specs.FaultTexts.{name_fault_text}
-use Rattle.nb_names.specs.Hexadecimal.{data_text}
+use Rattle.nb_streams.specs.Hexadecimal.{data_text, digits_of}
 use Rattle.nb_names.specs.Name.{NetbiosName, IsByteName, labels_of_name}
-use Rattle.nb_names.specs.NameText.{digits_of, written}
+use Rattle.nb_names.specs.NameText.{written}
 use Rattle.nb_names.specs.declared.fault.NameFault.{NameFault}
 use Rattle.nb_names.specs.declared.fault.NameFault.TheVariants as name_faults
 use Rattle.nb_service.specs.FaultTexts.{service_fault_text}
@@ -29,7 +30,7 @@ use Rattle.nb_session.specs.declared.parsing.Parsed.TheVariants.{Whole, More}
 use Rattle.nb_text.specs.DatagramText.{flags_text, datagram_text}
 use Rattle.nb_text.specs.Fields.{AreLines}
 use Rattle.nb_text.specs.SessionText.{session_text}
-use Rattle.nb_text.specs.Shown as shown
+use Rattle.nb_text.specs.Made as shown
 use Rattle.nb_text.specs.Shown.{Shown}
 use Rattle.nb_text.specs.Words.{query_word}
 use Rattle.nb_text.proofs.DatagramTells.{IsBytePacket, kind_word, query_is_word, stands}

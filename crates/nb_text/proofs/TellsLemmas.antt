@@ -17,12 +17,12 @@ use Rattle.nb_telling.specs.Texts.{field_text, text_of}
 use Rattle.nb_telling.specs.Tokens.{field_tokens, tokens_of}
 use Rattle.nb_telling.proofs.FoldLemmas.{appended, told_both, and_then}
 use Rattle.nb_text.specs.DatagramFields.{datagram_fields}
-use Rattle.nb_text.specs.Keys.{refused_key}
+use Rattle.nb_text.specs.Tags.{refused_tag}
 use Rattle.nb_text.specs.Fields.{refused_fields}
 use Rattle.nb_text.specs.SessionFields.{session_fields}
-use Rattle.nb_text.specs.Shown as shown
 use Rattle.nb_text.specs.Shown.{Shown, AddsShown}
-use Rattle.nb_text.specs.Tells.{Tells, IsTold, IsObject, names, no_names, datagram, no_datagram, session}
+use Rattle.nb_text.specs.Made.{names, no_names, datagram, no_datagram, session}
+use Rattle.nb_text.specs.Tells.{Tells, IsTold, IsObject, no_service_fields}
 use Rattle.nb_text.proofs.FormFields.{fields_members, service_says, datagram_says, session_says, refused_says}
 use Rattle.nb_service.specs.declared.fault.ServiceFault.{ServiceFault}
 use Rattle.nb_service.specs.Header.{PacketHeader}
@@ -31,9 +31,9 @@ use Rattle.nb_service.specs.Packet.{ServicePacket, IsPacket}
 use Rattle.nb_service.specs.ServiceFaults.{PacketFails}
 use Rattle.nb_text.specs.FrontFields.{names_front_fields}
 use Rattle.nb_text.specs.ServiceFields.{service_fields}
-use Rattle.nb_text.specs.Tells as tells
+use Rattle.nb_text.specs.Made as tells
 use Rattle.nb_text.specs.TellsFront as fronts
-use Rattle.nb_text.specs.TellsFront.{ServiceTold}
+use Rattle.nb_text.specs.TellsFront.{FrontOf, TellsFront, ServiceTold}
 
 -- ---- what was told
 
@@ -60,27 +60,27 @@ module _ {S E : Type 0} (after : S → Field → S) (payload : List ℕ) (old ne
 
 -- why there is no packet, by the fault's text where it has one
 pub refusal_told : {S : Type 0} (after : S → Field → S) (old first second new : S) (output : Option (List ℕ)) (place : Option ℕ)
-    → IfSome output (λ fault. first ≡ after old (Text refused_key fault)) → second ≡ fold after first (place_fields place)
+    → IfSome output (λ fault. first ≡ after old (Text refused_tag fault)) → second ≡ fold after first (place_fields place)
     → new ≡ after second LineEnds → IfSome output (λ fault. new ≡ fold after old (refused_fields fault place))
 refusal_told after old first second new None place said at ended = tt
 refusal_told {S} after old first second new (Some fault) place said at ended =
     ended ∙ ap (λ (s : S). after s LineEnds) (at ∙ ap (λ (s : S). fold after s (place_fields place)) said)
-    ∙ sym (told_both after (after old (Text refused_key fault)) (place_fields place) (LineEnds ∷ []))
+    ∙ sym (told_both after (after old (Text refused_tag fault)) (place_fields place) (LineEnds ∷ []))
 
 -- ---- its text
 
 -- the fields of a payload have its text
 fields_shown : (payload : List ℕ) (port : ℕ) (fields : List Field) → Tells payload port fields → Shown payload port (text_of fields)
 fields_shown payload _ _ (names packet used h) =
-    subst (Shown payload 137) (sym (service_says packet used).same) (shown.names packet used h)
+    subst (Shown payload 137) (sym (service_says packet used).same) (tells.names packet used h)
 fields_shown payload _ _ (no_names fault h) =
-    subst (Shown payload 137) (sym (refused_says {depth = 0} (service_fault_text fault) (service_fault_place fault)).same) (shown.no_names fault h)
+    subst (Shown payload 137) (sym (refused_says {depth = 0} (service_fault_text fault) (service_fault_place fault)).same) (tells.no_names fault h)
 fields_shown payload _ _ (datagram packet used h) =
-    subst (Shown payload 138) (sym (datagram_says {depth = 0} packet used).same) (shown.datagram packet used h)
+    subst (Shown payload 138) (sym (datagram_says {depth = 0} packet used).same) (tells.datagram packet used h)
 fields_shown payload _ _ (no_datagram fault h) =
-    subst (Shown payload 138) (sym (refused_says {depth = 0} (datagram_fault_text fault) (datagram_fault_place fault)).same) (shown.no_datagram fault h)
+    subst (Shown payload 138) (sym (refused_says {depth = 0} (datagram_fault_text fault) (datagram_fault_place fault)).same) (tells.no_datagram fault h)
 fields_shown payload _ _ (session port parsed a b h) =
-    subst (Shown payload port) (sym (session_says {depth = 0} parsed).same) (shown.session port parsed a b h)
+    subst (Shown payload port) (sym (session_says {depth = 0} parsed).same) (tells.session port parsed a b h)
 
 -- a payload that was told to a text
 pub told_shown : (payload : List ℕ) (port : ℕ) (old new : List ℕ)
@@ -119,52 +119,27 @@ told_json payload port old new (Ok made) told begun is =
     is 2 told.fields (fields_members payload port told.fields told.tells) (omega arith) (told_tokens payload port old new told begun)
 told_json payload port old new (Err e) told begun is = tt
 
+pub front_alone : (payload : List ℕ) (port : ℕ) (fields : List Field) → Tells payload port fields → FrontOf payload port [] → TellsFront payload port fields
+front_alone payload port fields tells none = record { told = fields; more = []; tells = tells; stands = none; are = sym (append-nil fields) }
+
 module _ {S : Type 0} (after : S → Field → S) (payload : List ℕ) (old new : S) where
-  pub whole_told : (more : Bool) (packet : ServicePacket) (used : ℕ) → IsPacket payload packet used → new ≡ fold after old (service_fields packet used) →
+  -- fields after which no more stands at the front
+  pub alone_told : (more : Bool) (fields : List Field) → Tells payload 137 fields → FrontOf payload 137 [] → new ≡ fold after old fields →
       ServiceTold after payload more old new
-  whole_told false packet used is told = record { fields = service_fields packet used; tells = tells.names packet used is; seen = told }
-  whole_told true packet used is told = record {
-    fields = service_fields packet used;
-    tells = record {
-      told = service_fields packet used;
-      more = [];
-      tells = tells.names packet used is;
-      stands = fronts.names packet used is;
-      are = sym (append-nil (service_fields packet used));
-    };
-    seen = told;
-  }
-
-  pub refused_told : (fault : ServiceFault) → PacketFails payload fault →
-      new ≡ fold after old (refused_fields (service_fault_text fault) (service_fault_place fault)) → ServiceTold after payload false old new
-  refused_told fault fails told = record { fields = refused_fields (service_fault_text fault) (service_fault_place fault); tells = tells.no_names fault fails; seen = told }
-
-  pub headless_told : (more : Bool) (fault : ServiceFault) → PacketFails payload fault → length payload < 12 →
-      new ≡ fold after old (refused_fields (service_fault_text fault) (service_fault_place fault)) → ServiceTold after payload more old new
-  headless_told false fault fails low told = refused_told fault fails told
-  headless_told true fault fails low told = record {
-    fields = refused_fields (service_fault_text fault) (service_fault_place fault);
-    tells = record {
-      told = refused_fields (service_fault_text fault) (service_fault_place fault);
-      more = [];
-      tells = tells.no_names fault fails;
-      stands = fronts.no_names_header fault fails low;
-      are = sym (append-nil (refused_fields (service_fault_text fault) (service_fault_place fault)));
-    };
-    seen = told;
-  }
+  alone_told false fields tells none told = record { fields = fields; tells = tells; seen = told }
+  alone_told true fields tells none told = record { fields = fields; tells = front_alone payload 137 fields tells none; seen = told }
 
   pub front_told : (fault : ServiceFault) (header : PacketHeader) (part : ServicePacket) (next : ℕ) (mid : S) → PacketFails payload fault → HasItems payload header (items_of part) next →
-      mid ≡ fold after old (refused_fields (service_fault_text fault) (service_fault_place fault)) → new ≡ fold after mid (names_front_fields header part) →
+      mid ≡ fold after old (no_service_fields fault) → new ≡ fold after mid (names_front_fields header part) →
       ServiceTold after payload true old new
   front_told fault header part next mid fails items first rest = record {
-    fields = refused_fields (service_fault_text fault) (service_fault_place fault) ++ names_front_fields header part;
+    fields = no_service_fields fault ++ names_front_fields header part;
     tells = record {
-      told = refused_fields (service_fault_text fault) (service_fault_place fault);
+      told = no_service_fields fault;
       more = names_front_fields header part;
       tells = tells.no_names fault fails;
       stands = fronts.names_front fault header part next fails items;
       are = refl;
     };
-    seen = and_then after old (refused_fields (service_fault_text fault) (service_fault_place fault)) (names_front_fields header part) first rest;
+    seen = and_then after old (no_service_fields fault) (names_front_fields header part) first rest;
   }

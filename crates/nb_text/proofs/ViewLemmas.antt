@@ -2,8 +2,9 @@
 use Rattle.std.proofs.Common.{◌≡◌, ℕ, zero, suc, ◌-◌, ◌*◌, ◌/◌, ◌==◌, nat_lt, nat_le, Bool, true, false, if◌then◌else◌, List, [], ◌∷◌, ◌++◌, length, take, drop, Option, Some, None, MatchOption, IfSome, refl, sym, ap, subst, arith, codes}
 use Rattle.std.proofs.lemmas.Bool.Decides.{nat_tests}
 use Rattle.std.specs.List.{AllByRecursion, flat_map}
-use Rattle.nb_names.specs.DomainName.{AreBytes, AreByteLabels, IsDomain}
-use Rattle.nb_names.specs.Hexadecimal.{digits_text}
+use Rattle.nb_streams.specs.Places.{AreBytes}
+use Rattle.nb_names.specs.DomainName.{AreByteLabels, IsDomain}
+use Rattle.nb_streams.specs.Hexadecimal.{digits_text}
 use Rattle.nb_service.specs.declared.views.AddressEntry.{AddressEntry}
 use Rattle.nb_service.specs.declared.kinds.TheConstants.{NBSTAT}
 use Rattle.nb_service.specs.declared.views.NodeName.{NodeName}

@@ -1,8 +1,8 @@
 -- The text of a datagram service packet, port 138 (our choice), which is one line.
 use Rattle.std.specs.Prelude.{ℕ, List, ◌++◌, codes}
 use Rattle.std.specs.Fmt.{decimal}
-use Rattle.nb_names.specs.Hexadecimal.{data_text}
-use Rattle.nb_names.specs.NameText.{digits_of, written}
+use Rattle.nb_streams.specs.Hexadecimal.{data_text, digits_of}
+use Rattle.nb_names.specs.NameText.{written}
 use Rattle.nb_datagram.specs.declared.key.Key.{Key}
 use Rattle.nb_datagram.specs.declared.packet.ErrorPacket.{ErrorPacket}
 use Rattle.nb_datagram.specs.Packet.{Packet, QueryPacket}

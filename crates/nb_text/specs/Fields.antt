@@ -4,8 +4,8 @@ use Rattle.std.specs.Prelude.{◌≡◌, ℕ, ◌<◌, ◌≤◌, List, ◌∷�
 use Rattle.std.specs.Int.{w16, to_be_bytes}
 use Rattle.std.specs.List.{AllByRecursion, flat_map}
 use Rattle.nb_text.specs.Lines.{line_end}
-use Rattle.nb_telling.specs.Telling.{Field, FieldKey, Text, Number, Digits, Begins, Ends, LineEnds, place_fields}
-use Rattle.nb_text.specs.Keys.{key_named, refused_key}
+use Rattle.nb_telling.specs.Telling.{Field, FieldTag, Text, Number, Digits, Begins, Ends, LineEnds, place_fields}
+use Rattle.nb_text.specs.Tags.{tag_named, refused_tag}
 
 -- a character that can be seen: 21 to 7e in hexadecimal
 abbrev pub IsVisible : ℕ → Type 0
@@ -37,14 +37,14 @@ pub record AreLines (text : List ℕ) : Type 0 where
 
 -- how many bytes of the payload a packet takes up, with which its line ends
 abbrev pub used_fields : ℕ → List Field
-used_fields used = Number (key_named "used") used ∷ LineEnds ∷ []
+used_fields used = Number (tag_named "used") used ∷ LineEnds ∷ []
 
 -- refused_fields fault place: why a payload begins with no packet, the fault's text and its place
 abbrev pub refused_fields : List ℕ → Option ℕ → List Field
-refused_fields fault place = Text refused_key fault ∷ (place_fields place ++ LineEnds ∷ [])
+refused_fields fault place = Text refused_tag fault ∷ (place_fields place ++ LineEnds ∷ [])
 
 -- a number of sixteen bits, as four digits
-abbrev pub word_field : FieldKey → ℕ → Field
+abbrev pub word_field : FieldTag → ℕ → Field
 word_field key n = Digits key (to_be_bytes w16 n)
 
 -- list_fields name parts: these parts as a list of this name

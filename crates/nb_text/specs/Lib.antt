@@ -3,9 +3,10 @@ pub mod Words
 pub mod ServiceText
 pub mod DatagramText
 pub mod SessionText
+pub mod Made
 pub mod Shown
 pub mod Fields
-pub mod Keys
+pub mod Tags
 pub mod Views
 pub mod FaultEnds
 pub mod ServiceFields

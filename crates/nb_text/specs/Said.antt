@@ -4,11 +4,12 @@ use Rattle.std.specs.Prelude.{◌≡◌, ℕ, ◌-◌, ◌==◌, nat_lt, Bool, S
 use Rattle.std.specs.Fmt.{decimal}
 use Rattle.std.specs.List.{flat_map}
 use Rattle.nb_names.specs.declared.fault.NameFault.{NameFault}
-use Rattle.nb_names.specs.declared.bytes.NoMemory.{NoMemory}
-use Rattle.nb_names.specs.Growth.{OnlyAdds}
+use Rattle.nb_streams.specs.declared.bytes.NoMemory.{NoMemory}
+use Rattle.nb_streams.specs.Growth.{OnlyAdds}
 use Rattle.nb_names.specs.declared.fault.NameFault.TheVariants as names
-use Rattle.nb_names.specs.Addresses.{address_text}
-use Rattle.nb_names.specs.NameText.{digits_of, written}
+use Rattle.nb_streams.specs.Addresses.{address_text}
+use Rattle.nb_streams.specs.Hexadecimal.{digits_of}
+use Rattle.nb_names.specs.NameText.{written}
 use Rattle.nb_session.specs.Packet.{Packet as SessionPacket}
 use Rattle.nb_session.specs.declared.fault.SessionFault.{SessionFault}
 use Rattle.nb_session.specs.declared.fault.SessionFault.TheVariants as session_faults

@@ -7,8 +7,8 @@ use Rattle.nb_service.specs.declared.record.Question.{Question}
 use Rattle.nb_service.specs.Header.{opcode_of, rcode_of, PacketHeader}
 use Rattle.nb_service.specs.Packet.{ServicePacket, header_of}
 use Rattle.nb_service.specs.Record.{ResourceData, of_bytes, of_domain, ResourceRecord}
-use Rattle.nb_telling.specs.Telling.{Field, FieldKey, Text, Number, Data, Set, Part, PartEnds, LineEnds}
-use Rattle.nb_text.specs.Keys.{key_named, id_key, name_key}
+use Rattle.nb_telling.specs.Telling.{Field, FieldTag, Text, Number, Data, Set, Part, PartEnds, LineEnds}
+use Rattle.nb_text.specs.Tags.{tag_named, id_tag, name_tag}
 use Rattle.nb_text.specs.Fields.{used_fields, list_fields, word_field}
 use Rattle.nb_text.specs.Views.{fields_by}
 use Rattle.nb_text.specs.Words.{operation_word, rcode_word, names_set, packet_flags}
@@ -16,27 +16,27 @@ use Rattle.nb_text.specs.Words.{operation_word, rcode_word, names_set, packet_fl
 -- ---- the header
 
 -- a number by its name, where it has one
-abbrev pub named_field : FieldKey → Option (List ℕ) → ℕ → Field
+abbrev pub named_field : FieldTag → Option (List ℕ) → ℕ → Field
 named_field key (Some word) n = Text key word
 named_field key None n = Number key n
 
 -- what the flag word says
 abbrev pub state_fields : ℕ → List Field
 state_fields word =
-    named_field (key_named "op") (operation_word (opcode_of word)) (opcode_of word)
-    ∷ Set (key_named "flags") (names_set packet_flags word)
-    ∷ named_field (key_named "rcode") (rcode_word (rcode_of word)) (rcode_of word) ∷ []
+    named_field (tag_named "op") (operation_word (opcode_of word)) (opcode_of word)
+    ∷ Set (tag_named "flags") (names_set packet_flags word)
+    ∷ named_field (tag_named "rcode") (rcode_word (rcode_of word)) (rcode_of word) ∷ []
 
 -- how many questions, answers, authorities and additional records there are
 abbrev pub count_fields : PacketHeader → List Field
 count_fields header =
-    Number (key_named "qd") header.questions ∷ Number (key_named "an") header.answers ∷ Number (key_named "ns") header.authorities
-    ∷ Number (key_named "ar") header.additional ∷ []
+    Number (tag_named "qd") header.questions ∷ Number (tag_named "an") header.answers ∷ Number (tag_named "ns") header.authorities
+    ∷ Number (tag_named "ar") header.additional ∷ []
 
 -- header_fields header used: of a packet that takes up so many bytes
 abbrev pub header_fields : PacketHeader → ℕ → List Field
 header_fields header used =
-    word_field id_key header.id ∷ word_field (key_named "word") header.word
+    word_field id_tag header.id ∷ word_field (tag_named "word") header.word
     ∷ (state_fields header.word ++ (count_fields header ++ used_fields used))
 
 -- ---- questions and records
@@ -44,7 +44,7 @@ header_fields header used =
 -- named_fields labels kind class: what questions and records have
 abbrev pub named_fields : List (List ℕ) → ℕ → ℕ → List Field
 named_fields labels kind class =
-    Text name_key (labels_written labels) ∷ word_field (key_named "type") kind ∷ word_field (key_named "class") class ∷ []
+    Text name_tag (labels_written labels) ∷ word_field (tag_named "type") kind ∷ word_field (tag_named "class") class ∷ []
 
 -- a question
 abbrev pub question_fields : Question → List Field
@@ -53,12 +53,12 @@ question_fields question =
 
 -- RDATA: its bytes, or the name in a record of type NS
 abbrev pub rdata_field : ResourceData → Field
-rdata_field (of_bytes bytes) = Data (key_named "data") bytes
-rdata_field (of_domain labels) = Text (key_named "domain") (labels_written labels)
+rdata_field (of_bytes bytes) = Data (tag_named "data") bytes
+rdata_field (of_domain labels) = Text (tag_named "domain") (labels_written labels)
 
 -- head_fields labels kind class ttl: what a record has before its RDATA
 abbrev pub head_fields : List (List ℕ) → ℕ → ℕ → ℕ → List Field
-head_fields labels kind class ttl = named_fields labels kind class ++ Number (key_named "ttl") ttl ∷ []
+head_fields labels kind class ttl = named_fields labels kind class ++ Number (tag_named "ttl") ttl ∷ []
 
 -- record_fields lead entry: a record, which begins so in text
 abbrev pub record_fields : List ℕ → ResourceRecord → List Field

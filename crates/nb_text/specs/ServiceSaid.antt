@@ -2,8 +2,8 @@
 use Rattle.std.specs.Prelude.{◌≡◌, ⊤, ℕ, nat_lt, ◌-◌, ◌==◌, min, Bool, false, List, [], ◌∷◌, ◌++◌, length, map, take, codes, Option, Some, None, if◌then◌else◌}
 use Rattle.std.specs.Fmt.{decimal}
 use Rattle.std.specs.List.{flat_map}
-use Rattle.nb_names.specs.Addresses.{address_text}
-use Rattle.nb_names.specs.Hexadecimal.{digits_text}
+use Rattle.nb_streams.specs.Addresses.{address_text}
+use Rattle.nb_streams.specs.Hexadecimal.{digits_text}
 use Rattle.nb_names.specs.NameText.{labels_written, written}
 use Rattle.nb_names.specs.declared.reading.Pointers.TheVariants.{Followed}
 use Rattle.nb_names.specs.Skipped.{IsSkipped}
@@ -19,11 +19,11 @@ use Rattle.nb_service.specs.Packet.{ServicePacket, records_of}
 use Rattle.nb_service.specs.Record.{ResourceData, of_bytes, of_domain, ResourceRecord}
 use Rattle.nb_text.specs.declared.brief.form.Ending.{Ending}
 use Rattle.nb_text.specs.declared.brief.form.Ending.TheVariants as endings
-use Rattle.nb_text.specs.declared.brief.told.Few.{Few}
-use Rattle.nb_text.specs.declared.brief.told.Listed.{Listed}
-use Rattle.nb_text.specs.declared.brief.told.Listed.TheVariants as items
-use Rattle.nb_text.specs.declared.brief.told.Told.{Told}
-use Rattle.nb_text.specs.declared.brief.told.TheConstants.{MOST_LISTED}
+use Rattle.nb_text.specs.declared.brief.gist.Few.{Few}
+use Rattle.nb_text.specs.declared.brief.gist.Listed.{Listed}
+use Rattle.nb_text.specs.declared.brief.gist.Listed.TheVariants as items
+use Rattle.nb_text.specs.declared.brief.gist.Gist.{Gist}
+use Rattle.nb_text.specs.declared.brief.gist.TheConstants.{MOST_LISTED}
 use Rattle.nb_text.specs.declared.words.TheConstants.{FMT_ERR, SRV_ERR, NAM_ERR, IMP_ERR, RFS_ERR, ACT_ERR, CFT_ERR}
 use Rattle.nb_text.specs.Forms.{form_of, is_type}
 use Rattle.nb_text.specs.Said.{commas, counts_in, refused_said}
@@ -84,10 +84,10 @@ most_listed = MOST_LISTED
 abbrev pub few : List Listed → Few
 few listed = record { first = record { items = take most_listed listed }; count = min (length listed) 18446744073709551615 }
 
--- told_of status records: how long the first record holds; the first flags, unit and name server in the records; and what they
+-- gist_of status records: how long the first record holds; the first flags, unit and name server in the records; and what they
 -- list, where a node's status is asked for or isn't
-abbrev pub told_of : Bool → List ResourceRecord → Told
-told_of status records = record {
+abbrev pub gist_of : Bool → List ResourceRecord → Gist
+gist_of status records = record {
   ttl = first (map (λ entry. entry.ttl) records);
   flags = first (flat_map (λ entry. flags_by entry.kind entry.rdata) records);
   listed = few (flat_map (λ entry. listed_by status entry.kind entry.rdata) records);
@@ -153,7 +153,7 @@ reason_words rcode =
     else codes "unknown error"
 
 -- held_said group one told: the addresses, after what is said of a group or of one node
-abbrev pub held_said : List ℕ → List ℕ → Told → List (List ℕ)
+abbrev pub held_said : List ℕ → List ℕ → Gist → List (List ℕ)
 held_said group one told = (if is_group told.flags then group else one) ∷ addresses_said told.listed
 
 -- the reason for a negative response
@@ -163,7 +163,7 @@ reason_said word = codes ": " ∷ reason_words (rcode_of word) ∷ []
 -- ---- the phrase
 
 -- ending_said ending word told: what stands after the name, of a packet of this flag word whose records tell so much
-abbrev pub ending_said : Ending → ℕ → Told → List (List ℕ)
+abbrev pub ending_said : Ending → ℕ → Gist → List (List ℕ)
 ending_said endings.Nothing word told = []
 ending_said endings.Claim word told = held_said (codes " as a group for ") (codes " for ") told ++ time_said told.ttl
 ending_said endings.Holder word told = held_said (codes " as a group for ") (codes " for ") told
@@ -177,14 +177,14 @@ ending_said endings.Time word told = time_said told.ttl
 ending_said endings.Operation word told = codes ", operation " ∷ decimal (opcode_of word) ∷ []
 
 -- said_of word about told: what a packet of this flag word is said to be, that is about this, and whose records tell so much
-abbrev pub said_of : ℕ → Option About → Told → List (List ℕ)
+abbrev pub said_of : ℕ → Option About → Gist → List (List ℕ)
 said_of word about told =
     let form = form_of word (type_of about) in form.opening ∷ name_said about ∷ ending_said form.ending word told
 
 -- a packet
 abbrev pub service_said : ServicePacket → List (List ℕ)
 service_said packet =
-    let about = about_of packet in said_of packet.word about (told_of (is_type (type_of about) NBSTAT) (records_of packet))
+    let about = about_of packet in said_of packet.word about (gist_of (is_type (type_of about) NBSTAT) (records_of packet))
 
 -- ---- no packet
 

@@ -3,7 +3,7 @@
 use Rattle.std.specs.Prelude.{ℕ, List, ◌++◌, codes}
 use Rattle.std.specs.Fmt.{decimal}
 use Rattle.std.specs.List.{flat_map}
-use Rattle.nb_names.specs.Hexadecimal.{data_text, word_text}
+use Rattle.nb_streams.specs.Hexadecimal.{data_text, word_text}
 use Rattle.nb_names.specs.NameText.{labels_written}
 use Rattle.nb_service.specs.declared.record.Question.{Question}
 use Rattle.nb_service.specs.Header.{opcode_of, rcode_of, PacketHeader}

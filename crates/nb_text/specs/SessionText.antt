@@ -1,9 +1,9 @@
 -- The text of a session packet, port 139 (our choice), which is one line.
 use Rattle.std.specs.Prelude.{ℕ, List, ◌++◌, length, codes}
 use Rattle.std.specs.Fmt.{decimal}
-use Rattle.nb_names.specs.Addresses.{address_text}
-use Rattle.nb_names.specs.Hexadecimal.{data_text}
-use Rattle.nb_names.specs.NameText.{digits_of, written}
+use Rattle.nb_streams.specs.Addresses.{address_text}
+use Rattle.nb_streams.specs.Hexadecimal.{data_text, digits_of}
+use Rattle.nb_names.specs.NameText.{written}
 use Rattle.nb_session.specs.Packet.{Packet}
 use Rattle.nb_session.specs.declared.packet.Packet.TheVariants.{Message, Request, Positive, Negative, Retarget, Keepalive}
 use Rattle.nb_session.specs.Parsing.{Parsed}

@@ -3,8 +3,8 @@
 use Rattle.std.specs.Prelude.{ℕ, nat_lt, ◌==◌, Bool, List, [], ◌∷◌, ◌++◌, length, take, map, codes, Option, Some, None, if◌then◌else◌}
 use Rattle.std.specs.Fmt.{decimal}
 use Rattle.std.specs.List.{flat_map}
-use Rattle.nb_names.specs.Addresses.{address_text}
-use Rattle.nb_names.specs.Hexadecimal.{digits_text, word_text}
+use Rattle.nb_streams.specs.Addresses.{address_text}
+use Rattle.nb_streams.specs.Hexadecimal.{digits_text, word_text}
 use Rattle.nb_names.specs.NameText.{written}
 use Rattle.nb_service.specs.declared.views.AddressEntry.{AddressEntry}
 use Rattle.nb_service.specs.declared.flags.TheConstants.NodeFlags.{G, DRG, CNF, ACT, PRM}
@@ -13,11 +13,11 @@ use Rattle.nb_service.specs.declared.views.NodeName.{NodeName}
 use Rattle.nb_service.specs.Header.{node_bits, ont_of}
 use Rattle.nb_service.specs.Record.{ResourceData, of_bytes, of_domain}
 use Rattle.nb_service.specs.Views.{StatusParts, entries_of_data, status_of_data}
-use Rattle.nb_telling.specs.Telling.{Field, FieldKey, Text, Number, Digits, Set, Part, PartEnds, LineEnds}
-use Rattle.nb_text.specs.declared.brief.told.Listed.{Listed}
-use Rattle.nb_text.specs.declared.brief.told.Listed.TheVariants as items
+use Rattle.nb_telling.specs.Telling.{Field, FieldTag, Text, Number, Digits, Set, Part, PartEnds, LineEnds}
+use Rattle.nb_text.specs.declared.brief.gist.Listed.{Listed}
+use Rattle.nb_text.specs.declared.brief.gist.Listed.TheVariants as items
 use Rattle.nb_text.specs.Fields.{list_fields, word_field}
-use Rattle.nb_text.specs.Keys.{key_named, key_of, name_key}
+use Rattle.nb_text.specs.Tags.{tag_named, tag_of, name_tag}
 use Rattle.nb_text.specs.Lines.{line_end}
 use Rattle.nb_text.specs.Words.{Flag, flag, names_set, set_text}
 
@@ -36,8 +36,8 @@ pub record View : Type 0 where
 -- an address entry, as fields
 abbrev pub entry_fields : AddressEntry → List Field
 entry_fields entry =
-    Part (codes "    entry") ∷ word_field (key_named "flags") entry.flags ∷ Number (key_named "ont") (ont_of entry.flags)
-    ∷ Text (key_named "address") (address_text entry.address) ∷ LineEnds ∷ PartEnds ∷ []
+    Part (codes "    entry") ∷ word_field (tag_named "flags") entry.flags ∷ Number (tag_named "ont") (ont_of entry.flags)
+    ∷ Text (tag_named "address") (address_text entry.address) ∷ LineEnds ∷ PartEnds ∷ []
 
 -- as a line
 abbrev pub entry_line : AddressEntry → List ℕ
@@ -71,9 +71,9 @@ name_flags =
 -- one of a node's names, which has no scope
 abbrev pub node_name_fields : NodeName → List Field
 node_name_fields name =
-    Part (codes "    name") ∷ Text name_key (written (record { bytes = name.bytes; scope = [] }))
-    ∷ word_field (key_named "flags") name.flags ∷ Number (key_named "ont") (ont_of name.flags)
-    ∷ Set (key_named "set") (names_set name_flags name.flags) ∷ LineEnds ∷ PartEnds ∷ []
+    Part (codes "    name") ∷ Text name_tag (written (record { bytes = name.bytes; scope = [] }))
+    ∷ word_field (tag_named "flags") name.flags ∷ Number (tag_named "ont") (ont_of name.flags)
+    ∷ Set (tag_named "set") (names_set name_flags name.flags) ∷ LineEnds ∷ PartEnds ∷ []
 
 -- as a line
 abbrev pub node_name_line : NodeName → List ℕ
@@ -86,8 +86,8 @@ abbrev pub name_listed : NodeName → Listed
 name_listed name = items.NodeName name.bytes
 
 -- the unit identifier, with which a line of a part begins
-abbrev pub unit_key : FieldKey
-unit_key = key_of (codes "unit") (codes "    unit=")
+abbrev pub unit_key : FieldTag
+unit_key = tag_of (codes "unit") (codes "    unit=")
 
 -- the unit that a node's statistics begin with, where there are as many bytes
 abbrev pub unit_fields : List ℕ → List Field

@@ -1,20 +1,20 @@
 //! A payload's phrase.
 
 ghost use Rattle.std.specs.Prelude.{OnOk, string_bytes};
-ghost use Rattle.nb_names.specs.Growth.{OnlyAdds};
+ghost use Rattle.nb_streams.specs.Growth.{OnlyAdds};
 ghost use Rattle.nb_text.specs.SaysPacket.{AddsSaid};
 
 mod datagrams;
 mod form;
+pub mod gist;
 mod pieces;
 mod services;
 mod sessions;
-pub mod told;
 
 use crate::brief::datagrams::push_datagram;
 use crate::brief::services::push_service;
 use crate::brief::sessions::push_session;
-use nb_names::NoMemory;
+use nb_streams::NoMemory;
 
 /// Adds the phrase of a payload that came to a port: what the packet is that it begins with, as a
 /// person says it, or why it begins with none.

@@ -1,27 +1,27 @@
 //! Numbers told, by their words where they have some, refusals, and what lines end with.
 ghost use Rattle.std.specs.Prelude.{◌≡◌, ◌∷◌, [], OnOk, fold, option_map, IfSome};
 ghost use Rattle.nb_service.specs.Header.{ont_of};
-ghost use Rattle.nb_telling.specs.Telling.{Digits, LineEnds, Number, PartEnds, Text, Grows, key_of};
-ghost use Rattle.nb_text.specs.Keys.{key_named, kind_key};
+ghost use Rattle.nb_telling.specs.Telling.{Digits, LineEnds, Number, PartEnds, Text, Grows, tag_of};
+ghost use Rattle.nb_text.specs.Tags.{tag_named, kind_tag};
 ghost use Rattle.nb_text.specs.Fields.{used_fields, word_field, refused_fields};
 ghost use Rattle.nb_text.specs.ServiceFields.{named_field};
 
-use crate::keys::{KIND, field_key};
-use nb_names::NoMemory;
+use crate::tags::{KIND, field_tag};
 use nb_service::ont;
-use nb_telling::{FieldKey, Sink, tell_place};
+use nb_streams::NoMemory;
+use nb_telling::{FieldTag, Sink, tell_place};
 use std::fmt::Display;
 
 /// Tells a number by its name, where it has one.
 #[inline(always)]
 pub fn tell_named<S: Sink>(
-    key: FieldKey,
+    key: FieldTag,
     name: Option<&'static str>,
     number: u8,
     sink: &mut S,
 ) -> Result<(), NoMemory>
     ensures told { OnOk result (S.seen sink.new ≡ S.after (S.seen sink.old)
-        (named_field (key_of key) (option_map (λ word. word.now) name.entry) number)) }
+        (named_field (tag_of key) (option_map (λ word. word.now) name.entry) number)) }
     ensures front { Grows S.is_front (S.seen sink.old) (S.seen sink.new) }
 {
     match name {
@@ -34,7 +34,7 @@ pub fn tell_named<S: Sink>(
 #[inline(always)]
 pub fn tell_kind<S: Sink>(kind: &str, sink: &mut S) -> Result<(), NoMemory>
     ensures told { OnOk result
-        (S.seen sink.new ≡ S.after (S.seen sink.old) (Text kind_key kind.now)) }
+        (S.seen sink.new ≡ S.after (S.seen sink.old) (Text kind_tag kind.now)) }
     ensures front { Grows S.is_front (S.seen sink.old) (S.seen sink.new) }
 {
     sink.text(KIND, kind)
@@ -42,9 +42,9 @@ pub fn tell_kind<S: Sink>(kind: &str, sink: &mut S) -> Result<(), NoMemory>
 
 /// Tells a number of sixteen bits.
 #[inline(always)]
-pub fn tell_number<S: Sink>(key: FieldKey, number: u16, sink: &mut S) -> Result<(), NoMemory>
+pub fn tell_number<S: Sink>(key: FieldTag, number: u16, sink: &mut S) -> Result<(), NoMemory>
     ensures told { OnOk result
-        (S.seen sink.new ≡ S.after (S.seen sink.old) (Number (key_of key) number)) }
+        (S.seen sink.new ≡ S.after (S.seen sink.old) (Number (tag_of key) number)) }
     ensures front { Grows S.is_front (S.seen sink.old) (S.seen sink.new) }
 {
     sink.number(key, u64::from(number))
@@ -52,9 +52,9 @@ pub fn tell_number<S: Sink>(key: FieldKey, number: u16, sink: &mut S) -> Result<
 
 /// Tells a number of sixteen bits, as four digits.
 #[inline(always)]
-pub fn tell_word<S: Sink>(key: FieldKey, word: u16, sink: &mut S) -> Result<(), NoMemory>
+pub fn tell_word<S: Sink>(key: FieldTag, word: u16, sink: &mut S) -> Result<(), NoMemory>
     ensures told { OnOk result
-        (S.seen sink.new ≡ S.after (S.seen sink.old) (word_field (key_of key) word)) }
+        (S.seen sink.new ≡ S.after (S.seen sink.old) (word_field (tag_of key) word)) }
     ensures front { Grows S.is_front (S.seen sink.old) (S.seen sink.new) }
 {
     sink.digits(key, &word.to_be_bytes())
@@ -62,9 +62,9 @@ pub fn tell_word<S: Sink>(key: FieldKey, word: u16, sink: &mut S) -> Result<(), 
 
 /// Tells a byte, as two digits.
 #[inline(always)]
-pub fn tell_byte<S: Sink>(key: FieldKey, byte: u8, sink: &mut S) -> Result<(), NoMemory>
+pub fn tell_byte<S: Sink>(key: FieldTag, byte: u8, sink: &mut S) -> Result<(), NoMemory>
     ensures told { OnOk result
-        (S.seen sink.new ≡ S.after (S.seen sink.old) (Digits (key_of key) (byte ∷ []))) }
+        (S.seen sink.new ≡ S.after (S.seen sink.old) (Digits (tag_of key) (byte ∷ []))) }
     ensures front { Grows S.is_front (S.seen sink.old) (S.seen sink.new) }
 {
     sink.digits(key, &[byte])
@@ -74,11 +74,11 @@ pub fn tell_byte<S: Sink>(key: FieldKey, byte: u8, sink: &mut S) -> Result<(), N
 #[inline(always)]
 pub fn tell_owner<S: Sink>(flags: u16, sink: &mut S) -> Result<(), NoMemory>
     ensures told { OnOk result (S.seen sink.new ≡ fold S.after (S.seen sink.old)
-        (word_field (key_named "flags") flags ∷ Number (key_named "ont") (ont_of flags) ∷ [])) }
+        (word_field (tag_named "flags") flags ∷ Number (tag_named "ont") (ont_of flags) ∷ [])) }
     ensures front { Grows S.is_front (S.seen sink.old) (S.seen sink.new) }
 {
-    tell_word(field_key!("flags"), flags, sink)?;
-    sink.number(field_key!("ont"), u64::from(ont(flags)))
+    tell_word(field_tag!("flags"), flags, sink)?;
+    sink.number(field_tag!("ont"), u64::from(ont(flags)))
 }
 
 /// Ends the line of a part, and the part.
@@ -98,7 +98,7 @@ pub fn tell_used<S: Sink>(used: usize, sink: &mut S) -> Result<(), NoMemory>
         (S.seen sink.new ≡ fold S.after (S.seen sink.old) (used_fields used)) }
     ensures front { Grows S.is_front (S.seen sink.old) (S.seen sink.new) }
 {
-    sink.number(field_key!("used"), used as u64)?;
+    sink.number(field_tag!("used"), used as u64)?;
     sink.line_ends()
 }
 
@@ -112,7 +112,7 @@ pub fn tell_refusal<F: Display + Drop, S: Sink>(
         S.seen sink.new ≡ fold S.after (S.seen sink.old) (refused_fields shown place))) }
     ensures front { Grows S.is_front (S.seen sink.old) (S.seen sink.new) }
 {
-    sink.displayed(field_key!("refused", "refused "), fault)?;
+    sink.displayed(field_tag!("refused", "refused "), fault)?;
     tell_place(place, sink)?;
     sink.line_ends()
 }

@@ -1,27 +1,26 @@
 //! What the front of a payload says, told to a sink, and its text.
-#![tactic(auto, using(nb_names::specs::Growth::front_stays))]
+#![tactic(auto, using(nb_streams::specs::Growth::front_stays))]
 
-ghost use Rattle.std.specs.Prelude.{◌≡◌, ◌≢◌, ◌++◌, ℕ, List, OnOk, fold, string_bytes, ◌∷◌, [], Some, None, option_map};
-ghost use Rattle.nb_names.specs.Growth.{OnlyAdds};
+ghost use Rattle.std.specs.Prelude.{◌≡◌, ◌≢◌, ◌++◌, ℕ, List, OnOk, fold, string_bytes, ◌∷◌, [], None, option_map};
+ghost use Rattle.nb_streams.specs.Growth.{OnlyAdds};
 ghost use Rattle.nb_session.specs.Parsing.{Parsed as ParsedValue, Parses, taken_by};
-ghost use Rattle.nb_datagram.specs.declared.fault.DatagramFault.{DatagramFault};
-ghost use Rattle.nb_datagram.specs.DatagramFaults.{PacketFails};
 ghost use Rattle.nb_datagram.specs.FaultTexts.{key_text};
-ghost use Rattle.nb_telling.specs.Telling.{Field, Grows, Digits, Text, key_of};
+ghost use Rattle.nb_telling.specs.Telling.{Field, Grows, Digits, Text, tag_of};
 ghost use Rattle.nb_text.specs.TellsFront.{FrontOf, IsFrontTold, ShowsFront};
 ghost use Rattle.nb_text.specs.FrontFields.{datagram_front_fields, fragment_front_fields, session_front_fields, standing_name, type_field};
-ghost use Rattle.nb_text.specs.Keys.{key_named};
+ghost use Rattle.nb_text.specs.Tags.{tag_named};
 ghost use Rattle.nb_text.specs.Words.{datagram_word};
 
 use crate::fields::{tell_byte, tell_kind, tell_number};
-use crate::keys::field_key;
 use crate::services::tell_service;
 use crate::showing::tell_packet;
+use crate::tags::field_tag;
 use crate::words::{datagram_name, session_name};
 use nb_datagram::{FragmentFront, Front, decode_lent, read_front};
-use nb_names::{LentName, NoMemory};
+use nb_names::LentName;
 use nb_session::{Header, Parsed, front_header, parse_lent};
-use nb_telling::{FieldKey, Sink};
+use nb_streams::NoMemory;
+use nb_telling::{FieldTag, Sink};
 
 /// Tells what the front of a payload that came to a port says to a sink, field by field: what
 /// [`tell_packet`] tells, and where the payload begins with no packet then what still stands there.
@@ -46,17 +45,6 @@ pub fn tell_front<S: Sink>(port: u16, payload: &[u8], sink: &mut S) -> Result<()
         return tell_service(payload, true, sink);
     }
     tell_packet(port, payload, sink)?;
-    tell_standing(port, payload, sink)
-}
-
-/// Tells what still stands at the front of a payload of port 138 or 139; nothing where it begins
-/// with a packet.
-fn tell_standing<S: Sink>(port: u16, payload: &[u8], sink: &mut S) -> Result<(), NoMemory>
-    requires { port ≢ 137 }
-    ensures told { OnOk result ((more : List Field) × FrontOf payload.now port more
-        × (S.seen sink.new ≡ fold S.after (S.seen sink.old) more)) }
-    ensures front { Grows S.is_front (S.seen sink.old) (S.seen sink.new) }
-{
     if port == 138 {
         return tell_datagram_front(payload, sink);
     }
@@ -90,20 +78,10 @@ pub fn tell_datagram_front<S: Sink>(payload: &[u8], sink: &mut S) -> Result<(), 
 {
     match decode_lent(payload) {
         Ok(_) => Ok(()),
-        Err(_) => tell_refused_datagram(payload, sink),
-    }
-}
-
-/// Tells what still stands at the front of a payload of port 138 that begins with no packet.
-fn tell_refused_datagram<S: Sink>(payload: &[u8], sink: &mut S) -> Result<(), NoMemory>
-    requires { (fault : DatagramFault) × PacketFails payload.now fault }
-    ensures told { OnOk result ((more : List Field) × FrontOf payload.now 138 more
-        × (S.seen sink.new ≡ fold S.after (S.seen sink.old) more)) }
-    ensures front { Grows S.is_front (S.seen sink.old) (S.seen sink.new) }
-{
-    match read_front(payload) {
-        Some(front) => tell_datagram_line(&front, sink),
-        None => Ok(()),
+        Err(_) => match read_front(payload) {
+            Some(front) => tell_datagram_line(&front, sink),
+            None => Ok(()),
+        },
     }
 }
 
@@ -115,7 +93,7 @@ fn tell_datagram_line<S: Sink>(front: &Front<'_>, sink: &mut S) -> Result<(), No
 {
     sink.words("  ")?;
     tell_datagram_header(front, sink)?;
-    tell_fragment_front(&front.fragment, sink)?;
+    tell_fragment(&front.fragment, sink)?;
     sink.line_ends()
 }
 
@@ -123,17 +101,18 @@ fn tell_datagram_line<S: Sink>(front: &Front<'_>, sink: &mut S) -> Result<(), No
 fn tell_datagram_header<S: Sink>(front: &Front<'_>, sink: &mut S) -> Result<(), NoMemory>
     ensures told { OnOk result (S.seen sink.new ≡ fold S.after (S.seen sink.old)
         (type_field (datagram_word front.now.message_type) front.now.message_type
-        ∷ Digits (key_named "flags") (front.now.flags ∷ [])
-        ∷ Text (key_named "key") (key_text front.now.key) ∷ [])) }
+        ∷ Digits (tag_named "flags") (front.now.flags ∷ [])
+        ∷ Text (tag_named "key") (key_text front.now.key) ∷ [])) }
     ensures front { Grows S.is_front (S.seen sink.old) (S.seen sink.new) }
 {
     tell_type(datagram_name(front.message_type), front.message_type, sink)?;
-    tell_byte(field_key!("flags"), front.flags, sink)?;
-    sink.shown(field_key!("key"), &front.key)
+    tell_byte(field_tag!("flags"), front.flags, sink)?;
+    sink.shown(field_tag!("key"), &front.key)
 }
 
-/// Tells what stands after the ten bytes with which all packets of port 138 begin.
-fn tell_fragment_front<S: Sink>(
+/// Tells what stands after the ten bytes with which all packets of port 138 begin: the rest of a
+/// fragment's header, and the names that stand whole.
+fn tell_fragment<S: Sink>(
     fragment: &Option<FragmentFront<'_>>,
     sink: &mut S,
 ) -> Result<(), NoMemory>
@@ -141,31 +120,22 @@ fn tell_fragment_front<S: Sink>(
         (S.seen sink.new ≡ fold S.after (S.seen sink.old) (fragment_front_fields fragment.now)) }
     ensures front { Grows S.is_front (S.seen sink.old) (S.seen sink.new) }
 {
-    match fragment {
-        Some(front) => tell_fragment(front, sink),
-        None => Ok(()),
-    }
-}
-
-/// Tells the rest of a fragment's header, and the names that stand whole.
-fn tell_fragment<S: Sink>(front: &FragmentFront<'_>, sink: &mut S) -> Result<(), NoMemory>
-    ensures told { OnOk result (S.seen sink.new
-        ≡ fold S.after (S.seen sink.old) (fragment_front_fields (Some front.now))) }
-    ensures front { Grows S.is_front (S.seen sink.old) (S.seen sink.new) }
-{
-    tell_number(field_key!("offset"), front.offset, sink)?;
-    tell_standing_name(field_key!("source"), &front.source, sink)?;
-    tell_standing_name(field_key!("destination"), &front.destination, sink)
+    let Some(front) = fragment else {
+        return Ok(());
+    };
+    tell_number(field_tag!("offset"), front.offset, sink)?;
+    tell_standing_name(field_tag!("source"), &front.source, sink)?;
+    tell_standing_name(field_tag!("destination"), &front.destination, sink)
 }
 
 /// Tells a name, where it stands whole.
 fn tell_standing_name<S: Sink>(
-    key: FieldKey,
+    key: FieldTag,
     name: &Option<LentName<'_>>,
     sink: &mut S,
 ) -> Result<(), NoMemory>
     ensures told { OnOk result
-        (S.seen sink.new ≡ fold S.after (S.seen sink.old) (standing_name (key_of key) name.now)) }
+        (S.seen sink.new ≡ fold S.after (S.seen sink.old) (standing_name (tag_of key) name.now)) }
     ensures front { Grows S.is_front (S.seen sink.old) (S.seen sink.new) }
 {
     match name {
@@ -211,7 +181,7 @@ fn tell_session_line<S: Sink>(header: &Header, sink: &mut S) -> Result<(), NoMem
 {
     sink.words("  ")?;
     tell_type(session_name(header.packet_type), header.packet_type, sink)?;
-    sink.number(field_key!("length"), header.body_length() as u64)?;
+    sink.number(field_tag!("length"), header.body_length() as u64)?;
     sink.line_ends()
 }
 
@@ -227,6 +197,6 @@ fn tell_type<S: Sink>(
 {
     match word {
         Some(word) => tell_kind(word, sink),
-        None => tell_byte(field_key!("type", "type="), packet_type, sink),
+        None => tell_byte(field_tag!("type", "type="), packet_type, sink),
     }
 }

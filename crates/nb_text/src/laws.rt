@@ -1,8 +1,9 @@
 //! Laws of the definitions that the contracts cite. Each is proved; a call does nothing.
 ghost use Rattle.std.specs.Prelude.{◌≡◌, ◌≢◌, ◌≤◌, ◌/◌, ◌%◌, ℕ, List, [], ◌∷◌, ◌++◌, Option, Some, None, codes};
 ghost use Rattle.std.specs.Fmt.{decimal};
-ghost use Rattle.nb_names.specs.DomainName.{IsDomain, AreByteLabels, AreBytes};
-ghost use Rattle.nb_names.specs.Hexadecimal.{data_text};
+ghost use Rattle.nb_names.specs.DomainName.{IsDomain, AreByteLabels};
+ghost use Rattle.nb_streams.specs.Places.{AreBytes};
+ghost use Rattle.nb_streams.specs.Hexadecimal.{data_text};
 ghost use Rattle.nb_names.specs.Name.{NetbiosName, IsName, IsByteName, IsNoName, labels_of_name};
 ghost use Rattle.nb_names.specs.NameText.{ScopeText, domain_written, labels_written, name_of_labels, written};
 ghost use Rattle.nb_service.specs.declared.flags.TheConstants.NmFlags.{AA, TC, RD, RA, B};
@@ -45,8 +46,6 @@ mod phrases;
 mod texts;
 
 use nb_datagram::laws as datagrams;
-use nb_service::laws as names;
-use nb_session::laws as sessions;
 pub use phrases::{
     answers_in_words, codes_in_words, datagrams_in_words, names_in_words, numbers,
     outcomes_in_words, redirects_in_words, refusals_in_words, relays_in_words, requests_in_words,
@@ -62,13 +61,7 @@ pub fn one_telling()
         Tells payload port fields → Tells payload port others → fields ≡ others }
     ensures phrase { (payload : List ℕ) (port : ℕ) (text other : List ℕ) →
         IsSaid payload port text → IsSaid payload port other → text ≡ other }
-{
-    names::one_packet();
-    names::one_service_fault();
-    datagrams::one_packet();
-    datagrams::one_datagram_fault();
-    sessions::one_answer();
-}
+{}
 
 /// A text is lines of printable ASCII: a line of words with one space between them, and then the
 /// lines of its parts, each of which two or four spaces begin.
@@ -224,15 +217,7 @@ pub fn one_front()
     ensures { (payload : List ℕ) (port : ℕ) (fields others : List Field) →
         TellsFront payload port fields → TellsFront payload port others → fields ≡ others }
 {
-    names::one_packet();
-    names::one_service_fault();
-    names::one_header();
-    names::one_list_of_items();
-    datagrams::one_packet();
-    datagrams::one_datagram_fault();
     datagrams::one_front();
-    sessions::one_answer();
-    sessions::one_header();
 }
 
 /// Of a payload that begins with a packet the front says what the packet's fields say.

@@ -5,12 +5,12 @@ mod brief;
 mod datagrams;
 mod fields;
 mod fronts;
-pub mod keys;
 pub mod laws;
 mod records;
 mod services;
 mod sessions;
 mod showing;
+pub mod tags;
 mod views;
 mod words;
 

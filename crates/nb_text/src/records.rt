@@ -9,18 +9,19 @@ ghost use Rattle.nb_service.specs.Items.{SeesRecord, SeesQuestion};
 ghost use Rattle.nb_service.specs.Packet.{RecordAt, QuestionAt};
 ghost use Rattle.nb_service.specs.Record.{ResourceRecord, of_bytes};
 ghost use Rattle.nb_service.specs.declared.record.Question.{Question as QuestionValue};
-ghost use Rattle.nb_telling.specs.Telling.{Data, LineEnds, Text, Grows, key_of};
-ghost use Rattle.nb_text.specs.Keys.{key_named};
+ghost use Rattle.nb_telling.specs.Telling.{Data, LineEnds, Text, Grows, tag_of};
+ghost use Rattle.nb_text.specs.Tags.{tag_named};
 ghost use Rattle.nb_text.specs.Fields.{list_fields};
 ghost use Rattle.nb_text.specs.ServiceFields.{head_fields, rdata_field, record_fields, named_fields, question_fields};
 ghost use Rattle.nb_text.specs.Views.{fields_by};
 
 use crate::fields::{end_part, tell_word};
-use crate::keys::field_key;
+use crate::tags::field_tag;
 use crate::views::tell_view;
-use nb_names::{DomainName, NameReader, NoMemory, Pointers};
+use nb_names::{DomainName, NameReader, Pointers};
 use nb_service::{Rdata, Seen, see_question, see_record};
-use nb_telling::{FieldKey, Sink};
+use nb_streams::NoMemory;
+use nb_telling::{FieldTag, Sink};
 
 /// Tells the list of so many records, a section of this name, which stand one after the other from
 /// an offset on, and answers where they end. In text each record begins with the lead.
@@ -67,7 +68,8 @@ fn tell_records<S: Sink>(
     Ok(next)
 }
 
-/// Tells the record that stands at an offset, and answers where it ends.
+/// Tells the record that stands at an offset, with the parts of its RDATA, and answers where it
+/// ends.
 ///
 /// It is no part of the loop, so that a section without records makes no room for one.
 #[inline(never)]
@@ -84,27 +86,11 @@ fn tell_record_at<S: Sink>(
     ensures front { Grows S.is_front (S.seen sink.old) (S.seen sink.new) }
 {
     let seen = see_record(names, at).unwrap();
-    tell_record(lead, names, &seen, sink)?;
-    Ok(seen.fields.extent.next)
-}
-
-/// Tells a record, and the parts of its RDATA.
-fn tell_record<S: Sink>(
-    lead: &str,
-    names: &NameReader<'_, '_>,
-    seen: &Seen,
-    sink: &mut S,
-) -> Result<(), NoMemory>
-    requires { (entry : ResourceRecord) × SeesRecord names.now entry seen.now }
-    ensures told { (entry : ResourceRecord) → SeesRecord names.now entry seen.now →
-        OnOk result
-        (S.seen sink.new ≡ fold S.after (S.seen sink.old) (record_fields lead.now entry)) }
-    ensures front { Grows S.is_front (S.seen sink.old) (S.seen sink.new) }
-{
     sink.part(lead)?;
-    tell_head(names, seen, sink)?;
-    tell_rdata(names, seen, sink)?;
-    sink.part_ends()
+    tell_head(names, &seen, sink)?;
+    tell_rdata(names, &seen, sink)?;
+    sink.part_ends()?;
+    Ok(seen.fields.extent.next)
 }
 
 /// Tells what a record has before its RDATA.
@@ -118,7 +104,7 @@ fn tell_head<S: Sink>(names: &NameReader<'_, '_>, seen: &Seen, sink: &mut S) -> 
     ensures front { Grows S.is_front (S.seen sink.old) (S.seen sink.new) }
 {
     tell_named_fields(names, seen, sink)?;
-    sink.number(field_key!("ttl"), u64::from(seen.fields.ttl))
+    sink.number(field_tag!("ttl"), u64::from(seen.fields.ttl))
 }
 
 /// Tells the RDATA of a record, and what it says.
@@ -142,20 +128,20 @@ fn tell_rdata<S: Sink>(
 /// Tells RDATA that is a domain name.
 fn tell_domain<S: Sink>(domain: &DomainName, sink: &mut S) -> Result<(), NoMemory>
     ensures told { OnOk result (S.seen sink.new ≡ fold S.after (S.seen sink.old)
-        (Text (key_named "domain") (labels_written domain.now) ∷ LineEnds ∷ [])) }
+        (Text (tag_named "domain") (labels_written domain.now) ∷ LineEnds ∷ [])) }
     ensures front { Grows S.is_front (S.seen sink.old) (S.seen sink.new) }
 {
-    sink.shown(field_key!("domain"), domain)?;
+    sink.shown(field_tag!("domain"), domain)?;
     sink.line_ends()
 }
 
 /// Tells RDATA of bytes, and what it says.
 fn tell_bytes<S: Sink>(kind: u16, bytes: &[u8], sink: &mut S) -> Result<(), NoMemory>
     ensures told { OnOk result (S.seen sink.new ≡ fold S.after (S.seen sink.old)
-        (Data (key_named "data") bytes.now ∷ LineEnds ∷ fields_by kind (of_bytes bytes.now))) }
+        (Data (tag_named "data") bytes.now ∷ LineEnds ∷ fields_by kind (of_bytes bytes.now))) }
     ensures front { Grows S.is_front (S.seen sink.old) (S.seen sink.new) }
 {
-    sink.data(field_key!("data"), bytes)?;
+    sink.data(field_tag!("data"), bytes)?;
     sink.line_ends()?;
     tell_view(kind, bytes, sink)
 }
@@ -235,14 +221,15 @@ pub fn tell_named_fields<S: Sink>(
         (named_fields labels seen.now.fields.kind seen.now.fields.class)) }
     ensures front { Grows S.is_front (S.seen sink.old) (S.seen sink.new) }
 {
-    tell_name(field_key!("name", " "), names, seen, sink)?;
-    tell_word(field_key!("type"), seen.fields.kind, sink)?;
-    tell_word(field_key!("class"), seen.fields.class, sink)
+    tell_name(field_tag!("name", " "), names, seen, sink)?;
+    tell_word(field_tag!("type"), seen.fields.kind, sink)?;
+    tell_word(field_tag!("class"), seen.fields.class, sink)
 }
 
-/// Tells the name of a question or a record, from where it stands if it stands there in one run.
+/// Tells the name of a question or a record, from where it stands if it stands there in one
+/// stretch.
 pub fn tell_name<S: Sink>(
-    key: FieldKey,
+    key: FieldTag,
     names: &NameReader<'_, '_>,
     seen: &Seen,
     sink: &mut S,
@@ -251,7 +238,7 @@ pub fn tell_name<S: Sink>(
         seen.now.name }
     ensures told { (labels : List (List ℕ)) →
         IsSkipped names.now Followed seen.now.at labels seen.now.name → OnOk result
-        (S.seen sink.new ≡ S.after (S.seen sink.old) (Text (key_of key) (labels_written labels))) }
+        (S.seen sink.new ≡ S.after (S.seen sink.old) (Text (tag_of key) (labels_written labels))) }
     ensures front { Grows S.is_front (S.seen sink.old) (S.seen sink.new) }
 {
     match names.lent_at(seen.at, Pointers::Followed, &seen.name) {

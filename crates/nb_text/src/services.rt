@@ -4,19 +4,20 @@ ghost use Rattle.nb_service.specs.Header.{PacketHeader, header_value};
 ghost use Rattle.nb_service.specs.Items.{Walks};
 ghost use Rattle.nb_telling.specs.Telling.{Grows};
 ghost use Rattle.nb_text.specs.FrontFields.{names_header_fields};
-ghost use Rattle.nb_text.specs.Keys.{key_named, id_key};
+ghost use Rattle.nb_text.specs.Tags.{tag_named, id_tag};
 ghost use Rattle.nb_text.specs.Fields.{word_field};
 ghost use Rattle.nb_text.specs.ServiceFields.{count_fields, header_fields, lists_fields, state_fields};
 ghost use Rattle.nb_text.specs.TellsFront.{ServiceTold};
 
 use crate::fields::{tell_named, tell_number, tell_refusal, tell_used, tell_word};
-use crate::keys::field_key;
 use crate::records::{tell_questions, tell_section};
+use crate::tags::field_tag;
 use crate::words::{operation_name, packet_flags_of, rcode_name};
+use nb_names::NameReader;
 use nb_names::limits::POINTED_OFFSETS;
-use nb_names::{NameReader, NoMemory};
 use nb_service::limits::{HEADER_LENGTH, SHORT_PACKET};
 use nb_service::{Header, ServiceFault, Walked, opcode, rcode, read_header, walk};
+use nb_streams::NoMemory;
 use nb_telling::Sink;
 
 /// Tells a payload of port 137: the packet that it begins with, or why it begins with none, and
@@ -149,12 +150,12 @@ fn tell_header<S: Sink>(header: &Header, used: usize, sink: &mut S) -> Result<()
 /// Tells the identifier, the flag word and what that says.
 fn tell_words<S: Sink>(header: &Header, sink: &mut S) -> Result<(), NoMemory>
     ensures told { OnOk result (S.seen sink.new ≡ fold S.after (S.seen sink.old)
-        (word_field id_key header.now.id ∷ word_field (key_named "word") header.now.word
+        (word_field id_tag header.now.id ∷ word_field (tag_named "word") header.now.word
         ∷ state_fields header.now.word)) }
     ensures front { Grows S.is_front (S.seen sink.old) (S.seen sink.new) }
 {
-    tell_word(field_key!("id", "id="), header.id, sink)?;
-    tell_word(field_key!("word"), header.word, sink)?;
+    tell_word(field_tag!("id", "id="), header.id, sink)?;
+    tell_word(field_tag!("word"), header.word, sink)?;
     tell_state(header.word, sink)
 }
 
@@ -165,9 +166,9 @@ fn tell_state<S: Sink>(word: u16, sink: &mut S) -> Result<(), NoMemory>
     ensures front { Grows S.is_front (S.seen sink.old) (S.seen sink.new) }
 {
     let (operation, outcome) = (opcode(word), rcode(word));
-    tell_named(field_key!("op"), operation_name(operation), operation, sink)?;
-    sink.set(field_key!("flags"), &packet_flags_of(word))?;
-    tell_named(field_key!("rcode"), rcode_name(outcome), outcome, sink)
+    tell_named(field_tag!("op"), operation_name(operation), operation, sink)?;
+    sink.set(field_tag!("flags"), &packet_flags_of(word))?;
+    tell_named(field_tag!("rcode"), rcode_name(outcome), outcome, sink)
 }
 
 /// Tells how many questions, answers, authorities and additional records there are.
@@ -176,8 +177,8 @@ fn tell_counts<S: Sink>(header: &Header, sink: &mut S) -> Result<(), NoMemory>
         ≡ fold S.after (S.seen sink.old) (count_fields (header_value header.now))) }
     ensures front { Grows S.is_front (S.seen sink.old) (S.seen sink.new) }
 {
-    tell_number(field_key!("qd"), header.questions, sink)?;
-    tell_number(field_key!("an"), header.answers, sink)?;
-    tell_number(field_key!("ns"), header.authorities, sink)?;
-    tell_number(field_key!("ar"), header.additional, sink)
+    tell_number(field_tag!("qd"), header.questions, sink)?;
+    tell_number(field_tag!("an"), header.answers, sink)?;
+    tell_number(field_tag!("ns"), header.authorities, sink)?;
+    tell_number(field_tag!("ar"), header.additional, sink)
 }

@@ -1,8 +1,8 @@
 //! A payload told to a sink, its text, and its JSON object.
-#![tactic(auto, using(nb_names::specs::Growth::front_stays))]
+#![tactic(auto, using(nb_streams::specs::Growth::front_stays))]
 
 ghost use Rattle.std.specs.Prelude.{OnOk, string_bytes, IfOk};
-ghost use Rattle.nb_names.specs.Growth.{OnlyAdds};
+ghost use Rattle.nb_streams.specs.Growth.{OnlyAdds};
 ghost use Rattle.nb_telling.specs.Telling.{Grows};
 ghost use Rattle.nb_telling.specs.Members.{IsJson};
 ghost use Rattle.nb_text.specs.Shown.{AddsShown};
@@ -12,7 +12,7 @@ use crate::datagrams::tell_datagram;
 use crate::laws::{fields_are_members, texts_of_fields};
 use crate::services::tell_service;
 use crate::sessions::tell_session;
-use nb_names::NoMemory;
+use nb_streams::NoMemory;
 use nb_telling::{JsonRoom, JsonSink, Sink};
 
 /// Tells a payload that came to a port to a sink, field by field: the packet that it begins with,

@@ -5,20 +5,21 @@ ghost use Rattle.std.specs.List.{flat_map};
 ghost use Rattle.nb_service.specs.Record.{of_bytes};
 ghost use Rattle.nb_telling.specs.Telling.{Field, Grows};
 ghost use Rattle.nb_telling.specs.Texts.{names_of};
-ghost use Rattle.nb_text.specs.declared.brief.told.Listed.{Listed};
+ghost use Rattle.nb_text.specs.declared.brief.gist.Listed.{Listed};
 ghost use Rattle.nb_text.specs.Fields.{list_fields};
 ghost use Rattle.nb_text.specs.ServiceSaid.{few, first};
-ghost use Rattle.nb_text.specs.Views.{fields_by, flags_by, listed_by, parts_in, units_by, entries_view, name_flags, status_view};
+ghost use Rattle.nb_text.specs.Views.{fields_by, flags_by, listed_by, parts_in, units_by, name_flags, status_view};
 ghost use Rattle.nb_text.specs.Words.{is_set, names_set};
 
-use crate::brief::told::{Few, Listed};
+use crate::brief::gist::{Few, Listed};
 use crate::fields::{end_part, tell_owner};
-use crate::keys::field_key;
+use crate::tags::field_tag;
 use bitflags::{Flag as Named, Flags};
-use nb_names::{Name, NoMemory, Scope};
+use nb_names::{Name, Scope};
 use nb_service::kinds::{A, NB, NBSTAT};
 use nb_service::limits::UNIT_ID_LENGTH;
 use nb_service::{AddressEntries, AddressEntry, NodeFlags, NodeName, NodeStatus};
+use nb_streams::NoMemory;
 use nb_telling::{Flag, Sink};
 
 /// Tells what RDATA of this type and these bytes says.
@@ -28,7 +29,7 @@ pub fn tell_view<S: Sink>(kind: u16, bytes: &[u8], sink: &mut S) -> Result<(), N
     ensures front { Grows S.is_front (S.seen sink.old) (S.seen sink.new) }
 {
     match kind {
-        NB => tell_entries(bytes, sink),
+        NB => tell_list("entries", &AddressEntries::of_rdata(NB, bytes), sink),
         NBSTAT => tell_status(bytes, sink),
         _ => Ok(()),
     }
@@ -148,15 +149,6 @@ fn list_each<P: ViewParts>(parts: &Option<P>, listed: &mut Few)
     }
 }
 
-/// Tells the list of the entries that RDATA of type NB is, where it has the form.
-pub fn tell_entries<S: Sink>(bytes: &[u8], sink: &mut S) -> Result<(), NoMemory>
-    ensures told { OnOk result (S.seen sink.new
-        ≡ fold S.after (S.seen sink.old) (entries_view.fields (of_bytes bytes.now))) }
-    ensures front { Grows S.is_front (S.seen sink.old) (S.seen sink.new) }
-{
-    tell_list("entries", &AddressEntries::of_rdata(NB, bytes), sink)
-}
-
 impl<'a> ViewParts for AddressEntries<'a> {
     type Part = AddressEntry;
 
@@ -181,7 +173,7 @@ impl ViewPart for AddressEntry {
     fn tell<S: Sink>(self, sink: &mut S) -> Result<(), NoMemory> {
         sink.part("    entry")?;
         tell_owner(self.flags, sink)?;
-        sink.shown(field_key!("address"), &self.address)?;
+        sink.shown(field_tag!("address"), &self.address)?;
         end_part(sink)
     }
 
@@ -200,7 +192,7 @@ pub fn tell_status<S: Sink>(bytes: &[u8], sink: &mut S) -> Result<(), NoMemory>
     tell_list("names", &NodeStatus::of_rdata(NBSTAT, bytes), sink)?;
     match first_unit(NBSTAT, bytes) {
         Some(unit) => {
-            sink.digits(field_key!("unit", "    unit="), &unit)?;
+            sink.digits(field_tag!("unit", "    unit="), &unit)?;
             sink.line_ends()
         }
         None => Ok(()),
@@ -231,11 +223,11 @@ impl ViewPart for NodeName {
     fn tell<S: Sink>(self, sink: &mut S) -> Result<(), NoMemory> {
         sink.part("    name")?;
         sink.shown(
-            field_key!("name", " "),
+            field_tag!("name", " "),
             &Name::new(self.bytes, Scope::empty()),
         )?;
         tell_owner(self.flags, sink)?;
-        sink.set(field_key!("set"), &name_flags_of(self.flags))?;
+        sink.set(field_tag!("set"), &name_flags_of(self.flags))?;
         end_part(sink)
     }
 

@@ -10,9 +10,10 @@ use Rattle.std.specs.Box.{box_value}
 use Rattle.clap.specs.declared.error.kind.ErrorKind.{ErrorKind}
 use Rattle.clap.specs.declared.error.kind.ErrorKind.TheVariants.{OutOfMemory}
 use Rattle.nbt.specs.CommandLine.{Reports, answer_to, IsCommand, nbt_app, word_of, IsAlone}
-use Rattle.nbt.specs.Commands.{Picks, Ran, RanBy, Streams, no_memory, ran, with_status}
+use Rattle.nbt.specs.Commands.{Ended, EndedBy, Picks, ended, no_memory, with_status}
+use Rattle.nbt_command.specs.Streams.{Streams}
 use Rattle.std.proofs.Math.ListN.{get_or}
-use Rattle.nbt.specs.FaultTexts.{status_after}
+use Rattle.nbt_command.specs.FaultTexts.{status_after}
 use Rattle.std.specs.List.{join_by}
 use Rattle.std.proofs.lemmas.List.Folds.{flat_map-map}
 use Rattle.std.proofs.lemmas.List.{take_rest}
@@ -85,20 +86,20 @@ entered_nothing m found named is =
 
 -- the command that was entered is that of the words
 pub ran_words : (app : App) (words : List Text) (m : ArgMatches) (s : Streams) (outcome : Result Status Fault) (status : Status) → app ≡ nbt_app → HasMatchesOf app words m
-    → Ran m s outcome → status ≡ status_after outcome → RanBy words s status
+    → Ended m s outcome → status ≡ status_after outcome → EndedBy words s status
 ran_words app words m s outcome status is has r same =
-    ran m outcome (rows_of_words words m (subst (λ (a : App). HasMatchesOf a words m) is has)) r same
+    ended m outcome (rows_of_words words m (subst (λ (a : App). HasMatchesOf a words m) is has)) r same
 
 -- where clap takes the words, it fails for lack of memory alone
 pub lacked_memory : (words : List Text) (s : Streams) (kind : ErrorKind) (status : Status) → kind ≡ OutOfMemory → Reports (answer_to kind) status s.old_out s.new_out
-    → Keeps s.old_in s.new_in → RanBy words s status
+    → Keeps s.old_in s.new_in → EndedBy words s status
 lacked_memory words s kind status is reported unread =
     let said : Reports (answer_to OutOfMemory) status s.old_out s.new_out = subst (λ (k : ErrorKind). Reports (answer_to k) status s.old_out s.new_out) is reported in
     no_memory said.0 unread said.1
 
 -- a command that is done where it has no fault
-pub ended_so : (m : ArgMatches) (s : Streams) (r : Result Unit Fault) (outcome : Result Status Fault) → outcome ≡ with_status r → Ran m s (with_status r) → Ran m s outcome
-ended_so m s r outcome is so = subst (Ran m s) (sym is) so
+pub ended_so : {A : Type 0} (m : ArgMatches) (s : Streams) (r : Result A Fault) (outcome : Result Status Fault) → outcome ≡ with_status r → Ended m s (with_status r) → Ended m s outcome
+ended_so m s r outcome is so = subst (Ended m s) (sym is) so
 
 -- three words or more, of which the second is this
 pub asks : {A : Type 0} (f : A → List ℕ) (words : List A) (help : A) → 3 ≤ length words → help ≡ get_or words 1 help → f help ≡ codes "help"

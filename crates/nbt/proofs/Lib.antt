@@ -1,13 +1,4 @@
-pub mod CapacityGiven
 pub mod CommandRows
 pub mod Common
-pub mod DifferenceLemmas
-pub mod JoinedLemmas
+pub mod EndingLemmas
 pub mod MisusedWords
-pub mod ObjectLemmas
-pub mod PrintedLemmas
-pub mod ReplayingTurns
-pub mod RunningLemmas
-pub mod SavingTurns
-pub mod ShowingTurns
-pub mod TableTurns

@@ -1,4 +1,2 @@
 -- Words that private functions' contracts alone cite.
 pub mod CommandForms
-pub mod Marks
-pub mod PrintedLines

@@ -16,8 +16,8 @@ use Rattle.clap.specs.declared.error.kind.ErrorKind.{ErrorKind}
 use Rattle.clap.specs.declared.error.kind.ErrorKind.TheVariants.{DisplayHelp, DisplayVersion, OutOfMemory}
 use Rattle.nbt.specs.declared.command_line.ClapAnswer.{ClapAnswer}
 use Rattle.nbt.specs.declared.command_line.ClapAnswer.TheVariants.{Asked, Misused, NoMemory}
-use Rattle.nbt.specs.declared.fault.Status.{Status}
-use Rattle.nbt.specs.declared.fault.Status.TheVariants.{Done, BadUsage, Failed}
+use Rattle.nbt_command.specs.declared.fault.Status.{Status}
+use Rattle.nbt_command.specs.declared.fault.Status.TheVariants.{Done, BadUsage, Failed}
 
 -- an option that is given or not
 abbrev pub flag_rule : Text → Rule

@@ -3,8 +3,8 @@ use Rattle.std.specs.Borrow.{Bor}
 use Rattle.std.specs.Prelude.{◌≡◌, ◌≢◌, ◌==◌, ◌⊎◌, ℕ, List, [], ◌∷◌, ◌++◌, cond, All, Contains, Option, None, Some, codes}
 use Rattle.std.specs.Cmp.Lexicographic.{pointwise}
 use Rattle.std.specs.List.{flat_map, join_by, list_any}
-use Rattle.nbt.specs.declared.fault.Fault.{Fault}
-use Rattle.nbt.specs.declared.fault.Fault.TheVariants.{Write, Memory}
+use Rattle.nbt_command.specs.declared.fault.Fault.{Fault}
+use Rattle.nbt_command.specs.declared.fault.Fault.TheVariants.{Write, Memory}
 use Rattle.nbt.specs.declared.refusals.Refusal.{Refusal}
 
 -- HasNone words refusals: no refusal has these words

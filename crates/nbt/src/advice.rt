@@ -1,13 +1,12 @@
 //! `nbt help REFUSAL`, and what the help of a command says of its refusals.
-ghost use Rattle.std.specs.Prelude.{◌≡◌, ◌⊎◌, ◌++◌, ◌∷◌, [], Contains, IfErr, IfNone, IfOk, IfSome, List, OnErr, OnOk, OnSome, codes, map, string_bytes, ℕ};
+ghost use Rattle.std.specs.Prelude.{◌≡◌, ◌⊎◌, ◌++◌, ◌∷◌, Contains, IfErr, IfNone, IfOk, IfSome, List, OnErr, OnOk, OnSome, codes, map, string_bytes, ℕ};
 ghost use Rattle.std.specs.Io.KnownBytes.{Appends};
-ghost use Rattle.nb_names.specs.Devices.{AppendsFront};
+ghost use Rattle.nb_streams.specs.Devices.{AppendsFront};
 ghost use Rattle.nbt.specs.Refusals.{AsksRefusal, HasNone, IsFirstWith, IsPrintFault, advice_line, lines_by, lines_of_all, spaced};
 
-use crate::fault::Fault;
-use crate::output::Output;
 use crate::refusals::Refusal;
-use nb_names::NoMemory;
+use nb_streams::{Counted, NoMemory};
+use nbt_command::{Fault, print};
 use std::alloc::Global;
 use std::io::Write;
 
@@ -60,18 +59,18 @@ fn refusal_in_any_case<'a>(
     ensures same { HasNone text.now refusals.now
         ⊎ IfOk result (λ found. IfSome found (λ refusal. refusal.now.words.now ≡ text.now)) }
 {
-    match refusal_of(refusals, text) {
+    match refusal_said(refusals, text) {
         Some(refusal) => Ok(Some(refusal)),
         None => {
             let lowered = text.to_ascii_lowercase(alloc)?;
-            Ok(refusal_of(refusals, lowered.as_str()))
+            Ok(refusal_said(refusals, lowered.as_str()))
         }
     }
 }
 
 /// The refusal with this text: the words alone, or as a program prints them, in a line of its own
 /// or of a report.
-pub fn refusal_of<'a>(refusals: &'a [Refusal], text: &str) -> Option<&'a Refusal>
+fn refusal_said<'a>(refusals: &'a [Refusal], text: &str) -> Option<&'a Refusal>
     ensures known { IfSome result (λ refusal. Contains refusals.now refusal.now) }
     ensures unknown { IfNone result (HasNone text.now refusals.now) }
     ensures same { HasNone text.now refusals.now
@@ -172,7 +171,7 @@ fn with_words<'a>(refusals: &'a [Refusal], words: &str) -> Option<&'a Refusal>
 pub fn print_advice<W: Write>(
     alloc: Global,
     refusal: &Refusal,
-    output: &mut Output<W>,
+    output: &mut Counted<W>,
 ) -> Result<(), Fault>
     ensures printed { OnOk result (Appends
         (W.contents output.old.inner) (W.contents output.new.inner) (advice_line refusal.now)) }
@@ -182,7 +181,7 @@ pub fn print_advice<W: Write>(
 {
     let mut line = String::new(alloc);
     push_advice(refusal, &mut line)?;
-    output.print(line.as_bytes())
+    print(output, line.as_bytes())
 }
 
 /// A line, after two spaces, for each of these refusals that the command may have.

@@ -1,11 +1,11 @@
 //! Standard error: what is reported there, and who reads it.
 ghost use Rattle.std.specs.Prelude.{◌≡◌, None, OnOk};
 ghost use Rattle.std.specs.Io.KnownBytes.{Appends};
-ghost use Rattle.nbt.specs.FaultTexts.{fault_line};
+ghost use Rattle.nbt_command.specs.FaultTexts.{fault_line};
 
-use crate::fault::Fault;
 use crate::output::Output;
 use crate::streams::Signature;
+use nbt_command::Fault;
 use std::cell::Cell;
 use std::io;
 use std::io::Write;

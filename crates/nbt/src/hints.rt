@@ -3,17 +3,21 @@
 ghost use Rattle.std.specs.Prelude.{◌≡◌};
 ghost use Rattle.nbt.specs.declared.errors.Audience.TheVariants.{Programs};
 
-use crate::advice::{print_advice, refusal_of};
-use crate::commands::build::words_of;
+use crate::advice::print_advice;
+use crate::command_forms::{Argument, CommandForm, FORMS};
 use crate::errors::Errors;
-use crate::fault::Fault;
 use crate::mistakes::mistake_line;
 use crate::output::Output;
-use crate::refusals::refusals;
+use crate::refusals::refusal_of;
+use clap::error::ErrorKind;
 use clap::{ArgMatches, Error};
-use nb_names::NoMemory;
+use nb_building::BuildFault;
+use nb_streams::NoMemory;
+use nbt_command::Fault;
+use nbt_packets::words_of;
 use std::alloc::Global;
 use std::io::Write;
+use std::ops::Range;
 
 /// What is said of an input that is a pcap file.
 const LOOK: &str =
@@ -39,8 +43,14 @@ pub fn print_hint<E: Write>(alloc: Global, fault: Fault, errors: &mut Errors<'_,
     };
 }
 
-/// Tells a person which of the words of a packet is wrong, and what was wanted, as a line.
-pub fn print_mistake<E: Write>(alloc: Global, matches: &ArgMatches<'_>, errors: &mut Errors<'_, E>)
+/// Tells a person which of the words of a packet is wrong, and what was wanted, as a line, or what
+/// another fault of theirs means.
+pub fn print_mistake<E: Write>(
+    alloc: Global,
+    fault: BuildFault,
+    matches: &ArgMatches<'_>,
+    errors: &mut Errors<'_, E>,
+)
     ensures quiet { errors.old.audience ≡ Programs → errors.new ≡ errors.old }
 {
     if errors.signature().is_none() {
@@ -49,8 +59,12 @@ pub fn print_mistake<E: Write>(alloc: Global, matches: &ArgMatches<'_>, errors: 
     let Some((what, words)) = packet_words(matches) else {
         return;
     };
-    if let Ok(line) = mistake_line(alloc, what, words) {
-        let _ = errors.output.print(line.as_bytes());
+    match mistake_line(alloc, fault, what, words) {
+        Ok(line) if line.is_empty() => print_hint(alloc, Fault::Build(fault), errors),
+        Ok(line) => {
+            let _ = errors.output.print(line.as_bytes());
+        }
+        Err(_) => {}
     }
 }
 
@@ -64,10 +78,10 @@ pub fn print_input<E: Write>(
 )
     ensures quiet { errors.old.audience ≡ Programs → errors.new ≡ errors.old }
 {
-    if errors.signature().is_none() {
+    if errors.signature().is_none() || !matches!(error.kind(), ErrorKind::UnknownArgument) {
         return;
     }
-    if let Ok(line) = input_line(alloc, words, error) {
+    if let Ok(line) = input_line(alloc, words) {
         let _ = errors.output.print(line.as_bytes());
     }
 }
@@ -100,10 +114,8 @@ fn print_meaning<E: Write>(
     fault: Fault,
     output: &mut Output<E>,
 ) -> Result<(), Fault> {
-    let mut text = String::new(alloc);
-    write!(text, "{fault}")?;
-    match refusal_of(refusals(), text.as_str()) {
-        Some(refusal) => print_advice(alloc, refusal, output),
+    match refusal_of(fault) {
+        Some(refusal) => print_advice(alloc, refusal, &mut output.device),
         None => Ok(()),
     }
 }
@@ -118,52 +130,70 @@ fn packet_words<'a>(matches: &'a ArgMatches<'_>) -> Option<(&'a str, &'a [&'a st
 /// The commands that read standard input, and take no words but options.
 const READERS: [&str; 5] = ["show", "save", "merge", "list", "agree"];
 
-/// How a command reads the files that these words give it, as a line; an empty text where they give
-/// it none, or `error` says something else.
+/// How a command reads the files that these words give it, of which it refuses the first; an empty
+/// text where they give it none.
 ///
 /// # Errors
 ///
-/// [`Fault::Memory`] where memory ran out.
-pub fn input_line(alloc: Global, words: &[String], error: &Error) -> Result<String, Fault> {
+/// `NoMemory` where memory ran out.
+fn input_line(alloc: Global, words: &[String]) -> Result<String, NoMemory> {
     let mut line = String::new(alloc);
-    let mut said = String::new(alloc);
-    write!(said, "{error}")?;
-    if let Some(start) = first_file(words, said.as_str()) {
+    if let Some(start) = first_file(words) {
         push_reading(words, start, end_of(words, start), &mut line)?;
     }
     Ok(line)
 }
 
-/// The place of the first file, where clap's text says that it is unexpected.
-fn first_file(words: &[String], said: &str) -> Option<usize> {
-    let command = words.get(1)?;
-    let given = unexpected(said)?;
-    if given.starts_with('-') || !READERS.contains(&command.as_str()) {
+/// The place of the first word after the command that is no option and no option's value, where it
+/// takes options alone; none where a word before that is no option of the command, or the word
+/// stands there twice.
+fn first_file(words: &[String]) -> Option<usize> {
+    let command = words.get(1)?.as_str();
+    let form = FORMS.iter().find(|form| form.name == command)?;
+    if !READERS.contains(&command) {
         return None;
     }
-    place_of(words, given)
-}
-
-/// The word that clap's text says is unexpected.
-fn unexpected(said: &str) -> Option<&str> {
-    let (_, rest) = said.split_once("unexpected argument '")?;
-    let (word, _) = rest.split_once("' found")?;
-    Some(word)
-}
-
-/// The place of a word after the command, where it stands there once: of two, one may be an
-/// option's value.
-fn place_of(words: &[String], given: &str) -> Option<usize> {
-    let mut found = None;
+    let mut is_value = false;
     for (place, word) in words.iter().enumerate() {
-        if place > 1 && word.as_str() == given {
-            if found.is_some() {
+        let word = word.as_str();
+        if place > 1 && word.starts_with('-') {
+            if is_value {
                 return None;
             }
-            found = Some(place);
+            is_value = takes_value(form, word)?;
+        } else if place > 1 && !is_value {
+            let alike = words.iter().skip(2).filter(|other| other.as_str() == word);
+            return if alike.count() == 1 {
+                Some(place)
+            } else {
+                None
+            };
+        } else if place > 1 {
+            is_value = false;
         }
     }
-    found
+    None
+}
+
+/// Whether the word behind this option of the command is its value.
+fn takes_value(form: &CommandForm, option: &str) -> Option<bool> {
+    let (option, is_given) = match option.split_once('=') {
+        Some((option, _)) => (option, true),
+        None => (option, false),
+    };
+    let name = option.strip_prefix("--")?;
+    if name.is_empty() {
+        return Some(false);
+    }
+    for argument in form.arguments {
+        match argument {
+            Argument::Flag(flag, _) if *flag == name => return Some(false),
+            Argument::Keys if name == "keys" => return Some(!is_given),
+            Argument::Number { name: number, .. } if *number == name => return Some(!is_given),
+            _ => {}
+        }
+    }
+    None
 }
 
 /// The place after the files that begin at this one: files end where an option begins.
@@ -190,10 +220,10 @@ fn push_reading(
     line.push_str(" reads standard input: ")?;
     if end.saturating_sub(start) == 1 {
         push_command(words, start, end, line)?;
-        push_files(" <", words, start, end, line)?;
+        push_words(words, start..end, " <", line)?;
     } else {
         line.push_str("cat")?;
-        push_files(" ", words, start, end, line)?;
+        push_words(words, start..end, " ", line)?;
         line.push_str(" | ")?;
         push_command(words, start, end, line)?;
     }
@@ -209,25 +239,19 @@ fn push_command(
     line: &mut String,
 ) -> Result<(), NoMemory> {
     line.push_str("nbt")?;
-    for (place, word) in words.iter().enumerate() {
-        if place > 0 && (place < start || place >= end) {
-            line.push_str(" ")?;
-            push_word(word.as_str(), line)?;
-        }
-    }
-    Ok(())
+    push_words(words, 1..start, " ", line)?;
+    push_words(words, end..words.len(), " ", line)
 }
 
-/// Adds the files, each after a lead.
-fn push_files(
-    lead: &str,
+/// Adds the words at these places, each after a lead.
+fn push_words(
     words: &[String],
-    start: usize,
-    end: usize,
+    places: Range<usize>,
+    lead: &str,
     line: &mut String,
 ) -> Result<(), NoMemory> {
-    for (place, word) in words.iter().enumerate() {
-        if place >= start && place < end {
+    for place in places {
+        if let Some(word) = words.get(place) {
             line.push_str(lead)?;
             push_word(word.as_str(), line)?;
         }

@@ -1,125 +1,98 @@
 //! Which of the words of a packet is wrong, and what was wanted.
 
-use crate::forms::{Field, Form, forms};
-use nb_building::{BuildFault, capture_lines};
-use nb_names::{NoMemory, push_decimal};
+use nb_building::{BuildFault, Field, PACKETS, WordKind, fields_of};
+use nb_streams::NoMemory;
 use std::alloc::Global;
 
 /// The most bytes of a word that is repeated.
 const SHORT: usize = 40;
 
-/// What is wrong with WHAT and these words, which are refused, as a line.
+/// What is wrong with WHAT and these words, which are refused so, as a line; nothing where that
+/// isn't one of them, or how many there are.
 ///
 /// # Errors
 ///
 /// `NoMemory` where memory ran out.
-pub fn mistake_line(alloc: Global, what: &str, words: &[&str]) -> Result<String, NoMemory> {
+pub fn mistake_line(
+    alloc: Global,
+    fault: BuildFault,
+    what: &str,
+    words: &[&str],
+) -> Result<String, NoMemory> {
     let mut line = String::new(alloc);
-    line.push_str("arguments: ")?;
-    match forms().iter().find(|form| form.0 == what) {
-        None => push_packets(what, &mut line)?,
-        Some(form) if form.1.len() != words.len() => push_count(form, words.len(), &mut line)?,
-        Some(form) => push_wrong(alloc, form, words, &mut line)?,
+    let fields = fields_of(what).unwrap_or(&[]);
+    match fault {
+        BuildFault::What => push_packets(alloc, what, &mut line)?,
+        BuildFault::Count => push_count(what, fields, words.len(), &mut line)?,
+        BuildFault::Word(place) => push_wrong(what, fields, words, place, &mut line)?,
+        _ => {}
     }
-    line.push_str("\n")?;
     Ok(line)
 }
 
 /// Says that there is no such packet, and which there are.
-fn push_packets(what: &str, line: &mut String) -> Result<(), NoMemory> {
-    line.push_str("WHAT is one of")?;
-    for (place, form) in forms().iter().enumerate() {
-        push_both(if place == 0 { " " } else { ", " }, form.0, line)?;
-    }
+fn push_packets(alloc: Global, what: &str, line: &mut String) -> Result<(), NoMemory> {
+    let packets = PACKETS[..].join(alloc, ", ")?;
+    write!(line, "arguments: WHAT is one of {packets}")?;
     push_given(what, line)
 }
 
 /// Says how many words a packet takes, and how many are given.
-fn push_count(form: &Form, given: usize, line: &mut String) -> Result<(), NoMemory> {
-    let Form(what, fields) = form;
-    push_both("words after ", what, line)?;
-    push_number(": ", fields.len(), line)?;
-    line.push_str(" wanted")?;
-    for field in *fields {
-        push_both(" ", field.0, line)?;
+fn push_count(
+    what: &str,
+    fields: &[Field],
+    given: usize,
+    line: &mut String,
+) -> Result<(), NoMemory> {
+    let wanted = fields.len();
+    write!(line, "arguments: words after {what}: {wanted} wanted")?;
+    for Field(name, _, _) in fields {
+        write!(line, " {name}")?;
     }
-    push_number(", and not ", given, line)
+    writeln!(line, ", and not {given}")?;
+    Ok(())
 }
 
 /// Says which word of a packet is wrong, and what it has to be.
 fn push_wrong(
-    alloc: Global,
-    form: &Form,
+    what: &str,
+    fields: &[Field],
     words: &[&str],
+    place: usize,
     line: &mut String,
 ) -> Result<(), NoMemory> {
-    for (place, (field, word)) in form.1.iter().zip(words).enumerate() {
-        if !is_taken(alloc, form, words, place)? {
-            push_place(form.0, place + 1, line)?;
-            push_wanted(*field, line)?;
-            return push_given(word, line);
-        }
+    if let (Some(Field(name, kind, example)), Some(word)) = (fields.get(place), words.get(place)) {
+        let (number, wanted) = (place + 1, wanted(*kind));
+        write!(
+            line,
+            "arguments: word {number} after {what} is {name}, {wanted}, such as {example}"
+        )?;
+        push_given(word, line)?;
     }
     Ok(())
 }
 
-/// Says which word after WHAT is wrong.
-fn push_place(what: &str, place: usize, line: &mut String) -> Result<(), NoMemory> {
-    push_number("word ", place, line)?;
-    push_both(" after ", what, line)
-}
-
-/// Says what a word has to be.
-fn push_wanted(field: Field, line: &mut String) -> Result<(), NoMemory> {
-    let Field(name, wanted, example) = field;
-    push_both(" is ", name, line)?;
-    push_both(", ", wanted, line)?;
-    push_both(", such as ", example, line)
-}
-
-/// Whether a packet takes these words up to this place, with examples behind them.
-fn is_taken(alloc: Global, form: &Form, words: &[&str], place: usize) -> Result<bool, NoMemory> {
-    let mut tried = Vec::new(alloc);
-    push_tried(form, words, place, &mut tried)?;
-    Ok(is_packet(alloc, form.0, tried.as_slice()))
-}
-
-/// Adds the words up to this place, and examples behind them.
-fn push_tried<'a>(
-    form: &Form,
-    words: &[&'a str],
-    place: usize,
-    tried: &mut Vec<&'a str>,
-) -> Result<(), NoMemory> {
-    for (at, (field, word)) in form.1.iter().zip(words).enumerate() {
-        tried.push(if at <= place { *word } else { field.2 })?;
+/// What a word has to be.
+fn wanted(kind: WordKind) -> &'static str {
+    match kind {
+        WordKind::Digits => "four hexadecimal digits",
+        WordKind::Code => "two hexadecimal digits",
+        WordKind::Name => "the text of a name",
+        WordKind::ShortNumber => "a decimal number to 65535 without leading zeros",
+        WordKind::LongNumber => "a decimal number to 4294967295 without leading zeros",
+        WordKind::Address => "four decimal numbers to 255 with dots between them",
+        WordKind::Key => "ADDRESS:PORT/ID",
+        WordKind::Data => "two hexadecimal digits a byte, or `empty`",
+        WordKind::Rdata => "two hexadecimal digits a byte, for TYPE 0002 those of a name",
     }
-    Ok(())
 }
 
-/// Whether these words are taken for a packet.
-fn is_packet(alloc: Global, what: &str, words: &[&str]) -> bool {
-    let built = capture_lines(alloc, what, words, false);
-    !matches!(built, Err(BuildFault::Arguments))
-}
-
-/// Adds a word that was given, unless it is long or has other bytes than a terminal shows.
+/// Ends the line, and before that adds a word that was given, unless it is long or has other bytes
+/// than a terminal shows.
 fn push_given(word: &str, line: &mut String) -> Result<(), NoMemory> {
-    if word.len() > SHORT || !word.bytes().all(|byte| byte.is_ascii_graphic()) {
-        return Ok(());
+    if word.len() <= SHORT && word.bytes().all(|byte| byte.is_ascii_graphic()) {
+        write!(line, ", and not {word}")?;
     }
-    push_both(", and not ", word, line)
-}
-
-/// Adds two texts.
-fn push_both(first: &str, second: &str, line: &mut String) -> Result<(), NoMemory> {
-    line.push_str(first)?;
-    line.push_str(second)?;
+    line.push_str("\n")?;
     Ok(())
-}
-
-/// Adds a number after a text.
-fn push_number(text: &str, number: usize, line: &mut String) -> Result<(), NoMemory> {
-    line.push_str(text)?;
-    push_decimal(number as u64, line)
 }

@@ -2,15 +2,12 @@
 //! more of the input is waited for.
 ghost use Rattle.std.specs.Prelude.{◌≡◌, ◌<◌, OnOk, OnErr, IfErr};
 ghost use Rattle.std.specs.Io.KnownBytes.{Appends};
-ghost use Rattle.nb_names.specs.Counted.{no_calls};
-ghost use Rattle.nb_names.specs.Devices.{AppendsFront, GrowTo, ShowsWriteFault};
-ghost use Rattle.nbt.specs.Printing.{ExplainsWrite, PrintsText};
-ghost use Rattle.nbt.specs.Saving.{saved_line};
+ghost use Rattle.nb_streams.specs.Counted.{no_calls};
+ghost use Rattle.nb_streams.specs.Devices.{AppendsFront, GrowTo, ShowsWriteFault};
 
-use crate::fault::Fault;
-use nb_names::Counted;
-use nb_names::output::{write_some, write_whole};
-use nb_table::Table;
+use nb_streams::Counted;
+use nb_streams::output::write_some;
+use nbt_command::{Fault, print};
 use std::cell::RefCell;
 use std::io;
 use std::io::{ErrorKind, Read, Write};
@@ -23,7 +20,7 @@ pub struct Output<W> {
 }
 
 impl<W> Model for Output<W> {
-    ghost use Rattle.nb_names.specs.Counted.{CountedOf, counted_code};
+    ghost use Rattle.nb_streams.specs.Counted.{CountedOf, counted_code};
 
     ghost Value = { CountedOf W };
 
@@ -68,29 +65,7 @@ impl<W> Output<W> {
         ensures grow { GrowTo self.old.counts self.new.counts }
         ensures why { OnErr result (ShowsWriteFault self.old.counts self.new.counts) }
     {
-        match write_whole(&mut self.device, bytes) {
-            Ok(()) => Ok(()),
-            Err(_) => Err(Fault::Write),
-        }
-    }
-
-    /// Writes a table as it is saved, in hexadecimal, as a line. No memory is taken.
-    ///
-    /// # Errors
-    ///
-    /// [`Fault::Write`], as [`Output::print`] has it. A front of the line is written then.
-    pub fn print_saved(&mut self, table: &Table) -> Result<(), Fault>
-    where
-        W: Write,
-        ensures prints { PrintsText (saved_line table.now.contents)
-            (W.contents self.old.inner) (W.contents self.new.inner) result }
-        ensures fault { IfErr result (λ fault. fault ≡ Fault.Write) }
-        ensures why { ExplainsWrite result self.old.counts self.new.counts }
-    {
-        match table.write_saved(&mut self.device) {
-            Ok(()) => self.print(&[b'\n']),
-            Err(_) => Err(Fault::Write),
-        }
+        print(&mut self.device, bytes)
     }
 }
 

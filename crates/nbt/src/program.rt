@@ -2,33 +2,26 @@
 ghost use Rattle.std.specs.Prelude.{◌≡◌, ◌≢◌, ◌≤◌, ◌⊎◌, map, string_bytes, true, IfOk, IfErr};
 ghost use Rattle.std.specs.Io.KnownBytes.{Keeps};
 ghost use Rattle.clap.specs.Words.{kind_of, subcommand_name_of, takes};
-ghost use Rattle.nbt.specs.FaultTexts.{status_after};
+ghost use Rattle.nbt_command.specs.FaultTexts.{status_after};
 ghost use Rattle.nbt.specs.CommandLine.{AreAlone, DoesRead, nbt_app, AreMisused, Reports, answer_to};
-ghost use Rattle.nbt.specs.Commands.{Ran, RanBy, streams, with_status};
-ghost use Rattle.nbt.specs.Running.{IsMisuse, RanOver};
+ghost use Rattle.nbt_command.specs.Streams.{streams};
+ghost use Rattle.nbt.specs.Commands.{Ended, EndedBy, with_status};
+ghost use Rattle.nbt.specs.Ending.{EndedOver, IsMisuse};
 ghost use Rattle.nbt.specs.Refusals.{IsPrintFault};
-ghost use Rattle.nbt.specs.Printing.{ExplainsWrite};
+ghost use Rattle.nbt_command.specs.Printing.{ExplainsWrite};
 
 use crate::advice::{asked, helped_command, print_advice, refusal_lines};
 use crate::command_forms::Subcommand;
 use crate::command_line::{ClapAnswer, command};
-use crate::commands::agree::run_agree;
-use crate::commands::build::run_build;
-use crate::commands::list::run_list;
-use crate::commands::merge::run_merge;
-use crate::commands::name::run_name;
-use crate::commands::replay::run_replay;
-use crate::commands::save::run_save;
-use crate::commands::show::run_show;
 use crate::errors::{Audience, Errors};
-use crate::fault::{Fault, Status};
-use crate::hints::{print_hint, print_input, print_mistake, print_unhelped};
-use crate::output::Output;
+use crate::hints::{print_dropped, print_hint, print_input, print_mistake, print_unhelped};
 use crate::refusals::refusals;
 use crate::streams::{Call, run_for};
 use clap::{ArgMatches, Error};
-use nb_building::BuildFault;
-use nb_names::Counted;
+use nb_streams::Counted;
+use nbt_command::{Fault, Status, print};
+use nbt_packets::{run_build, run_name, run_show};
+use nbt_reassembly::{run_agree, run_list, run_merge, run_replay, run_save};
 use std::alloc::Global;
 use std::io::{Read, Write};
 
@@ -49,7 +42,7 @@ pub fn run<R: Read, W: Write, E: Write>(
 ) -> u8
     // Words that are a command with its own options and arguments, as clap takes them.
     ensures ran { takes nbt_app (map string_bytes words.now) ≡ true →
-        RanOver (map string_bytes words.now) (R.remaining input.old) (R.remaining input.new)
+        EndedOver (map string_bytes words.now) (R.remaining input.old) (R.remaining input.new)
         (W.contents output.old) (W.contents output.new) result }
     ensures alone { AreAlone (map string_bytes words.now) → result ≢ 2 }
     ensures usage { result ≡ 2 → Keeps (W.contents output.old) (W.contents output.new) }
@@ -78,11 +71,11 @@ pub fn run_counted<R: Read, W: Write, E: Write>(
     alloc: Global,
     words: &[String],
     input: &mut Counted<R>,
-    output: &mut Output<W>,
+    output: &mut Counted<W>,
     errors: &mut Errors<'_, E>,
 ) -> Status
     ensures ran { takes nbt_app (map string_bytes words.now) ≡ true →
-        RanBy (map string_bytes words.now) (streams R.remaining W.contents
+        EndedBy (map string_bytes words.now) (streams R.remaining W.contents
         input.old input.new output.old output.new) result }
     ensures alone { AreAlone (map string_bytes words.now) → result ≢ Status.BadUsage }
     ensures usage { result ≡ Status.BadUsage →
@@ -122,10 +115,10 @@ fn run_command<R: Read, W: Write, E: Write>(
     alloc: Global,
     matches: &ArgMatches<'_>,
     input: &mut Counted<R>,
-    output: &mut Output<W>,
+    output: &mut Counted<W>,
     errors: &mut Errors<'_, E>,
 ) -> Result<Status, Fault>
-    ensures ran { Ran matches.now (streams R.remaining W.contents
+    ensures ran { Ended matches.now (streams R.remaining W.contents
         input.old input.new output.old output.new) result }
     ensures status { IfOk result (λ status. status ≢ Status.BadUsage) }
     ensures unread { ¬ DoesRead (subcommand_name_of matches.now) → input.new ≡ input.old }
@@ -143,7 +136,7 @@ fn run_command<R: Read, W: Write, E: Write>(
         Subcommand::Show => done(run_show(alloc, matches, input, output)),
         Subcommand::Build => done(run_build(alloc, matches, output)),
         Subcommand::Replay => done(run_replay(alloc, matches, input, output)),
-        Subcommand::Save => done(run_save(alloc, matches, input, output, errors)),
+        Subcommand::Save => saved(run_save(alloc, matches, input, output), errors),
         Subcommand::Merge => done(run_merge(alloc, matches, input, output)),
         Subcommand::List => done(run_list(alloc, matches, input, output)),
         Subcommand::Agree => run_agree(alloc, matches, input, output),
@@ -160,6 +153,21 @@ fn done(outcome: Result<(), Fault>) -> Result<Status, Fault>
     }
 }
 
+/// The outcome of `save`, which answers how many keys the ticks of the capture dropped: a person is
+/// told.
+fn saved<E: Write>(outcome: Result<u64, Fault>, errors: &mut Errors<'_, E>) -> Result<Status, Fault>
+    ensures outcome { result ≡ with_status outcome }
+    ensures quiet { errors.old.audience ≡ Audience.Programs → errors.new ≡ errors.old }
+{
+    match outcome {
+        Ok(dropped) => {
+            print_dropped(dropped, errors);
+            Ok(Status::Done)
+        }
+        Err(fault) => Err(fault),
+    }
+}
+
 /// The status with which the command that these words name ended, as [`report`] has it. Where they
 /// are a bad packet's, a terminal gets the one that is wrong.
 fn report_run<E: Write>(
@@ -172,10 +180,10 @@ fn report_run<E: Write>(
     ensures quiet { result ≡ Status.Done → errors.new ≡ errors.old }
 {
     match outcome {
-        Err(Fault::Arguments) | Err(Fault::Build(BuildFault::Arguments)) => {
-            let _ = errors.print_fault(Fault::Arguments);
-            print_mistake(alloc, matches, errors);
-            Status::Refused
+        Err(Fault::Build(fault)) => {
+            let _ = errors.print_fault(Fault::Build(fault));
+            print_mistake(alloc, fault, matches, errors);
+            Fault::Build(fault).status()
         }
         _ => report(alloc, outcome, errors),
     }
@@ -210,7 +218,7 @@ fn report_unmatched<W: Write, E: Write>(
     alloc: Global,
     words: &[String],
     error: &Error,
-    output: &mut Output<W>,
+    output: &mut Counted<W>,
     errors: &mut Errors<'_, E>,
 ) -> Status
     ensures reports { Reports (answer_to (kind_of error.now)) result
@@ -239,15 +247,15 @@ fn print_help<W: Write>(
     alloc: Global,
     words: &[String],
     error: &Error,
-    output: &mut Output<W>,
+    output: &mut Counted<W>,
 ) -> Result<(), Fault>
     ensures fault { IfErr result IsPrintFault }
     ensures err { IfErr result (λ fault. fault ≢ Fault.Write →
         Keeps (W.contents output.old.inner) (W.contents output.new.inner)) }
 {
     let lines = refusal_lines(alloc, refusals(), helped_command(words))?;
-    match write!(output, "{error}") {
-        Ok(()) => output.print(lines.as_bytes()),
-        Err(_) => Err(Fault::Write),
-    }
+    let mut help = String::new(alloc);
+    write!(help, "{error}")?;
+    help.push_str(lines.as_str())?;
+    print(output, help.as_bytes())
 }

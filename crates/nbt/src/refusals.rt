@@ -1,6 +1,10 @@
-//! What the program may say where it refuses, and what to do then: found by a fault's own text.
+//! What the program may say where it refuses, and what to do then.
 
 use crate::limits::{FULL_ADVICE, MEMORY_ADVICE, NAMES_ADVICE};
+use nb_building::BuildFault;
+use nb_entries::LoadFault;
+use nb_names::{NameFault, TextFault};
+use nbt_command::Fault;
 
 /// Why something is refused, and what to do then.
 pub struct Refusal {
@@ -19,208 +23,301 @@ pub fn refusals() -> &'static [Refusal] {
     &REFUSALS
 }
 
+/// What is said of a fault; nothing of options that are given together.
+pub fn refusal_of(fault: Fault) -> Option<&'static Refusal> {
+    Some(match fault {
+        Fault::Arguments => return None,
+        Fault::Text(fault) | Fault::Build(BuildFault::Text(_, fault)) => match fault {
+            TextFault::BadText(_) => &BAD_TEXT,
+            TextFault::TooLong => &TOO_LONG,
+        },
+        Fault::Name(NameFault::Truncated(_)) | Fault::Load(LoadFault::Truncated) => &TRUNCATED,
+        Fault::Name(NameFault::ReservedLabel(_)) => &RESERVED_LABEL,
+        Fault::Name(NameFault::PointerNotAllowed(_)) => &POINTER_NOT_ALLOWED,
+        Fault::Name(NameFault::BadPointer(_)) => &BAD_POINTER,
+        Fault::Name(NameFault::NotNetbios(_)) => &NOT_NETBIOS,
+        Fault::Name(NameFault::TooLong(_)) | Fault::Build(BuildFault::TooLong) => &TOO_LONG,
+        Fault::Load(LoadFault::TooLong) | Fault::TooLong => &TOO_LONG,
+        Fault::Build(BuildFault::What | BuildFault::Count | BuildFault::Word(_)) => &ARGUMENTS,
+        Fault::Build(BuildFault::ZeroPiece) => &ZERO_PIECE,
+        Fault::Load(LoadFault::BadMagic) => &BAD_MAGIC,
+        Fault::Load(LoadFault::NotCanonical(_)) => &NOT_CANONICAL,
+        Fault::Load(LoadFault::FullSource) | Fault::FullSource => &FULL_SOURCE,
+        Fault::Load(LoadFault::Full) | Fault::Full => &FULL,
+        Fault::BadHex => &BAD_HEX,
+        Fault::TrailingBytes(_) => &TRAILING_BYTES,
+        Fault::Line(_) => &LINE,
+        Fault::TooManyNames => &TOO_MANY_NAMES,
+        Fault::NoTables => &NO_TABLES,
+        Fault::TwoTablesWanted => &TWO_TABLES_WANTED,
+        Fault::Read => &READ,
+        Fault::Write => &WRITE,
+        Fault::Build(BuildFault::Memory) | Fault::Load(LoadFault::NoMemory) | Fault::Memory => {
+            &MEMORY
+        }
+    })
+}
+
 /// All commands.
 const EACH: [&str; 8] = [
     "name", "show", "build", "replay", "save", "merge", "list", "agree",
 ];
 
+const TRUNCATED: Refusal = Refusal {
+    words: "truncated",
+    number: " AT",
+    by: &["name", "show", "replay", "merge", "list", "agree"],
+    advice: "the bytes end inside a packet, name or table: capture whole packets, as by \
+             `tcpdump -s 0`, or save the table again",
+};
+
+const UNKNOWN_TYPE: Refusal = Refusal {
+    words: "unknown type",
+    number: "",
+    by: &["show", "replay"],
+    advice: "the first byte is none of the port's types, such as 85 of port 139: other \
+             traffic, or a stream that was cut inside a packet",
+};
+
+const RESERVED_FLAGS: Refusal = Refusal {
+    words: "reserved flags",
+    number: "",
+    by: &["show"],
+    advice: "the second byte has a bit that no session packet has: cut the stream where a \
+             packet begins, as `139 0 85000000` does",
+};
+
+const BAD_LENGTH: Refusal = Refusal {
+    words: "bad length",
+    number: "",
+    by: &["show"],
+    advice: "bytes 2 and 3 are a length that no packet of this type has: cut the stream where \
+             one begins, as `139 0 85000000` does",
+};
+
+const RESERVED_LABEL: Refusal = Refusal {
+    words: "reserved label",
+    number: " AT",
+    by: &["name", "show", "replay"],
+    advice: "byte AT is no length of a label: other traffic, or a later piece of a datagram \
+             that was cut by RFC 1002, section 5.3",
+};
+
+const BAD_POINTER: Refusal = Refusal {
+    words: "bad pointer",
+    number: " AT",
+    by: &["show"],
+    advice: "the pointer leads forward or to itself, not back as c00c does: leave the packet \
+             out, its sender is broken or hostile",
+};
+
+const POINTER_NOT_ALLOWED: Refusal = Refusal {
+    words: "pointer not allowed",
+    number: " AT",
+    by: &["name", "show", "replay"],
+    advice: "a pointer stands where a name is spelled out: spell it as `nbt name 'FRED<20>'` \
+             prints it",
+};
+
+const NOT_NETBIOS: Refusal = Refusal {
+    words: "not netbios",
+    number: " AT",
+    by: &["name", "show", "replay"],
+    advice: "byte AT of the name is wrong: a NetBIOS name is 20 and 32 letters A to P, as `nbt \
+             name 'FRED<20>'` prints it; perhaps other traffic",
+};
+
+const NAME_RDATA: Refusal = Refusal {
+    words: "name rdata",
+    number: " AT",
+    by: &["show"],
+    advice: "the name in an NS record ends before or after the record's data: leave the packet \
+             out, its sender is broken or hostile",
+};
+
+const TRAILING_BYTES: Refusal = Refusal {
+    words: "trailing bytes",
+    number: " AT",
+    by: &["name", "show"],
+    advice: "bytes follow the name of a spelling, or the two names of a session request: leave \
+             out the bytes from AT on",
+};
+
+const MISPLACED_FIRST: Refusal = Refusal {
+    words: "misplaced first",
+    number: "",
+    by: &["replay"],
+    advice: "the flag F (02) is clear at offset 0, or set at another: `nbt show` prints flags \
+             and offset; set F at offset 0 alone",
+};
+
+const UNHEARD: Refusal = Refusal {
+    words: "unheard",
+    number: "",
+    by: &["replay"],
+    advice: "the station has no name that is the destination's: give it, in the same case, as \
+             `nbt show` prints it: destination=FRED<20>",
+};
+
+const TOO_LONG: Refusal = Refusal {
+    words: "too long",
+    number: " AT",
+    by: &["name", "show", "build", "replay"],
+    advice: "more than 15 characters before `<20>`, 63 in a label or 222 in a scope, or more \
+             than 65535 bytes in a datagram: shorten it",
+};
+
+const BAD_TEXT: Refusal = Refusal {
+    words: "bad text",
+    number: " AT",
+    by: &["name", "build", "replay"],
+    advice: "invalid at character AT: a name ends with its last byte, as in 'FRED<20>', and \
+             a space is \\20",
+};
+
+const TOO_MANY_NAMES: Refusal = Refusal {
+    words: "too many names",
+    number: "",
+    by: &["replay"],
+    advice: NAMES_ADVICE,
+};
+
+const BAD_HEX: Refusal = Refusal {
+    words: "bad hex",
+    number: "",
+    by: &["name"],
+    advice: "no spelling in hexadecimal: give two digits a byte, 0 to 9 and a to f, as `nbt \
+             name 'FRED<20>'` prints them",
+};
+
+const ARGUMENTS: Refusal = Refusal {
+    words: "arguments",
+    number: "",
+    by: &["show", "build"],
+    advice: "the words make no packet, as `nbt build query 0003 'FRED<20>'` does: see `nbt \
+             build --help`; of --brief and --partial give one",
+};
+
+const ZERO_PIECE: Refusal = Refusal {
+    words: "zero piece",
+    number: "",
+    by: &["build"],
+    advice: "MOST, how many bytes of data a fragment has at most, is 0: give 1 or more, such \
+             as 512",
+};
+
+const LINE: Refusal = Refusal {
+    words: "line",
+    number: " N",
+    by: &["show", "replay", "save", "merge", "list", "agree"],
+    advice: "no line of a capture, as `138 0 00ff` and `tick 1` are, or no table of `nbt \
+             save`: leave out \\r; nbt-pcap2cap makes lines of a pcap",
+};
+
+const BAD_MAGIC: Refusal = Refusal {
+    words: "bad magic",
+    number: "",
+    by: &["merge", "list", "agree"],
+    advice: "it isn't a saved table: `nbt save <capture` prints one, which begins with \
+             4e425432",
+};
+
+const NOT_CANONICAL: Refusal = Refusal {
+    words: "not canonical",
+    number: " AT",
+    by: &["merge", "list", "agree"],
+    advice: "the saved table was changed: save it again, as in `nbt save <capture >table`",
+};
+
+const NO_TABLES: Refusal = Refusal {
+    words: "no tables",
+    number: "",
+    by: &["merge", "list"],
+    advice: "the input is empty: give it saved tables, as in `cat one other | nbt merge`",
+};
+
+const TWO_TABLES_WANTED: Refusal = Refusal {
+    words: "two tables wanted",
+    number: "",
+    by: &["agree"],
+    advice: "the input doesn't have exactly two lines: give it two tables, as in `cat one \
+             other | nbt agree`",
+};
+
+const FULL: Refusal = Refusal {
+    words: "full",
+    number: "",
+    by: &["replay", "save", "merge", "list"],
+    advice: FULL_ADVICE,
+};
+
+const FULL_SOURCE: Refusal = Refusal {
+    words: "full source",
+    number: "",
+    by: &["replay", "save", "merge", "list"],
+    advice: "more keys of one address than --per-source allows: allow more, as in \
+             `--per-source 1024`, or leave the option out",
+};
+
+const UNEXPECTED_ARGUMENT: Refusal = Refusal {
+    words: "unexpected argument",
+    number: "",
+    by: &["show", "save", "merge", "list", "agree"],
+    advice: "the command takes no such word: what it reads comes on standard input, as in `nbt \
+             show <capture`",
+};
+
+const READ: Refusal = Refusal {
+    words: "read",
+    number: "",
+    by: &EACH,
+    advice: "the input can't be read, as a folder can't, or it is too long, or a word isn't \
+             UTF-8: allow more, as in `--input-limit 99999999`",
+};
+
+const WRITE: Refusal = Refusal {
+    words: "write",
+    number: "",
+    by: &EACH,
+    advice: "standard output is full or closed: make room, or read it to its end, which `head` \
+             doesn't do",
+};
+
+const MEMORY: Refusal = Refusal {
+    words: "memory",
+    number: "",
+    by: &EACH,
+    advice: MEMORY_ADVICE,
+};
+
 const REFUSALS: [Refusal; 29] = [
-    Refusal {
-        words: "truncated",
-        number: " AT",
-        by: &["name", "show", "replay", "merge", "list", "agree"],
-        advice: "the bytes end inside a packet, name or table: capture whole packets, as by \
-                 `tcpdump -s 0`, or save the table again",
-    },
-    Refusal {
-        words: "unknown type",
-        number: "",
-        by: &["show", "replay"],
-        advice: "the first byte is none of the port's types, such as 85 of port 139: other \
-                 traffic, or a stream that was cut inside a packet",
-    },
-    Refusal {
-        words: "reserved flags",
-        number: "",
-        by: &["show"],
-        advice: "the second byte has a bit that no session packet has: cut the stream where a \
-                 packet begins, as `139 0 85000000` does",
-    },
-    Refusal {
-        words: "bad length",
-        number: "",
-        by: &["show"],
-        advice: "bytes 2 and 3 are a length that no packet of this type has: cut the stream where \
-                 one begins, as `139 0 85000000` does",
-    },
-    Refusal {
-        words: "reserved label",
-        number: " AT",
-        by: &["name", "show", "replay"],
-        advice: "byte AT is no length of a label: other traffic, or a later piece of a datagram \
-                 that was cut by RFC 1002, section 5.3",
-    },
-    Refusal {
-        words: "bad pointer",
-        number: " AT",
-        by: &["show"],
-        advice: "the pointer leads forward or to itself, not back as c00c does: leave the packet \
-                 out, its sender is broken or hostile",
-    },
-    Refusal {
-        words: "pointer not allowed",
-        number: " AT",
-        by: &["name", "show", "replay"],
-        advice: "a pointer stands where a name is spelled out: spell it as `nbt name 'FRED<20>'` \
-                 prints it",
-    },
-    Refusal {
-        words: "not netbios",
-        number: " AT",
-        by: &["name", "show", "replay"],
-        advice: "byte AT of the name is wrong: a NetBIOS name is 20 and 32 letters A to P, as `nbt \
-                 name 'FRED<20>'` prints it; perhaps other traffic",
-    },
-    Refusal {
-        words: "name rdata",
-        number: " AT",
-        by: &["show"],
-        advice: "the name in an NS record ends before or after the record's data: leave the packet \
-                 out, its sender is broken or hostile",
-    },
-    Refusal {
-        words: "trailing bytes",
-        number: " AT",
-        by: &["name", "show"],
-        advice: "bytes follow the name of a spelling, or the two names of a session request: leave \
-                 out the bytes from AT on",
-    },
-    Refusal {
-        words: "misplaced first",
-        number: "",
-        by: &["replay"],
-        advice: "the flag F (02) is clear at offset 0, or set at another: `nbt show` prints flags \
-                 and offset; set F at offset 0 alone",
-    },
-    Refusal {
-        words: "unheard",
-        number: "",
-        by: &["replay"],
-        advice: "the station has no name that is the destination's: give it, in the same case, as \
-                 `nbt show` prints it: destination=FRED<20>",
-    },
-    Refusal {
-        words: "too long",
-        number: " AT",
-        by: &["name", "show", "build", "replay"],
-        advice: "more than 15 characters before `<20>`, 63 in a label or 222 in a scope, or more \
-                 than 65535 bytes in a datagram: shorten it",
-    },
-    Refusal {
-        words: "bad text",
-        number: " AT",
-        by: &["name", "build", "replay"],
-        advice: "invalid at character AT: a name ends with its last byte, as in 'FRED<20>', and \
-                 a space is \\20",
-    },
-    Refusal {
-        words: "too many names",
-        number: "",
-        by: &["replay"],
-        advice: NAMES_ADVICE,
-    },
-    Refusal {
-        words: "bad hex",
-        number: "",
-        by: &["name"],
-        advice: "no spelling in hexadecimal: give two digits a byte, 0 to 9 and a to f, as `nbt \
-                 name 'FRED<20>'` prints them",
-    },
-    Refusal {
-        words: "arguments",
-        number: "",
-        by: &["show", "build"],
-        advice: "the words make no packet, as `nbt build query 0003 'FRED<20>'` does: see `nbt \
-                 build --help`; of --brief and --partial give one",
-    },
-    Refusal {
-        words: "zero piece",
-        number: "",
-        by: &["build"],
-        advice: "MOST, how many bytes of data a fragment has at most, is 0: give 1 or more, such \
-                 as 512",
-    },
-    Refusal {
-        words: "line",
-        number: " N",
-        by: &["show", "replay", "save", "merge", "list", "agree"],
-        advice: "no line of a capture, as `138 0 00ff` and `tick 1` are, or no table of `nbt \
-                 save`: leave out \\r; nbt-pcap2cap makes lines of a pcap",
-    },
-    Refusal {
-        words: "bad magic",
-        number: "",
-        by: &["merge", "list", "agree"],
-        advice: "it isn't a saved table: `nbt save <capture` prints one, which begins with \
-                 4e425432",
-    },
-    Refusal {
-        words: "not canonical",
-        number: " AT",
-        by: &["merge", "list", "agree"],
-        advice: "the saved table was changed: save it again, as in `nbt save <capture >table`",
-    },
-    Refusal {
-        words: "no tables",
-        number: "",
-        by: &["merge", "list"],
-        advice: "the input is empty: give it saved tables, as in `cat one other | nbt merge`",
-    },
-    Refusal {
-        words: "two tables wanted",
-        number: "",
-        by: &["agree"],
-        advice: "the input doesn't have exactly two lines: give it two tables, as in `cat one \
-                 other | nbt agree`",
-    },
-    Refusal {
-        words: "full",
-        number: "",
-        by: &["replay", "save", "merge", "list"],
-        advice: FULL_ADVICE,
-    },
-    Refusal {
-        words: "full source",
-        number: "",
-        by: &["replay", "save", "merge", "list"],
-        advice: "more keys of one address than --per-source allows: allow more, as in \
-                 `--per-source 1024`, or leave the option out",
-    },
-    Refusal {
-        words: "unexpected argument",
-        number: "",
-        by: &["show", "save", "merge", "list", "agree"],
-        advice: "the command takes no such word: what it reads comes on standard input, as in `nbt \
-                 show <capture`",
-    },
-    Refusal {
-        words: "read",
-        number: "",
-        by: &EACH,
-        advice: "the input can't be read, as a folder can't, or it is too long, or a word isn't \
-                 UTF-8: allow more, as in `--input-limit 99999999`",
-    },
-    Refusal {
-        words: "write",
-        number: "",
-        by: &EACH,
-        advice: "standard output is full or closed: make room, or read it to its end, which `head` \
-                 doesn't do",
-    },
-    Refusal {
-        words: "memory",
-        number: "",
-        by: &EACH,
-        advice: MEMORY_ADVICE,
-    },
+    TRUNCATED,
+    UNKNOWN_TYPE,
+    RESERVED_FLAGS,
+    BAD_LENGTH,
+    RESERVED_LABEL,
+    BAD_POINTER,
+    POINTER_NOT_ALLOWED,
+    NOT_NETBIOS,
+    NAME_RDATA,
+    TRAILING_BYTES,
+    MISPLACED_FIRST,
+    UNHEARD,
+    TOO_LONG,
+    BAD_TEXT,
+    TOO_MANY_NAMES,
+    BAD_HEX,
+    ARGUMENTS,
+    ZERO_PIECE,
+    LINE,
+    BAD_MAGIC,
+    NOT_CANONICAL,
+    NO_TABLES,
+    TWO_TABLES_WANTED,
+    FULL,
+    FULL_SOURCE,
+    UNEXPECTED_ARGUMENT,
+    READ,
+    WRITE,
+    MEMORY,
 ];

@@ -3,13 +3,12 @@
 //! A contract over a stream that holds a reference doesn't say which one it holds afterwards, so
 //! each stream is moved out of its place and counted, and moved back once the run has ended.
 ghost use Rattle.std.specs.Prelude.{◌≡◌, map, string_bytes};
-ghost use Rattle.nbt.specs.Running.{IsQuiet, Runs};
+ghost use Rattle.nbt.specs.Ending.{IsQuiet, Ends};
 
 use crate::errors::{Audience, Errors};
-use crate::output::Output;
 use crate::program::run_counted;
 use core::mem::replace_with;
-use nb_names::Counted;
+use nb_streams::Counted;
 use std::alloc::Global;
 use std::cell::Cell;
 use std::io;
@@ -33,7 +32,7 @@ pub fn run_for<R: Read, W: Write, E: Write>(
     output: &mut W,
     errors: &mut E,
 ) -> u8
-    ensures runs { Runs (map string_bytes call.entry.words.now)
+    ensures runs { Ends (map string_bytes call.entry.words.now)
         (R.remaining input.old) (R.remaining input.new)
         (W.contents output.old) (W.contents output.new) result }
     ensures quiet { IsQuiet call.entry.audience result errors.old errors.new }
@@ -55,7 +54,7 @@ fn with_input<'a, R: Read, W: Write, E: Write>(
     input: R,
     rest: (Call<'_>, &'a mut W, &'a mut E),
 ) -> (R, (u8, &'a mut W, &'a mut E))
-    ensures runs { Runs (map string_bytes rest.entry.0.words.now)
+    ensures runs { Ends (map string_bytes rest.entry.0.words.now)
         (R.remaining input) (R.remaining result.0)
         (W.contents rest.entry.1.now) (W.contents result.1.1.now) result.1.0 }
     ensures quiet { IsQuiet rest.entry.0.audience result.1.0 rest.entry.2.now result.1.2.now }
@@ -72,7 +71,7 @@ fn with_output<'a, R: Read, W: Write, E: Write>(
     output: W,
     rest: (Call<'_>, R, &'a mut E),
 ) -> (W, (u8, R, &'a mut E))
-    ensures runs { Runs (map string_bytes rest.entry.0.words.now)
+    ensures runs { Ends (map string_bytes rest.entry.0.words.now)
         (R.remaining rest.entry.1) (R.remaining result.1.1)
         (W.contents output) (W.contents result.0) result.1.0 }
     ensures quiet { IsQuiet rest.entry.0.audience result.1.0 rest.entry.2.now result.1.2.now }
@@ -85,14 +84,14 @@ fn with_output<'a, R: Read, W: Write, E: Write>(
 
 /// Runs the program over streams of its own, which it gives back.
 fn with_errors<R: Read, W: Write, E: Write>(errors: E, rest: (Call<'_>, R, W)) -> (E, (u8, R, W))
-    ensures runs { Runs (map string_bytes rest.entry.0.words.now)
+    ensures runs { Ends (map string_bytes rest.entry.0.words.now)
         (R.remaining rest.entry.1) (R.remaining result.1.1)
         (W.contents rest.entry.2) (W.contents result.1.2) result.1.0 }
     ensures quiet { IsQuiet rest.entry.0.audience result.1.0 errors result.0 }
 {
     let (call, input, output) = rest;
     let mut input = Counted::new(input);
-    let mut output = Output::new(output);
+    let mut output = Counted::new(output);
     let mut errors = Errors::new(errors, call.audience);
     let status = run_counted(call.alloc, call.words, &mut input, &mut output, &mut errors);
     let code = status.code();

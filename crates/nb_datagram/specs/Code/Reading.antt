@@ -1,6 +1,6 @@
 -- What the code's own functions say of a packet while it is read.
 use Rattle.std.specs.Prelude.{ℕ, ◌≤◌, List, length}
-use Rattle.nb_names.specs.Labels.{StandsAt}
+use Rattle.nb_streams.specs.Places.{StandsAt}
 use Rattle.nb_datagram.specs.declared.decoding.Form.{Form}
 use Rattle.nb_datagram.specs.declared.decoding.Form.TheVariants.{Direct, Error, Query}
 use Rattle.nb_datagram.specs.declared.front.Header.{Header}

@@ -1,18 +1,11 @@
 -- Runs in several rows: where they lie.
-use Rattle.std.proofs.Common.{◌≡◌, ◌<◌, ◌≤◌, ◌+◌, ◌-◌, ◌++◌, ℕ, zero, suc, List, [], ◌∷◌, length, take, drop, slice_get, slice_index_or, Some, refl, sym, ap, ◌∙◌, subst, arith, append_assoc, slice_set, add-one}
-use Rattle.std.proofs.lemmas.List.{map-append, length-map, drop-map, take-append-drop, take_rest, drop_all, append-nil, set_split, take_more_set, drop-set-lt, set_at, length-take-le}
-use Rattle.std.proofs.lemmas.Option.{same_Some}
-use Rattle.std.specs.List.{AllByRecursion, insert, remove}
+use Rattle.nb_entries.proofs.Common.{◌≡◌, ◌<◌, ◌≤◌, ◌+◌, ◌-◌, ◌++◌, ℕ, zero, suc, List, [], ◌∷◌, length, take, drop, slice_get, slice_index_or, Some, refl, sym, ap, ◌∙◌, subst, arith, append_assoc, slice_set, add-one, map-append, length-map, drop-map, take_rest, drop_all, append-nil, set_split, take_more_set, drop-set-lt, set_at, length-take-le, same_Some, AllByRecursion, insert, remove, IsNonDecreasingBy-from_all_adjacent, RunValue, run_end, StartsPast, AreApart, value_of, values_of, EndBefore, EndFrom, StartAfter, runs_in, values_in, NoneEmpty, last_end, LastsTo, IsFrom, all_append, take-append-drop, drop-cons}
 use Rattle.std.specs.List.Sorted.{IsNonDecreasingBy}
-use Rattle.std.proofs.lemmas.List.Sorted.{IsNonDecreasingBy-from_all_adjacent}
 use Rattle.std.specs.declared.vec.Vec.{Vec}
-use Rattle.nb_entries.specs.Runs.{RunValue, run_end, StartsPast, AreApart}
-use Rattle.nb_entries.specs.Code.Rows.{value_of, values_of, EndBefore, EndFrom, StartAfter, runs_in, values_in, NoneEmpty, last_end, LastsTo, IsFrom}
 use Rattle.nb_entries.specs.declared.cover.runs.Run.{Run}
 use Rattle.nb_entries.proofs.KeptRuns.RunRowLemmas.{apart_front, apart_back, split_at}
 use Rattle.std.proofs.lemmas.Grind.{common_steps}
-use Rattle.std.proofs.Math.Seq.{drop-cons, take-suc-set}
-use Rattle.nb_entries.specs.Shared.MapsLemmas.{all_append}
+use Rattle.std.proofs.Math.Seq.{take-suc-set}
 
 -- ---- what each of a list has
 

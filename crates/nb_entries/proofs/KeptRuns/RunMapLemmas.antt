@@ -1,26 +1,9 @@
 -- The map of the code's runs: what its tests and changes say of it.
-use Rattle.std.proofs.Common.{◌≡◌, ◌<◌, ◌≤◌, ◌+◌, ◌-◌, ◌==◌, ◌&&◌, ◌⊎◌, ℕ, zero, suc, inl, inr, Bool, true, false, List, [], ◌∷◌, length, get_or, slice_get, Option, Some, None, refl, sym, ap, ap₂, ◌∙◌, arith, ◌++◌, take, drop, subst, slice_set, slice_index_or, take-append-drop, append_assoc}
-use Rattle.std.proofs.lemmas.Bool.{and_from, and_parts}
-use Rattle.std.proofs.lemmas.List.{take_all, get_or-map, map-append, take-map, take-take, drop-map, set_split, take_more_set, drop-set-lt, length-map}
+use Rattle.nb_entries.proofs.Common.{◌≡◌, ◌<◌, ◌≤◌, ◌+◌, ◌-◌, ◌==◌, ◌&&◌, ◌⊎◌, ℕ, zero, suc, inl, inr, Bool, true, false, List, [], ◌∷◌, length, get_or, slice_get, Option, Some, None, refl, sym, ap, ap₂, ◌∙◌, arith, ◌++◌, take, drop, subst, slice_set, slice_index_or, take-append-drop, append_assoc, and_from, and_parts, take_all, get_or-map, map-append, take-map, take-take, drop-map, set_split, take_more_set, drop-set-lt, length-map, slice_get-get_or, list_all, nat_cmp, both_ways, nat_cmp_total, same_where, placed, bytes_agree, first_of, union, is_there, with_bytes, RunValue, AreApart, places_of, map_of_runs, run_end, bytes_below, run_at, byte_in, look_in, Agree, IsPut, AreBetween, Lacks, value_of, values_of, grown, Meet, EndBefore, EndFrom, StartTo, StartAfter, same_at, at_same, first_alone, first_either, first_of_three, one_value, get-union, all_entries_found, all_entries_from, places_in_map, below_from, below_none}
 use Rattle.std.proofs.lemmas.List.Folds.{list_all-append}
-use Rattle.std.proofs.lemmas.Option.{slice_get-get_or}
-use Rattle.std.specs.List.{list_all}
-use Rattle.std.specs.Ordering.{nat_cmp}
-use Rattle.std.specs.Cmp.{both_ways, nat_cmp_total}
 use Rattle.std.specs.Cmp.Lexicographic.{pointwise}
 use Rattle.std.specs.FinMap as maps
 use Rattle.std.specs.FinMap.{nat_cmp-IsAntisymmetric}
-use Rattle.nb_entries.specs.Marks.{same_where}
-use Rattle.nb_entries.specs.Cover.{placed, bytes_agree}
-use Rattle.nb_entries.specs.Maps.{first_of, union}
-use Rattle.nb_entries.specs.Code.CoverFacts.{is_there, with_bytes}
-use Rattle.nb_entries.specs.Runs.{RunValue, AreApart, places_of, map_of_runs, run_end}
-use Rattle.nb_entries.specs.Whole.{bytes_below}
-use Rattle.nb_entries.specs.Code.Rows.{run_at, byte_in, look_in, Agree, IsPut, AreBetween, Lacks, value_of, values_of, grown, Meet, EndBefore, EndFrom, StartTo, StartAfter}
-use Rattle.nb_entries.specs.Shared.MarksLemmas.{same_at, at_same, first_alone, first_either, first_of_three, one_value}
-use Rattle.nb_entries.specs.Shared.MapsLemmas.{get-union, all_entries_found, all_entries_from}
-use Rattle.nb_entries.specs.Shared.RowLemmas.{places_in_map}
-use Rattle.nb_entries.specs.Shared.WholeLemmas.{below_from, below_none}
 use Rattle.nb_entries.proofs.KeptRuns.RunRowLemmas.{has_of, byte_on, get-runs, split_at, all_at, all_from_at, apart_front, apart_back}
 use Rattle.nb_entries.proofs.KeptRuns.RunPutLemmas.{swap, put_alone, put_one, put_more, put_part, part_agrees}
 use Rattle.nb_entries.proofs.KeptRuns.RunReadLemmas.{look_put, other_look}

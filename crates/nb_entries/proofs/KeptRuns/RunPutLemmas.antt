@@ -1,14 +1,6 @@
 -- Bytes put into a row of runs: on their own, joined with one run, or joined with several.
-use Rattle.std.proofs.Common.{◌≡◌, ◌<◌, ◌≤◌, ◌+◌, ◌-◌, ◌++◌, ℕ, zero, suc, inl, inr, List, [], ◌∷◌, length, take, drop, min, max, slice_get, Option, Some, None, refl, sym, ap, ◌∙◌, arith, length-append, length-take, length-drop, subst}
-use Rattle.std.proofs.lemmas.Bool.{cases_lt}
-use Rattle.nb_entries.specs.Maps.{first_of}
-use Rattle.nb_entries.specs.Runs.{RunValue, run_end, AreApart}
-use Rattle.nb_entries.specs.Code.Rows.{byte_in, grown, Meet, look_in, EndBefore, StartAfter, Agree, IsPut}
-use Rattle.nb_entries.specs.Shared.WholeLemmas.{slice_get-front}
+use Rattle.nb_entries.proofs.Common.{◌≡◌, ◌<◌, ◌≤◌, ◌+◌, ◌-◌, ◌++◌, ℕ, zero, suc, inl, inr, List, [], ◌∷◌, length, take, drop, min, max, slice_get, Option, Some, None, refl, sym, ap, ◌∙◌, arith, length-append, length-take, length-drop, subst, cases_lt, first_of, RunValue, run_end, AreApart, byte_in, grown, Meet, look_in, EndBefore, StartAfter, Agree, IsPut, slice_get-front, append-nil, first_either, first_of_three, none_from}
 use Rattle.nb_entries.proofs.KeptRuns.RunRowLemmas.{byte_on, byte_off, byte_past, byte_within, has_below, has_from, look-append, look_before, look_past, apart_front, apart_back, apart_seam, apart_both}
-use Rattle.std.proofs.lemmas.List.{append-nil}
-use Rattle.nb_entries.specs.Shared.MarksLemmas.{first_either, first_of_three}
-use Rattle.nb_entries.specs.Shared.MapsLemmas.{none_from}
 
 -- ---- A run that has grown by another that overlaps or touches it.
 

@@ -1,29 +1,10 @@
 -- What the code reads of its runs.
-use Rattle.std.proofs.Common.{◌≡◌, ◌<◌, ◌≤◌, ◌+◌, ◌-◌, ◌++◌, ◌⊎◌, ℕ, inl, inr, Bool, true, List, [], ◌∷◌, length, take, drop, min, max, slice_get, Option, Some, refl, sym, ap, ◌∙◌, subst, arith, length-take, length-drop, length-append, ◌==◌, suc, ap₂}
-use Rattle.std.proofs.lemmas.Bool.{cases_lt, and_from, and_parts}
-use Rattle.std.proofs.lemmas.List.{append-nil, append_assoc, ext_get_or}
-use Rattle.std.proofs.lemmas.Option.{same_Some, slice_get-get_or}
-use Rattle.std.specs.Cmp.{unsigned_Decides}
+use Rattle.nb_entries.proofs.Common.{◌≡◌, ◌<◌, ◌≤◌, ◌+◌, ◌-◌, ◌++◌, ◌⊎◌, ℕ, inl, inr, Bool, true, List, [], ◌∷◌, length, take, drop, min, max, slice_get, Option, Some, refl, sym, ap, ◌∙◌, subst, arith, length-take, length-drop, length-append, ◌==◌, suc, ap₂, cases_lt, and_from, and_parts, append-nil, ext_get_or, same_Some, slice_get-get_or, unsigned_Decides, AllByRecursion, list_all, nat_cmp, first_of, RunValue, run_end, StartsPast, AreApart, map_of_runs, with_bytes, run_at, byte_in, look_in, Agree, AgreeOne, EndBefore, EndFrom, AreBetween, Lacks, IsFrom, run_of, after_run, row_of, first_either, agree_of, find-placed, slice_get-front, Core, Marks, same_where, marks_of, marks_together, CoverFacts, CoversFit, placed, cover_of, covers_together, bytes_below, bytes_to, none_from, all_append, append_assoc}
 use Rattle.std.specs.Cmp.Lexicographic.{pointwise, pointwise_decides}
-use Rattle.std.specs.List.{AllByRecursion, list_all}
-use Rattle.std.specs.Ordering.{nat_cmp}
 use Rattle.std.specs.FinMap as maps
-use Rattle.nb_entries.specs.Maps.{first_of}
-use Rattle.nb_entries.specs.Runs.{RunValue, run_end, StartsPast, AreApart, map_of_runs}
-use Rattle.nb_entries.specs.Code.CoverFacts.{with_bytes}
-use Rattle.nb_entries.specs.Code.Rows.{run_at, byte_in, look_in, Agree, AgreeOne, EndBefore, EndFrom, AreBetween, Lacks, IsFrom, run_of, after_run, row_of}
-use Rattle.nb_entries.specs.Shared.MarksLemmas.{first_either}
-use Rattle.nb_entries.specs.Shared.CoverLemmas.{agree_of}
-use Rattle.nb_entries.specs.Shared.PlacedLemmas.{find-placed}
-use Rattle.nb_entries.specs.Shared.WholeLemmas.{slice_get-front}
 use Rattle.nb_entries.proofs.Covers.{get-with_bytes, bytes_agree_is, with_is}
 use Rattle.nb_entries.proofs.KeptRuns.RunRowLemmas.{byte_on, byte_off, byte_past, has_below, has_from, byte_within, get-runs, look-append, look_before, look_past, apart_front, apart_back, apart_seam, ends_min}
 use Rattle.nb_entries.proofs.KeptRuns.RunPutLemmas.{slice_get-take, slice_get-drop, slice_get-back, in_row}
-use Rattle.nb_datagram.specs.Fragment.{Core}
-use Rattle.nb_entries.specs.Marks.{Marks, same_where, marks_of, marks_together}
-use Rattle.nb_entries.specs.Cover.{CoverFacts, CoversFit, placed, cover_of, covers_together}
-use Rattle.nb_entries.specs.Whole.{bytes_below, bytes_to}
-use Rattle.nb_entries.specs.Shared.MapsLemmas.{none_from, all_append}
 
 -- ---- the runs from a place on
 

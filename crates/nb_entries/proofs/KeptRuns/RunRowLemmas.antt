@@ -1,22 +1,9 @@
 -- Rows of runs: what a look-up finds in them, and how rows that are apart are cut and put together.
-use Rattle.std.proofs.Common.{◌≡◌, ◌<◌, ◌≤◌, ◌+◌, ◌-◌, ◌++◌, ℕ, suc, Bool, true, false, cond, nat_le, inl, inr, List, [], ◌∷◌, length, take, drop, min, get_or, map, slice_get, Some, None, refl, sym, ap, ap₂, ◌∙◌, subst, arith, length-take, length-drop, take-append-drop, drop-cons, zero, add-one, slice_set, slice_index_or}
-use Rattle.std.proofs.lemmas.Bool.{leb-true, le-leb, lt-leb}
-use Rattle.std.proofs.lemmas.List.{take-map, drop-map, get_or-take, get_or-drop, get_or_default}
+use Rattle.nb_entries.proofs.Common.{◌≡◌, ◌<◌, ◌≤◌, ◌+◌, ◌-◌, ◌++◌, ℕ, suc, Bool, true, false, cond, nat_le, inl, inr, List, [], ◌∷◌, length, take, drop, min, get_or, map, slice_get, Some, None, refl, sym, ap, ap₂, ◌∙◌, subst, arith, length-take, length-drop, take-append-drop, drop-cons, zero, add-one, slice_set, slice_index_or, leb-true, le-leb, lt-leb, take-map, drop-map, get_or-take, get_or-drop, get_or_default, slice_get_within, slice_get-get_or, slice_get_past, AllByRecursion, nat_cmp, nat_cmp_total, placed, first_of, RunValue, run_end, StartsPast, AreApart, places_of, map_of_runs, byte_in, look_in, EndBefore, value_of, values_of, StartTo, StartAfter, first_either, first_of_three, find-placed, find-append, IsNonDecreasingBy-from_all_adjacent}
 use Rattle.std.proofs.lemmas.List.Elements.{All-map, All-from_recursion, recursion_from_All}
-use Rattle.std.proofs.lemmas.Option.{slice_get_within, slice_get-get_or, slice_get_past}
-use Rattle.std.specs.List.{AllByRecursion}
-use Rattle.std.specs.Ordering.{nat_cmp}
-use Rattle.std.specs.Cmp.{nat_cmp_total}
 use Rattle.std.specs.FinMap as maps
-use Rattle.nb_entries.specs.Cover.{placed}
-use Rattle.nb_entries.specs.Maps.{first_of}
-use Rattle.nb_entries.specs.Runs.{RunValue, run_end, StartsPast, AreApart, places_of, map_of_runs}
-use Rattle.nb_entries.specs.Code.Rows.{byte_in, look_in, EndBefore, value_of, values_of, StartTo, StartAfter}
-use Rattle.nb_entries.specs.Shared.MarksLemmas.{first_either, first_of_three}
-use Rattle.nb_entries.specs.Shared.PlacedLemmas.{find-placed, find-append}
 use Rattle.std.proofs.lemmas.Grind.{common_steps}
 use Rattle.std.specs.List.Sorted.{IsNonDecreasingBy}
-use Rattle.std.proofs.lemmas.List.Sorted.{IsNonDecreasingBy-from_all_adjacent}
 use Rattle.nb_entries.specs.declared.cover.runs.Run.{Run}
 
 -- ---- the byte of a run at a place

@@ -7,7 +7,8 @@ use Rattle.std.specs.Int.{w16, to_be_bytes}
 use Rattle.std.specs.List.{concat, AllByRecursion}
 use Rattle.nb_names.specs.declared.reading.Pointers.TheVariants.{Refused}
 use Rattle.nb_names.specs.DomainName.{spelling}
-use Rattle.nb_names.specs.Labels.{StandsAt, LabelsAt, ends, goes_on as label_then, leads_to}
+use Rattle.nb_streams.specs.Places.{StandsAt}
+use Rattle.nb_names.specs.Labels.{LabelsAt, ends, goes_on as label_then, leads_to}
 use Rattle.nb_names.specs.Name.{NetbiosName, IsName, labels_of_name}
 use Rattle.nb_datagram.specs.declared.key.Kind.{Kind}
 use Rattle.nb_datagram.specs.Packet.{type_of, name_bytes}

@@ -1,6 +1,6 @@
 -- Marks: the end that there is, and the greater promise. Their union is one in the sense of SlotLemmas, and each law of it
 -- is said once, of all marks; what covers and tables are proved by names none of them.
-use Rattle.std.proofs.Common.{◌≡◌, ◌==◌, ◌⊎◌, inl, inr, ◌<◌, ◌≤◌, ℕ, Bool, false, true, max, Option, Some, None, refl, sym, subst, ◌∙◌, ap, arith, Decides}
+use Rattle.std.proofs.Common.{◌≡◌, ◌==◌, ◌⊎◌, inl, inr, ◌<◌, ◌≤◌, ℕ, Bool, true, max, Option, Some, None, refl, sym, subst, ◌∙◌, ap, arith, Decides}
 use Rattle.std.proofs.lemmas.Bool.{true≢false, cases_lt, leb-true, le-leb, ltb-true, lt-ltb, eqb-true, eq-eqb, and_from, and_parts}
 use Rattle.std.proofs.lemmas.Option.{none-some, same_Some}
 use Rattle.std.specs.Option.{option_eq}

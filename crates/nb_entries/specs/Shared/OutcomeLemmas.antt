@@ -2,9 +2,9 @@
 use Rattle.std.proofs.Common.{◌≡◌, ◌+◌, ◌<◌, ◌≤◌, ℕ, suc, zero, List, [], ◌∷◌, length, Option, None, Some, Ok, Err, refl, sym, ap, subst, ◌∙◌, arith}
 use Rattle.std.specs.Int.{w16}
 use Rattle.nb_names.specs.declared.reading.Pointers.TheVariants.{Refused}
-use Rattle.nb_names.specs.Labels.{StandsAt, NumberAt}
+use Rattle.nb_streams.specs.Places.{StandsAt, NumberAt}
 use Rattle.nb_names.specs.Name.{labels_of_name}
-use Rattle.nb_names.specs.PacketFacts.{stands_same, one_number_16}
+use Rattle.nb_streams.specs.PacketFacts.{stands_same, one_number_16}
 use Rattle.nb_names.proofs.FaultLemmas.{one_netbios, no_netbios}
 use Rattle.nb_names.proofs.LabelsLemmas.{one_reading}
 use Rattle.nb_names.proofs.NameLemmas.{one_name}

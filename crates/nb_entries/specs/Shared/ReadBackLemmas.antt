@@ -10,7 +10,7 @@ use Rattle.nb_names.specs.declared.reading.Pointers.TheVariants.{Refused}
 use Rattle.nb_names.specs.DomainName.{spelling, IsDomain}
 use Rattle.nb_names.specs.FirstLevel.{letters}
 use Rattle.nb_names.specs.Name.{NetbiosName, IsName, labels_of_name}
-use Rattle.nb_names.specs.PacketFacts.{stands_fits}
+use Rattle.nb_streams.specs.PacketFacts.{stands_fits}
 use Rattle.nb_names.proofs.FirstLevelLemmas.{length-letters}
 use Rattle.nb_names.proofs.LabelsLemmas.{stands_before, stands_behind, spelled_stands}
 use Rattle.nb_datagram.specs.declared.key.Kind.{Kind}

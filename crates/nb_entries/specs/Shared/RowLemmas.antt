@@ -11,7 +11,7 @@ use Rattle.std.proofs.lemmas.Bool.Decides.{nat_tests}
 use Rattle.std.proofs.lemmas.List.{drop-drop}
 use Rattle.std.proofs.lemmas.List.Folds.{list_all-append}
 use Rattle.std.proofs.lemmas.Nat.{from_be_bytes-to_be_bytes_2}
-use Rattle.nb_names.specs.Labels.{StandsAt, NumberAt}
+use Rattle.nb_streams.specs.Places.{StandsAt, NumberAt}
 use Rattle.nb_entries.specs.Marks.{Marks}
 use Rattle.nb_entries.specs.Cover.{placed, AreCoverFacts}
 use Rattle.nb_entries.specs.Runs.{RunValue, run_end, AreApart, places_of, map_of_runs}

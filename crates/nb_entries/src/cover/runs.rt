@@ -1,12 +1,13 @@
 //! Bytes by place, kept as runs: places that follow one another.
-ghost use Rattle.std.specs.Prelude.{◌≡◌, IfOk, OnOk, OnErr, true};
+ghost use Rattle.std.specs.Prelude.{◌≡◌, IfOk, OnOk, OnErr, true, ℕ};
 ghost use Rattle.std.specs.List.{list_all};
 ghost use Rattle.std.specs.FinMap as maps;
 ghost use Rattle.nb_entries.specs.Marks.{same_where};
 ghost use Rattle.nb_entries.specs.Cover.{placed};
 ghost use Rattle.nb_entries.specs.Code.CoverFacts.{with_bytes};
 ghost use Rattle.nb_entries.specs.Runs.{AreApart, run_end, map_of_runs};
-ghost use Rattle.nb_entries.specs.Code.Rows.{value_of, run_at, kept_values, AreFilled};
+ghost use Rattle.nb_entries.specs.Code.Rows.{value_of, run_at, kept_values, AreFilled, bytes_code};
+ghost use Rattle.std.specs.Ordering.{nat_cmp};
 
 mod growing;
 mod inserting;
@@ -14,7 +15,7 @@ mod reading;
 
 pub(crate) use growing::EachRun;
 pub(crate) use inserting::add_run;
-use nb_names::NoMemory;
+use nb_streams::NoMemory;
 use std::alloc::Global;
 use std::marker::Model;
 
@@ -82,17 +83,9 @@ pub(crate) struct Runs {
 }
 
 impl Model for Runs {
-    ghost use Rattle.std.specs.Prelude.{ℕ};
-    ghost use Rattle.std.specs.Ordering.{nat_cmp};
-    ghost use Rattle.std.specs.FinMap as maps;
-    ghost use Rattle.nb_entries.specs.Code.Rows.{bytes_code};
-
     ghost Value = { maps.FinMap nat_cmp ℕ };
 
     ghost coded = { bytes_code };
-
-    ghost use Rattle.nb_entries.specs.Runs.{AreApart, map_of_runs};
-    ghost use Rattle.nb_entries.specs.Code.Rows.{kept_values, AreFilled};
 
     ghost view = { λ r. map_of_runs (kept_values r.kept) };
 

@@ -1,18 +1,16 @@
 //! Two covers' facts that don't contradict each other, united.
 ghost use Rattle.std.specs.Prelude.{◌≡◌, ◌&&◌, IfOk, MatchOption};
 ghost use Rattle.std.specs.FinMap as maps;
-ghost use Rattle.nb_entries.specs.Cover.{bytes_lie_below, placed};
+ghost use Rattle.nb_entries.specs.Cover.{bytes_lie_below, placed, AreCoverFacts, covers_agree, covers_together};
 ghost use Rattle.nb_entries.specs.Marks.{marks_up_to};
+ghost use Rattle.nb_entries.specs.Shared.CoverLemmas.{covers_unite, formed_agrees};
 
 use super::CoverFacts;
 use super::marks::Marks;
 use crate::slot::Facts;
-use nb_names::NoMemory;
+use nb_streams::NoMemory;
 
 impl Facts for CoverFacts {
-    ghost use Rattle.nb_entries.specs.Cover.{AreCoverFacts, covers_agree, covers_together};
-    ghost use Rattle.nb_entries.specs.Shared.CoverLemmas.{covers_unite, formed_agrees};
-
     ghost agrees = { covers_agree };
 
     ghost union = { covers_together };

@@ -12,11 +12,11 @@ ghost use Rattle.nb_entries.specs.Change.{Tells, handed_by, grown_to as grown};
 use super::EntryFacts;
 use crate::outline::{Change, Handing};
 use nb_datagram::{LentFragment, UserData};
-use nb_names::NoMemory;
+use nb_streams::NoMemory;
 use std::alloc::Global;
 
 /// What facts that grow come to, with the datagram's data, if they are whole.
-fn grown_to(bytes: Option<UserData>) -> Change<UserData>
+pub(super) fn grown_to(bytes: Option<UserData>) -> Change<UserData>
     ensures { result ≡ grown bytes }
 {
     match bytes {
@@ -87,7 +87,11 @@ impl EntryFacts {
     }
 
     /// The datagram's data, if the facts are whole and it is handed over. No memory is taken else.
-    fn first_data(&self, alloc: Global, handing: Handing) -> Result<Option<UserData>, NoMemory>
+    pub(super) fn first_data(
+        &self,
+        alloc: Global,
+        handing: Handing,
+    ) -> Result<Option<UserData>, NoMemory>
         requires { (n : ℕ) → self.now.cover.marks.end ≡ Some n → n ≤ MAX_LENGTH }
         ensures { IfOk result (λ bytes. bytes
             ≡ handed_by handing (bytes_to self.now.cover.bytes self.now.cover.marks.end)) }
@@ -96,22 +100,5 @@ impl EntryFacts {
             Handing::Over => self.user_data(alloc),
             Handing::Kept => Ok(None),
         }
-    }
-
-    /// What one fragment says, and what that changes at its key, which was new.
-    pub(crate) fn first(
-        alloc: Global,
-        fragment: &LentFragment<'_>,
-        handing: Handing,
-    ) -> Result<(EntryFacts, Change<UserData>), NoMemory>
-        requires { (n : ℕ) → (facts_of (core_of fragment.now)).cover.marks.end ≡ Some n
-            → n ≤ MAX_LENGTH }
-        ensures facts { IfOk result (λ made. made.0 ≡ facts_of (core_of fragment.now)) }
-        ensures change { IfOk result (λ made.
-            Tells handing fragment.now None (Some (Held made.0)) made.1) }
-    {
-        let facts = EntryFacts::of(alloc, fragment)?;
-        let bytes = facts.first_data(alloc, handing)?;
-        Ok((facts, grown_to(bytes)))
     }
 }

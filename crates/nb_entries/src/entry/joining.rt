@@ -2,10 +2,11 @@
 ghost use Rattle.std.specs.Prelude.{◌≡◌, IfOk, OnOk, OnErr, MatchOption, Some, None, option_and_then};
 ghost use Rattle.std.specs.Option.{option_copied};
 ghost use Rattle.nb_datagram.specs.declared.limits.TheConstants.{MAX_LENGTH};
-ghost use Rattle.nb_entries.specs.Entry.{join_entry, IsShort, is_short};
+ghost use Rattle.nb_entries.specs.Entry.{join_entry, IsShort, is_short, AreEntryFacts, facts_agree, facts_together};
 ghost use Rattle.nb_entries.specs.Whole.{newly, datagram_of as entry_datagram};
 ghost use Rattle.nb_entries.specs.Change.{handed_by, whole_by};
 ghost use Rattle.nb_entries.specs.Code.CoverFacts.{IsPart};
+ghost use Rattle.nb_entries.specs.Shared.EntryLemmas.{facts_unite, entry_agrees};
 
 use super::{Entry, EntryFacts};
 use crate::cover::CoverFacts;
@@ -14,7 +15,7 @@ use crate::outline::{Change, Handing};
 use crate::slot::{Facts, Slot};
 use nb_datagram::limits::{MAX_LENGTH, MORE};
 use nb_datagram::{Datagram, Key, LentFragment};
-use nb_names::NoMemory;
+use nb_streams::NoMemory;
 use std::alloc::Global;
 
 /// The datagram, if a key became whole.
@@ -164,9 +165,6 @@ impl Slot<EntryFacts> {
 }
 
 impl Facts for EntryFacts {
-    ghost use Rattle.nb_entries.specs.Entry.{AreEntryFacts, facts_agree, facts_together};
-    ghost use Rattle.nb_entries.specs.Shared.EntryLemmas.{facts_unite, entry_agrees};
-
     ghost agrees = { facts_agree };
 
     ghost union = { facts_together };

@@ -10,7 +10,7 @@ use crate::outline::Outline;
 use crate::ranges::Ranges;
 use crate::slot::Slot;
 use nb_datagram::{Datagram, Key};
-use nb_names::NoMemory;
+use nb_streams::NoMemory;
 use std::alloc::Global;
 
 impl EntryFacts {
@@ -24,7 +24,7 @@ impl EntryFacts {
             source: self.source().to_name(),
             destination: self.destination().to_name(),
             held: self.known.cover.held(),
-            runs: self.run_count(),
+            runs: self.known.cover.run_count(),
             end: self.known.cover.marks().end,
             promise: self.known.cover.marks().promise,
             awaited: self.known.cover.awaited(),

@@ -1,23 +1,26 @@
 //! Saved entries, which borrow their runs: read, kept, and written.
 ghost use Rattle.std.specs.Prelude.{◌≡◌, IfOk, OnOk};
-ghost use Rattle.nb_entries.specs.Entry.{is_short as is_short_entry};
+ghost use Rattle.nb_entries.specs.Entry.{is_short as is_short_entry, EntryFacts};
 ghost use Rattle.nb_entries.specs.Sinks.{Puts};
 ghost use Rattle.nb_entries.specs.Saved.{facts_bytes, entry_bytes, IsNamed};
 ghost use Rattle.nb_entries.specs.SavedReading.{facts_at, entry_at, most_of as most_reading};
 ghost use Rattle.nb_entries.specs.Maps.{Held, OnHeld};
 ghost use Rattle.nb_entries.specs.declared.saved.SavedForm.TheVariants.{Second};
+ghost use Rattle.nb_entries.specs.Codes.{entry_facts_code};
+ghost use Rattle.nb_entries.specs.Cover.{AreCoverFacts};
+ghost use Rattle.nb_entries.specs.Runs.{map_of_runs};
 
 use super::fields::{read_byte, read_kind, read_marks, read_plain_name};
 use super::runs::{SavedRuns, read_runs};
-use super::{ByteSink, SavedForm};
+use super::{ByteSink, LoadFault, SavedForm};
 use crate::cover::CoverFacts;
 use crate::cover::marks::Marks;
 use crate::entry::{Entry, EntryFacts};
-use crate::saved::LoadFault;
 use crate::slot::Slot;
 use nb_datagram::Kind;
 use nb_datagram::limits::MAX_LENGTH;
-use nb_names::{LentName, NoMemory};
+use nb_names::LentName;
+use nb_streams::NoMemory;
 use std::alloc::Global;
 use std::marker::Model;
 
@@ -32,11 +35,6 @@ pub struct SavedFacts<'a> {
 }
 
 impl<'a> Model for SavedFacts<'a> {
-    ghost use Rattle.nb_entries.specs.Entry.{EntryFacts};
-    ghost use Rattle.nb_entries.specs.Codes.{entry_facts_code};
-    ghost use Rattle.nb_entries.specs.Cover.{AreCoverFacts};
-    ghost use Rattle.nb_entries.specs.Runs.{map_of_runs};
-
     ghost Value = { EntryFacts };
 
     ghost coded = { entry_facts_code };

@@ -3,18 +3,17 @@
 
 ghost use Rattle.std.specs.Prelude.{◌≡◌, ◌↔◌, ℕ, IsTrue, MatchResult, Some};
 ghost use Rattle.std.specs.Int.{w16, w32, to_be_bytes};
-ghost use Rattle.nb_names.specs.Labels.{NumberAt};
+ghost use Rattle.nb_streams.specs.Places.{NumberAt};
 ghost use Rattle.nb_entries.specs.Sinks.{Puts};
 ghost use Rattle.nb_entries.specs.Marks.{end_bytes, marks_bytes};
 ghost use Rattle.nb_entries.specs.SavedReading.{Field, PromisesBelow, fault_of_name, byte_at as byte_reading, number_at as number_reading, bytes_at as bytes_reading, kind_at as kind_reading, name_at as name_reading, end_at as end_reading, promise_at as promise_reading, marks_at as marks_reading};
 ghost use Rattle.nb_entries.specs.declared.saved.SavedForm.TheVariants.{Second};
 
-use super::{ByteSink, SavedForm};
+use super::{ByteSink, LoadFault, SavedForm};
 use crate::cover::marks::Marks;
-use crate::saved::LoadFault;
 use nb_datagram::Kind;
-use nb_names::numbers::{number_16, number_32};
 use nb_names::{LentName, NameFault, read_lent_name};
+use nb_streams::numbers::{number_16, number_32};
 
 /// The byte at an offset.
 pub(crate) fn read_byte(input: &[u8], at: usize) -> Result<(u8, usize), LoadFault>

@@ -1,17 +1,17 @@
 //! Rows of saved runs, which borrow their bytes.
-ghost use Rattle.std.specs.Prelude.{◌≡◌, ◌≤◌, IfOk, length, nat_le, nat_lt};
+ghost use Rattle.std.specs.Prelude.{◌≡◌, ◌≤◌, IfOk, length, nat_le, nat_lt, List};
 ghost use Rattle.std.specs.List.{list_all};
 ghost use Rattle.std.specs.FinMap as maps;
 ghost use Rattle.nb_datagram.specs.declared.limits.TheConstants.{MAX_LENGTH};
 ghost use Rattle.nb_entries.specs.Code.Rows.{kept_values, AreFilled, RunThere, RowThere, run_of, row_of, after_run};
-ghost use Rattle.nb_entries.specs.Runs.{run_end, map_of_runs};
+ghost use Rattle.nb_entries.specs.Runs.{run_end, map_of_runs, RunValue, AreApart};
 ghost use Rattle.nb_entries.specs.SavedReading.{run_at, runs_at};
 
 use super::fields::{read_bytes, read_number};
 use crate::cover::runs::{Kept, Runs, add_run};
 use crate::saved::LoadFault;
-use nb_names::NoMemory;
-use nb_names::numbers::number_16;
+use nb_streams::NoMemory;
+use nb_streams::numbers::number_16;
 use std::alloc::Global;
 use std::marker::Model;
 
@@ -23,10 +23,6 @@ pub(crate) struct SavedRun<'a> {
 }
 
 impl<'a> Model for SavedRun<'a> {
-    ghost use Rattle.std.specs.Prelude.{◌≤◌, length};
-    ghost use Rattle.nb_datagram.specs.declared.limits.TheConstants.{MAX_LENGTH};
-    ghost use Rattle.nb_entries.specs.Runs.{RunValue};
-
     ghost Value = { RunValue };
 
     ghost view = { λ r. record { start = r.start; bytes = r.bytes.now } };
@@ -90,10 +86,6 @@ pub(crate) struct SavedRuns<'a> {
 }
 
 impl<'a> Model for SavedRuns<'a> {
-    ghost use Rattle.std.specs.Prelude.{List};
-    ghost use Rattle.nb_entries.specs.Runs.{RunValue, AreApart};
-    ghost use Rattle.nb_entries.specs.Code.Rows.{row_of, RowThere};
-
     ghost Value = { List RunValue };
 
     ghost view = { λ r. row_of r.count r.bytes.now };

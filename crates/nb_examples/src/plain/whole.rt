@@ -11,7 +11,7 @@ use super::conflicting::is_spoilt;
 use super::{byte_at, end_of, has_key};
 use nb_datagram::limits::MAX_LENGTH;
 use nb_datagram::{Datagram, Fragment, Key};
-use nb_names::{Bytes, NoMemory};
+use nb_streams::{Bytes, NoMemory};
 use std::alloc::Global;
 
 /// Why a datagram could not be given.

@@ -11,9 +11,9 @@ use Rattle.nb_table.specs.Contents.{Contents, table_of}
 use Rattle.nb_table.specs.Join.{join, SameCores}
 use Rattle.nb_member.specs.declared.outcome.Event.{Event}
 use Rattle.nb_member.specs.declared.pair.Pair.{Pair}
-use Rattle.nb_member.specs.declared.runs.RunReport.{RunReport}
-use Rattle.nb_member.specs.declared.runs.RunStop.{RunStop}
-use Rattle.nb_member.specs.declared.runs.RunStop.TheVariants.{Full, FullSource, NoMemory}
+use Rattle.nb_member.specs.declared.event_taking.RunReport.{RunReport}
+use Rattle.nb_member.specs.declared.event_taking.RunStop.{RunStop}
+use Rattle.nb_member.specs.declared.event_taking.RunStop.TheVariants.{Full, FullSource, NoMemory}
 use Rattle.nb_member.specs.declared.settings.Settings.{Settings}
 use Rattle.nb_member.proofs.EventLemmas.{say_by}
 use Rattle.nb_member.proofs.LiveLemmas.{cores-append}
@@ -22,7 +22,7 @@ use Rattle.nb_member.specs.Deliveries.{deliveries}
 use Rattle.nb_member.specs.Events.{Saying, came, Says, Say, none, more}
 use Rattle.nb_member.specs.Live.{Timed, cores, table_from, is_full, HasRoom, NoneFull, live_after, live_from, live}
 use Rattle.nb_member.specs.Member.{MemberValue, contents, new_member, Stands}
-use Rattle.nb_member.specs.Running.{MeetsLimit, StopsBefore, Runs}
+use Rattle.nb_member.specs.EventTaking.{MeetsLimit, StopsBefore, TakesEvents}
 
 -- what the sayings of events are known to be
 pub record SayingsKnown : Type 0 where
@@ -56,7 +56,7 @@ say_front known settings n events S P all front =
     let same = known.row settings (take n events) parts.0 P parts.2 front in
     (parts.1, parts.3, parts.4 ∙ ap (λ (xs : List Saying). xs ++ parts.1) same)
 
--- ---- runs that meet no limit
+-- ---- events that meet no limit
 
 -- the fragment after some events has room, where none of all events meets the limit
 room_at : (settings : Settings) (L : List Timed) (S : List Saying) (s : Saying) (T : List Saying)
@@ -64,7 +64,7 @@ room_at : (settings : Settings) (L : List Timed) (S : List Saying) (s : Saying) 
 room_at settings L [] s T h = h.0
 room_at settings L (r ∷ S) s T h = room_at settings (live_after settings L r) S s T h.1
 
--- so no run stops for the limit
+-- so none stops for the limit
 no_limit : SayingsKnown → (settings : Settings) (events later : List Event) (n : ℕ) (S P : List Saying) (event : Event) (k : Key)
     → Say settings events S → Say settings (take n events) P → NoneFull settings [] S → drop n events ≡ event ∷ later
     → ¬ MeetsLimit settings (live settings P) event k
@@ -81,7 +81,7 @@ no_limit known settings events later n S P event k all front room next meets =
     ap (λ (key : Key). is_full settings (live settings P) key) meets.key ∙ meets.full in
     absurd (false≢true (sym open_still ∙ full))
 
--- a run that stops neither for the limit nor for memory takes all events
+-- where none stops, for the limit or for memory, all events are taken
 ended : (settings : Settings) (L : List Timed) (rest : List Event) (stop : Option RunStop) → StopsBefore settings L rest stop
     → ¬ (stop ≡ Some NoMemory)
     → ((event : Event) (later : List Event) (k : Key) → rest ≡ event ∷ later → ¬ MeetsLimit settings L event k)
@@ -106,7 +106,7 @@ new_stands settings names = record {
 -- a new member that takes all events holds the table of what is live after them, and hands over what they
 -- make
 pub took_all : SayingsKnown → (settings : Settings) (names : List NetbiosName) (events : List Event) (new : MemberValue)
-    (report : RunReport) (S : List Saying) → Runs (new_member settings names) events new report → Say settings events S
+    (report : RunReport) (S : List Saying) → TakesEvents (new_member settings names) events new report → Say settings events S
     → NoneFull settings [] S → ¬ (report.stop ≡ Some NoMemory)
     → TookAll events report × (contents new ≡ table_from (live settings S))
     × (report.deliveries ≡ deliveries settings names [] S)
@@ -155,8 +155,8 @@ pub record BothDid (settings : Settings) (names_a names_b : List NetbiosName) (e
 pub both_did : SayingsKnown
     → ((settings : Settings) (S T : List Saying) → GiveTheSame settings S T → NoneFull settings [] S × NoneFull settings [] T)
     → (settings : Settings) (names_a names_b : List NetbiosName) (events_a events_b : List Event) (pair : Pair)
-    → Runs (new_member settings names_a) events_a pair.a pair.report_a
-    → Runs (new_member settings names_b) events_b pair.b pair.report_b
+    → TakesEvents (new_member settings names_a) events_a pair.a pair.report_a
+    → TakesEvents (new_member settings names_b) events_b pair.b pair.report_b
     → (h : AreGivenTheSame settings events_a events_b) → ¬ StoppedForMemory pair.report_a → ¬ StoppedForMemory pair.report_b
     → BothDid settings names_a names_b events_a events_b pair h.sayings h.sayings_there
 both_did known room settings names_a names_b events_a events_b pair runs_a runs_b h memory_a memory_b =

@@ -1,18 +1,18 @@
 -- What acting on one line comes to.
-use Rattle.std.proofs.Common.{◌≡◌, ◌≢◌, ◌+◌, ◌++◌, ◌∷◌, ℕ, List, [], Result, Ok, Err, OnErr, refl, sym, subst, ◌∙◌, append_assoc, ap, inl, inr, arith}
+use Rattle.std.proofs.Common.{◌≡◌, ◌≢◌, ◌+◌, ◌++◌, ◌∷◌, ℕ, List, [], Option, Some, None, Result, Ok, Err, refl, sym, subst, ◌∙◌, append_assoc, ap, inl, inr, arith}
 use Rattle.std.specs.Prelude.{codes}
 use Rattle.std.specs.FinMap as maps
 use Rattle.std.specs.Fmt.{decimal}
-use Rattle.nb_member.specs.declared.comment_writing.Comments.{Comments}
+use Rattle.nb_capture.specs.declared.comment_writing.Comments.{Comments}
+use Rattle.nb_member.specs.declared.outcome.Event.{Event}
 use Rattle.nb_member.specs.declared.outcome.Event.TheVariants as event
-use Rattle.nb_member.specs.declared.line.Line.{Line as Value}
-use Rattle.nb_member.specs.declared.line.Line.TheVariants.{Packet, Tick}
+use Rattle.nb_capture.specs.declared.line.Line.{Line as Value}
+use Rattle.nb_capture.specs.declared.line.Line.TheVariants.{Packet, Tick}
 use Rattle.nb_member.specs.declared.outcome.MemberFault.{MemberFault}
 use Rattle.nb_member.specs.declared.outcome.MemberFault.TheVariants as member_fault
 use Rattle.nb_datagram.specs.Fragment.{FragmentParts}
 use Rattle.nb_member.specs.declared.outcome.Outcome.{Outcome}
-use Rattle.nb_member.specs.Code.ReplayLines.{MayReportLine, ReportsLine, WritesOutcome}
-use Rattle.nb_member.specs.ReportFields.{MayAct, OutcomeFields, TellsOutcome, dropped_fields, passed_fields, result_fields}
+use Rattle.nb_member.specs.ReportFields.{MayAct, MayLeave, OutcomeFields, ReportSaid, ReportsOutcome, TellsOutcome, dropped_fields, passed_fields, result_fields}
 use Rattle.nb_member.specs.ReportFields as outcome
 use Rattle.nb_table.specs.declared.fault.TableFault.TheVariants.{NoMemory}
 use Rattle.nb_telling.specs.Telling.{Field}
@@ -21,15 +21,23 @@ use Rattle.nb_telling.proofs.FoldLemmas.{appended}
 use Rattle.nb_member.proofs.FieldLemmas.{dropped_same, result_same}
 use Rattle.nb_member.proofs.TakingLemmas.Payloads.{refused_keeps}
 use Rattle.nb_member.specs.Taking.{Does, Takes, TakesFragment, fragment, error, query, no_packet}
-use Rattle.nb_member.specs.Code.Members.{KeepsStation}
-use Rattle.nb_member.specs.Capture.{HasValue, SaysNothing, line_feed, space, blank_text}
+use Rattle.nb_member.specs.Code.Members.{KeepsSetup}
+use Rattle.nb_capture.specs.Capture.{HasValue, Reads, SaysNothing, line_feed, space, blank_text}
 use Rattle.nb_member.specs.Events.{Saying, clock, Says}
 use Rattle.nb_member.specs.Live.{Timed, live_after}
 use Rattle.nb_member.specs.Member.{MemberValue, StandsOver, contents, with_timed, after_clock}
 use Rattle.nb_member.specs.Report.{ReportOfLine, nothing, passed, taken, tick, dropped, numbered, result_text}
 
+-- ReportsLine comments m L n line new text: the member m, which stands for the fragments L, acted on line n of a capture
+-- and became new; text is the line's report
+pub record ReportsLine (comments : Comments) (m : MemberValue) (L : List Timed) (n : ℕ) (line : List ℕ) (new : MemberValue) (text : List ℕ) : Type 0 where
+  pub events : List Event
+  pub live : List Timed
+  pub acts : ReportOfLine comments m.settings m.names n L line events text live
+  pub stands : StandsOver new live
+
 -- a line that says nothing
-pub quiet : (comments : Comments) (m : MemberValue) (L : List Timed) (n : ℕ) (line : List ℕ) → StandsOver m L → SaysNothing line
+quiet : (comments : Comments) (m : MemberValue) (L : List Timed) (n : ℕ) (line : List ℕ) → StandsOver m L → SaysNothing line
     → ReportsLine comments m L n line m (blank_text comments line)
 quiet comments m L n line s h = record { events = []; live = L; acts = nothing line h; stands = s }
 
@@ -88,53 +96,51 @@ of_outcome known comments _ _ _ L n line _ (outcome.taken port moment payload m 
     subst (λ (text : List ℕ). ReportsLine comments m L n line new (numbered n text)) (sym (result_same result))
     (took known comments m new L n port moment payload result line at had takes s h)
 
-pub reported : MembersKnown → (comments : Comments) (L : List Timed) (n : ℕ) (line : List ℕ) {value : Value} {m new : MemberValue} {text : List ℕ}
-    → WritesOutcome n value m new text → StandsOver m L → HasValue line value → ReportsLine comments m L n line new text
-reported known comments L n line {value} {m} {new} w s h =
-    subst (λ (bytes : List ℕ). ReportsLine comments m L n line new bytes) (sym w.written)
-    (of_outcome known comments value m new L n line w.fields w.are s h)
-
--- the same, where the report isn't made
-pub may_report : MembersKnown → (comments : Comments) (L : List Timed) (n : ℕ) (line : List ℕ) {value : Value} {m new : MemberValue}
-    → MayAct value m new → StandsOver m L → HasValue line value → MayReportLine comments m L n line new
-may_report known comments L n line (inl same) s h = inl same
-may_report known comments L n line {value} {m} {new} (inr did) s h =
-    inr (numbered n (text_of did.0), of_outcome known comments value m new L n line did.0 did.1 s h)
+-- a line's report
+pub line_reported : MembersKnown → (comments : Comments) (n : ℕ) (line : List ℕ) (m new : MemberValue) (text : List ℕ) (said : Option Value)
+    → Reads line (Ok said) → ReportSaid comments n line said m new text → (L : List Timed) → StandsOver m L → ReportsLine comments m L n line new text
+line_reported known comments n line m new text None reads r L s =
+    subst (λ (bytes : List ℕ). ReportsLine comments m L n line new bytes) (sym r.0)
+    (subst (λ (x : MemberValue). ReportsLine comments m L n line x (blank_text comments line)) (sym r.1) (quiet comments m L n line s reads))
+line_reported known comments n line m new text (Some value) reads r L s =
+    subst (λ (bytes : List ℕ). ReportsLine comments m L n line new bytes) (sym r.written)
+    (of_outcome known comments value m new L n line r.fields r.are s reads)
 
 -- ---- what stays
 
--- what holds in any case holds where there is an error
-pub always_on_err : {T E P : Type 0} (r : Result T E) → P → OnErr r P
-always_on_err (Ok x) p = tt
-always_on_err (Err e) p = p
-
-same_keeps : (m new : MemberValue) → new ≡ m → KeepsStation m new
+same_keeps : (m new : MemberValue) → new ≡ m → KeepsSetup m new
 same_keeps m new same = (ap (λ (x : MemberValue). x.settings) same, ap (λ (x : MemberValue). x.names) same)
 
 fragment_keeps : (m : MemberValue) (moment : ℕ) (f : FragmentParts) (new : MemberValue) (result : Result Outcome MemberFault)
-    → TakesFragment m moment f new result → KeepsStation m new
+    → TakesFragment m moment f new result → KeepsSetup m new
 fragment_keeps m moment f new (Ok outcome) t = (ap (λ (x : MemberValue). x.settings) t.joined, ap (λ (x : MemberValue). x.names) t.joined)
 fragment_keeps m moment f new (Err (member_fault.Packet x e)) t = absurd t
 fragment_keeps m moment f new (Err (member_fault.Table x)) t = same_keeps m new t.1
 
 -- a payload that is taken changes neither settings nor names
 taken_keeps : (m : MemberValue) (moment : ℕ) (payload : List ℕ) (new : MemberValue) (result : Result Outcome MemberFault)
-    → Takes m moment payload new result → KeepsStation m new
+    → Takes m moment payload new result → KeepsSetup m new
 taken_keeps m moment payload new _ (fragment f used result p t) = fragment_keeps m moment f new result t
 taken_keeps m moment payload new _ (error e used p same) = same_keeps m new same
 taken_keeps m moment payload new _ (query q used p same) = same_keeps m new same
 taken_keeps m moment payload new _ (no_packet x p same) = same_keeps m new same
 
-outcome_keeps : (value : Value) (m new : MemberValue) (fields : List Field) → OutcomeFields value m new fields → KeepsStation m new
+outcome_keeps : (value : Value) (m new : MemberValue) (fields : List Field) → OutcomeFields value m new fields → KeepsSetup m new
 outcome_keeps _ _ _ _ (outcome.dropped now keys m new is count) =
     (ap (λ (x : MemberValue). x.settings) is, ap (λ (x : MemberValue). x.names) is)
 outcome_keeps _ _ _ _ (outcome.passed port moment payload m new other same) = same_keeps m new same
 outcome_keeps _ _ _ _ (outcome.taken port moment payload m new result at had takes) = taken_keeps m moment payload new result takes
 
 -- nor does anything else that a line says
-pub acted_keeps : {value : Value} {m new : MemberValue} → MayAct value m new → KeepsStation m new
-acted_keeps {value} {m} {new} (inl same) = same_keeps m new same
-acted_keeps {value} {m} {new} (inr did) = outcome_keeps value m new did.0 did.1
+pub said_keeps : (comments : Comments) (n : ℕ) (line : List ℕ) (said : Option Value) (m new : MemberValue) (text : List ℕ)
+    → ReportSaid comments n line said m new text → KeepsSetup m new
+said_keeps comments n line None m new text r = same_keeps m new r.1
+said_keeps comments n line (Some value) m new text r = outcome_keeps value m new r.fields r.are
+
+pub left_keeps : (said : Option Value) (m new : MemberValue) → MayLeave said m new → KeepsSetup m new
+left_keeps None m new same = same_keeps m new same
+left_keeps (Some value) m new (inl same) = same_keeps m new same
+left_keeps (Some value) m new (inr did) = outcome_keeps value m new did.0 did.1
 
 -- ---- what a member does with what a line says
 
@@ -168,7 +174,7 @@ may_take {value} {m} {new} {port} {moment} {payload} result is at takes =
 
 -- a line of the report: its number, what became of what it says, and a line feed
 pub line_made : (n : ℕ) {value : Value} {m new : MemberValue} {begun seen text : List ℕ} → begun ≡ decimal n ++ space ∷ []
-    → TellsOutcome (λ xs field. xs ++ field_text field) value m new begun seen → text ≡ seen ++ line_feed ∷ [] → WritesOutcome n value m new text
+    → TellsOutcome (λ xs field. xs ++ field_text field) value m new begun seen → text ≡ seen ++ line_feed ∷ [] → ReportsOutcome n value m new text
 line_made n {value} {m} {new} {begun} {seen} {text} begins t ends =
     let told = text_of t.fields in record {
       fields = t.fields;

@@ -19,10 +19,10 @@ use Rattle.nb_member.proofs.TakingLemmas.Payloads.{valid_is}
 use Rattle.nb_member.specs.Events.{Saying, came, limits_of, Says}
 use Rattle.nb_member.specs.Live.{Timed, HasRoom, is_full, is_source_full}
 use Rattle.nb_member.specs.Member.{MemberValue, contents, StandsOver}
-use Rattle.nb_member.specs.Running.{MeetsLimit, StopsAt}
+use Rattle.nb_member.specs.EventTaking.{MeetsLimit, StopsAt}
 use Rattle.nb_member.specs.Code.Members.{IsFullAs, MeetsFull, BeginsFull, limit_of}
-use Rattle.nb_member.specs.declared.runs.RunStop.{RunStop}
-use Rattle.nb_member.specs.declared.runs.RunStop.TheVariants.{Full, FullSource, NoMemory}
+use Rattle.nb_member.specs.declared.event_taking.RunStop.{RunStop}
+use Rattle.nb_member.specs.declared.event_taking.RunStop.TheVariants.{Full, FullSource, NoMemory}
 
 passes_is : (l : Limits) (settings : Settings) (f : FragmentParts) → l ≡ limits_of settings → Passes (limits_of settings) f → Passes l f
 passes_is l settings f limits v = subst (λ (x : Limits). Passes x f) (sym limits) v

@@ -11,8 +11,8 @@ use Rattle.nb_table.specs.declared.fault.TableFault.{TableFault}
 use Rattle.nb_table.specs.declared.fault.TableFault.TheVariants as table_fault
 use Rattle.nb_table.specs.Limits.{IsFull, IsFullSource, TableValue}
 use Rattle.nb_table.specs.Insert.{Passes}
-use Rattle.nb_member.specs.declared.runs.RunStop.{RunStop}
-use Rattle.nb_member.specs.declared.runs.RunStop.TheVariants.{Full, FullSource, NoMemory}
+use Rattle.nb_member.specs.declared.event_taking.RunStop.{RunStop}
+use Rattle.nb_member.specs.declared.event_taking.RunStop.TheVariants.{Full, FullSource, NoMemory}
 use Rattle.nb_member.specs.declared.settings.Settings.{Settings}
 use Rattle.nb_member.specs.Member.{TimedValue, MemberValue, contents, Moments, begun}
 use Rattle.std.specs.FinMap as maps
@@ -62,9 +62,9 @@ member_code =
     (λ m. (m.settings, (m.names, m.timed))) (λ p. record { settings = p.0; names = p.1.0; timed = p.1.1 })
     (λ _. refl)
 
--- KeepsStation m new: the settings and the names are those that the member m had
-abbrev pub KeepsStation : MemberValue → MemberValue → Type 0
-KeepsStation m new = (new.settings ≡ m.settings) × (new.names ≡ m.names)
+-- KeepsSetup m new: the settings and the names are those that the member m had
+abbrev pub KeepsSetup : MemberValue → MemberValue → Type 0
+KeepsSetup m new = (new.settings ≡ m.settings) × (new.names ≡ m.names)
 
 -- ---- payloads for which there is no room
 

@@ -24,7 +24,7 @@ use nb_table::laws::{
 };
 
 /// Where no look at the clock drops a key, events make a key that isn't spoilt after them whole
-/// once if it is whole then, and never otherwise. So a station that hears it hands it over once.
+/// once if it is whole then, and never otherwise. So a member that hears it hands it over once.
 pub fn a_whole_key_is_handed_over_once()
     ensures made { (settings : Settings) (S : List Saying) (k : Key) → NoneDropped settings [] S →
         (maps.get (table_from (live settings S)) k ≡ Some Spoilt → ⊥) →

@@ -7,7 +7,8 @@ use Rattle.nb_names.specs.declared.text_reading.Collected.{Collected}
 use Rattle.nb_names.specs.Code.TextSteps.{Taken}
 use Rattle.nb_names.specs.declared.length_byte.LengthByte.{LengthByte}
 use Rattle.nb_names.specs.declared.length_byte.LengthByte.TheVariants.{Cut, End, Label, Reserved, Pointer}
-use Rattle.nb_names.specs.Labels.{StandsAt, IsPointer}
+use Rattle.nb_streams.specs.Places.{StandsAt}
+use Rattle.nb_names.specs.Labels.{IsPointer}
 use Rattle.nb_names.specs.NameFaults.{IsCut, IsReserved}
 use Rattle.arrayvec.specs.ArrayVec.{ArrayVec}
 use Rattle.std.proofs.Common.{sym}

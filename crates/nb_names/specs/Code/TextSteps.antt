@@ -6,9 +6,9 @@ use Rattle.nb_names.specs.declared.text_steps.Stage.{Stage}
 use Rattle.nb_names.specs.declared.text_steps.Stage.TheVariants.{Front, FrontEscape, FrontDigit, Suffix, SuffixDigit, SuffixEnd, Closed, LabelStart, Label, LabelEscape, LabelDigit}
 use Rattle.nb_names.specs.declared.text_steps.Added.{Added}
 use Rattle.nb_names.specs.declared.text_steps.Added.TheVariants.{Nothing, FrontByte, Last, LabelByte, LabelEnd}
-use Rattle.nb_names.specs.Ascii.{dot, less_than, greater_than, backslash}
+use Rattle.nb_streams.specs.Ascii.{dot, less_than, greater_than, backslash}
 use Rattle.nb_names.specs.NameText.{is_plain, Parts}
-use Rattle.nb_names.specs.Hexadecimal.{pair_byte}
+use Rattle.nb_streams.specs.Hexadecimal.{pair_byte}
 
 -- first_digit byte next: the byte is a hexadecimal digit, which the next stage remembers
 abbrev pub first_digit : ℕ → Stage → Option (Stage × Added)
@@ -69,10 +69,10 @@ takes t (LabelByte byte) = record t { label = t.label ++ byte ∷ [] }
 takes t LabelEnd = record t { scope = t.scope ++ t.label ∷ []; label = [] }
 
 -- the stage and what is taken after a text, from a stage and what is taken before it
-abbrev pub run : Stage → Taken → List ℕ → Option (Stage × Taken)
-run stage t [] = Some (stage, t)
-run stage t (byte ∷ bytes) =
-    option_and_then (λ next. run next.0 (takes t next.1) bytes) (step stage byte)
+abbrev pub steps : Stage → Taken → List ℕ → Option (Stage × Taken)
+steps stage t [] = Some (stage, t)
+steps stage t (byte ∷ bytes) =
+    option_and_then (λ next. steps next.0 (takes t next.1) bytes) (step stage byte)
 
 -- the parts that are taken
 abbrev pub parts_of : Taken → Parts
@@ -86,4 +86,4 @@ finish _ t = None
 
 -- the parts of a text
 abbrev pub parts_read : List ℕ → Option Parts
-parts_read text = option_and_then (λ end. finish end.0 end.1) (run Front nothing_taken text)
+parts_read text = option_and_then (λ end. finish end.0 end.1) (steps Front nothing_taken text)

@@ -1,34 +1,15 @@
 -- Counts of the keys of each address, as they are kept: a key more, and a key less.
-use Rattle.std.proofs.Common.{◌≡◌, ◌≢◌, ◌≤◌, ◌<◌, ◌+◌, ◌-◌, ◌==◌, ◌&&◌, ℕ, cond, Bool, true, false, List, filter, length, Option, Some, None, is_none, is_some, unwrap_or, IfSome, refl, sym, ◌∙◌, ap, subst, arith}
-use Rattle.std.proofs.lemmas.Bool.{true≢false, and_from, and_parts}
-use Rattle.std.proofs.lemmas.Option.{none-some}
-use Rattle.std.specs.Prelude.{Decides}
-use Rattle.std.specs.Ordering.{eq_by_cmp}
-use Rattle.std.specs.Cmp.{Equal-is, tied_itself, unsigned_Decides}
-use Rattle.std.specs.Cmp.Lexicographic.{nat_list_cmp_total, pointwise, pointwise_decides}
-use Rattle.std.specs.FinMap.{slice_cmp-IsAntisymmetric, nat_cmp-IsAntisymmetric}
+use Rattle.nb_table.proofs.Common.{◌≡◌, ◌≢◌, ◌≤◌, ◌<◌, ◌+◌, ◌-◌, ◌==◌, ◌&&◌, ℕ, cond, Bool, true, false, List, filter, length, Option, Some, None, is_none, is_some, unwrap_or, refl, sym, ◌∙◌, ap, subst, arith, true≢false, and_from, and_parts, none-some, Decides, eq_by_cmp, Equal-is, tied_itself, nat_list_cmp_total, pointwise, slice_cmp-IsAntisymmetric, nat_cmp-IsAntisymmetric, Key, EntryValue, IsShort, is_short, Contents, of_source, held_keys, Limits, KeepsLimits, ip_cmp, Adds, AreCounted, Counts, CountsKeys, HasNoZero, Takes, count_of, if_same, key_cmp, key_cmp_total, key_cmp_exact, list_all, Spoilt, Held, AllShort, all_entries_found, all_entries_from, IfSome}
 use Rattle.std.specs.FinMap as maps
-use Rattle.nb_datagram.specs.declared.key.Key.{Key}
-use Rattle.nb_entries.specs.Entry.{EntryValue, IsShort, is_short}
-use Rattle.nb_table.specs.Contents.{Contents}
-use Rattle.nb_table.specs.Limits.{of_source, held_keys, Limits, KeepsLimits}
-use Rattle.nb_table.specs.Code.SourceCounts.{ip_cmp, Adds, AreCounted, Counts, CountsKeys, HasNoZero, Takes, count_of, if_same}
+use Rattle.nb_streams.specs.DecidedFacts.{bytes_decide}
 use Rattle.nb_table.proofs.Limits.GroupLemmas.{few_of_none, held_at_most, held_insert, held_without}
-use Rattle.nb_datagram.specs.Key.{key_cmp, key_cmp_total, key_cmp_exact}
-use Rattle.std.specs.List.{list_all}
-use Rattle.nb_entries.specs.declared.slot.Slot.TheVariants.{Spoilt, Held}
-use Rattle.nb_table.specs.Merging.{AllShort}
 use Rattle.nb_entries.specs.Shared.MarksLemmas.{up_to_decides}
-use Rattle.nb_entries.specs.Shared.MapsLemmas.{all_entries_found, all_entries_from}
 use Rattle.nb_entries.specs.Shared.CoverLemmas.{bytes_below_decides}
 
 -- ---- addresses
 
 pub ip_cmp_exact : maps.IsAntisymmetric ip_cmp
 ip_cmp_exact = slice_cmp-IsAntisymmetric nat_cmp-IsAntisymmetric
-
-same_decides : (ip q : List ℕ) → Decides (pointwise ◌==◌ ip q) (ip ≡ q)
-same_decides ip q = pointwise_decides unsigned_Decides ip q
 
 tie_decides : (ip q : List ℕ) → Decides (eq_by_cmp ip_cmp q ip) (ip ≡ q)
 tie_decides ip q = (
@@ -46,7 +27,7 @@ alike false false P f g = refl
 
 pub count_put : (m : Counts) (ip q : List ℕ) (v : ℕ) → count_of (maps.insert m ip v) q ≡ cond (pointwise ◌==◌ ip q) v (count_of m q)
 count_put m ip q v =
-    ap (λ o. unwrap_or o 0) (maps.get-insert nat_list_cmp_total m ip v q ∙ ap (λ b. cond b (Some v) (maps.get m q)) (alike _ _ (ip ≡ q) (tie_decides ip q) (same_decides ip q)))
+    ap (λ o. unwrap_or o 0) (maps.get-insert nat_list_cmp_total m ip v q ∙ ap (λ b. cond b (Some v) (maps.get m q)) (alike _ _ (ip ≡ q) (tie_decides ip q) (bytes_decide ip q)))
     ∙ step (pointwise ◌==◌ ip q)
   where
     step : (b : Bool) → unwrap_or (cond b (Some v) (maps.get m q)) 0 ≡ cond b v (count_of m q)
@@ -55,7 +36,7 @@ count_put m ip q v =
 
 count_gone : (m : Counts) (ip q : List ℕ) → count_of (maps.remove m ip) q ≡ cond (pointwise ◌==◌ ip q) 0 (count_of m q)
 count_gone m ip q =
-    ap (λ o. unwrap_or o 0) (maps.get-remove nat_list_cmp_total m ip q ∙ ap (λ b. cond b None (maps.get m q)) (alike _ _ (ip ≡ q) (tie_decides ip q) (same_decides ip q)))
+    ap (λ o. unwrap_or o 0) (maps.get-remove nat_list_cmp_total m ip q ∙ ap (λ b. cond b None (maps.get m q)) (alike _ _ (ip ≡ q) (tie_decides ip q) (bytes_decide ip q)))
     ∙ step (pointwise ◌==◌ ip q)
   where
     step : (b : Bool) → unwrap_or (cond b None (maps.get m q)) 0 ≡ cond b 0 (count_of m q)
@@ -63,21 +44,21 @@ count_gone m ip q =
     step false = refl
 
 pub put_more : (m : Counts) (ip q : List ℕ) (v : ℕ) → v ≡ count_of m ip + 1 → count_of (maps.insert m ip v) q ≡ count_of m q + if_same ip q
-put_more m ip q v is = count_put m ip q v ∙ step (pointwise ◌==◌ ip q) (same_decides ip q).0
+put_more m ip q v is = count_put m ip q v ∙ step (pointwise ◌==◌ ip q) (bytes_decide ip q).0
   where
     step : (b : Bool) → (b ≡ true → ip ≡ q) → cond b v (count_of m q) ≡ count_of m q + cond b 1 0
     step true f = is ∙ ap (λ i. count_of m i + 1) (f refl)
     step false f = omega arith
 
 pub put_less : (m : Counts) (ip q : List ℕ) (v : ℕ) → v ≡ count_of m ip - 1 → count_of (maps.insert m ip v) q ≡ count_of m q - if_same ip q
-put_less m ip q v is = count_put m ip q v ∙ step (pointwise ◌==◌ ip q) (same_decides ip q).0
+put_less m ip q v is = count_put m ip q v ∙ step (pointwise ◌==◌ ip q) (bytes_decide ip q).0
   where
     step : (b : Bool) → (b ≡ true → ip ≡ q) → cond b v (count_of m q) ≡ count_of m q - cond b 1 0
     step true f = is ∙ ap (λ i. count_of m i - 1) (f refl)
     step false f = omega arith
 
 pub gone_less : (m : Counts) (ip q : List ℕ) → count_of m ip ≤ 1 → count_of (maps.remove m ip) q ≡ count_of m q - if_same ip q
-gone_less m ip q most = count_gone m ip q ∙ step (pointwise ◌==◌ ip q) (same_decides ip q).0
+gone_less m ip q most = count_gone m ip q ∙ step (pointwise ◌==◌ ip q) (bytes_decide ip q).0
   where
     none : (n : ℕ) → n ≤ 1 → 0 ≡ n - 1
     none n h = omega (arith, h)

@@ -1,21 +1,6 @@
 -- How many keys of a group a table has: after an insert, without a key, and joined to another.
-use Rattle.std.proofs.Common.{◌≡◌, ◌↔◌, ◌<◌, ◌≤◌, ◌+◌, ◌-◌, ◌&&◌, inl, inr, ℕ, cond, Bool, true, false, List, [], ◌∷◌, filter, map, length, slice_get, Option, Some, None, is_some, is_none, refl, sym, ◌∙◌, ap, ap₂, subst, arith}
-use Rattle.std.proofs.lemmas.Bool.{cases_lt}
-use Rattle.std.proofs.lemmas.List.{length-map}
-use Rattle.std.proofs.lemmas.Option.{none-some, slice_get-get_or, slice_get_past}
-use Rattle.std.specs.Cmp.{unsigned_Decides}
-use Rattle.std.specs.Cmp.Lexicographic.{pointwise_decides}
-use Rattle.std.specs.Bool.{Decides}
+use Rattle.nb_table.proofs.Common.{◌≡◌, ◌↔◌, ◌<◌, ◌≤◌, ◌+◌, ◌-◌, ◌&&◌, inl, inr, ℕ, cond, Bool, true, false, List, [], ◌∷◌, filter, map, length, slice_get, Option, Some, None, is_some, is_none, refl, sym, ◌∙◌, ap, ap₂, subst, arith, cases_lt, length-map, none-some, slice_get-get_or, slice_get_past, unsigned_Decides, pointwise_decides, Key, key_cmp, same_key, key_cmp_total, key_cmp_exact, same_key_decides, joined_at, EntryValue, join_entry, Contents, join, every_key, of_source, held_keys, FewOfEach, new_keys, first_unfit, SourcesFit, get-join, keys_kept, entries_kept, held_is, get_kept, Decides}
 use Rattle.std.specs.FinMap as maps
-use Rattle.nb_datagram.specs.declared.key.Key.{Key}
-use Rattle.nb_datagram.specs.Key.{key_cmp, same_key, key_cmp_total, key_cmp_exact, same_key_decides}
-use Rattle.nb_entries.specs.Maps.{joined_at}
-use Rattle.nb_entries.specs.Entry.{EntryValue, join_entry}
-use Rattle.nb_table.specs.Contents.{Contents}
-use Rattle.nb_table.specs.Join.{join}
-use Rattle.nb_table.specs.Limits.{every_key, of_source, held_keys, FewOfEach}
-use Rattle.nb_table.specs.Merging.{new_keys, first_unfit, SourcesFit}
-use Rattle.nb_table.specs.Shared.TableLemmas.{get-join, keys_kept, entries_kept, held_is, get_kept}
 use Rattle.nb_table.proofs.Joins.{lacking, len-joined}
 
 -- ---- lists of keys that pass a test

@@ -1,32 +1,11 @@
 -- Tables merged: the limits are kept.
-use Rattle.std.proofs.Common.{◌≡◌, ℕ, cond, Bool, true, false, List, [], ◌∷◌, Option, Some, None, refl, sym, ◌∙◌, ap, subst, arith, ◌++◌, map, option_and_then, ap₂, append-nil, append_assoc}
-use Rattle.std.proofs.lemmas.Option.{none-some, same_Some}
-use Rattle.std.specs.Prelude.{T}
-use Rattle.std.specs.Ordering.{eq_by_cmp}
-use Rattle.std.specs.List.{AllByRecursion, filter_map, cons_option}
-use Rattle.std.specs.FinMap.{is_sorted}
+use Rattle.nb_table.proofs.Common.{◌≡◌, ℕ, cond, Bool, true, false, List, [], ◌∷◌, Option, Some, None, refl, sym, ◌∙◌, ap, subst, arith, ◌++◌, map, option_and_then, ap₂, append-nil, append_assoc, none-some, same_Some, T, eq_by_cmp, AllByRecursion, filter_map, cons_option, is_sorted, Key, key_cmp, key_cmp_total, key_cmp_exact, joined_at, joined_onto, EntryValue, join_entry, IsShort, Contents, datagram_at, newly_whole, join, IsTable, every_key, TableValue, KeepsLimits, with_contents, AllShort, Fits, newly_handed, joined_each, handed_at, with_entry, handed, one_key, tied_self, below_none, T_left, T_right, lt_not_eq, get-join, join_formed, eq_by_cmp_equiv, below_all, DatagramParts, datagram_of, newly, handed_by}
 use Rattle.std.specs.FinMap as maps
-use Rattle.nb_datagram.specs.declared.key.Key.{Key}
-use Rattle.nb_datagram.specs.Key.{key_cmp, key_cmp_total, key_cmp_exact}
-use Rattle.nb_entries.specs.Maps.{joined_at, joined_onto}
-use Rattle.nb_entries.specs.Entry.{EntryValue, join_entry, IsShort}
-use Rattle.nb_table.specs.Contents.{Contents, datagram_at, newly_whole}
-use Rattle.nb_table.specs.Join.{join, IsTable}
-use Rattle.nb_table.specs.Limits.{every_key, TableValue, KeepsLimits, with_contents}
-use Rattle.nb_table.specs.Merging.{AllShort, Fits, newly_handed}
-use Rattle.nb_table.specs.Code.Each.{joined_each, handed_at, with_entry, handed}
-use Rattle.nb_entries.specs.Shared.MapsLemmas.{one_key, tied_self, below_none, T_left, T_right, lt_not_eq}
-use Rattle.nb_table.specs.Shared.TableLemmas.{get-join, join_formed}
 use Rattle.nb_table.proofs.Changes.{short_join, short_onto}
 use Rattle.nb_table.proofs.Joins.{joined_each_is, get-joined_each, same_given}
 use Rattle.nb_table.proofs.Limits.GroupLemmas.{held_every, fit_held, few_join}
-use Rattle.std.specs.Cmp.{eq_by_cmp_equiv}
-use Rattle.std.specs.FinMap.Entries.{below_all}
-use Rattle.nb_datagram.specs.Fragment.{DatagramParts}
 use Rattle.nb_entries.specs.declared.outline.Handing.{Handing}
 use Rattle.nb_entries.specs.declared.outline.Handing.TheVariants.{Over}
-use Rattle.nb_entries.specs.Whole.{datagram_of, newly}
-use Rattle.nb_entries.specs.Change.{handed_by}
 use Rattle.nb_entries.specs.Shared.WholeLemmas.{newly_same}
 
 -- ---- the limits

@@ -1,33 +1,9 @@
 -- Which of the two limits on keys a refusal reports, and that the key it names is the least that finds no room.
-use Rattle.std.proofs.Common.{◌≡◌, ◌≢◌, ◌<◌, ◌≤◌, ◌-◌, ◌+◌, ◌&&◌, inl, inr, ℕ, suc, zero, cond, Bool, true, false, List, [], ◌∷◌, filter, map, length, slice_get, is_none, Option, Some, None, refl, sym, ◌∙◌, ap, subst, arith}
-use Rattle.std.proofs.lemmas.Bool.{cases_lt, or_left, or_right, and_parts}
-use Rattle.std.proofs.lemmas.Option.{none-some, same_Some}
-use Rattle.std.specs.Prelude.{T}
-use Rattle.std.specs.declared.cmp.Ordering.{Ordering}
-use Rattle.std.specs.declared.cmp.Ordering.TheVariants.{Less, Equal, Greater}
-use Rattle.std.specs.Ordering.{eq_by_cmp, is_lt, ordering_reverse}
-use Rattle.std.specs.Cmp.{tied_itself}
-use Rattle.std.specs.List.{AllByRecursion, list_any}
-use Rattle.std.specs.FinMap.{is_sorted}
-use Rattle.std.specs.FinMap.Entries.{below_all}
+use Rattle.nb_table.proofs.Common.{◌≡◌, ◌≢◌, ◌<◌, ◌≤◌, ◌-◌, ◌+◌, ◌&&◌, inl, inr, ℕ, suc, zero, cond, Bool, true, false, List, [], ◌∷◌, filter, map, length, slice_get, is_none, Option, Some, None, refl, sym, ◌∙◌, ap, subst, arith, cases_lt, or_left, or_right, and_parts, none-some, same_Some, T, Ordering, Less, Equal, Greater, eq_by_cmp, is_lt, ordering_reverse, tied_itself, AllByRecursion, list_any, is_sorted, below_all, Key, FragmentParts, core_of, key_cmp, key_cmp_total, key_cmp_exact, Held, joined_onto, EntryValue, facts_of, join_entry, Contents, Refuses, with_fragment, join, FewOfEach, every_key, held_keys, of_source, Limits, TableValue, IsReadAs, LoadFails, ill_formed, full, IsRefused, IsUnfitSource, first_unfit, new_keys, join_one, entries_kept, keys_kept, T_left, T_right, tied_self}
 use Rattle.std.specs.FinMap as maps
-use Rattle.nb_datagram.specs.declared.key.Key.{Key}
-use Rattle.nb_datagram.specs.Fragment.{FragmentParts, core_of}
-use Rattle.nb_datagram.specs.Key.{key_cmp, key_cmp_total, key_cmp_exact}
 use Rattle.nb_table.specs.declared.fault.TableFault.TheVariants.{Full}
 use Rattle.nb_entries.specs.declared.saved.LoadFault.TheVariants as faults
-use Rattle.nb_entries.specs.declared.slot.Slot.TheVariants.{Held}
-use Rattle.nb_entries.specs.Maps.{joined_onto}
-use Rattle.nb_entries.specs.Entry.{EntryValue, facts_of, join_entry}
-use Rattle.nb_table.specs.Contents.{Contents}
-use Rattle.nb_table.specs.Insert.{Refuses, with_fragment}
-use Rattle.nb_table.specs.Join.{join}
-use Rattle.nb_table.specs.Limits.{FewOfEach, every_key, held_keys, of_source, Limits, TableValue}
-use Rattle.nb_table.specs.Saved.{IsReadAs, LoadFails, ill_formed, full}
-use Rattle.nb_table.specs.Merging.{IsRefused, IsUnfitSource, first_unfit, new_keys}
 use Rattle.nb_table.specs.Refusals.{IsNew, below, is_lesser}
-use Rattle.nb_table.specs.Shared.TableLemmas.{join_one, entries_kept, keys_kept}
-use Rattle.nb_entries.specs.Shared.MapsLemmas.{T_left, T_right, tied_self}
 use Rattle.nb_table.proofs.Limits.GroupLemmas.{few_insert, few_join, filter_at_most, fit_held, held_every, held_join, source_decides}
 use Rattle.nb_table.proofs.Limits.SourceLemmas.{is_less}
 use Rattle.nb_table.proofs.Limits.UnfitLemmas.{found_kept}
@@ -178,17 +154,12 @@ narrower g h inside (k ∷ ks) = step (g k) refl (h k) refl (narrower g h inside
     step false e true f rec = omega (arith, rec)
     step false e false f rec = rec
 
-less_is : (r : Ordering) → is_lt r ≡ true → r ≡ Less
-less_is Less h = refl
-less_is Equal h = absurd (cc h)
-less_is Greater h = absurd (cc h)
-
 -- what is less than a key is less than one that isn't less than this
 lesser_too : (k q : Key) → key_cmp k q ≢ Greater → (j : Key) → is_lesser k j ≡ true → is_lesser q j ≡ true
 lesser_too k q h j e = step (key_cmp k q) refl
   where
     step : (r : Ordering) → key_cmp k q ≡ r → is_lesser q j ≡ true
-    step Less f = ap is_lt (key_cmp_total.trans j k q (less_is (key_cmp j k) e) f)
+    step Less f = ap is_lt (key_cmp_total.trans j k q (is_less (key_cmp j k) (subst T (sym e) tt)) f)
     step Equal f = subst (λ (x : Key). is_lesser x j ≡ true) (key_cmp_exact k q f) e
     step Greater f = absurd (h f)
 

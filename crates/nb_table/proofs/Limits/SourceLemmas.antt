@@ -1,24 +1,6 @@
 -- The keys of one address stand together in the order of keys, and are counted from the first one on.
-use Rattle.std.proofs.Common.{rules, ◌≡◌, ◌≢◌, ◌+◌, ◌-◌, ◌&&◌, ℕ, suc, zero, cond, Bool, true, false, List, [], ◌∷◌, filter, map, length, slice_get, Some, None, refl, sym, ◌∙◌, ap, subst, arith}
-use Rattle.std.proofs.lemmas.Bool.{true≢false, and_parts}
-use Rattle.std.specs.Prelude.{T}
-use Rattle.std.specs.declared.cmp.Ordering.{Ordering}
-use Rattle.std.specs.declared.cmp.Ordering.TheVariants.{Less, Equal, Greater}
-use Rattle.std.specs.declared.ops.Bound.TheVariants.{Included, Unbounded}
-use Rattle.std.specs.Ordering.{nat_cmp, ordering_then, is_le, is_lt}
-use Rattle.std.specs.Cmp.{tied_itself}
-use Rattle.std.proofs.lemmas.Cmp.{nat_list_cmp_total}
-use Rattle.std.specs.List.{AllByRecursion}
-use Rattle.std.specs.BTreeMap.Range.{entries_between, range_contains}
-use Rattle.std.specs.FinMap.{is_sorted, slice_cmp-IsAntisymmetric, nat_cmp-IsAntisymmetric}
-use Rattle.std.specs.FinMap.Entries.{below_all, is_sorted-where_key}
-use Rattle.nb_datagram.specs.declared.key.Key.{Key}
-use Rattle.nb_datagram.specs.Key.{key_cmp}
-use Rattle.nb_table.specs.Limits.{of_source}
-use Rattle.nb_entries.specs.Shared.MapsLemmas.{T_left, T_right}
+use Rattle.nb_table.proofs.Common.{rules, ◌≡◌, ◌≢◌, ◌+◌, ◌-◌, ◌&&◌, ℕ, suc, zero, cond, Bool, true, false, List, [], ◌∷◌, filter, map, length, slice_get, Some, None, refl, sym, ◌∙◌, ap, subst, arith, true≢false, and_from, and_parts, T, Ordering, Less, Equal, Greater, Included, Unbounded, nat_cmp, ordering_then, is_le, is_lt, tied_itself, AllByRecursion, entries_between, range_contains, is_sorted, slice_cmp-IsAntisymmetric, nat_cmp-IsAntisymmetric, below_all, is_sorted-where_key, Key, key_cmp, of_source, T_left, T_right, keys_kept, ip_cmp, nat_list_cmp_total}
 use Rattle.nb_table.proofs.Limits.GroupLemmas.{source_decides}
-use Rattle.nb_table.specs.Shared.TableLemmas.{keys_kept}
-use Rattle.nb_table.specs.Code.SourceCounts.{ip_cmp}
 
 -- ---- addresses in order
 
@@ -125,16 +107,8 @@ le_then Less s h = refl
 le_then Equal s h = refl
 le_then Greater s h = h
 
-and_true : (b : Bool) → (b && true) ≡ true → b ≡ true
-and_true true h = refl
-and_true false h = h
-
-true_and : (b : Bool) → b ≡ true → (b && true) ≡ true
-true_and true h = refl
-true_and false h = h
-
 contained_ip : (ip : List ℕ) (k : Key) → range_contains key_cmp (Included (first ip)) Unbounded k ≡ true → is_le (ip_cmp ip k.ip) ≡ true
-contained_ip ip k h = le_then (ip_cmp ip k.ip) _ (and_true _ h)
+contained_ip ip k h = le_then (ip_cmp ip k.ip) _ (and_parts _ true h).0
 
 zero_le : (n : ℕ) → is_le (nat_cmp 0 n) ≡ true
 zero_le n = search rules
@@ -147,8 +121,8 @@ least_numbers Greater s h g = h
 of_contained : (ip : List ℕ) (k : Key) → of_source ip k ≡ true → range_contains key_cmp (Included (first ip)) Unbounded k ≡ true
 of_contained ip k h =
     let same = (source_decides ip k).0 h in
-    true_and _ (least_numbers (ip_cmp ip k.ip) _ (subst (λ (x : List ℕ). is_le (ip_cmp ip x) ≡ true) (sym same) (itself_le ip))
-    (least_numbers (nat_cmp 0 k.port) _ (zero_le k.port) (zero_le k.id)))
+    and_from _ true (least_numbers (ip_cmp ip k.ip) _ (subst (λ (x : List ℕ). is_le (ip_cmp ip x) ≡ true) (sym same) (itself_le ip))
+    (least_numbers (nat_cmp 0 k.port) _ (zero_le k.port) (zero_le k.id))) refl
 
 pub onward_from : {X : Type 0} (ip : List ℕ) (es : List (Key × X)) → From ip (onward ip es)
 onward_from ip [] = tt

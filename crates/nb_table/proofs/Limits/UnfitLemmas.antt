@@ -1,27 +1,8 @@
 -- The least key that doesn't fit among those of its address: found by going through the addresses, ascending.
-use Rattle.std.proofs.Common.{append-nil}
-use Rattle.std.proofs.Common.{◌≡◌, ◌≢◌, ◌≤◌, ◌-◌, ◌+◌, ◌&&◌, ◌++◌, ℕ, suc, zero, cond, Bool, true, false, List, [], ◌∷◌, filter, map, length, slice_get, is_none, Option, Some, None, refl, sym, ◌∙◌, ap, subst, arith}
-use Rattle.std.proofs.lemmas.List.{length-map}
-use Rattle.std.proofs.lemmas.Option.{none-some, same_Some, slice_get_past}
-use Rattle.std.specs.Prelude.{T}
-use Rattle.std.specs.Option.{IfSome, MatchOption}
-use Rattle.std.specs.declared.cmp.Ordering.TheVariants.{Less, Greater}
-use Rattle.std.specs.Cmp.{tied_itself}
-use Rattle.std.specs.List.{AllByRecursion}
-use Rattle.std.specs.FinMap.{is_sorted}
-use Rattle.std.specs.FinMap.Entries.{below_all}
+use Rattle.nb_table.proofs.Common.{append-nil, ◌≡◌, ◌≢◌, ◌≤◌, ◌-◌, ◌+◌, ◌&&◌, ◌++◌, ℕ, suc, zero, cond, Bool, true, false, List, [], ◌∷◌, filter, map, length, slice_get, is_none, Option, Some, None, refl, sym, ◌∙◌, ap, subst, arith, length-map, none-some, same_Some, slice_get_past, T, IfSome, MatchOption, Less, Greater, tied_itself, AllByRecursion, is_sorted, below_all, Key, key_cmp, key_cmp_total, EntryValue, Contents, of_source, held_keys, first_unfit, new_keys, SourcesFit, IsUnfitSource, T_left, T_right, all_append, and_parts, ip_cmp}
 use Rattle.std.specs.FinMap as maps
-use Rattle.nb_datagram.specs.declared.key.Key.{Key}
-use Rattle.nb_datagram.specs.Key.{key_cmp, key_cmp_total}
-use Rattle.nb_entries.specs.Entry.{EntryValue}
-use Rattle.nb_table.specs.Contents.{Contents}
-use Rattle.nb_table.specs.Limits.{of_source, held_keys}
-use Rattle.nb_table.specs.Merging.{first_unfit, new_keys, SourcesFit, IsUnfitSource}
-use Rattle.nb_entries.specs.Shared.MapsLemmas.{T_left, T_right, all_append}
 use Rattle.nb_table.proofs.Limits.GroupLemmas.{held_at_most, filter_at_most, source_decides}
 use Rattle.nb_table.proofs.Limits.SourceLemmas.{is_less, lower_ip, lower_key, strictly}
-use Rattle.std.proofs.lemmas.Bool.{and_parts}
-use Rattle.nb_table.specs.Code.SourceCounts.{ip_cmp}
 
 -- what is found among those that pass a test is one of them, and passes
 pub found_kept : {X : Type 0} (P : Key → Type 0) (h : Key → Bool) (es : List (Key × X)) → AllByRecursion (λ e. P e.0) es → (i : ℕ) (q : Key) → slice_get (filter h (map (λ e. e.0) es)) i ≡ Some q → P q × (h q ≡ true)

@@ -1,25 +1,11 @@
 -- What a reading of a saved table finds stands there.
-use Rattle.std.proofs.Common.{◌≡◌, ◌+◌, ℕ, suc, zero, List, ◌++◌, length, Option, None, Some, Ok, refl, sym, ap, subst, ◌∙◌, arith, length-append, ◌-◌, ◌<◌, map, [], ◌∷◌, Bool, true, false, ◌&&◌, Err, append_assoc, append-nil, ◌==◌, ◌≤◌, take, get_or}
-use Rattle.std.proofs.lemmas.List.{take_all}
-use Rattle.std.specs.Int.{w16, w32, to_be_bytes}
-use Rattle.nb_names.specs.Labels.{StandsAt, NumberAt}
-use Rattle.nb_datagram.specs.declared.key.Key.{Key}
-use Rattle.nb_entries.specs.declared.saved.SavedForm.{SavedForm}
-use Rattle.nb_entries.specs.declared.saved.SavedForm.TheVariants.{First, Second}
-use Rattle.nb_entries.specs.Entry.{EntryValue, is_short}
-use Rattle.nb_table.specs.Saved.{magic, key_bytes, keyed_bytes, entries_bytes, IsAfter, key_at, entries_at, table_at, IsRead, after_magic, KeyAt, no_magic}
-use Rattle.nb_entries.specs.Saved.{entry_bytes}
-use Rattle.nb_entries.specs.SavedReading.{gives, goes_on, whole, good, stops, entry_at, Field, bad, Judged}
+use Rattle.nb_table.proofs.Common.{◌≡◌, ◌+◌, ℕ, suc, zero, List, ◌++◌, length, Option, None, Some, Ok, refl, sym, ap, subst, ◌∙◌, arith, length-append, ◌-◌, ◌<◌, map, [], ◌∷◌, Bool, true, false, ◌&&◌, Err, append_assoc, append-nil, ◌==◌, ◌≤◌, take, get_or, w16, w32, to_be_bytes, Key, SavedForm, First, Second, EntryValue, is_short, magic, key_bytes, keyed_bytes, entries_bytes, IsAfter, key_at, entries_at, table_at, IsRead, after_magic, KeyAt, no_magic, entry_bytes, gives, goes_on, whole, good, stops, entry_at, Field, bad, Judged, list_all, starts_with, unsigned_Decides, pointwise_decides, true≢false, AreJudged, IsJudged, take_all}
+use Rattle.nb_streams.specs.Places.{StandsAt, NumberAt}
 use Rattle.nb_entries.specs.Shared.FoundLemmas.{Spells, entry_found, spells_none, spells_then}
 use Rattle.std.proofs.lemmas.List.Folds.{list_all-append}
-use Rattle.std.specs.List.{list_all, starts_with}
 use Rattle.nb_entries.specs.declared.saved.LoadFault.{LoadFault}
-use Rattle.std.specs.Cmp.{unsigned_Decides}
-use Rattle.std.specs.Cmp.Lexicographic.{pointwise_decides}
-use Rattle.std.proofs.lemmas.Bool.{true≢false}
 use Rattle.nb_entries.specs.declared.saved.LoadFault.TheVariants.{NotCanonical}
-use Rattle.nb_table.specs.Code.SavedTables.{AreJudged, IsJudged}
-use Rattle.nb_names.specs.PacketFacts.{stands_same, one_number_16, one_number_32}
+use Rattle.nb_streams.specs.PacketFacts.{stands_same, one_number_16, one_number_32}
 use Rattle.nb_names.proofs.LabelsLemmas.{stands_before, stands_behind}
 use Rattle.nb_entries.specs.Shared.OutcomeLemmas.{IsOne, one_entry, one_field, one_gives, one_judged, one_then}
 

@@ -1,32 +1,15 @@
 -- What a judged input comes to, and the table that is kept of it.
-use Rattle.std.proofs.Common.{◌≡◌, ◌<◌, ◌≤◌, ◌⊎◌, inl, inr, ℕ, List, map, filter, length, Bool, true, false, None, Ok, Err, refl, sym, ap, subst, ◌∙◌, arith, ◌≢◌, ◌+◌, ◌-◌, ◌&&◌, ◌++◌, nat_lt, cond, [], ◌∷◌, Option, Some}
-use Rattle.std.proofs.lemmas.Bool.{true≢false, ltb-true, lt-ltb, and_from, and_parts}
-use Rattle.std.specs.Prelude.{Decides, IsTrue}
+use Rattle.nb_table.proofs.Common.{◌≡◌, ◌<◌, ◌≤◌, ◌⊎◌, inl, inr, ℕ, List, map, filter, length, Bool, true, false, None, Ok, Err, refl, sym, ap, subst, ◌∙◌, arith, ◌≢◌, ◌+◌, ◌-◌, ◌&&◌, ◌++◌, nat_lt, cond, [], ◌∷◌, Option, Some, true≢false, ltb-true, lt-ltb, and_from, and_parts, Decides, IsTrue, Key, SavedForm, Contents, EntryValue, FewOfEach, of_source, Limits, KeepsLimits, IsReadAs, LoadFails, too_long, full_source, full, no_memory, magic, IsSaved, IsRead, entries_at, IsAfter, IsJudged, AreKept, AreFew, SourcesSoFar, IfSome, MatchOption, Ordering, Less, Equal, Greater, is_le, tied_itself, AllByRecursion, ip_cmp, nat_list_cmp_total}
 use Rattle.std.specs.FinMap as maps
-use Rattle.nb_datagram.specs.declared.key.Key.{Key}
 use Rattle.nb_entries.specs.declared.saved.LoadFault.{LoadFault}
 use Rattle.nb_entries.specs.declared.saved.LoadFault.TheVariants.{TooLong, FullSource, Full, NoMemory}
-use Rattle.nb_entries.specs.declared.saved.SavedForm.{SavedForm}
-use Rattle.nb_table.specs.Contents.{Contents}
-use Rattle.nb_entries.specs.Entry.{EntryValue}
-use Rattle.nb_table.specs.Limits.{FewOfEach, of_source, Limits, KeepsLimits}
-use Rattle.nb_table.specs.Saved.{IsReadAs, LoadFails, too_long, full_source, full, no_memory, magic, IsSaved, IsRead, entries_at, IsAfter}
-use Rattle.nb_names.specs.Labels.{StandsAt}
-use Rattle.nb_table.specs.Code.SavedTables.{IsJudged, AreKept, AreFew, SourcesSoFar}
+use Rattle.nb_streams.specs.Places.{StandsAt}
 use Rattle.nb_table.proofs.SavedReading.LoadedLemmas.{table_with, read_inside, read_entries, read_len, read_saved, read_formed, read_short}
 use Rattle.nb_entries.specs.Shared.OutcomeLemmas.{same_fault, same_value, apart}
 use Rattle.nb_table.proofs.SavedReading.FoundLemmas.{one_form, one_read, one_entries}
-use Rattle.std.specs.Option.{IfSome, MatchOption}
-use Rattle.std.specs.declared.cmp.Ordering.{Ordering}
-use Rattle.std.specs.declared.cmp.Ordering.TheVariants.{Less, Equal, Greater}
-use Rattle.std.specs.Ordering.{is_le}
-use Rattle.std.proofs.lemmas.Cmp.{nat_list_cmp_total}
-use Rattle.std.specs.Cmp.{tied_itself}
-use Rattle.std.specs.List.{AllByRecursion}
 use Rattle.nb_table.specs.declared.saved.Sources.{Sources}
 use Rattle.nb_table.proofs.Limits.GroupLemmas.{source_decides}
 use Rattle.nb_table.proofs.Limits.SourceLemmas.{lower_ip, same_ip, strictly, le_both, itself_le}
-use Rattle.nb_table.specs.Code.SourceCounts.{ip_cmp}
 
 -- a judged input has no fault
 pub judged_sound : (input : List ℕ) (limit most count : ℕ) (short few : Bool) → IsJudged input limit most count short few → (f : LoadFault) → IsRead input (Err f) → ⊥

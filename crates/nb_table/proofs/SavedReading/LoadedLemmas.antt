@@ -1,41 +1,16 @@
 -- An input that was read is the saved bytes of the table of its entries.
-use Rattle.std.proofs.Common.{◌≡◌, inl, inr, ℕ, suc, zero, List, ◌∷◌, ◌++◌, length, Option, None, Some, Ok, sym, ap, ap₂, subst, ◌∙◌, [], Bool, true, false, cond, refl, ◌+◌, zero-add, arith, length-append, ◌≤◌, drop, get_or}
-use Rattle.std.specs.Prelude.{T, Decides}
-use Rattle.std.specs.Int.{w32, to_be_bytes, w16}
-use Rattle.std.specs.List.{list_all, AllByRecursion}
+use Rattle.nb_table.proofs.Common.{◌≡◌, inl, inr, ℕ, suc, zero, List, ◌∷◌, ◌++◌, length, Option, None, Some, Ok, sym, ap, ap₂, subst, ◌∙◌, [], Bool, true, false, cond, refl, ◌+◌, zero-add, arith, length-append, ◌≤◌, drop, get_or, T, Decides, w32, to_be_bytes, w16, list_all, AllByRecursion, is_sorted, below_all, Key, key_cmp, key_cmp_total, key_cmp_exact, SavedForm, First, Second, Contents, EntryValue, IsEntry, is_short, IsShort, IsTable, AllShort, magic, entries_bytes, saved_as, IsSaved, key_bytes, keyed_bytes, saved, saved_first, HasNoPromise, IsAfter, entries_at, IsRead, after_magic, key_at, KeyAt, FitsKeyed, FitsSaved, gives, goes_on, whole, good, Field, is_0, is_1, entry_at, Held, Spoilt, OnHeld, sorted_entries, T_left, T_right, T_both, none-some, same_Some, Less, eq_by_cmp, drop_more, MAX_LENGTH, facts_bytes, entry_bytes, less_is, take_all}
 use Rattle.std.specs.FinMap as maps
-use Rattle.std.specs.FinMap.{is_sorted}
-use Rattle.std.specs.FinMap.Entries.{below_all}
-use Rattle.nb_datagram.specs.declared.key.Key.{Key}
-use Rattle.nb_datagram.specs.Key.{key_cmp, key_cmp_total, key_cmp_exact}
-use Rattle.nb_entries.specs.declared.saved.SavedForm.{SavedForm}
-use Rattle.nb_entries.specs.declared.saved.SavedForm.TheVariants.{First, Second}
-use Rattle.nb_table.specs.Contents.{Contents}
-use Rattle.nb_entries.specs.Entry.{EntryValue, IsEntry, is_short, IsShort}
-use Rattle.nb_table.specs.Join.{IsTable}
-use Rattle.nb_table.specs.Merging.{AllShort}
-use Rattle.nb_table.specs.Saved.{magic, entries_bytes, saved_as, IsSaved, key_bytes, keyed_bytes, saved, saved_first, HasNoPromise, IsAfter, entries_at, IsRead, after_magic, key_at, KeyAt, FitsKeyed, FitsSaved}
-use Rattle.nb_entries.specs.SavedReading.{gives, goes_on, whole, good, Field, is_0, is_1, entry_at}
-use Rattle.nb_entries.specs.declared.slot.Slot.TheVariants.{Held, Spoilt}
-use Rattle.nb_entries.specs.Maps.{OnHeld}
-use Rattle.nb_names.specs.Labels.{StandsAt, NumberAt}
-use Rattle.nb_entries.specs.Shared.MapsLemmas.{sorted_entries, T_left, T_right, T_both}
+use Rattle.nb_streams.specs.Places.{StandsAt, NumberAt}
 use Rattle.nb_table.proofs.Limits.CountLemmas.{all_short_decides}
 use Rattle.nb_table.proofs.SavedReading.FoundLemmas.{key_found, entries_found, read_found, magic_size}
 use Rattle.nb_entries.specs.Shared.RowLemmas.{entry_formed, entry_plain}
-use Rattle.std.proofs.lemmas.Option.{none-some, same_Some}
-use Rattle.std.specs.declared.cmp.Ordering.TheVariants.{Less}
-use Rattle.std.specs.Ordering.{eq_by_cmp}
-use Rattle.std.proofs.lemmas.List.{take_all, drop_more}
-use Rattle.nb_names.specs.PacketFacts.{stands_fits}
-use Rattle.nb_datagram.specs.declared.limits.TheConstants.{MAX_LENGTH}
+use Rattle.nb_streams.specs.PacketFacts.{stands_fits}
 use Rattle.nb_datagram.specs.Header.{IsKey}
-use Rattle.nb_entries.specs.Saved.{facts_bytes, entry_bytes}
 use Rattle.nb_entries.specs.Shared.FoundLemmas.{Spells, spells_then}
 use Rattle.nb_entries.specs.Shared.SavedLemmas.{each_found}
 use Rattle.nb_entries.specs.Shared.ReadBackLemmas.{InForm, any_form, byte_back, facts_back, split}
 use Rattle.nb_table.proofs.Limits.SourceLemmas.{is_less}
-use Rattle.nb_table.specs.Shared.TreeLemmas.{less_is}
 
 -- ---- keys ascend
 

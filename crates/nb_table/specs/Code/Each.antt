@@ -16,9 +16,9 @@ use Rattle.nb_entries.specs.declared.outline.Handing.{Handing}
 use Rattle.nb_entries.specs.Whole.{newly, datagram_of}
 use Rattle.nb_entries.specs.Change.{handed_by}
 use Rattle.std.specs.Io.KnownBytes.{Appends}
-use Rattle.nb_names.specs.Counted.{CountedOf}
-use Rattle.nb_names.specs.Devices.{AppendsFront, GrowTo, ShowsWriteFault}
-use Rattle.nb_names.specs.Hexadecimal.{digits_text}
+use Rattle.nb_streams.specs.Counted.{CountedOf}
+use Rattle.nb_streams.specs.Devices.{AppendsFront, GrowTo, ShowsWriteFault}
+use Rattle.nb_streams.specs.Hexadecimal.{digits_text}
 
 module _ {K X : Type 0} {R : K → K → Ordering} where
   -- with_each m es: the map m, and each of these entries

@@ -1,6 +1,6 @@
 -- The tests of conflict and spoiling are the relations.
-use Rattle.std.proofs.Common.{◌≡◌, ◌≢◌, ◌≤◌, ◌↔◌, ◌||◌, ◌⊎◌, inl, inr, ℕ, Bool, true, false, cond, not, List, [], ◌∷◌, Contains, filter, Option, Some, None, refl, sym, ◌∙◌, ap, subst, arith, nat_lt, Decides, ◌<◌}
-use Rattle.std.proofs.lemmas.Bool.{eq-eqb, ltb-false, and_cases, or_left, or_right, not-true}
+use Rattle.std.proofs.Common.{◌≡◌, ◌≢◌, ◌≤◌, ◌↔◌, ◌⊎◌, inl, inr, ℕ, Bool, true, false, cond, not, List, [], ◌∷◌, Contains, filter, Option, Some, None, refl, sym, ◌∙◌, ap, subst, arith, nat_lt, Decides, ◌<◌}
+use Rattle.std.proofs.lemmas.Bool.{eq-eqb, ltb-false, and_cases, or_cases, or_left, or_right, not-true}
 use Rattle.std.specs.Cmp.{nat_cmp_total}
 use Rattle.std.specs.List.{list_any}
 use Rattle.std.specs.FinMap as map
@@ -143,10 +143,6 @@ pub conflicts_decides : (f g : Core) → Decides (conflicts f g) (Conflict f g)
 conflicts_decides f g = (λ e. conflict_from f g (not-true (facts_agree (facts_of f) (facts_of g)) e), test_of f g _ refl)
 
 -- ---- two fragments of a list
-
-or_cases : (a b : Bool) → (a || b) ≡ true → (a ≡ true) ⊎ (b ≡ true)
-or_cases true b h = inl refl
-or_cases false b h = inr h
 
 any_found : {X : Type 0} (p : X → Bool) (xs : List X) → list_any p xs ≡ true → (x : X) × Contains xs x × (p x ≡ true)
 any_found p [] h = absurd (cc)

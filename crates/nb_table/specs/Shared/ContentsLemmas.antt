@@ -1,7 +1,7 @@
 -- What a list of fragments says of a key, one fragment at a time: the entry of a fragment in front of
 -- others is the join of its own facts with the entry of the others.
 use Rattle.std.proofs.Common.{◌≡◌, ◌++◌, ◌||◌, ◌&&◌, ℕ, Bool, true, false, cond, not, List, [], ◌∷◌, Option, Some, refl, sym, ◌∙◌, ap, subst, ◌⊎◌, inl, inr, zero, suc, Contains, None, arith}
-use Rattle.std.proofs.lemmas.List.Elements.{filter-append}
+use Rattle.std.proofs.lemmas.List.Elements.{filter-append, Contains-append_cases, Contains-append_left, Contains-append_right}
 use Rattle.std.specs.Ordering.{nat_cmp}
 use Rattle.std.specs.Cmp.{nat_cmp_total}
 use Rattle.std.specs.List.{list_any}
@@ -20,8 +20,8 @@ use Rattle.nb_entries.specs.Shared.SlotLemmas.{agree_union}
 use Rattle.nb_entries.specs.Shared.CoverLemmas.{same_cover, in_union}
 use Rattle.nb_entries.specs.Shared.PlacedLemmas.{find-placed, find-append, cover_of_formed}
 use Rattle.nb_entries.specs.Shared.EntryLemmas.{facts_unite, join_entry-assoc}
-use Rattle.nb_table.specs.Shared.TableLemmas.{same_table, get-join, at_formed, join-comm, join-assoc, join-idem, facts_in-one, or_left, or_right, get-table_of}
-use Rattle.std.proofs.lemmas.Bool.{true≢false}
+use Rattle.nb_table.specs.Shared.TableLemmas.{same_table, get-join, at_formed, join-comm, join-assoc, join-idem, facts_in-one, get-table_of}
+use Rattle.std.proofs.lemmas.Bool.{true≢false, or_parts}
 use Rattle.nb_datagram.specs.declared.key.Key.{Key}
 
 -- ---- the cover of fragments
@@ -67,8 +67,8 @@ only_one false = refl
 pub agree_each : (x : EntryFacts) (g : Core) (gs : List Core) → some_conflict (g ∷ gs) ≡ false → facts_agree x (facts_in g (g ∷ gs)) ≡ not (list_any (λ h. not (facts_agree x (facts_of h))) (g ∷ gs))
 agree_each x g [] h = ap (facts_agree x) (facts_in-one g) ∙ only_one (facts_agree x (facts_of g))
 agree_each x g (h ∷ hs) e =
-    let free : list_any (conflicts g) (h ∷ hs) ≡ false = or_left _ _ e in
-    let rest : some_conflict (h ∷ hs) ≡ false = or_right _ _ e in
+    let free : list_any (conflicts g) (h ∷ hs) ≡ false = (or_parts _ _ e).0 in
+    let rest : some_conflict (h ∷ hs) ≡ false = (or_parts _ _ e).1 in
     let near = agree_each (facts_of g) h hs rest ∙ ap not free in
     ap (facts_agree x) (facts_in-cons g h hs)
     ∙ agree_union facts_unite x (facts_of g) (facts_in h (h ∷ hs)) near
@@ -186,30 +186,12 @@ same_cores-same_table L M h =
 
 -- ---- turned round
 
-pub in_append : {X : Type 0} (xs ys : List X) (x : X) → Contains (xs ++ ys) x → Contains xs x ⊎ Contains ys x
-in_append [] ys x c = inr c
-in_append (z ∷ zs) ys x c = elim (in_cons z (zs ++ ys) x c) [
-  | inl e ↦ inl (subst (Contains (z ∷ zs)) e (in_first z zs))
-  | inr d ↦ elim (in_append zs ys x d) [ inl h ↦ inl (in_rest z zs x h) | inr h ↦ inr h ]
-]
-
-pub append_front : {X : Type 0} (xs ys : List X) (x : X) → Contains xs x → Contains (xs ++ ys) x
-append_front [] ys x c = absurd (in_none x c)
-append_front (z ∷ zs) ys x c = elim (in_cons z zs x c) [
-  | inl e ↦ subst (Contains (z ∷ zs ++ ys)) e (in_first z (zs ++ ys))
-  | inr d ↦ in_rest z (zs ++ ys) x (append_front zs ys x d)
-]
-
-pub append_behind : {X : Type 0} (xs ys : List X) (x : X) → Contains ys x → Contains (xs ++ ys) x
-append_behind [] ys x c = c
-append_behind (z ∷ zs) ys x c = in_rest z (zs ++ ys) x (append_behind zs ys x c)
-
 -- the order of two lists makes no difference to what they have
 pub turned_cores : (L M : List Core) → SameCores (L ++ M) (M ++ L)
 turned_cores L M f = (turn L M, turn M L)
   where
     turn : (xs ys : List Core) → Contains (xs ++ ys) f → Contains (ys ++ xs) f
-    turn xs ys c = elim (in_append xs ys f c) [ inl h ↦ append_behind ys xs f h | inr h ↦ append_front ys xs f h ]
+    turn xs ys c = elim (Contains-append_cases xs ys f c) [ inl h ↦ Contains-append_right ys xs f h | inr h ↦ Contains-append_left ys xs f h ]
 
 -- ---- the keys that pass a test
 

@@ -1,18 +1,17 @@
 -- The laws of joins of tables, and the table of one fragment.
-use Rattle.std.proofs.Common.{◌≡◌, Option, Some, None, refl, sym, ◌∙◌, subst, cond, Bool, true, false, List, [], ◌∷◌, filter, map, length, ap, ◌++◌, ℕ, arith, append_assoc, append-nil, ◌||◌}
+use Rattle.std.proofs.Common.{◌≡◌, Option, Some, None, refl, sym, ◌∙◌, subst, cond, Bool, true, false, List, [], ◌∷◌, filter, map, length, ap, ◌++◌, ℕ, arith, append_assoc, append-nil}
 use Rattle.std.proofs.lemmas.Option.{same_Some, none-some}
 use Rattle.std.proofs.lemmas.List.{length-map}
 use Rattle.std.specs.declared.cmp.Ordering.TheVariants.{Equal}
 use Rattle.std.specs.FinMap.Entries.{find-where_key, is_sorted-where_key}
 use Rattle.std.specs.Io.KnownBytes.{Appends}
 use Rattle.std.proofs.lemmas.Grind.{flat_map-append}
-use Rattle.std.proofs.lemmas.Bool.{true≢false}
+use Rattle.std.proofs.lemmas.Bool.{true≢false, or_parts}
 use Rattle.std.specs.List.{list_any}
-use Rattle.nb_names.specs.Counted.{CountedOf}
-use Rattle.nb_names.specs.Devices.{AppendsFront}
-use Rattle.nb_names.specs.DeviceFacts.{Appends-nil, Appends-more, front_wider, front_after, fails_from, grows_on}
-use Rattle.nb_names.specs.Hexadecimal.{digits_text}
-use Rattle.nb_names.specs.NameText.{digits_of}
+use Rattle.nb_streams.specs.Counted.{CountedOf}
+use Rattle.nb_streams.specs.Devices.{AppendsFront}
+use Rattle.nb_streams.specs.DeviceFacts.{Appends-nil, Appends-more, front_wider, front_after, fails_from, grows_on}
+use Rattle.nb_streams.specs.Hexadecimal.{digits_text, digits_of}
 use Rattle.nb_datagram.specs.declared.key.Key.{Key}
 use Rattle.nb_datagram.specs.Key.{key_cmp_total, key_cmp_exact, key_cmp, same_key, same_key_decides}
 use Rattle.nb_datagram.specs.Fragment.{Core}
@@ -181,17 +180,9 @@ facts_in-one f = λ i. record { kind = f.kind; source = f.source; destination = 
 
 -- ---- the table of a list, by its keys
 
-pub or_left : (a b : Bool) → (a || b) ≡ false → a ≡ false
-or_left true b h = h
-or_left false b h = refl
-
-pub or_right : (a b : Bool) → (a || b) ≡ false → b ≡ false
-or_right true b h = absurd (true≢false h)
-or_right false b h = h
-
 none_there : (L : List Core) (k : Key) → list_any (same_key k) (map (λ f. f.key) L) ≡ false → with_key k L ≡ []
 none_there [] k h = refl
-none_there (f ∷ fs) k h = step (same_key k f.key) (or_left _ _ h) (none_there fs k (or_right _ _ h))
+none_there (f ∷ fs) k h = step (same_key k f.key) (or_parts _ _ h).0 (none_there fs k (or_parts _ _ h).1)
   where
     step : (b : Bool) → b ≡ false → with_key k fs ≡ [] → cond b (f ∷ with_key k fs) (with_key k fs) ≡ []
     step true h rec = absurd (true≢false h)

@@ -1,9 +1,9 @@
 //! How many keys of each address a table holds, kept beside its entries.
 ghost use Rattle.std.specs.Prelude.{◌≡◌, ◌<◌, ◌+◌, ◌-◌, ℕ, List, OnOk, OnErr};
 ghost use Rattle.std.specs.FinMap as maps;
-ghost use Rattle.nb_table.specs.Code.SourceCounts.{count_of, if_same};
+ghost use Rattle.nb_table.specs.Code.SourceCounts.{count_of, if_same, Counts, HasNoZero, counts_code, ip_cmp};
 
-use nb_names::NoMemory;
+use nb_streams::NoMemory;
 use std::alloc::Global;
 use std::collections::BTreeMap;
 use std::marker::Model;
@@ -15,9 +15,6 @@ pub(crate) struct SourceCounts {
 }
 
 impl Model for SourceCounts {
-    ghost use Rattle.std.specs.FinMap as maps;
-    ghost use Rattle.nb_table.specs.Code.SourceCounts.{Counts, HasNoZero, counts_code, ip_cmp};
-
     ghost Value = { Counts };
 
     ghost coded = { counts_code };

@@ -3,7 +3,7 @@ ghost use Rattle.std.specs.Prelude.{◌≡◌, ◌⊎◌, ◌&&◌, IfOk, IfErr,
 ghost use Rattle.std.specs.BTreeMap.{IsOrdered};
 ghost use Rattle.std.specs.List.{AllByRecursion};
 ghost use Rattle.std.specs.FinMap as maps;
-ghost use Rattle.nb_names.specs.Labels.{StandsAt};
+ghost use Rattle.nb_streams.specs.Places.{StandsAt};
 ghost use Rattle.nb_datagram.specs.Key.{key_cmp};
 ghost use Rattle.nb_entries.specs.Entry.{is_short as is_short_entry};
 ghost use Rattle.nb_entries.specs.Sinks.{Puts};
@@ -18,7 +18,7 @@ use crate::entries::Entries;
 use nb_datagram::Key;
 use nb_entries::saved::{ByteSink, SavedEntry, SavedForm, put_four_bytes, read_count, read_entry};
 use nb_entries::{Entry, LoadFault};
-use nb_names::{Bytes, Counted, DeviceFault, NoMemory};
+use nb_streams::{Bytes, Counted, DeviceFault, NoMemory};
 use std::alloc::Global;
 use std::collections::BTreeMap;
 use std::io::Write;
@@ -120,14 +120,6 @@ pub(crate) fn judge_entries(
     Ok((Within { is_short, are_few }, here))
 }
 
-/// Puts an entry into the map.
-fn keep(map: &mut Entries, key: Key, entry: Entry) -> Result<(), NoMemory>
-    ensures { OnOk result (map.new ≡ maps.insert map.old key entry) }
-{
-    map.insert(key, entry)?;
-    Ok(())
-}
-
 /// This many entries with their keys, from an offset on.
 pub(crate) fn load_entries(
     alloc: Global,
@@ -147,7 +139,7 @@ pub(crate) fn load_entries(
     for _ in 0..count {
         let (key, after) = read_key(input, before, here)?;
         let (entry, next) = read_entry(form, input, after)?;
-        keep(&mut map, key, entry.load(alloc)?)?;
+        map.insert_new(key, entry.load(alloc)?)?;
         before = Some(key);
         here = next;
     }

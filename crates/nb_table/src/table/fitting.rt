@@ -1,5 +1,5 @@
 //! Whether a table takes in another, or a fragment, under its limits.
-ghost use Rattle.std.specs.Prelude.{◌≡◌, ◌≢◌, ◌↔◌, OnOk, IfErr, IsTrue, filter, slice_get, is_none, IfSome, MatchOption, ◌≤◌, ◌-◌, ℕ, List, None, unwrap_or};
+ghost use Rattle.std.specs.Prelude.{◌≡◌, ◌≢◌, ◌↔◌, OnOk, IfErr, IsTrue, filter, slice_get, is_none, IfSome, MatchOption, ◌≤◌, ◌-◌, None, unwrap_or};
 ghost use Rattle.std.specs.List.{list_all};
 ghost use Rattle.std.specs.FinMap as maps;
 ghost use Rattle.nb_entries.specs.Entry.{is_short};

@@ -1,15 +1,15 @@
 //! Tables, saved and loaded.
-ghost use Rattle.std.specs.Prelude.{◌≡◌, ℕ, Err, IfOk, IfErr, OnOk, OnErr};
+ghost use Rattle.std.specs.Prelude.{◌≡◌, Err, IfOk, IfErr, OnOk, OnErr};
 ghost use Rattle.std.specs.Io.KnownBytes.{Appends};
-ghost use Rattle.nb_names.specs.Devices.{AppendsFront, GrowTo, ShowsWriteFault};
-ghost use Rattle.nb_names.specs.Hexadecimal.{digits_text};
+ghost use Rattle.nb_streams.specs.Devices.{AppendsFront, GrowTo, ShowsWriteFault};
+ghost use Rattle.nb_streams.specs.Hexadecimal.{digits_text};
 ghost use Rattle.nb_entries.specs.declared.saved.LoadFault.{LoadFault};
 ghost use Rattle.nb_table.specs.Saved.{IsReadAs, LoadFails, IsSaved, saved as saved_bytes, IsRead, FitsSaved};
 
 use super::{Table, are_counted};
 use crate::saved::entries::{form_of, judge, load_entries, save_entries, write_saved};
 use nb_entries::LoadFault;
-use nb_names::{Bytes, Counted, DeviceFault, NoMemory};
+use nb_streams::{Bytes, Counted, DeviceFault, NoMemory};
 use std::alloc::Global;
 use std::io::Write;
 

@@ -3,9 +3,11 @@ ghost use Rattle.std.specs.Prelude.{◌≡◌, IfOk, IfErr, OnOk, OnErr, map, ta
 ghost use Rattle.std.specs.FinMap as maps;
 ghost use Rattle.nb_entries.specs.declared.outline.Handing.TheVariants.{Over};
 ghost use Rattle.nb_table.specs.Join.{join, IsTable, joined_all, AreTaken};
-ghost use Rattle.nb_table.specs.Limits.{with_contents, TableValue};
+ghost use Rattle.nb_table.specs.Limits.{with_contents, TableValue, Limits};
 ghost use Rattle.nb_table.specs.Merging.{Fits, IsRefused, newly_handed};
 ghost use Rattle.nb_table.specs.Code.Each.{put_back as with_before, taken_back};
+ghost use Rattle.nb_table.specs.Contents.{Contents};
+ghost use Rattle.nb_table.specs.Shared.TableLemmas.{join-comm, join-assoc, join-idem};
 
 mod merging_entries;
 mod others;
@@ -17,7 +19,7 @@ use crate::join::Join;
 use merging_entries::{merge_entries, preview_entries};
 use nb_datagram::{Datagrams, Key};
 use nb_entries::{Entry, Handing};
-use nb_names::NoMemory;
+use nb_streams::NoMemory;
 
 impl Table {
     /// Merges the other table into this one, as [`Table::merge`]. The datagrams, if they are handed
@@ -81,13 +83,6 @@ impl Table {
 }
 
 impl Join for Table {
-    ghost use Rattle.std.specs.Prelude.{◌≡◌, OnOk, IfErr, OnErr};
-    ghost use Rattle.nb_table.specs.Contents.{Contents};
-    ghost use Rattle.nb_table.specs.Limits.{Limits};
-    ghost use Rattle.nb_table.specs.Join.{join, IsTable};
-    ghost use Rattle.nb_table.specs.Merging.{Fits, IsRefused};
-    ghost use Rattle.nb_table.specs.Shared.TableLemmas.{join-comm, join-assoc, join-idem};
-
     ghost Content = { Contents };
 
     ghost content = { λ table. table.contents };
@@ -111,16 +106,7 @@ impl Join for Table {
     ghost idempotent = { join-idem };
 
     /// Merges the other table into this one, as [`Table::merge`], and gives no datagrams.
-    fn join(&mut self, other: &Table) -> Result<(), TableFault>
-        ensures joined { OnOk result (self.new.contents
-            ≡ join self.old.contents other.now.contents) }
-        ensures formed { IsTable self.new.contents }
-        ensures limits { self.new.limits ≡ self.old.limits }
-        ensures fits { OnOk result (Fits self.old.limits self.old.contents other.now.contents) }
-        ensures fault { IfErr result (IsRefused self.old.limits self.old.contents
-            other.now.contents) }
-        ensures err { OnErr result (self.new ≡ self.old) }
-    {
+    fn join(&mut self, other: &Table) -> Result<(), TableFault> {
         self.join_lent(other, Handing::Kept)?;
         Ok(())
     }

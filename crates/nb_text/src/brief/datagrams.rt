@@ -12,7 +12,8 @@ use nb_datagram::error_codes::{
     DESTINATION_NAME_NOT_PRESENT, INVALID_DESTINATION_NAME_FORMAT, INVALID_SOURCE_NAME_FORMAT,
 };
 use nb_datagram::{DatagramFault, Kind, LentFragment, LentPacket, QueryKind, decode_lent};
-use nb_names::{NoMemory, push_lent_name};
+use nb_names::push_lent_name;
+use nb_streams::NoMemory;
 
 /// Adds the phrase of a payload of port 138.
 pub fn push_datagram(payload: &[u8], text: &mut String) -> Result<(), NoMemory>

@@ -6,17 +6,18 @@ ghost use Rattle.nb_text.specs.Said.{Adds};
 ghost use Rattle.nb_text.specs.ServiceSaid.{addresses_said, ending_said, few_said, held_said, names_said, reason_said, reason_words, server_said, time_said, unit_said};
 ghost use Rattle.nb_text.specs.Words.{is_set};
 
+use crate::brief::gist::{Few, Gist, MOST_LISTED};
 use crate::brief::pieces::{push_count, push_each, push_text};
-use crate::brief::told::{Few, MOST_LISTED, Told};
 use crate::words::{
     ACT_ERR, CFT_ERR, FMT_ERR, IMP_ERR, MULTI_HOMED, NAM_ERR, OK, OTHER_REFRESH, QUERY, REFRESH,
     REGISTRATION, RELEASE, RFS_ERR, SRV_ERR, WACK,
 };
 use bitflags::Flags;
-use nb_names::{DomainName, NoMemory, push_decimal, push_digits, push_domain};
+use nb_names::{DomainName, push_domain};
 use nb_service::kinds::{NBSTAT, NS};
 use nb_service::limits::UNIT_ID_LENGTH;
 use nb_service::{NmFlags, NodeFlags, opcode, rcode};
+use nb_streams::{NoMemory, push_decimal, push_digits};
 
 /// R of a flag word (RFC 1002 section 4.2.1.1): the packet is a response.
 const RESPONSE: u16 = 0x8000;
@@ -109,7 +110,7 @@ fn has(word: u16, flag: NmFlags) -> bool
 pub fn push_ending(
     ending: Ending,
     word: u16,
-    told: &Told,
+    told: &Gist,
     text: &mut String,
 ) -> Result<(), NoMemory>
     ensures { Adds result text.old text.new (ending_said ending word told.now) }
@@ -147,7 +148,7 @@ pub fn push_ending(
 
 /// Adds the addresses, after what is said of a group or of one node (G of RFC 1002 sections 4.2.13
 /// and 4.2.18).
-fn push_held(group: &str, one: &str, told: &Told, text: &mut String) -> Result<(), NoMemory>
+fn push_held(group: &str, one: &str, told: &Gist, text: &mut String) -> Result<(), NoMemory>
     ensures { Adds result text.old text.new (held_said group.now one.now told.now) }
 {
     let lead = match told.flags {

@@ -5,11 +5,12 @@ ghost use Rattle.std.specs.Fmt.{decimal};
 ghost use Rattle.std.specs.List.{flat_map};
 ghost use Rattle.nb_text.specs.Said.{Adds, bytes_said, coded_said, commas, counts_in, follow_said, refused_said};
 
-use nb_names::{NameFault, NoMemory, push_decimal, push_digits};
+use nb_names::NameFault;
+use nb_streams::{NoMemory, push_decimal, push_digits};
 use nb_telling::Shows;
 
 /// Adds a piece.
-#[tactic(auto, using(nb_names::specs::Growth::front_stays))]
+#[tactic(auto, using(nb_streams::specs::Growth::front_stays))]
 pub fn push_text(piece: &str, text: &mut String) -> Result<(), NoMemory>
     ensures { Adds result text.old text.new (piece.now ∷ []) }
 {

@@ -12,15 +12,16 @@ ghost use Rattle.nb_text.specs.SaysPacket.{AddsPhrase};
 ghost use Rattle.nb_text.specs.ServiceSaid.{About, IsAbout, about_first, name_said, service_refused_said, service_said, type_of};
 
 use crate::brief::form::{form_of, push_ending};
+use crate::brief::gist::Gist;
 use crate::brief::pieces::{counts_in, push_follow, push_refused, push_text};
-use crate::brief::told::Told;
-use crate::keys::field_key;
 use crate::records::tell_name;
+use crate::tags::field_tag;
+use nb_names::NameReader;
 use nb_names::limits::POINTED_OFFSETS;
-use nb_names::{NameReader, NoMemory};
 use nb_service::kinds::NBSTAT;
 use nb_service::limits::{HEADER_LENGTH, SHORT_PACKET};
 use nb_service::{Header, Seen, ServiceFault, read_header, see_question, see_record, walk};
+use nb_streams::NoMemory;
 
 /// Adds the phrase of a payload of port 137.
 ///
@@ -72,7 +73,7 @@ fn push_packet(
         + usize::from(header.additional);
     let (about, at) = first_of(names, questions, records);
     let kind = kind_of(&about);
-    let told = Told::of(names, at, records, kind == Some(NBSTAT));
+    let told = Gist::of(names, at, records, kind == Some(NBSTAT));
     let (opening, ending) = form_of(header.word, kind);
     push_text(opening, text)?;
     push_subject(names, &about, text)?;
@@ -125,7 +126,7 @@ fn push_subject(
         Adds result text.old text.new (name_said subject ∷ []) }
 {
     match about {
-        Some(seen) => tell_name(field_key!("", ""), names, seen, text),
+        Some(seen) => tell_name(field_tag!("", ""), names, seen, text),
         None => push_text("no name", text),
     }
 }

@@ -7,8 +7,9 @@ ghost use Rattle.nb_text.specs.SaysPacket.{AddsPhrase};
 use crate::brief::pieces::{
     counts_in, push_bytes, push_coded, push_follow, push_refused, push_text,
 };
-use nb_names::{NoMemory, push_address, push_decimal, push_lent_name};
+use nb_names::push_lent_name;
 use nb_session::{LentPacket, LentParsed, Packet, Parsed, SessionFault, parse_lent};
+use nb_streams::{NoMemory, push_address, push_decimal};
 
 /// Adds the phrase of a payload of port 139.
 pub fn push_session(payload: &[u8], text: &mut String) -> Result<(), NoMemory>

@@ -1,7 +1,7 @@
 //! Laws of phrases: what a phrase says stands in the packet's own values.
 ghost use Rattle.std.specs.Prelude.{◌≡◌, ◌==◌, ℕ, ◌<◌, Bool, true, false, List, [], ◌∷◌, ◌++◌, length, codes, Some, if◌then◌else◌, ◌-◌};
 ghost use Rattle.std.specs.Fmt.{decimal};
-ghost use Rattle.nb_names.specs.Addresses.{address_text};
+ghost use Rattle.nb_streams.specs.Addresses.{address_text};
 ghost use Rattle.nb_names.specs.Name.{NetbiosName, IsName, labels_of_name};
 ghost use Rattle.nb_names.specs.NameText.{labels_written, written};
 ghost use Rattle.nb_names.specs.declared.fault.NameFault.TheVariants.{BadPointer, NotNetbios};

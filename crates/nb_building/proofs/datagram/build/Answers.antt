@@ -29,3 +29,24 @@ returns-in-group-clause-too_long c = rw c.in-group.is c.fragments-in-group.ensur
 
 pub returns-in-broadcast-clause-too_long : goal.returns-in-broadcast-clause-too_long
 returns-in-broadcast-clause-too_long c = rw c.in-broadcast.is c.fragments-in-broadcast.ensures.too_long
+
+pub returns-in-unique-clause-refused : goal.returns-in-unique-clause-refused
+returns-in-unique-clause-refused c = rw c.in-unique.is c.fragments.ensures.refused
+
+pub returns-in-group-clause-refused : goal.returns-in-group-clause-refused
+returns-in-group-clause-refused c = rw c.in-group.is c.fragments-in-group.ensures.refused
+
+pub returns-in-broadcast-clause-refused : goal.returns-in-broadcast-clause-refused
+returns-in-broadcast-clause-refused c = rw c.in-broadcast.is c.fragments-in-broadcast.ensures.refused
+
+pub returns-in-error-clause-refused : goal.returns-in-error-clause-refused
+returns-in-error-clause-refused c = rw c.in-error.is c.error.ensures.refused
+
+pub returns-in-find-clause-refused : goal.returns-in-find-clause-refused
+returns-in-find-clause-refused c = rw c.in-find.is c.query.ensures.refused
+
+pub returns-in-found-clause-refused : goal.returns-in-found-clause-refused
+returns-in-found-clause-refused c = rw c.in-found.is c.query-in-found.ensures.refused
+
+pub returns-in-missing-clause-refused : goal.returns-in-missing-clause-refused
+returns-in-missing-clause-refused c = rw c.in-missing.is c.query-in-missing.ensures.refused

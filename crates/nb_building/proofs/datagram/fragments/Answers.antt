@@ -1,8 +1,10 @@
-use Rattle.nb_building.proofs.Common.{◌≡◌, ◌∙◌, ap, arith, length, refl, fragments, datagram, piece}
+use Rattle.nb_building.proofs.Common.{inr, ◌≡◌, ◌∙◌, ap, arith, length, refl, fragments, datagram, piece}
+use Rattle.nb_building.specs.Refusals.{too_long}
 use Rattle.nb_building.proofs.ArgumentLemmas.{five_words}
 use Rattle.nb_building.proofs.BuiltLemmas.{fragments_named, tells_too_much, too_much}
-use Rattle.nb_building.proofs.DatagramWordLemmas.{fragment_words, fragments_unnamed, kind_counted, words_counted}
-use Rattle.nb_building.proofs.UnnamedLemmas.{one_data, part_unnamed, unnamed}
+use Rattle.nb_building.proofs.UnnamedLemmas.{one_data}
+use Rattle.nb_building.proofs.DatagramWordLemmas.{fragment_words, fragments_explained}
+use Rattle.nb_building.proofs.TakenLemmas.{kind_form, other_count, refused_at, text_refused_at}
 use Rattle.nb_building.proofs.datagram.fragments.Goals.{in_default-via-then-words-lt5, in_default-via-else-words-lt5+else-words-lt6}
 use Rattle.nb_building.proofs.datagram.fragments.Goals as goal
 
@@ -29,45 +31,46 @@ returns-in-Err-clause-too_long c too =
 
 pub returns-in_err-key-clause-refused : goal.returns-in_err-key-clause-refused
 returns-in_err-key-clause-refused c =
-    part_unnamed _ _ _ c.from_residual.result c.from_residual.ensures.1 c.in_err-key.ensures
-    (λ payloads names. let h = fragment_words _ _ _ _ _ _ _ _ (five_words (λ w. w.now) _ c.args.words.now c.in-len5.len_at_least c.in-len5.len_below) names in (h.whole.key, h.key))
+    refused_at _ _ _ _ _ _ 0 _ c.from_residual.result (kind_form c.args.kind) (five_words (λ w. w.now) _ c.args.words.now c.in-len5.len_at_least c.in-len5.len_below)
+    c.from_residual.ensures.1 c.in_err-key.ensures
+    (λ none. none)
 
 pub returns-in_err-source-clause-refused : goal.returns-in_err-source-clause-refused
 returns-in_err-source-clause-refused c =
-    unnamed _ c.from_residual-in_err-source.result (λ payloads names.
-    let h = fragment_words _ _ _ _ _ _ _ _ (five_words (λ w. w.now) _ c.args.words.now c.in-len5.len_at_least c.in-len5.len_below) names in
-    c.in_err-source.ensures.only h.whole.source h.source)
+    text_refused_at _ _ _ _ _ 1 _ c.from_residual-in_err-source.result (kind_form c.args.kind) (five_words (λ w. w.now) _ c.args.words.now c.in-len5.len_at_least c.in-len5.len_below)
+    c.from_residual-in_err-source.ensures.1 c.in_err-source.ensures.refused
+    (λ none. ((_, c.in_ok-key.ensures), none))
 
 pub returns-in_err-destination-clause-refused : goal.returns-in_err-destination-clause-refused
 returns-in_err-destination-clause-refused c =
-    unnamed _ c.from_residual-in_err-destination.result (λ payloads names.
-    let h = fragment_words _ _ _ _ _ _ _ _ (five_words (λ w. w.now) _ c.args.words.now c.in-len5.len_at_least c.in-len5.len_below) names in
-    c.in_err-destination.ensures.only h.whole.destination h.destination)
+    text_refused_at _ _ _ _ _ 2 _ c.from_residual-in_err-destination.result (kind_form c.args.kind) (five_words (λ w. w.now) _ c.args.words.now c.in-len5.len_at_least c.in-len5.len_below)
+    c.from_residual-in_err-destination.ensures.1 c.in_err-destination.ensures.refused
+    (λ none. ((_, c.in_ok-key.ensures), ((_, c.in_ok-source.ensures.found), none)))
 
 pub returns-in_err-data-clause-refused : goal.returns-in_err-data-clause-refused
 returns-in_err-data-clause-refused c =
-    part_unnamed _ _ _ c.from_residual-in_err-data.result c.from_residual-in_err-data.ensures.1 c.in_err-data.ensures
-    (λ payloads names. let h = fragment_words _ _ _ _ _ _ _ _ (five_words (λ w. w.now) _ c.args.words.now c.in-len5.len_at_least c.in-len5.len_below) names in (h.whole.bytes, h.bytes))
+    refused_at _ _ _ _ _ _ 3 _ c.from_residual-in_err-data.result (kind_form c.args.kind) (five_words (λ w. w.now) _ c.args.words.now c.in-len5.len_at_least c.in-len5.len_below)
+    c.from_residual-in_err-data.ensures.1 c.in_err-data.ensures
+    (λ none. ((_, c.in_ok-key.ensures), ((_, c.in_ok-source.ensures.found), ((_, c.in_ok-destination.ensures.found), none))))
 
 pub returns-in_err-most-clause-refused : goal.returns-in_err-most-clause-refused
 returns-in_err-most-clause-refused c =
-    unnamed _ c.from_residual-in_err-most.result (λ payloads names.
-    let h = fragment_words _ _ _ _ _ _ _ _ (five_words (λ w. w.now) _ c.args.words.now c.in-len5.len_at_least c.in-len5.len_below) names in
-    c.in_err-most.ensures.1 h.most h.number)
+    refused_at _ _ _ _ _ _ 4 _ c.from_residual-in_err-most.result (kind_form c.args.kind) (five_words (λ w. w.now) _ c.args.words.now c.in-len5.len_at_least c.in-len5.len_below)
+    c.from_residual-in_err-most.ensures.1 (inr c.in_err-most.ensures)
+    (λ none. ((_, c.in_ok-key.ensures), ((_, c.in_ok-source.ensures.found), ((_, c.in_ok-destination.ensures.found), ((_, c.in_ok-data.ensures), none)))))
 
 pub returns-in-Err-clause-refused : goal.returns-in-Err-clause-refused
-returns-in-Err-clause-refused c other payloads names =
+returns-in-Err-clause-refused c = too_long (λ payloads names.
     let h = fragment_words _ _ _ _ _ _ _ _ (five_words (λ w. w.now) _ c.args.words.now c.in-len5.len_at_least c.in-len5.len_below) names in
     let same = one_data _ h.whole.bytes _ c.in_ok-data.ensures h.bytes in
-    absurd (omega (arith, c.in-Err.ensures, ap length same, h.short))
+    absurd (omega (arith, c.in-Err.ensures, ap length same, h.short)))
 
 pub returns-in-Ok-clause-refused : goal.returns-in-Ok-clause-refused
 returns-in-Ok-clause-refused c =
-    fragments_unnamed _ _ _ _ _ _ _ _ c.in_ok-most.most c.fragments_of.result (five_words (λ w. w.now) _ c.args.words.now c.in-len5.len_at_least c.in-len5.len_below)
+    fragments_explained _ _ _ _ _ _ _ _ c.in_ok-most.most c.fragments_of.result (five_words (λ w. w.now) _ c.args.words.now c.in-len5.len_at_least c.in-len5.len_below)
     c.in_ok-source.ensures.only c.in_ok-destination.ensures.only c.in_ok-data.ensures c.in_ok-most.ensures
     (rw c.in-Ok.ensures.0 at c.fragments_of.ensures.refused)
 
 pub returns-in_default-clause-refused : goal.returns-in_default-clause-refused
-returns-in_default-clause-refused c other payloads names =
-    let is : length c.args.words.now ≡ 5 = words_counted (λ w. w.now) c.args.words.now _ payloads names ∙ kind_counted c.args.kind in
-    elim c.in_default.branch [ in_default-via-then-words-lt5 w ↦ grind (arith, is) | in_default-via-else-words-lt5+else-words-lt6 w ↦ grind (arith, is) ]
+returns-in_default-clause-refused c = other_count _ (λ w. w.now) _ c.args.words.now _ (kind_form c.args.kind) (λ is.
+    elim c.in_default.branch [ in_default-via-then-words-lt5 w ↦ grind (arith, is) | in_default-via-else-words-lt5+else-words-lt6 w ↦ grind (arith, is) ])

@@ -1,8 +1,7 @@
 use Rattle.nb_building.proofs.Common.{◌≡◌, ◌∙◌, arith, length, refl, queries}
 use Rattle.nb_building.proofs.ArgumentLemmas.{two_words}
 use Rattle.nb_building.proofs.BuiltLemmas.{datagrams_named}
-use Rattle.nb_building.proofs.DatagramWordLemmas.{key_of_two, name_of_two, query_letter, words_counted, query_counted}
-use Rattle.nb_building.proofs.UnnamedLemmas.{part_unnamed, unnamed}
+use Rattle.nb_building.proofs.TakenLemmas.{memory_passed_on, other_count, query_form, refused_at, text_refused_at}
 use Rattle.nb_building.proofs.datagram.query.Goals.{in_default-via-then-words-lt2, in_default-via-else-words-lt2+else-words-lt3}
 use Rattle.nb_building.proofs.datagram.query.Goals as goal
 
@@ -14,16 +13,19 @@ returns-clause-built c =
 
 pub returns-in_err-key-clause-refused : goal.returns-in_err-key-clause-refused
 returns-in_err-key-clause-refused c =
-    part_unnamed _ _ _ c.from_residual.result c.from_residual.ensures.1 c.in_err-key.ensures
-    (λ payloads names. key_of_two _ _ _ _ _ (two_words (λ w. w.now) _ c.args.words.now c.in-len2.len_at_least c.in-len2.len_below) names)
+    refused_at _ _ _ _ _ _ 0 _ c.from_residual.result (query_form c.args.kind) (two_words (λ w. w.now) _ c.args.words.now c.in-len2.len_at_least c.in-len2.len_below)
+    c.from_residual.ensures.1 c.in_err-key.ensures
+    (λ none. none)
 
 pub returns-in_err-destination-clause-refused : goal.returns-in_err-destination-clause-refused
 returns-in_err-destination-clause-refused c =
-    unnamed _ c.from_residual-in_err-destination.result (λ payloads names.
-    let has = name_of_two _ _ _ _ _ (query_letter c.args.kind) (two_words (λ w. w.now) _ c.args.words.now c.in-len2.len_at_least c.in-len2.len_below) names in
-    c.in_err-destination.ensures.only has.0 has.1)
+    text_refused_at _ _ _ _ _ 1 _ c.from_residual-in_err-destination.result (query_form c.args.kind) (two_words (λ w. w.now) _ c.args.words.now c.in-len2.len_at_least c.in-len2.len_below)
+    c.from_residual-in_err-destination.ensures.1 c.in_err-destination.ensures.refused
+    (λ none. ((_, c.in_ok-key.ensures), none))
 
 pub returns-in_default-clause-refused : goal.returns-in_default-clause-refused
-returns-in_default-clause-refused c other payloads names =
-    let is : length c.args.words.now ≡ 2 = words_counted (λ w. w.now) c.args.words.now _ payloads names ∙ query_counted c.args.kind in
-    elim c.in_default.branch [ in_default-via-then-words-lt2 w ↦ grind (arith, is) | in_default-via-else-words-lt2+else-words-lt3 w ↦ grind (arith, is) ]
+returns-in_default-clause-refused c = other_count _ (λ w. w.now) _ c.args.words.now _ (query_form c.args.kind) (λ is.
+    elim c.in_default.branch [ in_default-via-then-words-lt2 w ↦ grind (arith, is) | in_default-via-else-words-lt2+else-words-lt3 w ↦ grind (arith, is) ])
+
+pub returns-in_err-alone-clause-refused : goal.returns-in_err-alone-clause-refused
+returns-in_err-alone-clause-refused c = memory_passed_on _ _ _ c.from_residual-in_err-alone.result c.from_residual-in_err-alone.ensures.1

@@ -8,3 +8,9 @@ returns-in-response-clause-built c = rw c.in-response.is c.build.ensures.built
 
 pub returns-in-response-clause-too_long : goal.returns-in-response-clause-too_long
 returns-in-response-clause-too_long c = rw c.in-response.is c.build.ensures.too_long
+
+pub returns-in-release-clause-refused : goal.returns-in-release-clause-refused
+returns-in-release-clause-refused c = rw c.in-release.is c.withdrawal.ensures.refused
+
+pub returns-in-response-clause-refused : goal.returns-in-response-clause-refused
+returns-in-response-clause-refused c = rw c.in-response.is c.build.ensures.refused

@@ -1,8 +1,8 @@
-use Rattle.nb_building.proofs.Common.{query, status}
+use Rattle.nb_building.proofs.Common.{arith, query, status}
 use Rattle.nb_building.proofs.ArgumentLemmas.{two_words}
 use Rattle.nb_building.proofs.BuiltLemmas.{service_built}
-use Rattle.nb_building.proofs.ServiceWordLemmas.{question_words}
-use Rattle.nb_building.proofs.UnnamedLemmas.{part_unnamed, unnamed}
+use Rattle.nb_building.proofs.TakenLemmas.{other_count, only_memory, question_form, refused_at, text_refused_at}
+use Rattle.nb_building.proofs.service.question.Goals.{in_default-via-then-words-lt2, in_default-via-else-words-lt2+else-words-lt3}
 use Rattle.nb_building.proofs.service.question.Goals as goal
 
 pub returns-in-query-clause-built : goal.returns-in-query-clause-built
@@ -20,9 +20,22 @@ returns-in-status-clause-built c =
 
 pub returns-in_err-id-clause-refused : goal.returns-in_err-id-clause-refused
 returns-in_err-id-clause-refused c =
-    part_unnamed _ _ _ c.from_residual.result c.from_residual.ensures.1 c.in_err-id.ensures
-    (λ bytes built. let h = question_words _ _ _ built.packet _ _ (two_words (λ w. w.now) _ c.args.words.now c.in-len2.len_at_least c.in-len2.len_below) built.named in h.0)
+    refused_at _ _ _ _ _ _ 0 _ c.from_residual.result (question_form _ c.requires) (two_words (λ w. w.now) _ c.args.words.now c.in-len2.len_at_least c.in-len2.len_below)
+    c.from_residual.ensures.1 c.in_err-id.ensures
+    (λ none. none)
 
 pub returns-in_err-name-clause-refused : goal.returns-in_err-name-clause-refused
 returns-in_err-name-clause-refused c =
-    unnamed _ c.from_residual-in_err-name.result (λ bytes built. let h = question_words _ _ _ built.packet _ _ (two_words (λ w. w.now) _ c.args.words.now c.in-len2.len_at_least c.in-len2.len_below) built.named in c.in_err-name.ensures.only h.1.0 h.1.1)
+    text_refused_at _ _ _ _ _ 1 _ c.from_residual-in_err-name.result (question_form _ c.requires) (two_words (λ w. w.now) _ c.args.words.now c.in-len2.len_at_least c.in-len2.len_below)
+    c.from_residual-in_err-name.ensures.1 c.in_err-name.ensures.refused
+    (λ none. ((_, c.in_ok-id.ensures), none))
+
+pub returns-in-query-clause-refused : goal.returns-in-query-clause-refused
+returns-in-query-clause-refused c = only_memory _ _ _ c.encoded.result c.encoded.ensures.memory
+
+pub returns-in-status-clause-refused : goal.returns-in-status-clause-refused
+returns-in-status-clause-refused c = only_memory _ _ _ c.encoded-in-status.result c.encoded-in-status.ensures.memory
+
+pub returns-in_default-clause-refused : goal.returns-in_default-clause-refused
+returns-in_default-clause-refused c = other_count _ (λ w. w.now) _ c.args.words.now _ (question_form _ c.requires) (λ is.
+    elim c.in_default.branch [ in_default-via-then-words-lt2 w ↦ grind (arith, is) | in_default-via-else-words-lt2+else-words-lt3 w ↦ grind (arith, is) ])

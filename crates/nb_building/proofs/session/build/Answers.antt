@@ -1,6 +1,6 @@
-use Rattle.nb_building.proofs.Common.{positive, keepalive, ap}
+use Rattle.nb_building.proofs.Common.{positive, keepalive, refl}
 use Rattle.nb_building.proofs.BuiltLemmas.{bare_built}
-use Rattle.nb_building.proofs.UnnamedLemmas.{bare_unnamed, session_count}
+use Rattle.nb_building.proofs.UnnamedLemmas.{bare_explained}
 use Rattle.nb_building.proofs.session.build.Goals as goal
 
 pub returns-in-request-clause-built : goal.returns-in-request-clause-built
@@ -26,10 +26,20 @@ pub returns-in-message-clause-too_long : goal.returns-in-message-clause-too_long
 returns-in-message-clause-too_long c = rw c.in-message.is c.message.ensures.too_long
 
 pub returns-in-positive-clause-refused : goal.returns-in-positive-clause-refused
-returns-in-positive-clause-refused c =
-    bare_unnamed (λ w. w.now) _ c.args.words.now c.bare.result (ap session_count c.in-positive.is) c.bare.ensures.refused
+returns-in-positive-clause-refused c = bare_explained (λ w. w.now) _ _ c.args.words.now c.bare.result c.in-positive.is refl c.bare.ensures.refused
 
 pub returns-in-keepalive-clause-refused : goal.returns-in-keepalive-clause-refused
 returns-in-keepalive-clause-refused c =
-    bare_unnamed (λ w. w.now) _ c.args.words.now c.bare-in-keepalive.result (ap session_count c.in-keepalive.is)
-    c.bare-in-keepalive.ensures.refused
+    bare_explained (λ w. w.now) _ _ c.args.words.now c.bare-in-keepalive.result c.in-keepalive.is refl c.bare-in-keepalive.ensures.refused
+
+pub returns-in-request-clause-refused : goal.returns-in-request-clause-refused
+returns-in-request-clause-refused c = rw c.in-request.is c.request.ensures.refused
+
+pub returns-in-message-clause-refused : goal.returns-in-message-clause-refused
+returns-in-message-clause-refused c = rw c.in-message.is c.message.ensures.refused
+
+pub returns-in-negative-clause-refused : goal.returns-in-negative-clause-refused
+returns-in-negative-clause-refused c = rw c.in-negative.is c.negative.ensures.refused
+
+pub returns-in-retarget-clause-refused : goal.returns-in-retarget-clause-refused
+returns-in-retarget-clause-refused c = rw c.in-retarget.is c.retarget.ensures.refused

@@ -1,6 +1,8 @@
-use Rattle.nb_building.proofs.Common.{refl, negative}
+use Rattle.nb_building.proofs.Common.{arith, refl, negative}
 use Rattle.nb_building.proofs.ArgumentLemmas.{one_word}
 use Rattle.nb_building.proofs.BuiltLemmas.{session_built}
+use Rattle.nb_building.proofs.TakenLemmas.{other_count, only_memory, refused_at}
+use Rattle.nb_building.proofs.session.negative.Goals.{in_default-via-then-words-lt1, in_default-via-else-words-lt1+else-words-lt2}
 use Rattle.nb_building.proofs.session.negative.Goals as goal
 
 pub returns-clause-built : goal.returns-clause-built
@@ -8,3 +10,16 @@ returns-clause-built c =
     session_built _ _ _ _ _ c.encoded.result refl
     (one_word (λ w. w.now) _ c.args.words.now c.in-len1.len_at_least c.in-len1.len_below)
     (negative _ _ c.in_ok-code.ensures) c.encoded.ensures.built
+
+pub returns-in_err-code-clause-refused : goal.returns-in_err-code-clause-refused
+returns-in_err-code-clause-refused c =
+    refused_at _ _ _ _ _ _ 0 _ c.from_residual.result refl (one_word (λ w. w.now) _ c.args.words.now c.in-len1.len_at_least c.in-len1.len_below)
+    c.from_residual.ensures.1 c.in_err-code.ensures
+    (λ none. none)
+
+pub returns-clause-refused : goal.returns-clause-refused
+returns-clause-refused c = only_memory _ _ _ c.encoded.result c.encoded.ensures.memory
+
+pub returns-in_default-clause-refused : goal.returns-in_default-clause-refused
+returns-in_default-clause-refused c = other_count _ (λ w. w.now) _ c.args.words.now _ refl (λ is.
+    elim c.in_default.branch [ in_default-via-then-words-lt1 w ↦ grind (arith, is) | in_default-via-else-words-lt1+else-words-lt2 w ↦ grind (arith, is) ])

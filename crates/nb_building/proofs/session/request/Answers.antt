@@ -1,7 +1,8 @@
-use Rattle.nb_building.proofs.Common.{refl, request}
+use Rattle.nb_building.proofs.Common.{arith, refl, request}
 use Rattle.nb_building.proofs.ArgumentLemmas.{two_words}
 use Rattle.nb_building.proofs.BuiltLemmas.{session_built}
-use Rattle.nb_building.proofs.UnnamedLemmas.{request_parts, unnamed}
+use Rattle.nb_building.proofs.TakenLemmas.{other_count, only_memory, text_refused_at}
+use Rattle.nb_building.proofs.session.request.Goals.{in_default-via-then-words-lt2, in_default-via-else-words-lt2+else-words-lt3}
 use Rattle.nb_building.proofs.session.request.Goals as goal
 
 pub returns-clause-built : goal.returns-clause-built
@@ -13,12 +14,19 @@ returns-clause-built c =
 
 pub returns-in_err-called-clause-refused : goal.returns-in_err-called-clause-refused
 returns-in_err-called-clause-refused c =
-    unnamed _ c.from_residual.result (λ bytes built.
-    let parts = request_parts _ _ _ _ built.packet refl (two_words (λ w. w.now) _ c.args.words.now c.in-len2.len_at_least c.in-len2.len_below) built.named in
-    c.in_err-called.ensures.only parts.0.0 parts.0.1)
+    text_refused_at _ _ _ _ _ 0 _ c.from_residual.result refl (two_words (λ w. w.now) _ c.args.words.now c.in-len2.len_at_least c.in-len2.len_below)
+    c.from_residual.ensures.1 c.in_err-called.ensures.refused
+    (λ none. none)
 
 pub returns-in_err-calling-clause-refused : goal.returns-in_err-calling-clause-refused
 returns-in_err-calling-clause-refused c =
-    unnamed _ c.from_residual-in_err-calling.result (λ bytes built.
-    let parts = request_parts _ _ _ _ built.packet refl (two_words (λ w. w.now) _ c.args.words.now c.in-len2.len_at_least c.in-len2.len_below) built.named in
-    c.in_err-calling.ensures.only parts.1.0 parts.1.1)
+    text_refused_at _ _ _ _ _ 1 _ c.from_residual-in_err-calling.result refl (two_words (λ w. w.now) _ c.args.words.now c.in-len2.len_at_least c.in-len2.len_below)
+    c.from_residual-in_err-calling.ensures.1 c.in_err-calling.ensures.refused
+    (λ none. ((_, c.in_ok-called.ensures.found), none))
+
+pub returns-clause-refused : goal.returns-clause-refused
+returns-clause-refused c = only_memory _ _ _ c.encoded.result c.encoded.ensures.memory
+
+pub returns-in_default-clause-refused : goal.returns-in_default-clause-refused
+returns-in_default-clause-refused c = other_count _ (λ w. w.now) _ c.args.words.now _ refl (λ is.
+    elim c.in_default.branch [ in_default-via-then-words-lt2 w ↦ grind (arith, is) | in_default-via-else-words-lt2+else-words-lt3 w ↦ grind (arith, is) ])

@@ -1,7 +1,8 @@
-use Rattle.nb_building.proofs.Common.{refl, retarget}
+use Rattle.nb_building.proofs.Common.{inr, arith, refl, retarget}
 use Rattle.nb_building.proofs.ArgumentLemmas.{two_words}
 use Rattle.nb_building.proofs.BuiltLemmas.{session_built}
-use Rattle.nb_building.proofs.UnnamedLemmas.{retarget_parts, unnamed}
+use Rattle.nb_building.proofs.TakenLemmas.{other_count, only_memory, refused_at}
+use Rattle.nb_building.proofs.session.retarget.Goals.{in_default-via-then-words-lt2, in_default-via-else-words-lt2+else-words-lt3}
 use Rattle.nb_building.proofs.session.retarget.Goals as goal
 
 pub returns-clause-built : goal.returns-clause-built
@@ -12,12 +13,19 @@ returns-clause-built c =
 
 pub returns-in_err-address-clause-refused : goal.returns-in_err-address-clause-refused
 returns-in_err-address-clause-refused c =
-    unnamed _ c.from_residual.result (λ bytes built.
-    let parts = retarget_parts _ _ _ _ built.packet refl (two_words (λ w. w.now) _ c.args.words.now c.in-len2.len_at_least c.in-len2.len_below) built.named in
-    c.in_err-address.ensures.1 parts.0.0 parts.0.1)
+    refused_at _ _ _ _ _ _ 0 _ c.from_residual.result refl (two_words (λ w. w.now) _ c.args.words.now c.in-len2.len_at_least c.in-len2.len_below)
+    c.from_residual.ensures.1 (inr c.in_err-address.ensures)
+    (λ none. none)
 
 pub returns-in_err-port-clause-refused : goal.returns-in_err-port-clause-refused
 returns-in_err-port-clause-refused c =
-    unnamed _ c.from_residual-in_err-port.result (λ bytes built.
-    let parts = retarget_parts _ _ _ _ built.packet refl (two_words (λ w. w.now) _ c.args.words.now c.in-len2.len_at_least c.in-len2.len_below) built.named in
-    c.in_err-port.ensures.1 parts.1.0 parts.1.1)
+    refused_at _ _ _ _ _ _ 1 _ c.from_residual-in_err-port.result refl (two_words (λ w. w.now) _ c.args.words.now c.in-len2.len_at_least c.in-len2.len_below)
+    c.from_residual-in_err-port.ensures.1 (inr c.in_err-port.ensures)
+    (λ none. ((_, c.in_ok-address.ensures), none))
+
+pub returns-clause-refused : goal.returns-clause-refused
+returns-clause-refused c = only_memory _ _ _ c.encoded.result c.encoded.ensures.memory
+
+pub returns-in_default-clause-refused : goal.returns-in_default-clause-refused
+returns-in_default-clause-refused c = other_count _ (λ w. w.now) _ c.args.words.now _ refl (λ is.
+    elim c.in_default.branch [ in_default-via-then-words-lt2 w ↦ grind (arith, is) | in_default-via-else-words-lt2+else-words-lt3 w ↦ grind (arith, is) ])

@@ -1,7 +1,5 @@
-use Rattle.std.proofs.Common.{◌≤◌, length, ap, refl, sym, arith}
+use Rattle.nb_datagram.proofs.Common.{◌≤◌, length, ap, refl, sym, arith, NetbiosName, name_bytes}
 use Rattle.std.proofs.lemmas.Result.{err_from_is_err_and}
-use Rattle.nb_names.specs.Name.{NetbiosName}
-use Rattle.nb_datagram.specs.Packet.{name_bytes}
 use Rattle.nb_datagram.proofs.PiecesLemmas.{pieces_too_long, pieces_not_too_long, pieces_more}
 use Rattle.nb_datagram.proofs.datagram.cut.Goals as goal
 

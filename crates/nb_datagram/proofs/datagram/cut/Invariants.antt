@@ -1,4 +1,4 @@
-use Rattle.std.proofs.Common.{◌≡◌, map}
+use Rattle.nb_datagram.proofs.Common.{◌≡◌, map}
 use Rattle.std.specs.List.{range_with_len}
 use Rattle.nb_datagram.specs.Pieces.{piece}
 use Rattle.nb_datagram.proofs.datagram.cut.Given as goal

@@ -1,4 +1,4 @@
-use Rattle.std.proofs.Common.{◌∙◌}
+use Rattle.nb_datagram.proofs.Common.{◌∙◌}
 use Rattle.nb_datagram.proofs.decoding.decode.Goals as goal
 
 pub returns-in-Ok-clause-only : goal.returns-in-Ok-clause-only

@@ -1,6 +1,4 @@
-use Rattle.std.proofs.Common.{◌+◌, take, arith}
-use Rattle.std.proofs.lemmas.List.{take_rest}
-use Rattle.nb_datagram.specs.DatagramFaults.{no_fields, no_data, in_names, in_source, in_destination}
+use Rattle.nb_datagram.proofs.Common.{◌+◌, take, arith, take_rest, no_fields, no_data, in_names, in_source, in_destination}
 use Rattle.nb_datagram.proofs.ReadingLemmas.{HasFragment, named_there, fragment_there}
 use Rattle.nb_datagram.proofs.decoding.read_direct.Goals as goal
 

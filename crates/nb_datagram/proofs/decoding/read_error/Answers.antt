@@ -1,5 +1,4 @@
-use Rattle.std.proofs.Common.{arith, subst}
-use Rattle.nb_datagram.specs.DatagramFaults.{HasType, no_code}
+use Rattle.nb_datagram.proofs.Common.{arith, subst, HasType, no_code}
 use Rattle.nb_datagram.proofs.ReadingLemmas.{header_type, error_there}
 use Rattle.nb_datagram.proofs.decoding.read_error.Goals as goal
 

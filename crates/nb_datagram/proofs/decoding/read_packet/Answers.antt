@@ -1,7 +1,5 @@
-use Rattle.std.proofs.Common.{◌≡◌, rules}
+use Rattle.nb_datagram.proofs.Common.{◌≡◌, rules, no_header, no_type, type_of}
 use Rattle.std.proofs.lemmas.Result.{IfErr-weaker}
-use Rattle.nb_datagram.specs.DatagramFaults.{no_header, no_type}
-use Rattle.nb_datagram.specs.Packet.{type_of}
 use Rattle.nb_datagram.proofs.ReadingLemmas.{header_type, direct_failed}
 use Rattle.nb_datagram.proofs.decoding.read_packet.Goals as goal
 

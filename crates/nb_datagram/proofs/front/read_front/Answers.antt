@@ -1,4 +1,4 @@
-use Rattle.std.proofs.Common.{refl}
+use Rattle.nb_datagram.proofs.Common.{refl}
 use Rattle.nb_datagram.specs.Fronts.{of_fragment, of_another, no_fields}
 use Rattle.nb_datagram.proofs.FrontLemmas.{front_there, one_front}
 use Rattle.nb_datagram.proofs.ReadingLemmas.{header_type}
@@ -18,9 +18,4 @@ returns-clause-found c =
     ])
 
 pub returns-clause-only : goal.returns-clause-only
-returns-clause-only c front there =
-    one_front _ _ front
-    (front_there _ c.in_ok-header.header c.if-is_fragment.fragment c.in_ok-header.ensures (elim c.if-is_fragment.branch [
-      | then-is_fragment+in_ok-read_fragment w ↦ rw w.fragment-is (of_fragment _ (w.if-is_fragment.ensures.0 refl) w.in_ok-read_fragment.ensures)
-      | else-is_fragment w ↦ rw w.fragment-is (of_another (λ is. let wrong = w.if-is_fragment.ensures.1 is in absurd (cc)))
-    ])) there
+returns-clause-only c front there = one_front _ _ front (returns-clause-found c) there

@@ -1,14 +1,17 @@
 //! Rows of runs: one that grows in place, and the runs of several, one after the other.
-ghost use Rattle.std.specs.Prelude.{◌≡◌, ◌+◌, ◌<◌, ◌≤◌, ◌++◌, length, take, drop, OnOk, OnErr, []};
+ghost use Rattle.std.specs.Prelude.{◌≡◌, ◌+◌, ◌<◌, ◌≤◌, ◌++◌, length, take, drop, OnOk, OnErr, [], List};
 ghost use Rattle.std.specs.Vec.{vec_capacity, vec_len};
 ghost use Rattle.nb_entries.specs.Runs.{AreApart};
 ghost use Rattle.nb_entries.specs.declared.cover.runs.growing.TheConstants.{FEW};
-ghost use Rattle.nb_entries.specs.Code.Rows.{value_of, values_of, run_at, grown, Meet, Agree, IsPut, kept_runs, kept_values, AreFilled, IsFrom};
+ghost use Rattle.nb_entries.specs.Code.Rows.{value_of, values_of, run_at, grown, Meet, Agree, IsPut, kept_runs, kept_values, AreFilled, IsFrom, runs_in, NoneEmpty};
+ghost use Rattle.nb_entries.specs.declared.cover.runs.Run.{Run};
+ghost use Rattle.std.specs.Iterator.{at_most};
+ghost use Rattle.std.specs.Map.Iter.{TakesFirst, deref};
 
 use super::inserting::{first_from, past_to, row_to};
 use super::{Kept, Run};
 use arrayvec::ArrayVec;
-use nb_names::NoMemory;
+use nb_streams::NoMemory;
 use std::alloc::Global;
 use std::marker::Model;
 use std::slice::from_ref;
@@ -122,10 +125,6 @@ pub(crate) struct EachRun<'a> {
 }
 
 impl<'a> Model for EachRun<'a> {
-    ghost use Rattle.std.specs.Prelude.{◌++◌, List};
-    ghost use Rattle.nb_entries.specs.Code.Rows.{runs_in, NoneEmpty};
-    ghost use Rattle.nb_entries.specs.declared.cover.runs.Run.{Run};
-
     ghost Value = { List Run };
 
     ghost view = { λ e. e.row.now ++ runs_in e.rows.now };
@@ -181,10 +180,6 @@ impl<'a> EachRun<'a> {
 
 impl<'a> Iterator for EachRun<'a> {
     type Item = &'a Run;
-
-    ghost use Rattle.std.specs.Prelude.{length};
-    ghost use Rattle.std.specs.Iterator.{at_most};
-    ghost use Rattle.std.specs.Map.Iter.{TakesFirst, deref};
 
     ghost next_gives = { TakesFirst deref };
 

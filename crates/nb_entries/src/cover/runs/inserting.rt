@@ -6,7 +6,7 @@ ghost use Rattle.nb_entries.specs.Runs.{AreApart, StartsPast};
 ghost use Rattle.nb_entries.specs.Code.Rows.{run_at, EndBefore, Agree, IsPut, runs_in, values_in, NoneEmpty, kept_runs, kept_values, AreFilled, values_of, EndFrom, StartTo, StartAfter, last_end, LastsTo};
 
 use super::{Kept, Run, growing};
-use nb_names::NoMemory;
+use nb_streams::NoMemory;
 use std::alloc::Global;
 use std::mem::replace;
 

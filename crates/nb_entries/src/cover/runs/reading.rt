@@ -18,7 +18,7 @@ use super::{EachRun, Kept, Run, Runs, add_run};
 use crate::ranges::Ranges;
 use crate::saved::ByteSink;
 use crate::saved::fields::put_two_bytes;
-use nb_names::{Bytes, NoMemory};
+use nb_streams::{Bytes, NoMemory};
 use std::alloc::Global;
 
 /// Whether a run has no other byte at a place of these, which overlap or touch it.

@@ -6,17 +6,17 @@ use Rattle.nb_member.proofs.pair.two_members.Goals as goal
 use Rattle.nb_member.specs.Agreement.{AreGivenTheSame, HandsOverOnce, HandsOverTheSenders, StoppedForMemory, valid}
 use Rattle.nb_member.specs.Live.{cores}
 use Rattle.nb_member.specs.Member.{MemberValue}
-use Rattle.nb_member.specs.Running.{Runs}
+use Rattle.nb_member.specs.EventTaking.{TakesEvents}
 
 pub returns-clause-a : goal.returns-clause-a
 returns-clause-a c =
     let r = c.run-report_a in
-    subst (λ (m : MemberValue). Runs m c.args.events_a.now r.new.member r.result) c.new-a.ensures r.ensures
+    subst (λ (m : MemberValue). TakesEvents m c.args.events_a.now r.new.member r.result) c.new-a.ensures r.ensures
 
 pub returns-clause-b : goal.returns-clause-b
 returns-clause-b c =
     let r = c.run-report_b in
-    subst (λ (m : MemberValue). Runs m c.args.events_b.now r.new.member r.result) c.new-b.ensures r.ensures
+    subst (λ (m : MemberValue). TakesEvents m c.args.events_b.now r.new.member r.result) c.new-b.ensures r.ensures
 
 -- the pair that is answered
 abbrev pair : goal.After-run-report_b → Pair

@@ -1,6 +1,6 @@
 use Rattle.std.proofs.Common.{◌≡◌, ◌+◌, arith, sym, ap, drop, add-one, length, length-drop}
 use Rattle.nb_names.specs.DomainName.{spelling}
-use Rattle.nb_names.specs.PacketFacts.{All-drop}
+use Rattle.nb_streams.specs.PacketFacts.{All-drop}
 use Rattle.nb_names.proofs.SpellingLemmas.{some_left}
 use Rattle.nb_names.proofs.spellings.count_labels.Goals as goal
 

@@ -1,6 +1,6 @@
 use Rattle.std.proofs.Common.{◌≡◌, arith, sym, ◌∙◌, ap, refl, drop, add-one}
 use Rattle.nb_names.specs.DomainName.{spelling}
-use Rattle.nb_names.specs.PacketFacts.{All-drop}
+use Rattle.nb_streams.specs.PacketFacts.{All-drop}
 use Rattle.nb_names.proofs.SpellingLemmas.{none_left, some_left}
 use Rattle.nb_names.proofs.spellings.label_at.Goals as goal
 

@@ -1,6 +1,6 @@
 use Rattle.std.proofs.Common.{refl, sym, ◌∙◌}
 use Rattle.nb_names.specs.Code.TextSteps.{nothing_taken, takes}
-use Rattle.nb_names.proofs.FrontLemmas.{run_turn, bad_inside, bad_at_end, formed_at_end, not_ended}
+use Rattle.nb_names.proofs.FrontLemmas.{steps_turn, bad_inside, bad_at_end, formed_at_end, not_ended}
 use Rattle.nb_names.proofs.text_reading.bad_place.Goals as goal
 
 pub loop-place-init : goal.loop-place-init
@@ -13,7 +13,7 @@ returns-in-None c =
 pub loop-place-preserved : goal.loop-place-preserved
 loop-place-preserved c =
     let t = c.loop-place.invariant.0 in
-    (takes t c.in-Some.field-0-1, run_turn c.args.text.now c.loop-place.place c.loop-place.stage t (c.in-Some.next, c.in-Some.field-0-1) c.loop-place-test.true c.loop-place.invariant.1 (sym c.in-Some.ensures))
+    (takes t c.in-Some.field-0-1, steps_turn c.args.text.now c.loop-place.place c.loop-place.stage t (c.in-Some.next, c.in-Some.field-0-1) c.loop-place-test.true c.loop-place.invariant.1 (sym c.in-Some.ensures))
 
 pub returns-in-Closed : goal.returns-in-Closed
 returns-in-Closed c =

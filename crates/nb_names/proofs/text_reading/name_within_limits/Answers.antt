@@ -3,7 +3,7 @@ use Rattle.nb_names.specs.declared.text_steps.Stage.{Stage}
 use Rattle.nb_names.specs.declared.text_steps.Stage.TheVariants.{Front}
 use Rattle.nb_names.specs.Code.TextSteps.{Taken, takes, parts_of, finish}
 use Rattle.nb_names.specs.Code.Kept.{taken_of}
-use Rattle.nb_names.proofs.FrontLemmas.{run_turn, bad_inside, bad_at_end, not_ended}
+use Rattle.nb_names.proofs.FrontLemmas.{steps_turn, bad_inside, bad_at_end, not_ended}
 use Rattle.nb_names.proofs.PartsLemmas.{no_name_unformed, no_name_past_limits, no_name_past_label, text_at_end}
 use Rattle.nb_names.proofs.text_reading.name_within_limits.Goals as goal
 
@@ -17,13 +17,13 @@ returns-in_err-next-clause-none c =
 
 pub returns-in_err-take-clause-none : goal.returns-in_err-take-clause-none
 returns-in_err-take-clause-none c =
-    let turned = run_turn c.args.text.now c.loop-byte.byte-index c.loop-byte.stage (taken_of c.loop-byte.taken) (c.in_ok-next.next, c.in_ok-next.added) c.loop-byte-test.true c.loop-byte.invariant (sym c.in_ok-next.ensures) in
+    let turned = steps_turn c.args.text.now c.loop-byte.byte-index c.loop-byte.stage (taken_of c.loop-byte.taken) (c.in_ok-next.next, c.in_ok-next.added) c.loop-byte-test.true c.loop-byte.invariant (sym c.in_ok-next.ensures) in
     rw c.from_residual-in_err-take.ensures
     (no_name_past_limits c.args.text.now (c.loop-byte.byte-index + 1) c.in_ok-next.next (takes (taken_of c.loop-byte.taken) c.in_ok-next.added) turned c.in_err-take.ensures.none)
 
 pub loop-byte-preserved : goal.loop-byte-preserved
 loop-byte-preserved c =
-    let turned = run_turn c.args.text.now c.loop-byte.byte-index c.loop-byte.stage (taken_of c.loop-byte.taken) (c.in_ok-next.next, c.in_ok-next.added) c.loop-byte-test.true c.loop-byte.invariant (sym c.in_ok-next.ensures) in
+    let turned = steps_turn c.args.text.now c.loop-byte.byte-index c.loop-byte.stage (taken_of c.loop-byte.taken) (c.in_ok-next.next, c.in_ok-next.added) c.loop-byte-test.true c.loop-byte.invariant (sym c.in_ok-next.ensures) in
     turned ∙ ap (λ (t : Taken). Some (c.in_ok-next.next, t)) (sym c.in_ok-take.ensures.taken)
 
 pub returns-in_err-take-in-Label-clause-none : goal.returns-in_err-take-in-Label-clause-none

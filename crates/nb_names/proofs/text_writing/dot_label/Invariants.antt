@@ -1,6 +1,6 @@
 use Rattle.std.proofs.Common.{◌≡◌, ◌++◌, ◌∷◌, drop}
 use Rattle.std.specs.Str.{IsAscii}
-use Rattle.nb_names.specs.Ascii.{dot}
+use Rattle.nb_streams.specs.Ascii.{dot}
 use Rattle.nb_names.specs.NameText.{items_of}
 use Rattle.nb_names.proofs.text_writing.dot_label.Given as goal
 

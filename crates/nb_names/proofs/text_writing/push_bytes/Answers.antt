@@ -1,6 +1,7 @@
 use Rattle.std.proofs.Common.{◌++◌, ◌∷◌, [], List, ℕ, take, slice_index, string_bytes, ◌∙◌, ap, append_assoc}
 use Rattle.std.proofs.lemmas.Result.{on_ok_weaker}
-use Rattle.nb_names.specs.NameText.{digits_of, items_of, trimmed}
+use Rattle.nb_streams.specs.Hexadecimal.{digits_of}
+use Rattle.nb_names.specs.NameText.{items_of, trimmed}
 use Rattle.nb_names.proofs.text_writing.push_bytes.Goals as goal
 
 pub returns-clause-written : goal.returns-clause-written

@@ -1,5 +1,5 @@
 use Rattle.std.proofs.Common.{◌≡◌, ◌++◌, drop, string_bytes}
-use Rattle.nb_names.specs.Growth.{OnlyAdds}
+use Rattle.nb_streams.specs.Growth.{OnlyAdds}
 use Rattle.nb_names.specs.NameText.{items_of}
 use Rattle.nb_names.proofs.text_writing.push_each.Given as goal
 

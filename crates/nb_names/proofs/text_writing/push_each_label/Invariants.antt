@@ -1,6 +1,6 @@
 use Rattle.std.proofs.Common.{◌≡◌, ◌++◌, ℕ, List, length, string_bytes}
 use Rattle.std.specs.List.{AllByRecursion}
-use Rattle.nb_names.specs.Growth.{OnlyAdds}
+use Rattle.nb_streams.specs.Growth.{OnlyAdds}
 use Rattle.nb_names.specs.DomainName.{IsLabel, spelling}
 use Rattle.nb_names.specs.NameText.{scope_text_of}
 use Rattle.nb_names.proofs.text_writing.push_each_label.Given as goal

@@ -1,6 +1,6 @@
 use Rattle.std.proofs.Common.{◌++◌, ◌∷◌, [], List, ℕ, string_bytes, sym, ◌∙◌, ap, subst, append_assoc, lit<}
 use Rattle.std.proofs.lemmas.Result.{on_ok_weaker}
-use Rattle.nb_names.specs.Growth.{IsFrontOf, front_stays}
+use Rattle.nb_streams.specs.Growth.{IsFrontOf, front_stays}
 use Rattle.nb_names.specs.NameText.{items_of}
 use Rattle.nb_names.proofs.text_writing.push_label.Goals as goal
 

@@ -35,7 +35,7 @@ pub returns-in-End-clause-only : goal.returns-in-End-clause-only
 returns-in-End-clause-only g c labels next there =
     let seen = skipped_there _ _ _ _ _ _ _ _ _ c.way.invariant.1 c.way.invariant.2 c.in-End.ensures c.unwrap_or.ensures in
     let one = one_reading _ _ _ _ _ _ _ _ seen.name there in
-    (subst (λ (ls : List (List ℕ)). IsSkipped c.args.packet.now c.args.pointers c.args.at ls (record { next = c.unwrap_or.result; spelled_len = c.way.spelled; run = c.way.start; run_end = c.way.here + 1 })) one.0 seen, one.1, subst (λ (ls : List (List ℕ)). g.T.Takes.has c.way.taken ls) one.0 c.way.invariant.3)
+    (subst (λ (ls : List (List ℕ)). IsSkipped c.args.packet.now c.args.pointers c.args.at ls (record { next = c.unwrap_or.result; spelled_len = c.way.spelled; stretch = c.way.start; stretch_end = c.way.here + 1 })) one.0 seen, one.1, subst (λ (ls : List (List ℕ)). g.T.Takes.has c.way.taken ls) one.0 c.way.invariant.3)
 
 pub returns-in-End-clause-within : goal.returns-in-End-clause-within
 returns-in-End-clause-within g c = rw c.unwrap_or.ensures (next_within _ _ _ _ _ _ (reading_ended _ _ _ _ _ _ _ c.way.invariant.1 c.in-End.ensures))

@@ -1,28 +1,27 @@
-use Rattle.std.proofs.Common.{◌∷◌, [], refl, ◌∙◌, arith, length-append}
+use Rattle.std.proofs.Common.{◌≡◌, ◌∙◌, List, arith}
+use Rattle.nb_service.specs.declared.record.Question.{Question}
 use Rattle.nb_service.specs.Packet.{QuestionAt}
 use Rattle.nb_service.proofs.ItemLemmas.{read_is_ok, read_is}
-use Rattle.nb_service.proofs.PacketLemmas.{ahead_begun, ahead_next, ahead_turn, ahead_ended}
+use Rattle.nb_service.proofs.RowWalks.{walk_begun, walk_item, walk_step, walk_ended}
 use Rattle.nb_service.proofs.decoding.list_questions.Goals as goal
 
 pub loop-init : goal.loop-init
-loop-init c = rw c.new-questions.ensures.items (ahead_begun (QuestionAt c.args.names.now) c.args.at c.args.count c.args.at [], refl)
+loop-init c = walk_begun (QuestionAt c.args.names.now) c.args.at c.args.count (λ (read : List Question). c.new-questions.result.items ≡ read) c.new-questions.ensures.items
 
 pub unwrap-seen-requires : goal.unwrap-seen-requires
 unwrap-seen-requires c =
-    let row = c.requires in
-    let next = ahead_next (QuestionAt c.args.names.now) c.args.at c.args.count c.loop.next c.loop.questions.items c.loop.invariant.0 row.1.0 row.0 row.1.1 (omega (arith, c.loop.invariant.1, c.loop-test.true)) in
+    let next = walk_item (QuestionAt c.args.names.now) _ _ c.loop.counter c.loop.next (λ (read : List Question). c.loop.questions.items ≡ read) c.requires c.loop-test.true c.loop.invariant in
     read_is_ok c.see_question.result _ (c.see_question.ensures.only next.0 next.1 next.2)
 
 pub loop-preserved : goal.loop-preserved
-loop-preserved c = rw c.in_ok-push.ensures.items (
-  ahead_turn (QuestionAt c.args.names.now) c.args.at c.args.count c.loop.next c.loop.questions.items _ c.question.result c.loop.invariant.0 (omega (arith, c.loop.invariant.1, c.loop-test.true))
-      (λ item after stands.
-      let read = read_is c.see_question.result _ _ c.unwrap-seen.ensures (c.see_question.ensures.only item after stands) in
-      (c.question.ensures item read.1, read.2)),
-  omega (arith, c.loop.invariant.1, length-append c.loop.questions.items (c.question.result ∷ [])),
-)
+loop-preserved c =
+    walk_step (QuestionAt c.args.names.now) _ _ c.loop.counter c.loop.next _ (λ (read : List Question). c.loop.questions.items ≡ read)
+    (λ (read : List Question). c.push.new.self.items ≡ read) c.loop-test.true c.loop.invariant
+    (λ before item after stands held.
+    let read = read_is c.see_question.result _ _ c.unwrap-seen.ensures (c.see_question.ensures.only item after stands) in
+    (read.2, cc (c.in_ok-push.ensures.items, held, c.question.ensures item read.1)))
 
 pub returns : goal.returns
 returns c items next row =
-    let whole = ahead_ended (QuestionAt c.args.names.now) c.args.at c.args.count c.loop.next c.loop.questions.items c.loop.invariant.0 (omega (arith, c.loop.invariant.1)) items next row in
-    (c.from_vec.ensures ∙ whole.0, whole.1)
+    let ended = walk_ended (QuestionAt c.args.names.now) _ _ c.loop.counter _ (λ (read : List Question). c.loop.questions.items ≡ read) (omega arith) c.loop.invariant items next row in
+    (c.from_vec.ensures ∙ ended.1, ended.0)

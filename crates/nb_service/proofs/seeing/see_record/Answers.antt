@@ -2,7 +2,8 @@ use Rattle.std.proofs.Common.{◌≡◌, ◌≤◌, ℕ, ◌+◌, List, length, 
 use Rattle.std.proofs.lemmas.Result.{err_from_is_err_and}
 use Rattle.std.specs.Int.{w16, w32}
 use Rattle.nb_names.specs.declared.reading.Pointers.TheVariants.{Followed}
-use Rattle.nb_names.specs.Labels.{NameAt, NumberAt}
+use Rattle.nb_names.specs.Labels.{NameAt}
+use Rattle.nb_streams.specs.Places.{NumberAt}
 use Rattle.nb_service.specs.ServiceFaults.{RdataBegins, DomainFails, RecordFails, record_name, record_cut, rdata_cut, rdata_fails}
 use Rattle.nb_service.specs.declared.fault.ServiceFault.{ServiceFault}
 use Rattle.nb_service.specs.declared.kinds.TheConstants.{NS}

@@ -1,7 +1,7 @@
 use Rattle.std.proofs.Common.{◌≡◌, ◌≤◌, ℕ, List, [], ◌∷◌, length, take, drop, get_or, None, refl, subst, arith}
 use Rattle.nb_names.specs.declared.reading.Pointers.TheVariants.{Followed}
 use Rattle.nb_names.specs.Code.Kept.{HasLabel}
-use Rattle.nb_names.specs.Labels.{StandsAt}
+use Rattle.nb_streams.specs.Places.{StandsAt}
 use Rattle.nb_names.specs.Skipped.{IsSkipped}
 use Rattle.nb_names.proofs.LabelsLemmas.{stands_one}
 use Rattle.nb_names.proofs.ReadingLemmas.{label_there, label_turn, reading_begun}
@@ -11,7 +11,7 @@ use Rattle.nb_service.proofs.seen.see_plain_question.Goals as goal
 
 -- at byte 12 a label of 32 bytes, and the root after it
 first_name : (packet : List ℕ) → 50 ≤ length packet → get_or packet 12 0 ≡ 32 → get_or packet 45 0 ≡ 0
-    → IsSkipped packet Followed 12 (take 32 (drop 13 packet) ∷ []) (record { next = 46; spelled_len = 34; run = 12; run_end = 46 })
+    → IsSkipped packet Followed 12 (take 32 (drop 13 packet) ∷ []) (record { next = 46; spelled_len = 34; stretch = 12; stretch_end = 46 })
 first_name packet whole first zero =
     let label : List ℕ = take 32 (drop 13 packet) in
     let has : HasLabel packet 12 32 = record { first = first; some = omega arith; short = omega arith; whole = omega (arith, whole) } in

@@ -2,7 +2,7 @@ use Rattle.std.proofs.Common.{ℕ, ◌+◌, ◌≤◌, List, [], ◌∷◌, get_
 use Rattle.std.proofs.lemmas.List.{drop_more}
 use Rattle.std.proofs.lemmas.Result.{IfErr-weaker}
 use Rattle.std.specs.Int.{w16, to_be_bytes}
-use Rattle.nb_names.specs.Labels.{StandsAt}
+use Rattle.nb_streams.specs.Places.{StandsAt}
 use Rattle.nb_session.specs.declared.packet.Packet.TheVariants.{Retarget}
 use Rattle.nb_session.specs.Header.{IsGood}
 use Rattle.nb_names.proofs.LabelsLemmas.{stands_joined}

@@ -1,7 +1,5 @@
-use Rattle.std.proofs.Common.{ap, sym, ◌∙◌, length}
+use Rattle.nb_table.proofs.Common.{ap, sym, ◌∙◌, length, key_cmp, key_cmp_total, key_cmp_exact, same_list}
 use Rattle.std.specs.FinMap as maps
-use Rattle.nb_datagram.specs.Key.{key_cmp, key_cmp_total, key_cmp_exact}
-use Rattle.nb_table.specs.Shared.TreeLemmas.{same_list}
 use Rattle.nb_table.proofs.TableReads.{entries_decide}
 use Rattle.nb_table.proofs.entries.are_equal.Goals as goal
 

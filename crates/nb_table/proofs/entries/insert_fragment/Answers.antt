@@ -1,17 +1,9 @@
-use Rattle.std.proofs.Common.{◌≡◌, ◌∙◌, sym, ap, ap₂, subst, Option, Some, None, Result, Ok, Err, OnOk, IfOk}
-use Rattle.std.proofs.lemmas.Result.{on_ok_weaker, on_err_weaker}
+use Rattle.nb_table.proofs.Common.{◌≡◌, ◌∙◌, sym, ap, ap₂, subst, Option, Some, None, Result, Ok, Err, OnOk, IfOk, on_ok_weaker, on_err_weaker, FragmentParts, core_of, joined_onto, Held, EntryValue, facts_of, join_entry, DataChange, KeyChange, Tells, key_cmp_total, key_cmp_exact, needs_new}
 use Rattle.std.specs.FinMap as maps
-use Rattle.nb_names.specs.declared.bytes.NoMemory.{NoMemory}
-use Rattle.nb_datagram.specs.Fragment.{FragmentParts, core_of}
-use Rattle.nb_entries.specs.Maps.{joined_onto}
-use Rattle.nb_entries.specs.declared.slot.Slot.TheVariants.{Held}
-use Rattle.nb_entries.specs.Entry.{EntryValue, facts_of, join_entry}
+use Rattle.nb_streams.specs.declared.bytes.NoMemory.{NoMemory}
 use Rattle.nb_entries.specs.declared.outline.Handing.{Handing}
-use Rattle.nb_entries.specs.Change.{DataChange, KeyChange, Tells}
-use Rattle.nb_datagram.specs.Key.{key_cmp_total, key_cmp_exact}
 use Rattle.nb_table.proofs.Joins.{put_same}
 use Rattle.nb_table.proofs.Changes.{needs_more, on_err_both, on_any_err}
-use Rattle.nb_table.specs.Shared.TableLemmas.{needs_new}
 use Rattle.nb_table.proofs.entries.insert_fragment.Goals as goal
 
 -- ---- a held key

@@ -1,14 +1,6 @@
-use Rattle.std.proofs.Common.{◌≡◌, ◌-◌, ◌∙◌, sym, ap, subst, arith, filter, map, length}
-use Rattle.std.specs.BTreeMap.Range.{entries_between}
-use Rattle.std.specs.declared.ops.Bound.TheVariants.{Included, Unbounded}
-use Rattle.nb_datagram.specs.declared.key.Key.{Key}
-use Rattle.nb_datagram.specs.Key.{key_cmp, key_cmp_total, key_cmp_exact}
-use Rattle.nb_entries.specs.Entry.{EntryValue}
-use Rattle.nb_table.specs.Limits.{of_source}
-use Rattle.nb_table.specs.Shared.TreeLemmas.{entries_are, sorted_is}
+use Rattle.nb_table.proofs.Common.{◌≡◌, ◌-◌, ◌∙◌, sym, ap, subst, arith, filter, map, length, entries_between, Included, Unbounded, Key, key_cmp, key_cmp_total, key_cmp_exact, EntryValue, of_source, entries_are, sorted_is, not-true, not-false}
 use Rattle.nb_table.proofs.Limits.SourceLemmas.{Left, onward, onward_all, left_begun, left_next, none_counts, one_counts}
 use Rattle.nb_table.proofs.entries.room_by_keys.Goals as goal
-use Rattle.std.proofs.lemmas.Bool.{not-true, not-false}
 
 pub loop-key-init : goal.loop-key-init
 loop-key-init c =

@@ -1,5 +1,4 @@
-use Rattle.std.proofs.Common.{◌≡◌, ◌-◌, filter, map, length}
-use Rattle.nb_table.specs.Limits.{of_source}
+use Rattle.nb_table.proofs.Common.{◌≡◌, ◌-◌, filter, map, length, of_source}
 use Rattle.nb_table.proofs.Limits.SourceLemmas.{Left}
 use Rattle.nb_table.proofs.entries.room_by_keys.Given as goal
 

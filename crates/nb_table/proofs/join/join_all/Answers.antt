@@ -1,6 +1,4 @@
-use Rattle.std.proofs.Common.{map, arith, refl, sym, ◌∙◌, ap, subst, take_all}
-use Rattle.std.proofs.lemmas.Option.{slice_get_read}
-use Rattle.nb_table.specs.Join.{AreTaken}
+use Rattle.nb_table.proofs.Common.{map, arith, refl, sym, ◌∙◌, ap, subst, take_all, slice_get_read, AreTaken}
 use Rattle.nb_table.proofs.Joins.{each_is_taken, next_is_joined, next_is_taken, carried}
 use Rattle.nb_table.proofs.join.join_all.Goals as goal
 

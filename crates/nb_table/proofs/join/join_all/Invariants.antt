@@ -1,5 +1,4 @@
-use Rattle.std.proofs.Common.{◌≡◌, take, map}
-use Rattle.nb_table.specs.Join.{joined_all}
+use Rattle.nb_table.proofs.Common.{◌≡◌, take, map, joined_all}
 use Rattle.nb_table.proofs.Joins.{are_taken}
 use Rattle.nb_table.proofs.join.join_all.Given as goal
 

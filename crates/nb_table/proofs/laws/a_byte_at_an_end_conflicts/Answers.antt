@@ -1,4 +1,4 @@
-use Rattle.nb_table.specs.Shared.ConflictLemmas.{at_end_conflicts}
+use Rattle.nb_table.proofs.Common.{at_end_conflicts}
 use Rattle.nb_table.proofs.laws.a_byte_at_an_end_conflicts.Goals as goal
 
 pub returns : goal.returns

@@ -1,4 +1,4 @@
-use Rattle.nb_table.specs.Limits.{every_key}
+use Rattle.nb_table.proofs.Common.{every_key}
 use Rattle.nb_table.proofs.Limits.RefusalLemmas.{unfit_new, full_least}
 use Rattle.nb_table.proofs.laws.full_names_the_least_key.Goals as goal
 

@@ -1,4 +1,4 @@
-use Rattle.nb_table.specs.Limits.{of_source}
+use Rattle.nb_table.proofs.Common.{of_source}
 use Rattle.nb_table.proofs.Limits.RefusalLemmas.{unfit_new, held_least, source_others}
 use Rattle.nb_table.proofs.laws.full_source_names_the_least_key.Goals as goal
 

@@ -1,4 +1,4 @@
-use Rattle.nb_table.specs.Shared.ConflictLemmas.{past_end_exactly}
+use Rattle.nb_table.proofs.Common.{past_end_exactly}
 use Rattle.nb_table.proofs.laws.past_an_end_a_place_is_covered.Goals as goal
 
 pub returns : goal.returns

@@ -1,4 +1,4 @@
-use Rattle.nb_datagram.specs.Fragment.{cores_of}
+use Rattle.nb_table.proofs.Common.{cores_of}
 use Rattle.nb_datagram.specs.Pieces.{pieces}
 use Rattle.nb_table.proofs.Wholeness.{gives_where_all}
 use Rattle.nb_table.proofs.laws.pieces_are_all_parts.Goals as goal

@@ -1,4 +1,4 @@
-use Rattle.nb_table.specs.Shared.SayingLemmas.{byte_exactly}
+use Rattle.nb_table.proofs.Common.{byte_exactly}
 use Rattle.nb_table.proofs.laws.table_has_the_bytes_of_its_fragments.Goals as goal
 
 pub returns : goal.returns

@@ -1,4 +1,4 @@
-use Rattle.nb_table.specs.Shared.SayingLemmas.{only_table}
+use Rattle.nb_table.proofs.Common.{only_table}
 use Rattle.nb_table.proofs.laws.table_of_a_list_is_the_only_one.Goals as goal
 
 pub returns : goal.returns

@@ -1,5 +1,4 @@
-use Rattle.std.proofs.Common.{arith}
-use Rattle.nb_entries.specs.SavedReading.{cut, whole}
+use Rattle.nb_table.proofs.Common.{arith, cut, whole}
 use Rattle.nb_table.proofs.SavedReading.LoadedLemmas.{key_there}
 use Rattle.nb_table.proofs.saved.any_key.Goals as goal
 

@@ -1,8 +1,5 @@
-use Rattle.std.proofs.Common.{◌≡◌, ◌++◌, ◌-◌, length, rules, arith, ap, ◌∙◌}
-use Rattle.std.proofs.lemmas.Result.{err_from_is_err_and}
-use Rattle.std.proofs.lemmas.List.{length-drop}
+use Rattle.nb_table.proofs.Common.{◌≡◌, ◌++◌, ◌-◌, length, rules, arith, ap, ◌∙◌, err_from_is_err_and, length-drop, passes_none}
 use Rattle.nb_table.proofs.SavedBytes.{passes_part, breaks_part}
-use Rattle.nb_table.specs.Shared.TableLemmas.{passes_none}
 use Rattle.nb_table.proofs.saved.put.Goals as goal
 
 pub parts-init : goal.parts-init

@@ -1,5 +1,4 @@
-use Rattle.std.proofs.Common.{◌+◌, ◌++◌, length}
-use Rattle.nb_table.specs.Code.Each.{Passes}
+use Rattle.nb_table.proofs.Common.{◌+◌, ◌++◌, length, Passes}
 use Rattle.nb_table.proofs.saved.put.Given as goal
 
 abbrev pub invariant-parts : goal.invariant-parts

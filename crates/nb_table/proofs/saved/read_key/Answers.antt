@@ -1,6 +1,5 @@
-use Rattle.std.proofs.lemmas.Result.{err_from_is_err_and}
+use Rattle.nb_table.proofs.Common.{err_from_is_err_and, stops, goes_on, good, bad}
 use Rattle.std.proofs.lemmas.Bool.Decides.{not_from_Decides}
-use Rattle.nb_entries.specs.SavedReading.{stops, goes_on, good, bad}
 use Rattle.nb_table.proofs.saved.read_key.Goals as goal
 
 pub returns-in_err-key : goal.returns-in_err-key

@@ -17,7 +17,7 @@ use super::{put_noted, take_back};
 use crate::entries::Entries;
 use nb_datagram::{Datagram, Datagrams, Key};
 use nb_entries::{Entry, Handing};
-use nb_names::NoMemory;
+use nb_streams::NoMemory;
 use std::alloc::Global;
 
 /// Joins each of the others to the entry of its key, or none where memory ran out. The datagrams

@@ -1,15 +1,15 @@
 //! The entries of another table: lent, or owned.
 ghost use Rattle.std.specs.Prelude.{◌≡◌, ◌∷◌, [], List, IfOk, MatchOption};
+ghost use Rattle.nb_entries.specs.Entry.{EntryValue};
+ghost use Rattle.nb_datagram.specs.declared.key.Key.{Key};
 
 use nb_datagram::Key;
 use nb_entries::Entry;
-use nb_names::NoMemory;
+use nb_streams::NoMemory;
 use std::collections::btree_map;
 
 /// An entry of another table: lent, or owned.
 pub(super) trait Other: Drop {
-    ghost use Rattle.nb_entries.specs.Entry.{EntryValue};
-
     // What is known by it.
     ghost value: { Self → EntryValue };
 
@@ -48,9 +48,6 @@ impl<'a> Other for &'a Entry {
 
 /// The entries of another table with their keys, ascending.
 pub(super) trait Others: Drop {
-    ghost use Rattle.nb_datagram.specs.declared.key.Key.{Key};
-    ghost use Rattle.nb_entries.specs.Entry.{EntryValue};
-
     /// Each of them.
     type Entry: Other;
 

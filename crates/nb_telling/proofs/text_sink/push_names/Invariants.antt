@@ -1,5 +1,5 @@
 use Rattle.std.proofs.Common.{◌≡◌, ◌++◌, drop, string_bytes}
-use Rattle.nb_names.specs.Growth.{OnlyAdds}
+use Rattle.nb_streams.specs.Growth.{OnlyAdds}
 use Rattle.nb_telling.specs.Texts.{joined, names_of}
 use Rattle.nb_telling.proofs.SetLemmas.{set_from}
 use Rattle.nb_telling.proofs.text_sink.push_names.Given as goal

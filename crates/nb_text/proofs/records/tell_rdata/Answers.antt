@@ -5,18 +5,18 @@ use Rattle.nb_service.specs.declared.record.Fields.{Fields}
 use Rattle.nb_service.specs.declared.kinds.TheConstants.{NS}
 use Rattle.nb_service.specs.Record.{ResourceRecord, of_bytes, of_domain}
 use Rattle.nb_telling.specs.Telling.{Data, LineEnds, Text}
-use Rattle.nb_text.specs.Keys.{key_named}
+use Rattle.nb_text.specs.Tags.{tag_named}
 use Rattle.nb_text.specs.ServiceFields.{rdata_field}
 use Rattle.nb_text.specs.Views.{fields_by}
 use Rattle.nb_text.proofs.HeardLemmas.{is_ns}
 use Rattle.nb_text.proofs.records.tell_rdata.Goals as goal
 
 bytes_same : (e : ResourceRecord) (kind : ℕ) (bytes : List ℕ) → kind ≡ e.kind → of_bytes bytes ≡ e.rdata →
-    Data (key_named "data") bytes ∷ LineEnds ∷ fields_by kind (of_bytes bytes) ≡ rdata_field e.rdata ∷ LineEnds ∷ fields_by e.kind e.rdata
+    Data (tag_named "data") bytes ∷ LineEnds ∷ fields_by kind (of_bytes bytes) ≡ rdata_field e.rdata ∷ LineEnds ∷ fields_by e.kind e.rdata
 bytes_same e kind bytes k d = rw (← k, ← d) refl
 
 domain_same : (e : ResourceRecord) (labels : List (List ℕ)) → e.kind ≡ NS → of_domain labels ≡ e.rdata →
-    Text (key_named "domain") (labels_written labels) ∷ LineEnds ∷ [] ≡ rdata_field e.rdata ∷ LineEnds ∷ fields_by e.kind e.rdata
+    Text (tag_named "domain") (labels_written labels) ∷ LineEnds ∷ [] ≡ rdata_field e.rdata ∷ LineEnds ∷ fields_by e.kind e.rdata
 domain_same e labels k d = rw (k, ← d) refl
 
 pub returns-in-Bytes-clause-told : goal.returns-in-Bytes-clause-told

@@ -3,7 +3,9 @@ use Rattle.nb_service.specs.Header.{header_value}
 use Rattle.nb_telling.proofs.FoldLemmas.{and_then}
 use Rattle.nb_text.specs.FrontFields.{names_header_fields}
 use Rattle.nb_text.specs.ServiceFields.{lists_fields}
-use Rattle.nb_text.proofs.TellsLemmas.{refused_told, front_told}
+use Rattle.nb_text.specs.Made.{no_names}
+use Rattle.nb_text.specs.Tells.{no_service_fields}
+use Rattle.nb_text.proofs.TellsLemmas.{front_told}
 use Rattle.nb_text.proofs.services.tell_cut.Goals as goal
 
 pub returns-clause-told : goal.returns-clause-told
@@ -20,4 +22,5 @@ returns-clause-told g c =
 pub returns-then-not-more-clause-told : goal.returns-then-not-more-clause-told
 returns-then-not-more-clause-told g c =
     let fails = rw c.requires.cut at c.requires.stands.end in
-    rw c.if-not-more.true (refused_told g.S.Sink.after c.args.names.now _ _ c.args.fault fails (rw c.place.ensures at c.in_ok-tell_refusal.ensures.told))
+    rw c.if-not-more.true
+    (record { fields = no_service_fields c.args.fault; tells = no_names c.args.fault fails; seen = rw c.place.ensures at c.in_ok-tell_refusal.ensures.told })

@@ -1,5 +1,5 @@
 use Rattle.std.proofs.Common.{◌++◌, ◌∷◌, [], map, take, ap, sym, ◌∙◌}
-use Rattle.nb_text.specs.declared.brief.told.Listed.{Listed}
+use Rattle.nb_text.specs.declared.brief.gist.Listed.{Listed}
 use Rattle.nb_text.specs.ServiceSaid.{few}
 use Rattle.nb_text.proofs.HeardLemmas.{listed_more}
 use Rattle.nb_text.proofs.views.list_each.Goals as goal

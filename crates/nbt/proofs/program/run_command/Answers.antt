@@ -1,6 +1,7 @@
 use Rattle.nbt.proofs.Common.{Keeps-same}
 use Rattle.nbt.proofs.CommandRows.{ended_so, entered_another, entered_as, entered_nothing}
-use Rattle.nbt.specs.Commands.{streams, name, show, build, replay, save, merge, list, agree, other}
+use Rattle.nbt_command.specs.Streams.{streams}
+use Rattle.nbt.specs.Commands.{name, show, build, replay, save, merge, list, agree, other}
 use Rattle.nbt.specs.declared.command_forms.Subcommand.TheVariants as commands
 use Rattle.nbt.proofs.program.run_command.Goals as goal
 
@@ -47,11 +48,11 @@ returns-in-Replay-clause-ran g c =
 
 pub returns-in-Save-clause-ran : goal.returns-in-Save-clause-ran
 returns-in-Save-clause-ran g c =
-    ended_so _ _ _ _ c.done-in-Save.ensures
+    ended_so _ _ _ _ c.saved.ensures.outcome
     (save c.in-Some.matches.now c.run_save.result
     (entered_as c.args.matches.now c.subcommand.result (c.in-Some.word, c.in-Some.matches) c.in-Some-named.command commands.Save c.subcommand.ensures.name
     c.subcommand.ensures.rows c.in-Some.is c.in-Some-named.ensures.found c.in-Save.is)
-    c.run_save.ensures.command)
+    c.run_save.ensures)
 
 pub returns-in-Merge-clause-ran : goal.returns-in-Merge-clause-ran
 returns-in-Merge-clause-ran g c =

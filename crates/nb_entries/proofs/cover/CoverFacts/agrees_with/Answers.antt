@@ -1,9 +1,5 @@
-use Rattle.std.proofs.Common.{◌≡◌, ap₂, refl, ◌∙◌, rules}
-use Rattle.std.specs.List.{list_all}
+use Rattle.nb_entries.proofs.Common.{◌≡◌, ap₂, refl, ◌∙◌, rules, list_all, core_of, same_where, cover_of, placed, bytes_agree}
 use Rattle.std.specs.FinMap as maps
-use Rattle.nb_datagram.specs.Fragment.{core_of}
-use Rattle.nb_entries.specs.Marks.{same_where}
-use Rattle.nb_entries.specs.Cover.{cover_of, placed, bytes_agree}
 use Rattle.nb_entries.proofs.Covers.{bytes_agree_is}
 use Rattle.nb_entries.proofs.cover.CoverFacts.agrees_with.Goals as goal
 

@@ -1,5 +1,4 @@
-use Rattle.std.proofs.lemmas.Bool.Decides.{same_from_decides}
-use Rattle.nb_entries.specs.Shared.CoverLemmas.{bytes_below_decides}
+use Rattle.nb_entries.proofs.Common.{same_from_decides, bytes_below_decides}
 use Rattle.nb_entries.proofs.cover.CoverFacts.bytes_are_below.Goals as goal
 
 pub returns : goal.returns

@@ -1,4 +1,4 @@
-use Rattle.std.proofs.Common.{arith}
+use Rattle.nb_entries.proofs.Common.{arith}
 use Rattle.nb_entries.proofs.Runs.{few_bytes_of}
 use Rattle.nb_entries.proofs.cover.CoverFacts.held.Goals as goal
 

@@ -1,11 +1,5 @@
-use Rattle.std.proofs.Common.{◌≡◌, true, false, ap, ap₂, sym, ◌∙◌}
-use Rattle.std.proofs.lemmas.Bool.Decides.{not_from_Decides}
-use Rattle.std.specs.List.{list_all}
+use Rattle.nb_entries.proofs.Common.{◌≡◌, true, false, ap, ap₂, sym, ◌∙◌, not_from_Decides, list_all, core_of, marks_together, placed, is_there}
 use Rattle.std.specs.FinMap as maps
-use Rattle.nb_datagram.specs.Fragment.{core_of}
-use Rattle.nb_entries.specs.Marks.{marks_together}
-use Rattle.nb_entries.specs.Cover.{placed}
-use Rattle.nb_entries.specs.Code.CoverFacts.{is_there}
 use Rattle.nb_entries.proofs.Covers.{held_from_all, all_from_held}
 use Rattle.nb_entries.proofs.cover.CoverFacts.holds.Goals as goal
 

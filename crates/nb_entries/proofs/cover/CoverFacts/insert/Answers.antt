@@ -1,8 +1,4 @@
-use Rattle.std.proofs.Common.{ap, sym, subst, ◌∙◌}
-use Rattle.nb_datagram.specs.Fragment.{core_of}
-use Rattle.nb_entries.specs.Marks.{marks_together}
-use Rattle.nb_entries.specs.Cover.{CoverFacts, AreCoverFacts, cover_of}
-use Rattle.nb_entries.specs.Shared.PlacedLemmas.{cover_of_formed}
+use Rattle.nb_entries.proofs.Common.{ap, sym, subst, ◌∙◌, core_of, marks_together, CoverFacts, AreCoverFacts, cover_of, cover_of_formed}
 use Rattle.nb_entries.proofs.Covers.{together_formed}
 use Rattle.nb_entries.proofs.KeptRuns.RunReadLemmas.{fit_agrees, put_is}
 use Rattle.nb_entries.proofs.cover.CoverFacts.insert.Goals as goal

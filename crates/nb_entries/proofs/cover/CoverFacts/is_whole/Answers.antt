@@ -1,7 +1,5 @@
-use Rattle.std.proofs.Common.{refl}
+use Rattle.nb_entries.proofs.Common.{refl, CoverFacts, whole_below_end}
 use Rattle.std.specs.FinMap as maps
-use Rattle.nb_entries.specs.Cover.{CoverFacts}
-use Rattle.nb_entries.specs.Shared.WholeLemmas.{whole_below_end}
 use Rattle.nb_entries.proofs.cover.CoverFacts.is_whole.Goals as goal
 
 pub returns-in-Some : goal.returns-in-Some

@@ -1,9 +1,5 @@
-use Rattle.std.proofs.Common.{ap, ap₂, sym, subst, ◌∙◌}
+use Rattle.nb_entries.proofs.Common.{ap, ap₂, sym, subst, ◌∙◌, core_of, AreCoverFacts, with_bytes, cover_of_formed}
 use Rattle.std.specs.FinMap as maps
-use Rattle.nb_datagram.specs.Fragment.{core_of}
-use Rattle.nb_entries.specs.Cover.{AreCoverFacts}
-use Rattle.nb_entries.specs.Code.CoverFacts.{with_bytes}
-use Rattle.nb_entries.specs.Shared.PlacedLemmas.{cover_of_formed}
 use Rattle.nb_entries.proofs.Covers.{put_alone}
 use Rattle.nb_entries.proofs.KeptRuns.RunReadLemmas.{empty_agrees}
 use Rattle.nb_entries.proofs.cover.CoverFacts.of.Goals as goal

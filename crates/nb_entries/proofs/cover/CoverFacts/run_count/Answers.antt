@@ -1,4 +1,4 @@
-use Rattle.std.proofs.Common.{arith}
+use Rattle.nb_entries.proofs.Common.{arith}
 use Rattle.nb_entries.proofs.Runs.{few_runs_of}
 use Rattle.nb_entries.proofs.cover.CoverFacts.run_count.Goals as goal
 

@@ -1,8 +1,4 @@
-use Rattle.std.proofs.lemmas.Result.{IfOk-weaker}
-use Rattle.std.proofs.Common.{ap, ◌∙◌}
-use Rattle.nb_datagram.specs.Fragment.{core_of}
-use Rattle.nb_entries.specs.Marks.{marks_together}
-use Rattle.nb_entries.specs.Cover.{CoverFacts}
+use Rattle.nb_entries.proofs.Common.{IfOk-weaker, ap, ◌∙◌, core_of, marks_together, CoverFacts}
 use Rattle.nb_entries.proofs.KeptRuns.RunReadLemmas.{whole_put}
 use Rattle.nb_entries.proofs.cover.CoverFacts.whole_with.Goals as goal
 

@@ -1,5 +1,4 @@
-use Rattle.std.proofs.Common.{◌≡◌, rules}
-use Rattle.std.proofs.lemmas.Bool.Decides.{same_from_decides}
+use Rattle.nb_entries.proofs.Common.{◌≡◌, rules, same_from_decides}
 use Rattle.nb_entries.specs.Equal.{same_bytes}
 use Rattle.nb_entries.specs.Shared.EqualLemmas.{bytes_decide}
 use Rattle.nb_entries.proofs.cover.CoverFactsPartialEq.eq.Goals as goal

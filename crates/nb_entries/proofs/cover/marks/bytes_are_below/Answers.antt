@@ -1,6 +1,4 @@
-use Rattle.std.proofs.Common.{rules}
-use Rattle.std.proofs.lemmas.Bool.Decides.{nat_tests}
-use Rattle.nb_datagram.specs.Fragment.{core_of}
+use Rattle.nb_entries.proofs.Common.{rules, nat_tests, core_of}
 use Rattle.nb_entries.proofs.Covers.{fragment_below}
 use Rattle.nb_entries.proofs.cover.marks.bytes_are_below.Goals as goal
 

@@ -1,15 +1,7 @@
-use Rattle.std.specs.Prelude.{box_value}
-use Rattle.std.proofs.Common.{◌≡◌, ◌∙◌, sym, ap, subst, Option}
-use Rattle.nb_datagram.specs.Fragment.{core_of, DatagramParts}
-use Rattle.nb_entries.specs.Maps.{Held}
-use Rattle.nb_entries.specs.Cover.{AreCoverFacts}
-use Rattle.nb_entries.specs.Entry.{EntryFacts, facts_of, facts_together}
-use Rattle.nb_entries.specs.Whole.{bytes_to, datagram_of, newly}
+use Rattle.nb_entries.proofs.Common.{box_value, ◌≡◌, ◌∙◌, sym, ap, subst, Option, core_of, DatagramParts, Held, AreCoverFacts, EntryFacts, facts_of, facts_together, bytes_to, datagram_of, newly, cover_of_formed, not_from_Decides}
 use Rattle.nb_entries.specs.Change.{grown_to, handed_by, made_by}
 use Rattle.nb_entries.proofs.Changes.{facts_held, key_grown, made_grown, told_grown, with_together}
-use Rattle.nb_entries.specs.Shared.PlacedLemmas.{cover_of_formed}
 use Rattle.nb_entries.proofs.Covers.{together_formed}
-use Rattle.std.proofs.lemmas.Bool.Decides.{not_from_Decides}
 use Rattle.nb_entries.proofs.entry.EntryFacts.insert.Goals as goal
 
 pub returns-then-holds-clause-joined : goal.returns-then-holds-clause-joined

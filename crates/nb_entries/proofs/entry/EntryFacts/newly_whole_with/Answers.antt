@@ -1,13 +1,4 @@
-use Rattle.std.specs.Prelude.{box_value}
-use Rattle.std.proofs.Common.{◌∙◌, sym, ap, Some}
-use Rattle.nb_datagram.specs.Fragment.{core_of}
-use Rattle.nb_datagram.specs.declared.limits.TheConstants.{MAX_LENGTH}
-use Rattle.nb_entries.specs.Cover.{cover_of, covers_together}
-use Rattle.nb_entries.specs.Maps.{Held}
-use Rattle.nb_entries.specs.Entry.{EntryFacts}
-use Rattle.nb_entries.specs.Whole.{bytes_to, datagram_with}
-use Rattle.std.proofs.lemmas.Bool.Decides.{not_from_Decides}
-use Rattle.nb_entries.specs.Shared.WholeLemmas.{newly_never, newly_always}
+use Rattle.nb_entries.proofs.Common.{box_value, ◌∙◌, sym, ap, Some, core_of, MAX_LENGTH, cover_of, covers_together, Held, EntryFacts, bytes_to, datagram_with, not_from_Decides, newly_never, newly_always}
 use Rattle.nb_entries.proofs.Changes.{whole_size}
 use Rattle.nb_entries.proofs.entry.EntryFacts.newly_whole_with.Goals as goal
 

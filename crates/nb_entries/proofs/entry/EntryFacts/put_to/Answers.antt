@@ -1,8 +1,7 @@
-use Rattle.std.proofs.Common.{[], ◌∷◌, ap, ◌∙◌}
+use Rattle.nb_entries.proofs.Common.{[], ◌∷◌, ap, ◌∙◌, after, broken}
 use Rattle.nb_names.specs.DomainName.{spelling}
 use Rattle.nb_names.specs.Name.{labels_of_name}
 use Rattle.nb_datagram.specs.Packet.{type_of}
-use Rattle.nb_entries.specs.Shared.PuttingLemmas.{after, broken}
 use Rattle.nb_entries.proofs.entry.EntryFacts.put_to.Goals as goal
 
 pub returns-in_err-put-clause-puts : goal.returns-in_err-put-clause-puts

@@ -1,6 +1,4 @@
-use Rattle.std.specs.Prelude.{box_value}
-use Rattle.std.proofs.Common.{◌∙◌, sym}
-use Rattle.nb_datagram.specs.declared.limits.TheConstants.{MAX_LENGTH}
+use Rattle.nb_entries.proofs.Common.{box_value, ◌∙◌, sym, MAX_LENGTH}
 use Rattle.nb_entries.proofs.Changes.{whole_size}
 use Rattle.nb_entries.proofs.entry.EntryFacts.user_data.Goals as goal
 

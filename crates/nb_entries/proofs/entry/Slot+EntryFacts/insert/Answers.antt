@@ -1,8 +1,4 @@
-use Rattle.std.proofs.Common.{◌∙◌, sym}
-use Rattle.std.proofs.lemmas.Result.{on_err_weaker}
-use Rattle.nb_datagram.specs.Fragment.{core_of}
-use Rattle.nb_entries.specs.Entry.{facts_of}
-use Rattle.nb_entries.specs.Shared.EntryLemmas.{facts_fit_of}
+use Rattle.nb_entries.proofs.Common.{◌∙◌, sym, on_err_weaker, core_of, facts_of, facts_fit_of}
 use Rattle.nb_entries.proofs.Changes.{join_differs}
 use Rattle.nb_entries.proofs.entry.Slot+EntryFacts.insert.Goals as goal
 

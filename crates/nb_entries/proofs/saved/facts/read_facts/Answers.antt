@@ -1,8 +1,4 @@
-use Rattle.std.proofs.Common.{ℕ, ◌≤◌, subst}
-use Rattle.std.specs.List.{AllByRecursion}
-use Rattle.nb_entries.specs.Runs.{RunValue, run_end}
-use Rattle.nb_entries.specs.SavedReading.{goes_on, gives}
-use Rattle.nb_entries.specs.Shared.RowLemmas.{covers_formed}
+use Rattle.nb_entries.proofs.Common.{ℕ, ◌≤◌, subst, AllByRecursion, RunValue, run_end, goes_on, gives, covers_formed}
 use Rattle.nb_entries.specs.Shared.FoundLemmas.{marks_found, runs_found}
 use Rattle.nb_entries.proofs.SavedReading.{stopped}
 use Rattle.nb_entries.proofs.saved.facts.read_facts.Goals as goal

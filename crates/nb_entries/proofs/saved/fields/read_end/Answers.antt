@@ -1,5 +1,4 @@
-use Rattle.std.proofs.Common.{arith}
-use Rattle.nb_entries.specs.SavedReading.{goes_on, gives, is_0, is_1, is_neither}
+use Rattle.nb_entries.proofs.Common.{arith, goes_on, gives, is_0, is_1, is_neither}
 use Rattle.nb_entries.proofs.SavedReading.{stopped}
 use Rattle.nb_entries.proofs.saved.fields.read_end.Goals as goal
 

@@ -1,7 +1,6 @@
-use Rattle.std.proofs.Common.{◌≢◌, arith}
+use Rattle.nb_entries.proofs.Common.{◌≢◌, arith, goes_on, known, unknown}
 use Rattle.nb_datagram.specs.declared.key.Kind.TheVariants.{Unique, Group, Broadcast}
 use Rattle.nb_datagram.specs.Packet.{type_of}
-use Rattle.nb_entries.specs.SavedReading.{goes_on, known, unknown}
 use Rattle.nb_entries.proofs.SavedReading.{stopped}
 use Rattle.nb_entries.proofs.saved.fields.read_kind.Goals as goal
 

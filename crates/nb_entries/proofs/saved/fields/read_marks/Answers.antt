@@ -1,4 +1,4 @@
-use Rattle.nb_entries.specs.SavedReading.{goes_on, gives}
+use Rattle.nb_entries.proofs.Common.{goes_on, gives}
 use Rattle.nb_entries.proofs.SavedReading.{stopped}
 use Rattle.nb_entries.proofs.saved.fields.read_marks.Goals as goal
 

@@ -1,4 +1,4 @@
-use Rattle.nb_entries.specs.SavedReading.{stands, ill}
+use Rattle.nb_entries.proofs.Common.{stands, ill}
 use Rattle.nb_entries.proofs.saved.fields.read_plain_name.Goals as goal
 
 pub returns-in-Ok : goal.returns-in-Ok

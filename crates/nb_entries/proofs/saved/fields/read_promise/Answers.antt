@@ -1,6 +1,4 @@
-use Rattle.std.proofs.lemmas.Bool.Decides.{not_from_Decides}
-use Rattle.std.proofs.lemmas.Result.{err_from_is_err_and}
-use Rattle.nb_entries.specs.SavedReading.{gives}
+use Rattle.nb_entries.proofs.Common.{not_from_Decides, err_from_is_err_and, gives}
 use Rattle.nb_entries.proofs.SavedReading.{promise_good, promise_bad, promise_ill}
 use Rattle.nb_entries.proofs.saved.fields.read_promise.Goals as goal
 

@@ -1,6 +1,4 @@
-use Rattle.std.proofs.Common.{◌+◌, ◌-◌, arith}
-use Rattle.nb_entries.specs.Code.Rows.{kept_values}
-use Rattle.nb_entries.specs.Shared.RowLemmas.{row_next}
+use Rattle.nb_entries.proofs.Common.{◌+◌, ◌-◌, arith, kept_values, row_next}
 use Rattle.nb_entries.proofs.KeptRuns.RunReadLemmas.{row_kept}
 use Rattle.nb_entries.proofs.saved.runs.kept_runs.Goals as goal
 

@@ -1,5 +1,4 @@
-use Rattle.std.proofs.Common.{◌≡◌, ◌-◌, ◌++◌}
-use Rattle.nb_entries.specs.Code.Rows.{kept_values, AreFilled, row_of, RowThere}
+use Rattle.nb_entries.proofs.Common.{◌≡◌, ◌-◌, ◌++◌, kept_values, AreFilled, row_of, RowThere}
 use Rattle.nb_entries.proofs.saved.runs.kept_runs.Given as goal
 
 abbrev pub invariant-loop : goal.invariant-loop

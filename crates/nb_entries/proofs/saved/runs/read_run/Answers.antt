@@ -1,5 +1,4 @@
-use Rattle.std.proofs.Common.{arith}
-use Rattle.nb_entries.specs.SavedReading.{stops, goes_on, gives, good, bad}
+use Rattle.nb_entries.proofs.Common.{arith, stops, goes_on, gives, good, bad}
 use Rattle.nb_entries.specs.Shared.FoundLemmas.{bytes_found}
 use Rattle.nb_entries.proofs.SavedReading.{stopped}
 use Rattle.nb_entries.proofs.saved.runs.read_run.Goals as goal

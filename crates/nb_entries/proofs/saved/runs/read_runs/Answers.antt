@@ -1,7 +1,4 @@
-use Rattle.std.proofs.Common.{arith}
-use Rattle.std.proofs.lemmas.List.{take_rest}
-use Rattle.nb_entries.specs.SavedReading.{goes_on}
-use Rattle.nb_entries.specs.Shared.RowLemmas.{whole_row}
+use Rattle.nb_entries.proofs.Common.{arith, take_rest, goes_on, whole_row}
 use Rattle.nb_entries.proofs.SavedReading.{stopped, row_turn, row_stopped, row_ended}
 use Rattle.nb_entries.proofs.saved.runs.read_runs.Goals as goal
 

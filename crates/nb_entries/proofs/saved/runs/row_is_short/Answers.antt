@@ -1,5 +1,4 @@
-use Rattle.std.proofs.Common.{arith, ◌+◌, ◌-◌}
-use Rattle.nb_entries.specs.Shared.RowLemmas.{row_next, row_long, row_short}
+use Rattle.nb_entries.proofs.Common.{arith, ◌+◌, ◌-◌, row_next, row_long, row_short}
 use Rattle.nb_entries.proofs.saved.runs.row_is_short.Goals as goal
 
 pub returns-then-end-from : goal.returns-then-end-from

@@ -1,8 +1,4 @@
-use Rattle.std.proofs.Common.{◌≡◌, ◌-◌}
-use Rattle.std.specs.Prelude.{nat_le}
-use Rattle.std.specs.List.{list_all}
-use Rattle.nb_entries.specs.Runs.{run_end}
-use Rattle.nb_entries.specs.Code.Rows.{row_of, RowThere}
+use Rattle.nb_entries.proofs.Common.{◌≡◌, ◌-◌, nat_le, list_all, run_end, row_of, RowThere}
 use Rattle.nb_entries.proofs.saved.runs.row_is_short.Given as goal
 
 abbrev pub invariant-loop : goal.invariant-loop

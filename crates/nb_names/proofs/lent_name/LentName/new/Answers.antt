@@ -1,6 +1,6 @@
 use Rattle.std.proofs.Common.{arith, subst}
 use Rattle.nb_names.specs.Code.Kept.{labels_of}
-use Rattle.nb_names.specs.DomainName.{AreBytes}
+use Rattle.nb_streams.specs.Places.{AreBytes}
 use Rattle.nb_names.specs.Name.{IsByteName}
 use Rattle.nb_names.proofs.SpellingLemmas.{AreByteLabels-spelled}
 use Rattle.nb_names.proofs.lent_name.LentName.new.Goals as goal

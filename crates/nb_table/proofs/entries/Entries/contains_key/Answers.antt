@@ -1,6 +1,4 @@
-use Rattle.std.proofs.Common.{◌∙◌, is_some, sym, ap}
-use Rattle.nb_datagram.specs.Key.{key_cmp_total}
-use Rattle.nb_table.specs.Shared.TreeLemmas.{get_is}
+use Rattle.nb_table.proofs.Common.{◌∙◌, is_some, sym, ap, key_cmp_total, get_is}
 use Rattle.nb_table.proofs.entries.Entries.contains_key.Goals as goal
 
 pub returns : goal.returns

@@ -1,6 +1,4 @@
-use Rattle.std.proofs.Common.{◌∙◌, sym}
-use Rattle.nb_datagram.specs.Key.{key_cmp_total}
-use Rattle.nb_table.specs.Shared.TreeLemmas.{get_is}
+use Rattle.nb_table.proofs.Common.{◌∙◌, sym, key_cmp_total, get_is}
 use Rattle.nb_table.proofs.entries.Entries.get.Goals as goal
 
 pub returns : goal.returns

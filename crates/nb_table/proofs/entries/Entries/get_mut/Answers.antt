@@ -1,8 +1,5 @@
-use Rattle.std.proofs.Common.{◌∙◌, sym, ap, subst, refl}
+use Rattle.nb_table.proofs.Common.{◌∙◌, sym, ap, subst, refl, key_cmp, key_cmp_total, key_cmp_exact, AreCounted, get_is, lent_is, written_keys}
 use Rattle.std.specs.FinMap as maps
-use Rattle.nb_datagram.specs.Key.{key_cmp, key_cmp_total, key_cmp_exact}
-use Rattle.nb_table.specs.Code.SourceCounts.{AreCounted}
-use Rattle.nb_table.specs.Shared.TreeLemmas.{get_is, lent_is, written_keys}
 use Rattle.nb_table.proofs.Limits.CountLemmas.{kept_keys}
 use Rattle.nb_table.proofs.entries.Entries.get_mut.Goals as goal
 

@@ -1,9 +1,6 @@
-use Rattle.std.proofs.Common.{◌≡◌, ◌∙◌, is_some, true, sym, ap, subst, arith}
+use Rattle.nb_table.proofs.Common.{◌≡◌, ◌∙◌, is_some, true, sym, ap, subst, arith, key_cmp, key_cmp_total, key_cmp_exact, Contents, AreCounted, get_is, insert_is, len_is, remove_is}
 use Rattle.std.specs.FinMap as maps
-use Rattle.nb_datagram.specs.Key.{key_cmp, key_cmp_total, key_cmp_exact}
-use Rattle.nb_table.specs.Contents.{Contents}
-use Rattle.nb_table.specs.Code.SourceCounts.{AreCounted}
-use Rattle.nb_table.specs.Shared.TreeLemmas.{get_is, insert_is, len_is, remove_is, taken_back}
+use Rattle.nb_table.specs.Shared.TreeLemmas.{taken_back}
 use Rattle.nb_table.proofs.Limits.CountLemmas.{kept_held, kept_more, none_at, room_for_one}
 use Rattle.nb_table.proofs.entries.Entries.insert.Goals as goal
 

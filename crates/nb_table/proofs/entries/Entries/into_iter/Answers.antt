@@ -1,6 +1,4 @@
-use Rattle.std.proofs.Common.{◌∙◌, sym}
-use Rattle.nb_datagram.specs.Key.{key_cmp_total, key_cmp_exact}
-use Rattle.nb_table.specs.Shared.TreeLemmas.{entries_are}
+use Rattle.nb_table.proofs.Common.{◌∙◌, sym, key_cmp_total, key_cmp_exact, entries_are}
 use Rattle.nb_table.proofs.entries.Entries.into_iter.Goals as goal
 
 pub returns : goal.returns

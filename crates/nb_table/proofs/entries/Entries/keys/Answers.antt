@@ -1,7 +1,5 @@
-use Rattle.std.proofs.Common.{ap, sym, ◌∙◌}
+use Rattle.nb_table.proofs.Common.{ap, sym, ◌∙◌, key_cmp_total, key_cmp_exact, entries_are}
 use Rattle.std.specs.Map.{keys_of}
-use Rattle.nb_datagram.specs.Key.{key_cmp_total, key_cmp_exact}
-use Rattle.nb_table.specs.Shared.TreeLemmas.{entries_are}
 use Rattle.nb_table.proofs.entries.Entries.keys.Goals as goal
 
 pub returns : goal.returns

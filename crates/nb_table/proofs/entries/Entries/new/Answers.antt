@@ -1,7 +1,5 @@
-use Rattle.std.proofs.Common.{sym, subst}
+use Rattle.nb_table.proofs.Common.{sym, subst, key_cmp, AreCounted}
 use Rattle.std.specs.FinMap as maps
-use Rattle.nb_datagram.specs.Key.{key_cmp}
-use Rattle.nb_table.specs.Code.SourceCounts.{AreCounted}
 use Rattle.nb_table.proofs.Limits.CountLemmas.{kept_none}
 use Rattle.nb_table.proofs.entries.Entries.new.Goals as goal
 

@@ -1,8 +1,4 @@
-use Rattle.std.proofs.Common.{◌∙◌, sym, ap}
-use Rattle.std.specs.BTreeMap.Range.{entries_between}
-use Rattle.std.specs.declared.ops.Bound.TheVariants.{Included, Unbounded}
-use Rattle.nb_datagram.specs.Key.{key_cmp, key_cmp_total, key_cmp_exact}
-use Rattle.nb_table.specs.Shared.TreeLemmas.{entries_are}
+use Rattle.nb_table.proofs.Common.{◌∙◌, sym, ap, entries_between, Included, Unbounded, key_cmp, key_cmp_total, key_cmp_exact, entries_are}
 use Rattle.nb_table.proofs.entries.Entries.range_from.Goals as goal
 
 pub returns : goal.returns

@@ -1,8 +1,5 @@
-use Rattle.std.proofs.Common.{◌∙◌, sym, ap, subst, is_some}
+use Rattle.nb_table.proofs.Common.{◌∙◌, sym, ap, subst, is_some, key_cmp, key_cmp_total, key_cmp_exact, AreCounted, get_is, remove_is}
 use Rattle.std.specs.FinMap as maps
-use Rattle.nb_datagram.specs.Key.{key_cmp, key_cmp_total, key_cmp_exact}
-use Rattle.nb_table.specs.Code.SourceCounts.{AreCounted}
-use Rattle.nb_table.specs.Shared.TreeLemmas.{get_is, remove_is}
 use Rattle.nb_table.proofs.Limits.CountLemmas.{kept_less}
 use Rattle.nb_table.proofs.entries.Entries.remove.Goals as goal
 

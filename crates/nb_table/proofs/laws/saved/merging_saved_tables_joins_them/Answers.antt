@@ -1,6 +1,4 @@
-use Rattle.std.proofs.Common.{◌∙◌, ap, ap₂}
-use Rattle.nb_table.specs.Join.{join}
-use Rattle.nb_table.specs.Limits.{TableValue}
+use Rattle.nb_table.proofs.Common.{◌∙◌, ap, ap₂, join, TableValue}
 use Rattle.nb_table.proofs.SavedBytes.{saved_read}
 use Rattle.nb_table.proofs.SavedReading.LoadLemmas.{one_table}
 use Rattle.nb_table.proofs.laws.saved.merging_saved_tables_joins_them.Goals as goal

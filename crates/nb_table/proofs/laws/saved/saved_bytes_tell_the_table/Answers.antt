@@ -1,5 +1,4 @@
-use Rattle.std.proofs.Common.{ap}
-use Rattle.nb_table.specs.Saved.{saved}
+use Rattle.nb_table.proofs.Common.{ap, saved}
 use Rattle.nb_table.proofs.SavedBytes.{table_same}
 use Rattle.nb_table.proofs.laws.saved.saved_bytes_tell_the_table.Goals as goal
 

@@ -1,4 +1,4 @@
-use Rattle.std.proofs.Common.{◌≡◌, ◌&&◌, ◌∙◌, sym, ap, nat_lt}
+use Rattle.nb_table.proofs.Common.{◌≡◌, ◌&&◌, ◌∙◌, sym, ap, nat_lt}
 use Rattle.nb_table.proofs.SavedReading.LoadLemmas.{room_is, sources_turn}
 use Rattle.nb_table.proofs.saved.Sources.with.Goals.{then-self, else-self}
 use Rattle.nb_table.proofs.saved.Sources.with.Goals as goal

@@ -1,6 +1,4 @@
-use Rattle.std.proofs.Common.{sym, ◌∙◌}
-use Rattle.nb_entries.specs.declared.saved.SavedForm.TheVariants.{First, Second}
-use Rattle.nb_table.specs.Saved.{no_magic}
+use Rattle.nb_table.proofs.Common.{sym, ◌∙◌, First, Second, no_magic}
 use Rattle.nb_table.proofs.SavedReading.FoundLemmas.{magic_there, magics_absent}
 use Rattle.nb_table.proofs.saved.entries.form_of.Goals as goal
 

@@ -1,5 +1,4 @@
-use Rattle.std.proofs.Common.{arith}
-use Rattle.std.proofs.lemmas.Result.{err_from_is_err_and}
+use Rattle.nb_table.proofs.Common.{arith, err_from_is_err_and}
 use Rattle.nb_table.proofs.SavedReading.FoundLemmas.{count_cut, entries_failed, bytes_after, all_judged}
 use Rattle.nb_table.proofs.saved.entries.judge.Goals as goal
 

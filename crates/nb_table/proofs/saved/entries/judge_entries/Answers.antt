@@ -1,8 +1,4 @@
-use Rattle.std.proofs.Common.{refl, List, map, Some, [], ◌∷◌, ◌++◌, sym, ap, subst, ◌∙◌, ◌&&◌, arith}
-use Rattle.std.proofs.lemmas.Result.{err_from_is_err_and}
-use Rattle.nb_datagram.specs.declared.key.Key.{Key}
-use Rattle.nb_entries.specs.Entry.{is_short}
-use Rattle.nb_table.specs.Code.SavedTables.{SourcesSoFar}
+use Rattle.nb_table.proofs.Common.{refl, List, map, Some, [], ◌∷◌, ◌++◌, sym, ap, subst, ◌∙◌, ◌&&◌, arith, err_from_is_err_and, Key, is_short, SourcesSoFar}
 use Rattle.nb_table.proofs.SavedReading.FoundLemmas.{key_found, entries_turn, key_stopped, entry_stopped, entries_begun, entries_ended, tested_more, keys_more}
 use Rattle.nb_table.proofs.saved.entries.judge_entries.Goals as goal
 

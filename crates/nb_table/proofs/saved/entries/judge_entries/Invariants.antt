@@ -1,8 +1,4 @@
-use Rattle.std.proofs.Common.{◌≡◌, List, map}
-use Rattle.std.specs.List.{list_all}
-use Rattle.nb_datagram.specs.declared.key.Key.{Key}
-use Rattle.nb_entries.specs.Entry.{EntryValue, is_short}
-use Rattle.nb_table.specs.Code.SavedTables.{SourcesSoFar}
+use Rattle.nb_table.proofs.Common.{◌≡◌, List, map, list_all, Key, EntryValue, is_short, SourcesSoFar}
 use Rattle.nb_table.proofs.SavedReading.FoundLemmas.{EntriesSoFar}
 use Rattle.nb_table.proofs.saved.entries.judge_entries.Given as goal
 

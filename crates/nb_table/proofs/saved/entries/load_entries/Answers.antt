@@ -1,6 +1,4 @@
-use Rattle.std.proofs.Common.{[], ◌∷◌, ◌++◌, ◌∙◌, inr, arith}
-use Rattle.std.proofs.lemmas.Result.{err_from_is_err_and}
-use Rattle.nb_datagram.specs.Key.{key_cmp_total, key_cmp_exact}
+use Rattle.nb_table.proofs.Common.{[], ◌∷◌, ◌++◌, ◌∙◌, inr, arith, err_from_is_err_and, key_cmp_total, key_cmp_exact}
 use Rattle.nb_table.proofs.Joins.{each_is, each_put}
 use Rattle.nb_table.proofs.SavedReading.LoadedLemmas.{entries_ascend}
 use Rattle.nb_table.proofs.SavedReading.FoundLemmas.{entries_turn, key_stopped, entry_stopped, entries_ended}
@@ -34,5 +32,5 @@ loop-preserved c =
     record {
       done = done ++ (key, entry) ∷ [];
       so_far = entries_turn c.args.form _ _ _ _ _ _ _ _ _ _ _ c.loop.invariant.so_far c.in_ok-key.ensures c.in_ok-entry.ensures;
-      kept = each_put c.loop.map _ done key entry _ c.loop.invariant.kept c.in_ok-keep.ensures c.in_ok-load.ensures;
+      kept = each_put c.loop.map _ done key entry _ c.loop.invariant.kept c.in_ok-insert_new.ensures.inserted c.in_ok-load.ensures;
     }

@@ -1,8 +1,5 @@
-use Rattle.std.proofs.Common.{◌≡◌, List}
+use Rattle.nb_table.proofs.Common.{◌≡◌, List, Key, with_each, EntryValue}
 use Rattle.std.specs.FinMap as maps
-use Rattle.nb_datagram.specs.declared.key.Key.{Key}
-use Rattle.nb_table.specs.Code.Each.{with_each}
-use Rattle.nb_entries.specs.Entry.{EntryValue}
 use Rattle.nb_table.proofs.SavedReading.FoundLemmas.{EntriesSoFar}
 use Rattle.nb_table.proofs.saved.entries.load_entries.Given as goal
 

@@ -1,6 +1,4 @@
-use Rattle.std.proofs.Common.{refl, ap}
-use Rattle.nb_entries.specs.declared.saved.SavedForm.TheVariants.{Second}
-use Rattle.nb_table.specs.Saved.{entries_bytes, keyed_bytes}
+use Rattle.nb_table.proofs.Common.{refl, ap, Second, entries_bytes, keyed_bytes}
 use Rattle.nb_entries.specs.Shared.PuttingLemmas.{told, stop}
 use Rattle.nb_table.proofs.saved.entries.put_entries.Goals as goal
 

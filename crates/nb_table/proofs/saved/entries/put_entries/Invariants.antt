@@ -1,8 +1,5 @@
-use Rattle.std.specs.List.{AllByRecursion}
-use Rattle.nb_entries.specs.declared.saved.SavedForm.TheVariants.{Second}
-use Rattle.nb_table.specs.Code.SavedTables.{HasNames}
+use Rattle.nb_table.proofs.Common.{AllByRecursion, Second, HasNames, entries_bytes}
 use Rattle.nb_entries.specs.Sinks.{ToPut}
-use Rattle.nb_table.specs.Saved.{entries_bytes}
 use Rattle.nb_table.proofs.saved.entries.put_entries.Given as goal
 
 abbrev pub invariant-loop-key : goal.invariant-loop-key

@@ -1,7 +1,4 @@
-use Rattle.std.proofs.Common.{◌++◌, refl}
-use Rattle.nb_entries.specs.declared.saved.SavedForm.TheVariants.{Second}
-use Rattle.nb_table.specs.Saved.{key_bytes}
-use Rattle.nb_entries.specs.Saved.{entry_bytes}
+use Rattle.nb_table.proofs.Common.{◌++◌, refl, Second, key_bytes, entry_bytes}
 use Rattle.nb_entries.specs.Shared.PuttingLemmas.{begun, turn, stop, done}
 use Rattle.nb_table.proofs.saved.entries.put_entry.Goals as goal
 

@@ -1,13 +1,5 @@
-use Rattle.std.proofs.Common.{◌++◌, refl, sym, ap, subst, ◌∙◌}
+use Rattle.nb_table.proofs.Common.{◌++◌, refl, sym, ap, subst, ◌∙◌, AllByRecursion, w32, to_be_bytes, on_ok_weaker, key_cmp, key_cmp_total, key_cmp_exact, entries_are, len_is, Second, HasNames, magic, entries_bytes, saved}
 use Rattle.std.specs.FinMap as maps
-use Rattle.std.specs.List.{AllByRecursion}
-use Rattle.std.specs.Int.{w32, to_be_bytes}
-use Rattle.std.proofs.lemmas.Result.{on_ok_weaker}
-use Rattle.nb_datagram.specs.Key.{key_cmp, key_cmp_total, key_cmp_exact}
-use Rattle.nb_table.specs.Shared.TreeLemmas.{entries_are, len_is}
-use Rattle.nb_entries.specs.declared.saved.SavedForm.TheVariants.{Second}
-use Rattle.nb_table.specs.Code.SavedTables.{HasNames}
-use Rattle.nb_table.specs.Saved.{magic, entries_bytes, saved}
 use Rattle.nb_entries.specs.Shared.PuttingLemmas.{begun, turn, stop, done}
 use Rattle.nb_table.proofs.saved.entries.put_table.Goals as goal
 

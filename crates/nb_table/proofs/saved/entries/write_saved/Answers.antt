@@ -1,10 +1,5 @@
-use Rattle.std.proofs.Common.{◌≡◌, [], rules}
+use Rattle.nb_table.proofs.Common.{◌≡◌, [], rules, err_from_is_err_and, on_err_weaker, on_ok_weaker, key_cmp, Passes, Breaks, saved, passes_on, breaks_on}
 use Rattle.std.specs.FinMap as maps
-use Rattle.std.proofs.lemmas.Result.{err_from_is_err_and, on_err_weaker, on_ok_weaker}
-use Rattle.nb_datagram.specs.Key.{key_cmp}
-use Rattle.nb_table.specs.Code.Each.{Passes, Breaks}
-use Rattle.nb_table.specs.Saved.{saved}
-use Rattle.nb_table.specs.Shared.TableLemmas.{passes_on, breaks_on}
 use Rattle.nb_table.proofs.saved.entries.write_saved.Goals as goal
 
 pub returns-in_err-put_table-clause-breaks : goal.returns-in_err-put_table-clause-breaks

@@ -1,5 +1,4 @@
-use Rattle.std.proofs.Common.{◌∙◌, ap, is_some, sym, subst}
-use Rattle.nb_table.specs.Limits.{TableValue, KeepsLimits}
+use Rattle.nb_table.proofs.Common.{◌∙◌, ap, is_some, sym, subst, TableValue, KeepsLimits}
 use Rattle.nb_table.proofs.TableReads.{remove_keeps}
 use Rattle.nb_table.proofs.table.Table.drop_key.Goals as goal
 

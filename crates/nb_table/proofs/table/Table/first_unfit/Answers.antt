@@ -1,6 +1,5 @@
-use Rattle.std.proofs.Common.{◌≡◌, sym, ◌∙◌, ap, filter, slice_get, is_none, ◌-◌}
+use Rattle.nb_table.proofs.Common.{◌≡◌, sym, ◌∙◌, ap, filter, slice_get, is_none, ◌-◌, TableValue, every_key, held_keys}
 use Rattle.std.specs.FinMap as maps
-use Rattle.nb_table.specs.Limits.{TableValue, every_key, held_keys}
 use Rattle.nb_table.proofs.Limits.GroupLemmas.{held_every}
 use Rattle.nb_table.proofs.table.Table.first_unfit.Goals as goal
 

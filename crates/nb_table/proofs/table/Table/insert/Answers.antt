@@ -1,5 +1,4 @@
-use Rattle.std.proofs.Common.{sym, subst}
-use Rattle.nb_entries.specs.Change.{Change}
+use Rattle.nb_table.proofs.Common.{sym, subst, Change}
 use Rattle.nb_table.specs.Change.{IsChange}
 use Rattle.nb_table.proofs.table.Table.insert.Goals as goal
 

@@ -1,14 +1,6 @@
-use Rattle.std.proofs.Common.{◌≤◌, ◌∙◌, sym, ap, subst, arith, rules, Err}
-use Rattle.std.proofs.lemmas.Option.{MatchOption-at_none}
-use Rattle.std.specs.Result.{IfErr}
-use Rattle.nb_datagram.specs.Fragment.{core_of}
-use Rattle.nb_datagram.specs.declared.limits.TheConstants.{MAX_LENGTH}
-use Rattle.nb_table.specs.Contents.{Contents}
-use Rattle.nb_table.specs.Limits.{TableValue, KeepsLimits}
-use Rattle.nb_entries.specs.Change.{DataChange}
+use Rattle.nb_table.proofs.Common.{◌≤◌, ◌∙◌, sym, ap, subst, arith, rules, Err, MatchOption-at_none, core_of, MAX_LENGTH, Contents, TableValue, KeepsLimits, DataChange, Refuses, join_one, IfErr}
 use Rattle.nb_table.specs.Change.{IsChange}
-use Rattle.nb_table.specs.Insert.{Refuses, Takes}
-use Rattle.nb_table.specs.Shared.TableLemmas.{join_one}
+use Rattle.nb_table.specs.Insert.{Takes}
 use Rattle.nb_table.proofs.Changes.{short_more, memory_alone, spared, insert_keeps, change_at}
 use Rattle.nb_table.proofs.table.Table.insert_with.Goals.{After-from_residual}
 use Rattle.nb_table.proofs.table.Table.insert_with.Goals as goal

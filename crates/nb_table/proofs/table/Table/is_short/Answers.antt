@@ -1,4 +1,4 @@
-use Rattle.std.proofs.Common.{◌∙◌, sym}
+use Rattle.nb_table.proofs.Common.{◌∙◌, sym}
 use Rattle.nb_table.proofs.Limits.CountLemmas.{all_short_decides}
 use Rattle.nb_table.proofs.table.Table.is_short.Goals as goal
 

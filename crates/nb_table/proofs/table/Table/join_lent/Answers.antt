@@ -1,10 +1,4 @@
-use Rattle.std.proofs.Common.{◌≤◌, rules, sym, ◌∙◌, ap, ap₂, subst}
-use Rattle.std.specs.List.{AllByRecursion}
-use Rattle.nb_datagram.specs.declared.limits.TheConstants.{MAX_LENGTH}
-use Rattle.nb_table.specs.Limits.{TableValue, with_contents}
-use Rattle.nb_entries.specs.Entry.{IsShort}
-use Rattle.nb_table.specs.Merging.{newly_handed}
-use Rattle.nb_table.specs.Code.Each.{handed}
+use Rattle.nb_table.proofs.Common.{◌≤◌, rules, sym, ◌∙◌, ap, ap₂, subst, AllByRecursion, MAX_LENGTH, TableValue, with_contents, IsShort, newly_handed, handed}
 use Rattle.nb_table.proofs.Changes.{short_more}
 use Rattle.nb_table.proofs.Limits.MergingLemmas.{merged_keeps, others_short, entries_short, joined_is, handed_all}
 use Rattle.nb_table.proofs.table.Table.join_lent.Goals as goal

@@ -1,4 +1,4 @@
-use Rattle.std.proofs.Common.{◌∙◌}
+use Rattle.nb_table.proofs.Common.{◌∙◌}
 use Rattle.nb_table.proofs.table.Table.keys.Goals as goal
 
 pub returns : goal.returns

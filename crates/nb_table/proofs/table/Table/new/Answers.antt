@@ -1,5 +1,4 @@
-use Rattle.std.proofs.Common.{subst, sym}
-use Rattle.nb_table.specs.Limits.{Limits, KeepsLimits}
+use Rattle.nb_table.proofs.Common.{subst, sym, Limits, KeepsLimits}
 use Rattle.nb_table.proofs.Limits.CountLemmas.{empty_keeps}
 use Rattle.nb_table.proofs.table.Table.new.Goals as goal
 

@@ -1,5 +1,4 @@
-use Rattle.std.proofs.Common.{◌≤◌, rules}
-use Rattle.nb_datagram.specs.declared.limits.TheConstants.{MAX_LENGTH}
+use Rattle.nb_table.proofs.Common.{◌≤◌, rules, MAX_LENGTH}
 use Rattle.nb_table.proofs.Changes.{short_more}
 use Rattle.nb_table.proofs.Limits.MergingLemmas.{others_short}
 use Rattle.nb_table.proofs.table.Table.preview.Goals as goal

@@ -1,11 +1,6 @@
-use Rattle.std.proofs.Common.{◌≡◌, ◌≤◌, ◌==◌, ◌∙◌, ℕ, Bool, true, false, not, sym, ap, subst, arith, is_some, None}
-use Rattle.std.proofs.lemmas.Bool.{true≢false}
+use Rattle.nb_table.proofs.Common.{◌≡◌, ◌≤◌, ◌==◌, ◌∙◌, ℕ, Bool, true, false, not, sym, ap, subst, arith, is_some, None, true≢false, Key, FragmentParts, core_of, reach, is_first, Limits, IsFullSource, held_keys, of_source, Contents}
 use Rattle.std.specs.Bool.{beq}
 use Rattle.std.specs.FinMap as maps
-use Rattle.nb_datagram.specs.declared.key.Key.{Key}
-use Rattle.nb_datagram.specs.Fragment.{FragmentParts, core_of, reach, is_first}
-use Rattle.nb_table.specs.Limits.{Limits, IsFullSource, held_keys, of_source}
-use Rattle.nb_table.specs.Contents.{Contents}
 use Rattle.nb_table.specs.Insert.{Passes}
 use Rattle.nb_table.proofs.Limits.GroupLemmas.{held_at_most}
 use Rattle.nb_table.proofs.Changes.{same_test}

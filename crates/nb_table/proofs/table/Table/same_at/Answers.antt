@@ -1,4 +1,4 @@
-use Rattle.std.proofs.Common.{sym}
+use Rattle.nb_table.proofs.Common.{sym}
 use Rattle.std.specs.FinMap as maps
 use Rattle.nb_table.proofs.TableReads.{both_held, one_held, none_held}
 use Rattle.nb_table.proofs.table.Table.same_at.Goals as goal

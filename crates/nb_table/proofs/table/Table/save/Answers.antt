@@ -1,7 +1,4 @@
-use Rattle.std.proofs.Common.{◌≤◌, ◌<◌, ◌^◌, rules, sym, subst}
-use Rattle.nb_datagram.specs.declared.limits.TheConstants.{MAX_LENGTH}
-use Rattle.nb_table.specs.Limits.{TableValue}
-use Rattle.nb_table.specs.Saved.{IsReadAs, FitsSaved}
+use Rattle.nb_table.proofs.Common.{◌≤◌, ◌<◌, ◌^◌, rules, sym, subst, MAX_LENGTH, TableValue, IsReadAs, FitsSaved}
 use Rattle.nb_table.proofs.SavedBytes.{table_fits, table_read}
 use Rattle.nb_table.proofs.table.Table.save.Goals as goal
 

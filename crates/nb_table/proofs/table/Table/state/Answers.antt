@@ -1,4 +1,4 @@
-use Rattle.std.proofs.Common.{sym}
+use Rattle.nb_table.proofs.Common.{sym}
 use Rattle.nb_table.proofs.TableReads.{state_at}
 use Rattle.nb_table.proofs.table.Table.state.Goals as goal
 

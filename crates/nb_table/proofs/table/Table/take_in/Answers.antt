@@ -1,8 +1,4 @@
-use Rattle.std.proofs.Common.{◌≤◌, rules, sym, ap, subst}
-use Rattle.std.specs.List.{AllByRecursion}
-use Rattle.nb_datagram.specs.declared.limits.TheConstants.{MAX_LENGTH}
-use Rattle.nb_table.specs.Limits.{TableValue, with_contents}
-use Rattle.nb_entries.specs.Entry.{IsShort}
+use Rattle.nb_table.proofs.Common.{◌≤◌, rules, sym, ap, subst, AllByRecursion, MAX_LENGTH, TableValue, with_contents, IsShort}
 use Rattle.nb_table.proofs.Changes.{short_more}
 use Rattle.nb_table.proofs.Limits.MergingLemmas.{merged_keeps, others_short, entries_short, joined_is}
 use Rattle.nb_table.proofs.table.Table.take_in.Goals as goal

@@ -1,4 +1,4 @@
-use Rattle.std.proofs.lemmas.Result.{on_ok_weaker}
+use Rattle.nb_table.proofs.Common.{on_ok_weaker}
 use Rattle.nb_table.proofs.SavedBytes.{passes_wrote}
 use Rattle.nb_table.proofs.table.Table.write_saved.Goals as goal
 

@@ -1,6 +1,4 @@
-use Rattle.std.proofs.Common.{sym, ◌∙◌, ap}
-use Rattle.std.specs.List.{list_all}
-use Rattle.nb_entries.specs.Entry.{is_short}
+use Rattle.nb_table.proofs.Common.{sym, ◌∙◌, ap, list_all, is_short}
 use Rattle.nb_table.proofs.table.fitting.are_short.Goals as goal
 
 pub returns : goal.returns

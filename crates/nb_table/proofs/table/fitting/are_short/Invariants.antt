@@ -1,7 +1,5 @@
-use Rattle.std.proofs.Common.{◌≡◌}
-use Rattle.std.specs.List.{list_all}
+use Rattle.nb_table.proofs.Common.{◌≡◌, list_all, is_short}
 use Rattle.std.specs.FinMap as maps
-use Rattle.nb_entries.specs.Entry.{is_short}
 use Rattle.nb_table.proofs.table.fitting.are_short.Given as goal
 
 abbrev pub invariant-loop-key : goal.invariant-loop-key

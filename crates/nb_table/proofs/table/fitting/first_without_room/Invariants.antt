@@ -1,4 +1,4 @@
-use Rattle.std.proofs.Common.{◌≡◌, filter, map, slice_get, is_none}
+use Rattle.nb_table.proofs.Common.{◌≡◌, filter, map, slice_get, is_none}
 use Rattle.std.specs.FinMap as maps
 use Rattle.nb_table.proofs.table.fitting.first_without_room.Given as goal
 

@@ -1,5 +1,4 @@
-use Rattle.std.proofs.Common.{arith}
-use Rattle.nb_table.specs.Limits.{of_source}
+use Rattle.nb_table.proofs.Common.{arith, of_source}
 use Rattle.nb_table.proofs.Limits.GroupLemmas.{held_at_most}
 use Rattle.nb_table.proofs.table.fitting.is_full_of.Goals as goal
 

@@ -1,14 +1,7 @@
-use Rattle.std.proofs.Common.{◌≡◌, ◌-◌, ◌∙◌, ◌∷◌, ◌&&◌, Bool, true, false, not, Option, Some, None, refl, sym, ap, ap₂, subst, filter, map, slice_get, is_none, is_some, unwrap_or}
-use Rattle.std.specs.BTreeMap.Range.{entries_between}
-use Rattle.std.specs.declared.ops.Bound.TheVariants.{Included, Unbounded}
+use Rattle.nb_table.proofs.Common.{◌≡◌, ◌-◌, ◌∙◌, ◌∷◌, ◌&&◌, Bool, true, false, not, Option, Some, None, refl, sym, ap, ap₂, subst, filter, map, slice_get, is_none, is_some, unwrap_or, entries_between, Included, Unbounded, Key, key_cmp, EntryValue, held_keys, of_source, not-true, not-false}
 use Rattle.std.specs.FinMap as maps
-use Rattle.nb_datagram.specs.declared.key.Key.{Key}
-use Rattle.nb_datagram.specs.Key.{key_cmp}
-use Rattle.nb_entries.specs.Entry.{EntryValue}
-use Rattle.nb_table.specs.Limits.{held_keys, of_source}
 use Rattle.nb_table.proofs.Limits.SourceLemmas.{Left, onward, onward_new, left_begun, left_next, none_unfit, one_out, one_in, first_in}
 use Rattle.nb_table.proofs.table.fitting.unfit_of.Goals as goal
-use Rattle.std.proofs.lemmas.Bool.{not-true, not-false}
 
 pub loop-key-init : goal.loop-key-init
 loop-key-init c =

@@ -1,7 +1,5 @@
-use Rattle.std.proofs.Common.{◌≡◌, ◌-◌, ◌&&◌, filter, map, slice_get, is_none, unwrap_or}
+use Rattle.nb_table.proofs.Common.{◌≡◌, ◌-◌, ◌&&◌, filter, map, slice_get, is_none, unwrap_or, held_keys, of_source, first_unfit}
 use Rattle.std.specs.FinMap as maps
-use Rattle.nb_table.specs.Limits.{held_keys, of_source}
-use Rattle.nb_table.specs.Merging.{first_unfit}
 use Rattle.nb_table.proofs.Limits.SourceLemmas.{Left}
 use Rattle.nb_table.proofs.table.fitting.unfit_of.Given as goal
 

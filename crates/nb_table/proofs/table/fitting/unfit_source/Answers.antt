@@ -1,8 +1,5 @@
-use Rattle.std.proofs.Common.{◌≡◌, ◌∙◌, sym, subst, arith}
-use Rattle.std.specs.Prelude.{Some, None}
+use Rattle.nb_table.proofs.Common.{◌≡◌, ◌∙◌, sym, subst, arith, Some, None, Key, EntryValue}
 use Rattle.std.specs.FinMap as maps
-use Rattle.nb_datagram.specs.declared.key.Key.{Key}
-use Rattle.nb_entries.specs.Entry.{EntryValue}
 use Rattle.nb_table.proofs.Limits.UnfitLemmas.{Gone, few_fit, gone_begun, gone_turn, gone_same, gone_all, unfit_found}
 use Rattle.nb_table.proofs.table.fitting.unfit_source.Goals as goal
 

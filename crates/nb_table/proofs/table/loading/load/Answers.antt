@@ -1,9 +1,6 @@
-use Rattle.std.proofs.Common.{ap, arith, Err}
-use Rattle.std.proofs.lemmas.Result.{err_from_is_err_and}
-use Rattle.nb_table.specs.Saved.{ill_formed}
+use Rattle.nb_table.proofs.Common.{ap, arith, Err, err_from_is_err_and, ill_formed, not-true, not-false}
 use Rattle.nb_table.proofs.SavedReading.LoadLemmas.{judged_sound, fault_same, judged_long, judged_crowded, judged_full, keeping_failed, kept_limits, kept_read, kept_saved}
 use Rattle.nb_table.proofs.table.loading.load.Goals as goal
-use Rattle.std.proofs.lemmas.Bool.{not-true, not-false}
 
 pub returns-in_err-form-clause-fault : goal.returns-in_err-form-clause-fault
 returns-in_err-form-clause-fault c =

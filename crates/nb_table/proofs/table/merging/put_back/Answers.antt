@@ -1,5 +1,4 @@
-use Rattle.std.proofs.Common.{◌∙◌, sym, ap}
-use Rattle.nb_table.specs.Code.Each.{put_back}
+use Rattle.nb_table.proofs.Common.{◌∙◌, sym, ap, put_back}
 use Rattle.nb_table.proofs.Joins.{put_held, put_missing}
 use Rattle.nb_table.proofs.table.merging.put_back.Goals as goal
 

@@ -1,5 +1,4 @@
-use Rattle.std.proofs.Common.{◌∙◌, ◌++◌, ◌∷◌, [], ap}
-use Rattle.nb_datagram.specs.Key.{key_cmp_total, key_cmp_exact}
+use Rattle.nb_table.proofs.Common.{◌∙◌, ◌++◌, ◌∷◌, [], ap, key_cmp_total, key_cmp_exact}
 use Rattle.nb_table.proofs.Joins.{noted}
 use Rattle.nb_table.proofs.table.merging.put_noted.Goals as goal
 

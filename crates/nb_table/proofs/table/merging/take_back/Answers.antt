@@ -1,6 +1,4 @@
-use Rattle.std.proofs.Common.{◌∙◌, sym, ap}
-use Rattle.std.proofs.lemmas.List.{nil_from_length}
-use Rattle.nb_table.specs.Code.Each.{taken_back}
+use Rattle.nb_table.proofs.Common.{◌∙◌, sym, ap, nil_from_length, taken_back}
 use Rattle.nb_table.proofs.Joins.{taken_back-more}
 use Rattle.nb_table.proofs.table.merging.take_back.Goals as goal
 

@@ -1,5 +1,4 @@
-use Rattle.std.proofs.Common.{◌≡◌, length}
-use Rattle.nb_table.specs.Code.Each.{taken_back}
+use Rattle.nb_table.proofs.Common.{◌≡◌, length, taken_back}
 use Rattle.nb_table.proofs.table.merging.take_back.Given as goal
 
 abbrev pub invariant-loop-key : goal.invariant-loop-key

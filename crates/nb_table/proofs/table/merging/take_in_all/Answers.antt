@@ -1,9 +1,6 @@
-use Rattle.std.proofs.Common.{ℕ, map, take, drop, slice_get, arith, refl, sym, ◌∙◌, ap, subst, take_all}
+use Rattle.nb_table.proofs.Common.{ℕ, map, take, drop, slice_get, arith, refl, sym, ◌∙◌, ap, subst, take_all, Contents, join, joined_all, AreTaken, Fits, IsRefused}
 use Rattle.std.specs.Iterator.Adapters.{enumerate_count, enumerate_source}
 use Rattle.std.specs.Vec.Iter.{into_iter_items, into_iter_len}
-use Rattle.nb_table.specs.Contents.{Contents}
-use Rattle.nb_table.specs.Join.{join, joined_all, AreTaken}
-use Rattle.nb_table.specs.Merging.{Fits, IsRefused}
 use Rattle.nb_table.proofs.Joins.{are_taken, each_is_taken, next_is_joined, next_is_taken, carried, next_left}
 use Rattle.nb_table.proofs.table.merging.take_in_all.Goals as goal
 

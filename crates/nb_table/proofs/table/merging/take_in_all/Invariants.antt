@@ -1,8 +1,6 @@
-use Rattle.std.proofs.Common.{◌≡◌, ◌+◌, length, map, take, drop}
+use Rattle.nb_table.proofs.Common.{◌≡◌, ◌+◌, length, map, take, drop, join, joined_all, Fits}
 use Rattle.std.specs.Iterator.Adapters.{enumerate_count, enumerate_source}
 use Rattle.std.specs.Vec.Iter.{into_iter_items, into_iter_len}
-use Rattle.nb_table.specs.Join.{join, joined_all}
-use Rattle.nb_table.specs.Merging.{Fits}
 use Rattle.nb_table.proofs.Joins.{are_taken}
 use Rattle.nb_table.proofs.table.merging.take_in_all.Given as goal
 

@@ -1,7 +1,7 @@
 use Rattle.std.proofs.Common.{◌++◌, length, string_bytes}
 use Rattle.std.proofs.lemmas.Result.{on_ok_weaker}
 use Rattle.nb_text.specs.Said.{datagram_refused_said, datagram_said, follow_said}
-use Rattle.nb_text.specs.SaysPacket.{datagram, no_datagram}
+use Rattle.nb_text.specs.Made.{datagram, no_datagram}
 use Rattle.nb_text.proofs.SaidLemmas.{adds, says_both}
 use Rattle.nb_text.proofs.brief.datagrams.push_datagram.Goals as goal
 

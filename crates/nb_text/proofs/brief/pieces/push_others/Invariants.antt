@@ -1,6 +1,6 @@
 use Rattle.std.proofs.Common.{◌≡◌, ◌∷◌, [], codes, string_bytes, take}
 use Rattle.std.specs.List.{flat_map}
-use Rattle.nb_names.specs.Growth.{OnlyAdds}
+use Rattle.nb_streams.specs.Growth.{OnlyAdds}
 use Rattle.nb_text.specs.Said.{said_after}
 use Rattle.nb_text.proofs.brief.pieces.push_others.Given as goal
 

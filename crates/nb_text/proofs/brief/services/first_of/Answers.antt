@@ -5,7 +5,8 @@ use Rattle.nb_service.specs.Packet.{QuestionAt, RecordAt}
 use Rattle.nb_service.proofs.ItemLemmas.{read_is_ok, read_is}
 use Rattle.nb_text.specs.ServiceSaid.{IsAbout, about_first}
 use Rattle.nb_text.proofs.HeardLemmas.{about_more, about_stays, about_record, record_there}
-use Rattle.nb_text.proofs.WalkLemmas.{walk_begun, walk_item, walk_step, walk_ended, row_from}
+use Rattle.nb_service.proofs.RowWalks.{walk_begun, walk_item, walk_step, walk_ended}
+use Rattle.nb_text.proofs.WalkLemmas.{row_from}
 use Rattle.nb_text.proofs.brief.services.first_of.Goals as goal
 
 pub loop-init : goal.loop-init
@@ -14,10 +15,9 @@ loop-init c = walk_begun (QuestionAt c.args.names.now) HEADER_LENGTH c.args.ques
 
 pub unwrap-seen-requires : goal.unwrap-seen-requires
 unwrap-seen-requires c =
-    let row = c.requires.2 in
     let next = walk_item (QuestionAt c.args.names.now) HEADER_LENGTH c.args.questions c.loop.counter c.loop.next
-    (λ (asked : List Question). IsAbout c.args.names.now (about_first asked []) c.loop.first) row.0 c.requires.0 row.1 c.loop-test.true c.loop.invariant in
-    read_is_ok c.see_question.result _ (c.see_question.ensures.only next.item next.after next.stands)
+    (λ (asked : List Question). IsAbout c.args.names.now (about_first asked []) c.loop.first) (c.requires.0, c.requires.2) c.loop-test.true c.loop.invariant in
+    read_is_ok c.see_question.result _ (c.see_question.ensures.only next.0 next.1 next.2)
 
 pub loop-preserved : goal.loop-preserved
 loop-preserved c =

@@ -2,7 +2,7 @@ use Rattle.std.proofs.Common.{ℕ, ◌<◌, List, ◌++◌, length, string_bytes
 use Rattle.std.proofs.lemmas.Result.{on_ok_weaker}
 use Rattle.nb_service.specs.ServiceFaults.{cut_header}
 use Rattle.nb_text.specs.Said.{follow_said, said_after}
-use Rattle.nb_text.specs.SaysPacket.{names, no_names}
+use Rattle.nb_text.specs.Made.{names, no_names}
 use Rattle.nb_text.specs.ServiceSaid.{service_refused_said, service_said}
 use Rattle.nb_text.proofs.SaidLemmas.{adds, none_said, says_both}
 use Rattle.nb_text.proofs.brief.services.push_judged.Goals as goal

@@ -4,7 +4,7 @@ use Rattle.nb_service.specs.Header.{PacketHeader}
 use Rattle.nb_service.specs.Code.Steps.{RowOf}
 use Rattle.nb_service.specs.Packet.{RecordAt, records_of}
 use Rattle.nb_text.specs.Said.{said_after}
-use Rattle.nb_text.specs.ServiceSaid.{about_of, said_of, told_of, type_of}
+use Rattle.nb_text.specs.ServiceSaid.{about_of, said_of, gist_of, type_of}
 use Rattle.nb_text.specs.Forms.{is_type}
 use Rattle.nb_service.specs.declared.kinds.TheConstants.{NBSTAT}
 use Rattle.nb_text.proofs.HeardLemmas.{parts_added, question_row, record_row}
@@ -52,7 +52,7 @@ returns c packet used is of =
     let about = c.first_of-about.ensures packet.questions (records_of packet) is.after used questions records in
     let there = subst (λ (n : ℕ). RowOf (RecordAt c.args.names.now) n (c.from.result + c.from-2.result + c.from-3.result) (records_of packet) used) (sym about.1) records in
     let word : packet.word ≡ c.args.header.now.word = ap (λ (h : PacketHeader). h.word) of in
-    let told = told_of (is_type (type_of (about_of packet)) NBSTAT) (records_of packet) in (
+    let told = gist_of (is_type (type_of (about_of packet)) NBSTAT) (records_of packet) in (
       on_ok_weaker c.push_ending.result
           (λ added. parts_added c.args.header.now.word (about_of packet) _ _ (records_of packet) c.form_of-ending.result.0.now c.form_of-ending.result.1 _ _ _ _ _ (c.kind_of-kind.ensures c.args.names.now (about_of packet) about.0) c.eq.ensures
           (c.of-told.ensures (records_of packet) used there) c.form_of-ending.ensures c.in_ok-push_text.ensures.0

@@ -1,7 +1,7 @@
 use Rattle.std.proofs.Common.{ℕ, List, ◌++◌, sym, ap, ◌∙◌, codes, string_bytes}
 use Rattle.std.specs.Fmt.{decimal}
 use Rattle.std.proofs.lemmas.Result.{on_ok_weaker}
-use Rattle.nb_names.specs.Addresses.{address_text}
+use Rattle.nb_streams.specs.Addresses.{address_text}
 use Rattle.nb_session.specs.Packet.{Packet}
 use Rattle.nb_text.specs.Said.{said_after, session_said}
 use Rattle.nb_text.proofs.brief.sessions.push_packet.Goals as goal

@@ -1,7 +1,7 @@
 use Rattle.std.proofs.lemmas.Result.{on_ok_weaker}
 use Rattle.std.proofs.Common.{length}
 use Rattle.nb_text.specs.Said.{parsed_said}
-use Rattle.nb_text.specs.SaysPacket.{session}
+use Rattle.nb_text.specs.Made.{session}
 use Rattle.nb_text.proofs.SaidLemmas.{adds}
 use Rattle.nb_text.proofs.brief.sessions.push_session.Goals as goal
 

@@ -1,5 +1,5 @@
 use Rattle.std.proofs.Common.{◌∷◌, [], ◌++◌, codes}
-use Rattle.nb_names.specs.Addresses.{address_text}
+use Rattle.nb_streams.specs.Addresses.{address_text}
 use Rattle.nb_names.specs.NameText.{labels_written}
 use Rattle.nb_text.proofs.SaidLemmas.{named}
 use Rattle.nb_text.proofs.laws.phrases.redirects_in_words.Goals as goal

@@ -1,6 +1,6 @@
 use Rattle.std.proofs.Common.{◌∷◌, [], ◌++◌, codes}
 use Rattle.nb_text.proofs.SaidLemmas.{held, query_said, refresh_said, registration_said, release_said, status_said}
-use Rattle.nb_names.specs.Addresses.{address_text}
+use Rattle.nb_streams.specs.Addresses.{address_text}
 use Rattle.nb_text.specs.Sentences.{lasting}
 use Rattle.nb_text.proofs.laws.phrases.requests_in_words.Goals as goal
 

@@ -1,4 +1,4 @@
-use Rattle.std.proofs.Common.{◌∙◌}
+use Rattle.nb_entries.proofs.Common.{◌∙◌}
 use Rattle.nb_entries.proofs.Covers.{or_is}
 use Rattle.nb_entries.proofs.cover.marks.Marks.together.Goals as goal
 

@@ -1,6 +1,4 @@
-use Rattle.std.proofs.Common.{◌∷◌, arith, sym, ap, subst}
-use Rattle.std.specs.Cmp.{both_ways}
-use Rattle.nb_entries.specs.Code.Rows.{value_of, values_of, run_at}
+use Rattle.nb_entries.proofs.Common.{◌∷◌, arith, sym, ap, subst, both_ways, value_of, values_of, run_at}
 use Rattle.nb_entries.proofs.KeptRuns.RunReadLemmas.{Held, held_first, held_next, past_agree}
 use Rattle.nb_entries.proofs.KeptRuns.RunMapLemmas.{agree_from, from_agree}
 use Rattle.nb_entries.proofs.cover.runs.Runs.agree.Goals as goal

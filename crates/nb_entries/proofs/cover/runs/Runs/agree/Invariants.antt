@@ -1,6 +1,4 @@
-use Rattle.std.proofs.Common.{◌≡◌, true}
-use Rattle.nb_entries.specs.Cover.{placed}
-use Rattle.nb_entries.specs.Code.Rows.{values_of, run_at}
+use Rattle.nb_entries.proofs.Common.{◌≡◌, true, placed, values_of, run_at}
 use Rattle.nb_entries.proofs.KeptRuns.RunReadLemmas.{Held}
 use Rattle.nb_entries.proofs.KeptRuns.RunMapLemmas.{agree_at}
 use Rattle.nb_entries.proofs.cover.runs.Runs.agree.Given as goal

@@ -1,7 +1,4 @@
-use Rattle.std.proofs.Common.{ap, ◌∙◌}
-use Rattle.nb_entries.specs.Cover.{bytes_agree}
-use Rattle.nb_entries.specs.Runs.{places_of}
-use Rattle.nb_entries.specs.Code.Rows.{values_of}
+use Rattle.nb_entries.proofs.Common.{ap, ◌∙◌, bytes_agree, places_of, values_of}
 use Rattle.nb_entries.proofs.KeptRuns.RunMapLemmas.{agree_at, agree_each}
 use Rattle.nb_entries.proofs.cover.runs.Runs.agree_all.Goals as goal
 

@@ -1,7 +1,4 @@
-use Rattle.std.proofs.Common.{◌≡◌}
-use Rattle.nb_entries.specs.Cover.{bytes_agree}
-use Rattle.nb_entries.specs.Runs.{places_of}
-use Rattle.nb_entries.specs.Code.Rows.{values_of}
+use Rattle.nb_entries.proofs.Common.{◌≡◌, bytes_agree, places_of, values_of}
 use Rattle.nb_entries.proofs.KeptRuns.RunMapLemmas.{agree_at}
 use Rattle.nb_entries.proofs.cover.runs.Runs.agree_all.Given as goal
 

@@ -1,7 +1,4 @@
-use Rattle.std.proofs.Common.{sym, ap, ◌∙◌}
-use Rattle.nb_entries.specs.Runs.{map_of_runs}
-use Rattle.nb_entries.specs.Code.Rows.{values_of}
-use Rattle.nb_entries.specs.Shared.RunsLemmas.{one_row}
+use Rattle.nb_entries.proofs.Common.{sym, ap, ◌∙◌, map_of_runs, values_of, one_row}
 use Rattle.nb_entries.proofs.cover.runs.Runs.are.Goals as goal
 
 pub loop-run-init : goal.loop-run-init

@@ -1,5 +1,4 @@
-use Rattle.std.proofs.Common.{◌≡◌, ◌↔◌}
-use Rattle.nb_entries.specs.Code.Rows.{values_of}
+use Rattle.nb_entries.proofs.Common.{◌≡◌, ◌↔◌, values_of}
 use Rattle.nb_entries.proofs.cover.runs.Runs.are.Given as goal
 
 abbrev pub invariant-loop-run : goal.invariant-loop-run

@@ -1,5 +1,4 @@
-use Rattle.std.proofs.Common.{[], arith, ap, length, subst}
-use Rattle.nb_entries.specs.Code.Rows.{values_of, IsFrom}
+use Rattle.nb_entries.proofs.Common.{[], arith, ap, length, subst, values_of, IsFrom}
 use Rattle.nb_entries.proofs.KeptRuns.RunReadLemmas.{lacks_from, starts_late, between_read}
 use Rattle.nb_entries.proofs.cover.runs.Runs.between.Goals as goal
 

@@ -1,5 +1,4 @@
-use Rattle.std.proofs.Common.{ap, sym, ◌∙◌, Some}
-use Rattle.nb_entries.specs.Shared.WholeLemmas.{below_none}
+use Rattle.nb_entries.proofs.Common.{ap, sym, ◌∙◌, Some, below_none}
 use Rattle.nb_entries.proofs.KeptRuns.RunMapLemmas.{below_is}
 use Rattle.nb_entries.proofs.cover.runs.Runs.bytes_below.Goals as goal
 

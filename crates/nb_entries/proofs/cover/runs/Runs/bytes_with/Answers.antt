@@ -1,4 +1,4 @@
-use Rattle.std.proofs.Common.{inl, inr, arith, sym, take, append_assoc}
+use Rattle.nb_entries.proofs.Common.{inl, inr, arith, sym, take, append_assoc}
 use Rattle.nb_entries.proofs.KeptRuns.RunReadLemmas.{made_between}
 use Rattle.nb_entries.proofs.KeptRuns.RunMapLemmas.{below_is, lacks_put}
 use Rattle.nb_entries.proofs.cover.runs.Runs.bytes_with.Goals as goal

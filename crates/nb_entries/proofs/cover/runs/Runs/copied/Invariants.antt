@@ -1,6 +1,4 @@
-use Rattle.std.proofs.Common.{◌≡◌, ◌++◌}
-use Rattle.nb_entries.specs.Runs.{AreApart, map_of_runs}
-use Rattle.nb_entries.specs.Code.Rows.{values_of, kept_values, AreFilled}
+use Rattle.nb_entries.proofs.Common.{◌≡◌, ◌++◌, AreApart, map_of_runs, values_of, kept_values, AreFilled}
 use Rattle.nb_entries.proofs.cover.runs.Runs.copied.Given as goal
 
 abbrev pub invariant-loop-run : goal.invariant-loop-run

@@ -1,7 +1,4 @@
-use Rattle.std.proofs.Common.{List, [], ◌∷◌, length, arith, sym, ap, ◌∙◌, subst}
-use Rattle.nb_entries.specs.Runs.{RunValue, AreApart, runs_of_map}
-use Rattle.nb_entries.specs.Code.Rows.{values_of}
-use Rattle.nb_entries.specs.Shared.RunsLemmas.{runs_back}
+use Rattle.nb_entries.proofs.Common.{List, [], ◌∷◌, length, arith, sym, ap, ◌∙◌, subst, RunValue, AreApart, runs_of_map, values_of, runs_back}
 use Rattle.nb_entries.proofs.cover.runs.Runs.count.Invariants.{FewTo}
 use Rattle.nb_entries.proofs.cover.runs.Runs.count.Goals as goal
 

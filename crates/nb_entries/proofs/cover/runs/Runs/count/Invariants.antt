@@ -1,6 +1,4 @@
-use Rattle.std.proofs.Common.{◌≡◌, ◌+◌, ◌≤◌, ℕ, List, [], ◌∷◌, length}
-use Rattle.nb_entries.specs.Runs.{RunValue, AreApart, runs_of_map}
-use Rattle.nb_entries.specs.Code.Rows.{values_of}
+use Rattle.nb_entries.proofs.Common.{◌≡◌, ◌+◌, ◌≤◌, ℕ, List, [], ◌∷◌, length, RunValue, AreApart, runs_of_map, values_of}
 use Rattle.nb_entries.proofs.cover.runs.Runs.count.Given as goal
 
 -- a count is at most where the next run starts

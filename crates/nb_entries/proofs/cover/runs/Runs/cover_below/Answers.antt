@@ -1,5 +1,4 @@
-use Rattle.std.proofs.Common.{get_or, arith, refl, ◌∙◌}
-use Rattle.std.proofs.lemmas.Option.{slice_get-get_or}
+use Rattle.nb_entries.proofs.Common.{get_or, arith, refl, ◌∙◌, slice_get-get_or}
 use Rattle.nb_entries.proofs.cover.runs.Runs.cover_below.Goals as goal
 
 pub returns-in-Some : goal.returns-in-Some

@@ -1,6 +1,5 @@
-use Rattle.std.proofs.Common.{arith, ap, ◌∙◌}
+use Rattle.nb_entries.proofs.Common.{arith, ap, ◌∙◌, held_in, values_of}
 use Rattle.std.specs.FinMap as maps
-use Rattle.nb_entries.specs.Code.Rows.{held_in, values_of}
 use Rattle.nb_entries.proofs.Runs.{held-runs}
 use Rattle.nb_entries.proofs.cover.runs.Runs.held.Goals as goal
 

@@ -1,6 +1,5 @@
-use Rattle.std.proofs.Common.{◌≡◌, ◌+◌}
+use Rattle.nb_entries.proofs.Common.{◌≡◌, ◌+◌, held_in, values_of}
 use Rattle.std.specs.FinMap as maps
-use Rattle.nb_entries.specs.Code.Rows.{held_in, values_of}
 use Rattle.nb_entries.proofs.cover.runs.Runs.held.Given as goal
 
 abbrev pub invariant-loop-run : goal.invariant-loop-run

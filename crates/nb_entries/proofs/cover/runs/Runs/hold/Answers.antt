@@ -1,4 +1,4 @@
-use Rattle.std.proofs.Common.{◌∙◌}
+use Rattle.nb_entries.proofs.Common.{◌∙◌}
 use Rattle.nb_entries.proofs.KeptRuns.RunMapLemmas.{held_test, lacks_test}
 use Rattle.nb_entries.proofs.cover.runs.Runs.hold.Goals as goal
 

@@ -1,6 +1,4 @@
-use Rattle.std.proofs.Common.{◌∙◌, ap}
-use Rattle.std.proofs.lemmas.Result.{on_ok_weaker}
-use Rattle.nb_entries.specs.Code.CoverFacts.{with_bytes}
+use Rattle.nb_entries.proofs.Common.{◌∙◌, ap, on_ok_weaker, with_bytes}
 use Rattle.nb_entries.proofs.KeptRuns.RunMapLemmas.{agree_from, map_put}
 use Rattle.nb_entries.proofs.cover.runs.Runs.insert.Goals as goal
 

@@ -1,5 +1,4 @@
-use Rattle.std.proofs.Common.{ap, subst, refl}
-use Rattle.nb_entries.specs.Code.Rows.{values_of, IsFrom}
+use Rattle.nb_entries.proofs.Common.{ap, subst, refl, values_of, IsFrom}
 use Rattle.nb_entries.proofs.KeptRuns.RunReadLemmas.{ends_below, not_below}
 use Rattle.nb_entries.proofs.cover.runs.Runs.lie_below.Goals as goal
 

@@ -1,11 +1,6 @@
-use Rattle.std.proofs.Common.{length, map, refl, sym, ap, ◌∙◌}
+use Rattle.nb_entries.proofs.Common.{length, map, refl, sym, ap, ◌∙◌, concat, runs_of_map, value_of, values_of, runs_back, begun, turn, stop}
 use Rattle.std.specs.Int.{w16, to_be_bytes}
-use Rattle.std.specs.List.{concat}
-use Rattle.nb_entries.specs.Runs.{runs_of_map}
-use Rattle.nb_entries.specs.Code.Rows.{value_of, values_of}
 use Rattle.nb_entries.specs.Saved.{run_bytes, runs_bytes}
-use Rattle.nb_entries.specs.Shared.RunsLemmas.{runs_back}
-use Rattle.nb_entries.specs.Shared.PuttingLemmas.{begun, turn, stop}
 use Rattle.nb_entries.proofs.cover.runs.Runs.put_to.Goals as goal
 
 pub returns-in_err-put_two_bytes : goal.returns-in_err-put_two_bytes

@@ -1,7 +1,4 @@
-use Rattle.std.proofs.Common.{map}
-use Rattle.std.specs.List.{concat}
-use Rattle.nb_entries.specs.Runs.{runs_of_map}
-use Rattle.nb_entries.specs.Code.Rows.{values_of}
+use Rattle.nb_entries.proofs.Common.{map, concat, runs_of_map, values_of}
 use Rattle.nb_entries.specs.Sinks.{ToPut}
 use Rattle.nb_entries.specs.Saved.{run_bytes, runs_bytes}
 use Rattle.nb_entries.proofs.cover.runs.Runs.put_to.Given as goal

@@ -1,8 +1,4 @@
-use Rattle.std.proofs.Common.{◌∙◌, ap, map, sym, subst}
-use Rattle.nb_datagram.specs.declared.limits.TheConstants.{MAX_LENGTH}
-use Rattle.nb_entries.specs.Runs.{range_of}
-use Rattle.nb_entries.specs.Code.Rows.{EndBy, values_of}
-use Rattle.nb_entries.specs.Shared.RunsLemmas.{runs_back}
+use Rattle.nb_entries.proofs.Common.{◌∙◌, ap, map, sym, subst, MAX_LENGTH, range_of, EndBy, values_of, runs_back}
 use Rattle.nb_entries.proofs.Runs.{runs_end_of}
 use Rattle.nb_entries.proofs.cover.runs.Runs.ranges.Goals as goal
 

@@ -1,5 +1,4 @@
-use Rattle.std.proofs.Common.{ap, subst}
-use Rattle.nb_entries.specs.Code.Rows.{value_of, values_of}
+use Rattle.nb_entries.proofs.Common.{ap, subst, value_of, values_of}
 use Rattle.nb_entries.proofs.KeptRuns.RunMapLemmas.{IsGoing, going_first, going_agrees, going_next, going_all}
 use Rattle.nb_entries.proofs.cover.runs.Runs.together.Goals as goal
 

@@ -1,5 +1,4 @@
-use Rattle.nb_entries.specs.Maps.{union}
-use Rattle.nb_entries.specs.Code.Rows.{values_of}
+use Rattle.nb_entries.proofs.Common.{union, values_of}
 use Rattle.nb_entries.proofs.KeptRuns.RunMapLemmas.{IsGoing}
 use Rattle.nb_entries.proofs.cover.runs.Runs.together.Given as goal
 

@@ -1,6 +1,4 @@
-use Rattle.std.proofs.Common.{◌≡◌, ◌-◌, ap, ap₂, ◌∙◌, arith}
-use Rattle.std.proofs.lemmas.Result.{on_ok_weaker}
-use Rattle.nb_entries.specs.Code.Rows.{value_of, run_at, grown, Meet}
+use Rattle.nb_entries.proofs.Common.{◌≡◌, ◌-◌, ap, ap₂, ◌∙◌, arith, on_ok_weaker, value_of, run_at, grown, Meet}
 use Rattle.nb_entries.proofs.KeptRuns.RunPutLemmas.{meet_grown}
 use Rattle.nb_entries.proofs.KeptRuns.RunMapLemmas.{Lies, lies_of, meet_at, none_there, one_there, more_there}
 use Rattle.nb_entries.proofs.cover.runs.growing.insert_in_row.Goals as goal

@@ -1,4 +1,4 @@
-use Rattle.std.proofs.Common.{Some, slice_get, ◌-◌, ◌≡◌, length, ltb, ap, sym, subst, ◌∙◌}
+use Rattle.nb_entries.proofs.Common.{Some, slice_get, ◌-◌, ◌≡◌, length, ltb, ap, sym, subst, ◌∙◌}
 use Rattle.nb_entries.proofs.KeptRuns.RowsLemmas.{last_is}
 use Rattle.nb_entries.proofs.cover.runs.inserting.ends_before.Goals as goal
 

@@ -1,7 +1,4 @@
-use Rattle.std.proofs.Common.{rules, arith, ltb, ltb-true, ltb-false, ◌<◌, ◌≤◌}
-use Rattle.std.proofs.lemmas.List.Sorted.{IsPartitionPoint-from_clause, IsPartitionedBy-ltb}
-use Rattle.nb_entries.specs.Runs.{run_end}
-use Rattle.nb_entries.specs.Code.Rows.{value_of}
+use Rattle.nb_entries.proofs.Common.{rules, arith, ltb, ltb-true, ltb-false, ◌<◌, ◌≤◌, IsPartitionPoint-from_clause, IsPartitionedBy-ltb, run_end, value_of}
 use Rattle.nb_entries.proofs.KeptRuns.RunRowLemmas.{all_take, all_drop, ends_rise}
 use Rattle.nb_entries.proofs.cover.runs.inserting.first_from.Goals as goal
 

@@ -1,6 +1,4 @@
-use Rattle.std.proofs.Common.{◌≡◌, ◌∷◌, [], ap, arith}
-use Rattle.std.proofs.lemmas.Result.{on_ok_weaker}
-use Rattle.nb_entries.specs.Code.Rows.{value_of, run_at, grown, kept_values}
+use Rattle.nb_entries.proofs.Common.{◌≡◌, ◌∷◌, [], ap, arith, on_ok_weaker, value_of, run_at, grown, kept_values}
 use Rattle.nb_entries.proofs.KeptRuns.RunPutLemmas.{put_one}
 use Rattle.nb_entries.proofs.cover.runs.inserting.insert_bytes.Goals as goal
 

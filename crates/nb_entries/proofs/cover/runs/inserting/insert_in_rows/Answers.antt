@@ -1,8 +1,5 @@
-use Rattle.std.proofs.Common.{rules, ◌≡◌, ◌+◌, ◌++◌, ◌∷◌, [], length, take, drop, ap, sym, ◌∙◌, arith}
-use Rattle.std.proofs.lemmas.Result.{on_ok_weaker, on_err_weaker}
-use Rattle.std.proofs.lemmas.List.{append-nil, map-append, take_all}
+use Rattle.nb_entries.proofs.Common.{rules, ◌≡◌, ◌+◌, ◌++◌, ◌∷◌, [], length, take, drop, ap, sym, ◌∙◌, arith, on_ok_weaker, on_err_weaker, append-nil, map-append, take_all, value_of, values_of, run_at, runs_in}
 use Rattle.std.specs.Vec.{vec_len}
-use Rattle.nb_entries.specs.Code.Rows.{value_of, values_of, run_at, runs_in}
 use Rattle.nb_entries.proofs.KeptRuns.RunPutLemmas.{put_alone}
 use Rattle.nb_entries.proofs.KeptRuns.RunMapLemmas.{apart_between, agrees_between, put_between}
 use Rattle.nb_entries.proofs.KeptRuns.RowsLemmas.{row_cut, set_rows}

@@ -1,4 +1,4 @@
-use Rattle.std.proofs.Common.{arith}
+use Rattle.nb_entries.proofs.Common.{arith}
 use Rattle.std.proofs.lemmas.Grind.{common_steps}
 use Rattle.nb_entries.proofs.KeptRuns.RowsLemmas.{joined}
 use Rattle.nb_entries.proofs.cover.runs.inserting.join_next.Goals as goal

@@ -1,5 +1,4 @@
-use Rattle.std.proofs.Common.{◌≡◌, ◌+◌, drop, ap, sym, ◌∙◌, arith}
-use Rattle.std.proofs.lemmas.List.{drop-drop}
+use Rattle.nb_entries.proofs.Common.{◌≡◌, ◌+◌, drop, ap, sym, ◌∙◌, arith, drop-drop}
 use Rattle.nb_entries.proofs.cover.runs.inserting.join_rows.Goals as goal
 
 pub loop-preserved : goal.loop-preserved

@@ -1,5 +1,4 @@
-use Rattle.std.proofs.Common.{◌≡◌, ◌+◌, length, take, drop}
-use Rattle.nb_entries.specs.Code.Rows.{runs_in, NoneEmpty}
+use Rattle.nb_entries.proofs.Common.{◌≡◌, ◌+◌, length, take, drop, runs_in, NoneEmpty}
 use Rattle.nb_entries.proofs.cover.runs.inserting.join_rows.Given as goal
 
 abbrev pub invariant-loop : goal.invariant-loop

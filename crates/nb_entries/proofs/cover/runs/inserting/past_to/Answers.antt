@@ -1,4 +1,4 @@
-use Rattle.std.proofs.Common.{arith}
+use Rattle.nb_entries.proofs.Common.{arith}
 use Rattle.nb_entries.proofs.KeptRuns.RunRowLemmas.{start_to, start_after}
 use Rattle.nb_entries.proofs.cover.runs.inserting.past_to.Goals as goal
 

@@ -1,5 +1,4 @@
-use Rattle.std.proofs.Common.{take}
-use Rattle.nb_entries.specs.Code.Rows.{values_of, StartTo}
+use Rattle.nb_entries.proofs.Common.{take, values_of, StartTo}
 use Rattle.nb_entries.proofs.cover.runs.inserting.past_to.Given as goal
 
 abbrev pub invariant-loop-index : goal.invariant-loop-index

@@ -1,7 +1,5 @@
-use Rattle.std.proofs.Common.{rules, ltb, arith, ltb-true, ltb-false}
+use Rattle.nb_entries.proofs.Common.{rules, ltb, arith, ltb-true, ltb-false, IsPartitionPoint-from_clause, IsPartitionedBy-ltb, last_end}
 use Rattle.nb_entries.proofs.KeptRuns.RowsLemmas.{rows_rise, rows_before, lasts_to}
-use Rattle.std.proofs.lemmas.List.Sorted.{IsPartitionPoint-from_clause, IsPartitionedBy-ltb}
-use Rattle.nb_entries.specs.Code.Rows.{last_end}
 use Rattle.nb_entries.proofs.cover.runs.inserting.row_to.Goals as goal
 
 pub returns : goal.returns

@@ -1,6 +1,4 @@
-use Rattle.std.proofs.Common.{length, subst, arith, refl}
-use Rattle.nb_entries.specs.Runs.{StartsPast}
-use Rattle.nb_entries.specs.Code.Rows.{values_of}
+use Rattle.nb_entries.proofs.Common.{length, subst, arith, refl, StartsPast, values_of}
 use Rattle.nb_entries.proofs.KeptRuns.RowsLemmas.{rows_after, none_after}
 use Rattle.nb_entries.proofs.cover.runs.inserting.rows_to.Goals as goal
 

@@ -1,5 +1,4 @@
-use Rattle.std.proofs.Common.{◌+◌, ◌∙◌, ap, max, min, length}
-use Rattle.nb_entries.specs.Code.Rows.{value_of, run_at}
+use Rattle.nb_entries.proofs.Common.{◌+◌, ◌∙◌, ap, max, min, length, value_of, run_at}
 use Rattle.nb_entries.proofs.KeptRuns.RunReadLemmas.{agrees_is}
 use Rattle.nb_entries.proofs.cover.runs.reading.agrees.Goals as goal
 

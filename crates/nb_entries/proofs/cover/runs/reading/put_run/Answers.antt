@@ -1,8 +1,6 @@
-use Rattle.std.proofs.Common.{◌≡◌, ◌++◌, ◌∷◌, [], List, ℕ, length, get_or, ap₂}
+use Rattle.nb_entries.proofs.Common.{◌≡◌, ◌++◌, ◌∷◌, [], List, ℕ, length, get_or, ap₂, value_of, begun, turn, stop, done}
 use Rattle.std.specs.Int.{w16, w32, w64, to_be_bytes}
-use Rattle.nb_entries.specs.Code.Rows.{value_of}
 use Rattle.nb_entries.specs.Saved.{run_bytes}
-use Rattle.nb_entries.specs.Shared.PuttingLemmas.{begun, turn, stop, done}
 use Rattle.nb_entries.proofs.cover.runs.reading.put_run.Goals as goal
 
 -- the low halves of a start and of a size

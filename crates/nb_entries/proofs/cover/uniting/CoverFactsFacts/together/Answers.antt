@@ -1,9 +1,6 @@
-use Rattle.std.proofs.Common.{sym, subst}
-use Rattle.nb_entries.specs.Cover.{AreCoverFacts}
-use Rattle.nb_entries.specs.Shared.CoverLemmas.{fit_of}
+use Rattle.nb_entries.proofs.Common.{sym, subst, AreCoverFacts, fit_of, and_parts}
 use Rattle.nb_entries.proofs.Covers.{together_formed}
 use Rattle.nb_entries.proofs.cover.uniting.CoverFactsFacts.together.Goals as goal
-use Rattle.std.proofs.lemmas.Bool.{and_parts}
 
 pub together-requires : goal.together-requires
 together-requires c = let agree = rw (← c.self.view_is, ← c.other.view_is) at c.requires in (and_parts _ _ agree).0

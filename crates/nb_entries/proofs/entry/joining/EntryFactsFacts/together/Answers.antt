@@ -1,5 +1,4 @@
-use Rattle.nb_entries.specs.Shared.CoverLemmas.{agree_of}
-use Rattle.nb_entries.specs.Shared.EntryLemmas.{facts_fit_of}
+use Rattle.nb_entries.proofs.Common.{agree_of, facts_fit_of}
 use Rattle.nb_entries.proofs.entry.joining.EntryFactsFacts.together.Goals as goal
 
 pub together-requires : goal.together-requires

@@ -1,7 +1,4 @@
-use Rattle.std.proofs.lemmas.Bool.Decides.{not_from_Decides}
-use Rattle.nb_entries.specs.Whole.{datagram_of}
-use Rattle.std.proofs.lemmas.Result.{IfOk-weaker}
-use Rattle.nb_entries.specs.Shared.WholeLemmas.{newly_never, newly_always}
+use Rattle.nb_entries.proofs.Common.{not_from_Decides, datagram_of, IfOk-weaker, newly_never, newly_always}
 use Rattle.nb_entries.proofs.entry.joining.Slot+EntryFacts.newly_whole.Goals as goal
 
 pub returns-then-is_whole : goal.returns-then-is_whole

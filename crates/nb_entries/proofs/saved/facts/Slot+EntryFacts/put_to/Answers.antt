@@ -1,5 +1,4 @@
-use Rattle.std.proofs.Common.{refl}
-use Rattle.nb_entries.specs.Shared.PuttingLemmas.{after, broken}
+use Rattle.nb_entries.proofs.Common.{refl, after, broken}
 use Rattle.nb_entries.proofs.saved.facts.Slot+EntryFacts.put_to.Goals as goal
 
 pub returns-in_err-put-in-Held-clause-puts : goal.returns-in_err-put-in-Held-clause-puts

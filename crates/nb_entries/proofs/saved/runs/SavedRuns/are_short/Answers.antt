@@ -1,5 +1,4 @@
-use Rattle.std.proofs.Common.{sym, ◌∙◌}
-use Rattle.nb_entries.specs.Shared.RowLemmas.{map_below}
+use Rattle.nb_entries.proofs.Common.{sym, ◌∙◌, map_below}
 use Rattle.nb_entries.proofs.saved.runs.SavedRuns.are_short.Goals as goal
 
 pub returns : goal.returns

@@ -1,6 +1,5 @@
-use Rattle.std.proofs.Common.{sym, subst}
+use Rattle.nb_table.proofs.Common.{sym, subst, HasNoZero, ip_cmp}
 use Rattle.std.specs.FinMap as maps
-use Rattle.nb_table.specs.Code.SourceCounts.{HasNoZero, ip_cmp}
 use Rattle.nb_table.proofs.Limits.CountLemmas.{zero_none}
 use Rattle.nb_table.proofs.entries.counts.SourceCounts.new.Goals as goal
 

@@ -1,6 +1,4 @@
-use Rattle.std.proofs.Common.{◌∙◌, sym, ap, unwrap_or}
-use Rattle.std.specs.Cmp.Lexicographic.{nat_list_cmp_total}
-use Rattle.nb_table.specs.Shared.TreeLemmas.{get_is}
+use Rattle.nb_table.proofs.Common.{◌∙◌, sym, ap, unwrap_or, nat_list_cmp_total, get_is}
 use Rattle.nb_table.proofs.entries.counts.SourceCounts.of.Goals as goal
 
 pub returns-in-Some : goal.returns-in-Some

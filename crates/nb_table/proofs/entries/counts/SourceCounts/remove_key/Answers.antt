@@ -1,8 +1,5 @@
-use Rattle.std.proofs.Common.{◌≡◌, ◌≤◌, ◌-◌, ◌∙◌, sym, ap, subst, unwrap_or, arith}
-use Rattle.std.specs.Cmp.Lexicographic.{nat_list_cmp_total}
+use Rattle.nb_table.proofs.Common.{◌≡◌, ◌≤◌, ◌-◌, ◌∙◌, sym, ap, subst, unwrap_or, arith, nat_list_cmp_total, ip_cmp, HasNoZero, count_of, get_is, changed_is, remove_is}
 use Rattle.std.specs.FinMap as maps
-use Rattle.nb_table.specs.Code.SourceCounts.{ip_cmp, HasNoZero, count_of}
-use Rattle.nb_table.specs.Shared.TreeLemmas.{get_is, changed_is, remove_is}
 use Rattle.nb_table.proofs.Limits.CountLemmas.{ip_cmp_exact, put_less, gone_less, zero_put, zero_gone}
 use Rattle.nb_table.proofs.entries.counts.SourceCounts.remove_key.Goals as goal
 

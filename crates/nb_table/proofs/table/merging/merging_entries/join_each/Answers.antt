@@ -1,8 +1,4 @@
-use Rattle.std.proofs.Common.{◌++◌, ◌∷◌, refl, sym, ◌∙◌, ap, subst}
-use Rattle.std.specs.List.{AllByRecursion}
-use Rattle.nb_datagram.specs.declared.limits.TheConstants.{MAX_LENGTH}
-use Rattle.nb_entries.specs.Entry.{join_entry, IsShort}
-use Rattle.nb_table.specs.Code.Each.{joined_each, handed, with_entry, taken_back}
+use Rattle.nb_table.proofs.Common.{◌++◌, ◌∷◌, refl, sym, ◌∙◌, ap, subst, AllByRecursion, MAX_LENGTH, join_entry, IsShort, joined_each, handed, with_entry, taken_back}
 use Rattle.nb_table.proofs.Changes.{on_any_err}
 use Rattle.nb_table.proofs.Limits.MergingLemmas.{one_more_short, handed_turn}
 use Rattle.nb_table.proofs.table.merging.merging_entries.join_each.Goals as goal

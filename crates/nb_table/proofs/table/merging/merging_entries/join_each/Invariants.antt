@@ -1,9 +1,4 @@
-use Rattle.std.proofs.Common.{◌≡◌, ◌++◌, ◌∷◌, length}
-use Rattle.std.specs.List.{AllByRecursion}
-use Rattle.nb_datagram.specs.declared.limits.TheConstants.{MAX_LENGTH}
-use Rattle.nb_entries.specs.Entry.{join_entry, IsShort}
-use Rattle.nb_table.specs.Merging.{AllShort}
-use Rattle.nb_table.specs.Code.Each.{joined_each, handed, with_entry, taken_back}
+use Rattle.nb_table.proofs.Common.{◌≡◌, ◌++◌, ◌∷◌, length, AllByRecursion, MAX_LENGTH, join_entry, IsShort, AllShort, joined_each, handed, with_entry, taken_back}
 use Rattle.nb_table.proofs.table.merging.merging_entries.join_each.Given as goal
 
 abbrev pub invariant-loop-next_key : goal.invariant-loop-next_key

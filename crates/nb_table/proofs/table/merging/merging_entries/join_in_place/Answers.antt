@@ -1,10 +1,5 @@
-use Rattle.std.proofs.Common.{◌∙◌, sym, ap}
-use Rattle.std.proofs.lemmas.Result.{IfOk-weaker, on_ok_weaker, on_err_weaker}
+use Rattle.nb_table.proofs.Common.{◌∙◌, sym, ap, IfOk-weaker, on_ok_weaker, on_err_weaker, MAX_LENGTH, joined_onto, join_entry, key_cmp_total, key_cmp_exact}
 use Rattle.std.specs.FinMap as maps
-use Rattle.nb_datagram.specs.declared.limits.TheConstants.{MAX_LENGTH}
-use Rattle.nb_entries.specs.Maps.{joined_onto}
-use Rattle.nb_entries.specs.Entry.{join_entry}
-use Rattle.nb_datagram.specs.Key.{key_cmp_total, key_cmp_exact}
 use Rattle.nb_table.proofs.Joins.{put_same}
 use Rattle.nb_table.proofs.Changes.{short_join}
 use Rattle.nb_table.proofs.Limits.MergingLemmas.{handed_held}

@@ -1,5 +1,4 @@
-use Rattle.std.proofs.Common.{◌∙◌, ap}
-use Rattle.std.proofs.lemmas.Result.{on_ok_weaker}
+use Rattle.nb_table.proofs.Common.{◌∙◌, ap, on_ok_weaker}
 use Rattle.std.specs.FinMap as maps
 use Rattle.nb_table.proofs.table.merging.merging_entries.join_noted.Goals as goal
 

@@ -1,9 +1,4 @@
-use Rattle.std.proofs.Common.{◌∙◌, sym, ap, ap₂, subst, option_and_then}
-use Rattle.nb_datagram.specs.declared.limits.TheConstants.{MAX_LENGTH}
-use Rattle.nb_entries.specs.Maps.{joined_onto}
-use Rattle.nb_entries.specs.Entry.{join_entry, IsShort}
-use Rattle.nb_entries.specs.Whole.{datagram_of, newly}
-use Rattle.nb_entries.specs.Change.{handed_by}
+use Rattle.nb_table.proofs.Common.{◌∙◌, sym, ap, ap₂, subst, option_and_then, MAX_LENGTH, joined_onto, join_entry, IsShort, datagram_of, newly, handed_by}
 use Rattle.nb_table.proofs.Changes.{short_onto}
 use Rattle.nb_table.proofs.table.merging.merging_entries.joined_at.Goals as goal
 

@@ -1,7 +1,4 @@
-use Rattle.std.proofs.Common.{◌++◌, sym, ◌∙◌, ap, ap₂, append-nil, subst}
-use Rattle.std.specs.List.{AllByRecursion}
-use Rattle.nb_datagram.specs.declared.limits.TheConstants.{MAX_LENGTH}
-use Rattle.nb_entries.specs.Entry.{IsShort}
+use Rattle.nb_table.proofs.Common.{◌++◌, sym, ◌∙◌, ap, ap₂, append-nil, subst, AllByRecursion, MAX_LENGTH, IsShort}
 use Rattle.nb_table.proofs.Limits.MergingLemmas.{seen, seen_all, entries_short}
 use Rattle.nb_table.proofs.table.merging.merging_entries.preview_entries.Goals as goal
 

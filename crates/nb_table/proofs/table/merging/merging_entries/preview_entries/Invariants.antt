@@ -1,8 +1,5 @@
-use Rattle.std.proofs.Common.{◌≡◌, ◌++◌}
+use Rattle.nb_table.proofs.Common.{◌≡◌, ◌++◌, AllByRecursion, MAX_LENGTH, IsShort}
 use Rattle.std.specs.FinMap as maps
-use Rattle.std.specs.List.{AllByRecursion}
-use Rattle.nb_datagram.specs.declared.limits.TheConstants.{MAX_LENGTH}
-use Rattle.nb_entries.specs.Entry.{IsShort}
 use Rattle.nb_table.proofs.Limits.MergingLemmas.{seen}
 use Rattle.nb_table.proofs.table.merging.merging_entries.preview_entries.Given as goal
 

@@ -1,7 +1,4 @@
-use Rattle.std.proofs.Common.{ℕ, List, ◌∷◌, [], sym, arith}
-use Rattle.std.proofs.lemmas.List.{append-nil, length-drop, take_all, take_rest}
-use Rattle.nb_entries.specs.Code.Rows.{value_of, EndBefore, values_in, NoneEmpty, IsFrom}
-use Rattle.nb_entries.specs.Runs.{RunValue, AreApart}
+use Rattle.nb_entries.proofs.Common.{ℕ, List, ◌∷◌, [], sym, arith, append-nil, take_all, take_rest, value_of, EndBefore, values_in, NoneEmpty, IsFrom, RunValue, AreApart, length-drop}
 use Rattle.nb_entries.proofs.KeptRuns.RunRowLemmas.{apart_front}
 use Rattle.nb_entries.proofs.KeptRuns.RowsLemmas.{from_row, row_apart_at}
 use Rattle.nb_entries.proofs.cover.runs.growing.EachRun.from.Goals as goal

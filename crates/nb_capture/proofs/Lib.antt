@@ -1,0 +1,4 @@
+pub mod CaptureLemmas
+pub mod LineLemmas
+pub mod LineTakingLemmas
+pub mod LinePrintingLemmas

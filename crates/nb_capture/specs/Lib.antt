@@ -1,0 +1,9 @@
+pub mod Capture
+pub mod CaptureLines
+pub mod FaultTexts
+pub mod LineReading
+pub mod LineTaking
+pub mod LinePrinting
+pub mod LinesCame
+pub mod Code
+pub mod Shared

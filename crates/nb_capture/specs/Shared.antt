@@ -1,0 +1,2 @@
+-- Lemmas that crates above cite too. No clause cites a lemma of these files.
+pub mod LinesSoFar

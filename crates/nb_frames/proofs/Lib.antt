@@ -1,0 +1,7 @@
+mod OptionLemmas
+mod TagsLemmas
+mod InternetLemmas
+mod TransportLemmas
+mod UniquenessLemmas
+mod ExistenceLemmas
+mod LayoutLemmas

@@ -1,0 +1,145 @@
+//! Link layers.
+ghost use Rattle.std.specs.Prelude.{◌≡◌, ◌≤◌, ◌+◌, length, IfOk};
+ghost use Rattle.nb_frames.specs.Link.{link_of, is_family, has_family, NetworkAt, mac_at, sender_of, receiver_of, vlans_of};
+
+use crate::contents::Mac;
+use crate::fields::{octets, word};
+use crate::limits::MAX_TAGS;
+use crate::reason::Reason;
+use crate::tags::{TypePlace, network_after, vlans_after};
+use arrayvec::ArrayVec;
+
+/// Where the type stands of what Ethernet carries.
+const ETHERNET_TYPE: TypePlace = TypePlace { at: 12, next: 14 };
+
+/// The same of a Linux cooked capture.
+const COOKED_TYPE: TypePlace = TypePlace { at: 14, next: 16 };
+
+/// The same of its version 2, in which the type comes first.
+const COOKED_V2_TYPE: TypePlace = TypePlace { at: 0, next: 20 };
+
+/// A link layer that is read.
+#[derive(Clone, Copy, Debug, PartialEq, Eq)]
+pub(crate) enum Link {
+    /// Ethernet.
+    Ethernet,
+    /// Linux cooked capture.
+    Cooked,
+    /// Linux cooked capture, version 2.
+    CookedV2,
+    /// A packet of IP, and nothing before it.
+    Raw,
+    /// The loopback of BSD.
+    Loopback,
+    /// Another one.
+    Unknown,
+}
+
+impl Link {
+    /// The link layer of a link type, a LINKTYPE of tcpdump.org.
+    pub(crate) fn of(link_type: u16) -> Link
+        ensures { result ≡ link_of link_type }
+    {
+        match link_type {
+            1 => Link::Ethernet,
+            113 => Link::Cooked,
+            276 => Link::CookedV2,
+            12 | 14 | 101 | 228 | 229 => Link::Raw,
+            0 | 108 => Link::Loopback,
+            _ => Link::Unknown,
+        }
+    }
+
+    /// Where a packet of IP begins in the frame, or why none is read.
+    pub(crate) fn network(self, frame: &[u8]) -> Result<usize, Reason>
+        ensures network { NetworkAt frame.now self result }
+        ensures within { IfOk result (λ at. at ≤ length frame.now) }
+    {
+        match self {
+            Link::Ethernet => network_after(frame, ETHERNET_TYPE),
+            Link::Cooked => network_after(frame, COOKED_TYPE),
+            Link::CookedV2 => network_after(frame, COOKED_V2_TYPE),
+            Link::Raw => Ok(0),
+            Link::Loopback => network_after_family(frame),
+            Link::Unknown => Err(Reason::UnknownLink),
+        }
+    }
+
+    /// The address of who sent the frame.
+    pub(crate) fn sender(self, frame: &[u8]) -> Option<Mac>
+        ensures { result ≡ sender_of self frame.now }
+    {
+        match self {
+            Link::Ethernet => mac_at(frame, 6),
+            Link::Cooked if 6 <= frame.len() && word(frame, 4) == 6 => mac_at(frame, 6),
+            Link::CookedV2 if 12 <= frame.len() && frame[11] == 6 => mac_at(frame, 12),
+            _ => None,
+        }
+    }
+
+    /// The address to which the frame is sent.
+    pub(crate) fn receiver(self, frame: &[u8]) -> Option<Mac>
+        ensures { result ≡ receiver_of self frame.now }
+    {
+        match self {
+            Link::Ethernet => mac_at(frame, 0),
+            _ => None,
+        }
+    }
+
+    /// The identifiers of the VLANs that the frame is tagged with, the outermost first.
+    pub(crate) fn vlans(self, frame: &[u8]) -> ArrayVec<u16, MAX_TAGS>
+        ensures { result.items ≡ vlans_of self frame.now }
+    {
+        match self {
+            Link::Ethernet => vlans_after(frame, ETHERNET_TYPE),
+            Link::Cooked => vlans_after(frame, COOKED_TYPE),
+            Link::CookedV2 => vlans_after(frame, COOKED_V2_TYPE),
+            _ => ArrayVec::new(),
+        }
+    }
+}
+
+/// The address at a place, where its six bytes are there.
+fn mac_at(frame: &[u8], at: usize) -> Option<Mac>
+    requires { at ≤ 12 }
+    ensures { result ≡ mac_at frame.now at }
+{
+    if frame.len() < at + 6 {
+        return None;
+    }
+    Some(Mac {
+        octets: octets(frame, at),
+    })
+}
+
+/// Whether a number is a family of addresses that IP has.
+fn is_family(number: u8) -> bool
+    ensures { result ≡ is_family number }
+{
+    matches!(number, 2 | 10 | 24 | 28 | 30)
+}
+
+/// Where a packet of IP begins after a family of addresses.
+fn network_after_family(frame: &[u8]) -> Result<usize, Reason>
+    ensures network { NetworkAt frame.now Link.Loopback result }
+    ensures within { IfOk result (λ at. at ≤ length frame.now) }
+{
+    if frame.len() < 4 {
+        return Err(Reason::Cut);
+    }
+    if has_family(frame) {
+        Ok(4)
+    } else {
+        Err(Reason::NoIp)
+    }
+}
+
+/// Whether the frame begins with a family that IP has, in either byte order.
+fn has_family(frame: &[u8]) -> bool
+    requires { 4 ≤ length frame.now }
+    ensures { result ≡ has_family frame.now }
+{
+    (is_family(frame[0]) && frame[1] == 0 && word(frame, 2) == 0)
+        || (word(frame, 0) == 0 && frame[2] == 0 && is_family(frame[3]))
+}

@@ -1,0 +1,71 @@
+//! Datagrams of UDP, and segments of TCP.
+ghost use Rattle.std.specs.Prelude.{◌≡◌, ◌≤◌, length};
+ghost use Rattle.nb_frames.specs.Udp.{UdpIn, ports_in};
+ghost use Rattle.nb_frames.specs.Tcp.{TcpIn, tcp_header};
+
+use crate::carried::{Carried, Hosts, Ports, TcpSegment, UdpDatagram};
+use crate::fields::{long, word};
+use crate::payload::Payload;
+use crate::reason::{Reason, judge};
+use crate::tcp_flags::TcpFlags;
+
+/// What a packet between these hosts carries whose protocol is UDP (RFC 768).
+pub(crate) fn read_udp<'a>(hosts: Hosts, body: &Payload<'a>) -> Carried<'a>
+    ensures { UdpIn hosts body.now result }
+{
+    let bytes = body.bytes();
+    if let Err(reason) = judge(body.wire_len(), bytes.len(), 8, 8) {
+        return Carried::Other(reason);
+    }
+    let length = word(bytes, 4) as usize;
+    if length < 8 {
+        return Carried::Other(Reason::Bad);
+    }
+    Carried::Udp(UdpDatagram {
+        hosts,
+        ports: ports_in(bytes),
+        payload: Payload::after(bytes, length, 8),
+    })
+}
+
+/// What a packet between these hosts carries whose protocol is TCP (RFC 9293 section 3.1).
+pub(crate) fn read_tcp<'a>(hosts: Hosts, body: &Payload<'a>) -> Carried<'a>
+    ensures { TcpIn hosts body.now result }
+{
+    let bytes = body.bytes();
+    let wire = body.wire_len();
+    if let Err(reason) = judge(wire, bytes.len(), 20, 16) {
+        return Carried::Other(reason);
+    }
+    let header = tcp_header(bytes);
+    if header < 20 || wire < header {
+        return Carried::Other(Reason::Bad);
+    }
+    Carried::Tcp(TcpSegment {
+        hosts,
+        ports: ports_in(bytes),
+        sequence: long(bytes, 4),
+        acknowledgment: long(bytes, 8),
+        flags: TcpFlags(bytes[13]),
+        payload: Payload::after(bytes, wire, header),
+    })
+}
+
+/// How many bytes the header has.
+fn tcp_header(bytes: &[u8]) -> usize
+    requires { 16 ≤ length bytes.now }
+    ensures { result ≡ tcp_header bytes.now }
+{
+    (bytes[12] / 16) as usize * 4
+}
+
+/// The ports with which a header begins.
+fn ports_in(bytes: &[u8]) -> Ports
+    requires { 4 ≤ length bytes.now }
+    ensures { result ≡ ports_in bytes.now }
+{
+    Ports {
+        source: word(bytes, 0),
+        destination: word(bytes, 2),
+    }
+}

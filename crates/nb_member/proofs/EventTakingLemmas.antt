@@ -1,0 +1,3 @@
+-- Events in a row.
+pub mod EventsInRow
+pub mod OneEvent

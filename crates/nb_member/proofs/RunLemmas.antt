@@ -1,3 +1,0 @@
--- Runs of events.
-pub mod RunSoFar
-pub mod OneEvent

@@ -1,3 +1,0 @@
--- Lemmas that crates above cite too. No clause cites a lemma of these files.
-pub mod LinesSoFar
-pub mod ObjectLemmas

@@ -1,0 +1,12 @@
+mod OptionsLemmas
+mod ContextLemmas
+mod FileLemmas
+mod SizeLemmas
+mod WaitLemmas
+mod PartLemmas
+mod PassLemmas
+mod FillLemmas
+mod PassedLemmas
+mod SeekLemmas
+mod TakingLemmas
+mod LawLemmas

@@ -1,0 +1,13 @@
+pub mod Numbers
+pub mod Clock
+pub mod Classic
+pub mod Options
+pub mod Block
+pub mod Section
+pub mod Context
+pub mod Frame
+pub mod File
+pub mod Steps
+pub mod Seeking
+pub mod Reading
+pub mod Taking

@@ -1,0 +1,194 @@
+//! Sections of pcapng files: their interfaces, and the packets of these.
+ghost use Rattle.std.specs.Prelude.{◌≡◌, ◌≤◌, Ok, length};
+ghost use Rattle.nb_pcap.specs.declared.limits.TheConstants.{PACKET_LENGTH, SIMPLE_LENGTH};
+ghost use Rattle.nb_pcap.specs.Block.{block_size, least_length};
+ghost use Rattle.nb_pcap.specs.Section.{captured_of, simple_head, timed_head, fitting, section_after, content_of, block_content, Gives};
+
+use crate::block::{BlockKind, block_order, has_two_lengths, kind_in};
+use crate::clock::{Clock, time_at};
+use crate::describing::describe;
+use crate::fault::FileFault;
+use crate::frame::Head;
+use crate::limits::{MAX_CAPTURED, PACKET_LENGTH, SIMPLE_LENGTH};
+use crate::numbers::{Order, number_16, number_32};
+use nb_streams::{Bytes, Items};
+use std::alloc::Global;
+
+/// An interface, as its section describes it.
+#[derive(Debug, Drop)]
+pub struct Interface {
+    /// What its frames begin with (LINKTYPE).
+    pub link: u16,
+    /// The most captured bytes of a frame; 0 where there is no such limit.
+    pub snap: u32,
+    /// How its times are counted.
+    pub clock: Clock,
+    /// Its name.
+    pub name: Option<Bytes>,
+}
+
+/// A section of a file.
+#[derive(Debug, Drop)]
+pub struct Section {
+    /// The order of the bytes of its numbers.
+    pub order: Order,
+    /// Its interfaces, in order.
+    pub interfaces: Items<Interface>,
+    /// How many interfaces the sections before it have.
+    pub earlier: u64,
+}
+
+/// A head, where the captured bytes are no more than a frame may have, and than the block has room
+/// for.
+///
+/// # Errors
+///
+/// [`FileFault::TooLong`] and [`FileFault::BadBlock`].
+fn fitting(head: Head, room: usize) -> Result<Head, FileFault>
+    ensures { result ≡ fitting head room }
+{
+    if MAX_CAPTURED < head.captured {
+        return Err(FileFault::TooLong);
+    }
+    if room < head.captured {
+        return Err(FileFault::BadBlock);
+    }
+    Ok(head)
+}
+
+/// How many bytes of a frame a Simple Packet has.
+fn captured_of(snap: u32, original: u32) -> u32
+    ensures { result ≡ captured_of snap original }
+{
+    if snap != 0 && snap < original {
+        snap
+    } else {
+        original
+    }
+}
+
+/// Where the frame of a Simple Packet stands.
+///
+/// # Errors
+///
+/// [`FileFault::NoInterface`], [`FileFault::TooLong`] and [`FileFault::BadBlock`].
+fn simple_head(section: &Section, block: &[u8]) -> Result<Head, FileFault>
+    requires { SIMPLE_LENGTH ≤ length block.now }
+    ensures { result ≡ simple_head section.now block.now }
+{
+    match section.interfaces.as_slice().get(0) {
+        Some(interface) => {
+            let original = number_32(section.order, block, 8);
+            let head = Head {
+                interface: 0,
+                link: interface.link,
+                time: None,
+                start: 12,
+                captured: captured_of(interface.snap, original) as usize,
+                original,
+            };
+            fitting(head, block.len() - SIMPLE_LENGTH)
+        }
+        None => Err(FileFault::NoInterface),
+    }
+}
+
+/// Where the frame of an Enhanced or obsolete Packet of this interface stands.
+///
+/// # Errors
+///
+/// [`FileFault::NoInterface`], [`FileFault::TooLong`] and [`FileFault::BadBlock`].
+fn timed_head(section: &Section, which: usize, block: &[u8]) -> Result<Head, FileFault>
+    requires { PACKET_LENGTH ≤ length block.now }
+    ensures { result ≡ timed_head section.now which block.now }
+{
+    match section.interfaces.as_slice().get(which) {
+        Some(interface) => {
+            let high = number_32(section.order, block, 12) as u64;
+            let low = number_32(section.order, block, 16) as u64;
+            let head = Head {
+                interface: which,
+                link: interface.link,
+                time: time_at(interface.clock, high * 0x1_0000_0000 + low),
+                start: 28,
+                captured: number_32(section.order, block, 20) as usize,
+                original: number_32(section.order, block, 24),
+            };
+            fitting(head, block.len() - PACKET_LENGTH)
+        }
+        None => Err(FileFault::NoInterface),
+    }
+}
+
+/// The section after another, with this order.
+fn section_after(alloc: Global, section: &Section, order: Order) -> Section
+    ensures { result ≡ section_after section.now order }
+{
+    let interfaces = section.interfaces.as_slice().len() as u64;
+    Section {
+        order,
+        interfaces: Items::from_vec(Vec::new(alloc)),
+        earlier: section.earlier.saturating_add(interfaces),
+    }
+}
+
+/// Takes in a whole block of this kind, the order of whose numbers is this.
+///
+/// # Errors
+///
+/// Those of [`take_block`].
+fn take_kind(
+    alloc: Global,
+    kind: BlockKind,
+    order: Order,
+    section: &mut Section,
+    block: &[u8],
+) -> Result<Option<Head>, FileFault>
+    requires { least_length kind ≤ length block.now }
+    ensures { Gives (content_of kind order section.old block.now) result section.old section.new }
+{
+    match kind {
+        BlockKind::Section => {
+            *section = section_after(alloc, section, order);
+            Ok(None)
+        }
+        BlockKind::Interface => describe(alloc, section, block),
+        BlockKind::Obsolete => {
+            let which = number_16(order, block, 8) as usize;
+            Ok(Some(timed_head(section, which, block)?))
+        }
+        BlockKind::Simple => Ok(Some(simple_head(section, block)?)),
+        BlockKind::Enhanced => {
+            let which = number_32(order, block, 8) as usize;
+            Ok(Some(timed_head(section, which, block)?))
+        }
+        BlockKind::Other => Ok(None),
+    }
+}
+
+/// Takes in a whole block, which is as long as it says, and answers where a frame stands in it.
+///
+/// # Errors
+///
+/// [`FileFault::UnknownForm`], [`FileFault::BadBlock`], [`FileFault::TooLong`],
+/// [`FileFault::NoInterface`], [`FileFault::TooManyInterfaces`] and [`FileFault::NoMemory`]. The
+/// section is then as it was.
+pub fn take_block(
+    alloc: Global,
+    section: &mut Section,
+    block: &[u8],
+) -> Result<Option<Head>, FileFault>
+    requires { block_size section.old.order block.now ≡ Ok (length block.now) }
+    ensures { Gives (block_content section.old block.now) result section.old section.new }
+{
+    let kind = kind_in(section.order, block);
+    match block_order(section.order, block) {
+        Some(order) => {
+            if !has_two_lengths(order, block) {
+                return Err(FileFault::BadBlock);
+            }
+            take_kind(alloc, kind, order, section, block)
+        }
+        None => Err(FileFault::UnknownForm),
+    }
+}

@@ -1,0 +1,16 @@
+pub mod Ascii
+pub mod Places
+pub mod PacketFacts
+pub mod DecidedFacts
+pub mod Growth
+pub mod Hexadecimal
+pub mod HexadecimalFacts
+pub mod Addresses
+pub mod Tally
+pub mod Counted
+pub mod Devices
+pub mod DeviceFacts
+pub mod Lines
+pub mod LineFacts
+pub mod Room
+pub mod Code

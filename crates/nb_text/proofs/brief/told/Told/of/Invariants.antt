@@ -1,8 +1,0 @@
-use Rattle.std.proofs.Common.{◌≡◌}
-use Rattle.nb_service.specs.Packet.{RecordAt}
-use Rattle.nb_text.specs.ServiceSaid.{told_of}
-use Rattle.nb_text.proofs.WalkLemmas.{Walk}
-use Rattle.nb_text.proofs.brief.told.Told.of.Given as goal
-
-abbrev pub invariant-loop : goal.invariant-loop
-invariant-loop l = Walk (RecordAt l.names) l.at l.count l.counter l.next (λ records. l.told ≡ told_of l.status records)

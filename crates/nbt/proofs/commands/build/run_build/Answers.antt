@@ -1,8 +1,0 @@
-use Rattle.nbt.proofs.Common.{ap, err_from_is_err_and}
-use Rattle.nbt.specs.Reported.{of_building}
-use Rattle.nbt.proofs.commands.build.run_build.Goals as goal
-
-pub returns-in_err-lines-clause-refused : goal.returns-in_err-lines-clause-refused
-returns-in_err-lines-clause-refused g c =
-    let p = err_from_is_err_and c.from_residual.result c.from_residual.ensures.1 in
-    rw (p.1, p.2) (λ _ not_memory. c.in_err-lines.ensures.refused (λ memory. not_memory (ap of_building memory)))

@@ -1,6 +1,0 @@
-use Rattle.nbt.proofs.Common.{map, take}
-use Rattle.nbt.specs.Replaying.{AddsEach}
-use Rattle.nbt.proofs.commands.replay.names_of.Given as goal
-
-abbrev pub invariant-loop-word : goal.invariant-loop-word
-invariant-loop-word l = AddsEach (map (λ w. w.now) (take l.word-index l.words)) l.names

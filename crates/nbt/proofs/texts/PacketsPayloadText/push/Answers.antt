@@ -1,5 +1,0 @@
-use Rattle.nbt.proofs.Common.{on_ok_weaker}
-use Rattle.nbt.proofs.texts.PacketsPayloadText.push.Goals as goal
-
-pub returns : goal.returns
-returns c = on_ok_weaker c.push_packet.result (λ a. (a.text, a.shown, a.added)) c.push_packet.ensures.added

@@ -1,0 +1,10 @@
+pub mod Printing
+pub mod Status
+pub mod FaultTexts
+pub mod Reported
+pub mod Input
+pub mod Options
+pub mod Streams
+pub mod Lines
+pub mod Objects
+pub mod Shared

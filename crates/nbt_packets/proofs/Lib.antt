@@ -1,0 +1,4 @@
+pub mod Common
+pub mod NamesLemmas
+pub mod ShowingFieldsLemmas
+pub mod ShowingLemmas

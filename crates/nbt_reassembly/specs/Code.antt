@@ -1,0 +1,2 @@
+-- Words that private functions' contracts alone cite.
+pub mod Marks

@@ -20,9 +20,12 @@ export PROGRAM DESTDIR PREFIX DEB LIBRARY TARGETS DIST PLUGIN PLUGINS
 run: build
 	$(PROGRAM) replay $(NAMES) <$(CAPTURE)
 
-# Prove and build the program, and print its version. The crates of its commands don't need each other: they are proved side by side.
+# Prove and build the program, and print its version. What the crates of its commands stand on is proved side by side: a crate that is
+# being proved is waited for.
 build:
-	@(cd crates/nbt_packets && rt lib) & other=$$!; (cd crates/nbt_reassembly && rt lib) && wait $$other
+	@proving=; for each in nb_member nb_building nbt_packets nbt_reassembly; do \
+	    (cd crates/$$each && exec rt lib) & proving="$$proving $$!"; \
+	done; for each in $$proving; do wait $$each || exit 1; done
 	cd crates/nbt && rt run -- --version
 
 # Build the program without proofs, and replay the same capture: a first look. A built program needs the proofs.

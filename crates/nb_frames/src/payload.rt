@@ -1,6 +1,6 @@
 //! Payloads, as far as they are captured.
 ghost use Rattle.std.specs.Prelude.{◌≡◌, ◌≤◌, ◌<◌, ◌↔◌, length, IsTrue};
-ghost use Rattle.nb_frames.specs.Payload.{rest_after, whole};
+ghost use Rattle.nb_frames.specs.Payload.{rest_after, whole, PayloadValue};
 
 use crate::fields::{behind, front};
 use std::marker::Model;
@@ -14,9 +14,6 @@ pub struct Payload<'a> {
 }
 
 impl<'a> Model for Payload<'a> {
-    ghost use Rattle.std.specs.Prelude.{◌≤◌, length};
-    ghost use Rattle.nb_frames.specs.Payload.{PayloadValue};
-
     ghost Value = { PayloadValue };
 
     ghost view = { λ p. record { bytes = p.captured.now; wire_length = p.on_wire } };

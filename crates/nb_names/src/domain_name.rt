@@ -1,10 +1,10 @@
 //! Domain names, held in place or with spellings that are lent.
-ghost use Rattle.std.specs.Prelude.{◌≡◌, ◌≤◌, ◌<◌, ◌↔◌, [], ◌∷◌, length, slice_get, option_map, IsTrue, MatchOption, IfOk};
+ghost use Rattle.std.specs.Prelude.{◌≡◌, ◌≤◌, ◌<◌, ◌↔◌, [], ◌∷◌, length, slice_get, option_map, IsTrue, MatchOption, IfOk, ℕ, List};
 ghost use Rattle.std.proofs.Common.{rules};
 ghost use Rattle.std.specs.Cmp.{partial_order_from_own_ties};
 ghost use Rattle.std.specs.Cmp.Rules.{comparing};
 ghost use Rattle.std.specs.Ordering.{as_partial_cmp};
-ghost use Rattle.nb_names.specs.Code.Kept.{labels_of, IsSpelled};
+ghost use Rattle.nb_names.specs.Code.Kept.{labels_of, IsSpelled, given_back};
 ghost use Rattle.nb_names.specs.DomainName.{spelling, domain_eq, domain_cmp, AreByteLabels, IsLabel, IsDomain, Pushes};
 ghost use Rattle.nb_streams.specs.Places.{AreBytes};
 ghost use Rattle.nb_names.specs.declared.limits.TheConstants.{MAX_SPELLING};
@@ -30,17 +30,12 @@ pub struct DomainName {
 }
 
 impl Model for DomainName {
-    ghost use Rattle.std.specs.Prelude.{ℕ, List};
-    ghost use Rattle.nb_names.specs.Code.Kept.{labels_of, IsSpelled};
-
     ghost Value = { List (List ℕ) };
 
     ghost view = { λ name. labels_of name.bytes.items };
 
     ghost invariant = { λ name. IsSpelled name.bytes.items };
 
-    ghost use Rattle.nb_names.specs.DomainName.{spelling};
-    ghost use Rattle.nb_names.specs.Code.Kept.{given_back};
 
     ghost inverse = { λ labels. record { bytes = record { items = spelling labels } } };
 
@@ -236,9 +231,6 @@ pub struct LentDomain<'a> {
 }
 
 impl<'a> Model for LentDomain<'a> {
-    ghost use Rattle.std.specs.Prelude.{ℕ, List};
-    ghost use Rattle.nb_names.specs.Code.Kept.{labels_of, IsSpelled};
-
     ghost Value = { List (List ℕ) };
 
     ghost view = { λ name. labels_of name.bytes.now };

@@ -1,6 +1,7 @@
 //! Why labels, names and texts were refused.
-ghost use Rattle.std.specs.Prelude.{◌≡◌};
-ghost use Rattle.nb_names.specs.FaultTexts.{name_fault_place, name_fault_words};
+ghost use Rattle.std.specs.Prelude.{◌≡◌, Some};
+ghost use Rattle.nb_names.specs.FaultTexts.{name_fault_place, name_fault_words, name_fault_text};
+ghost use Rattle.nb_names.specs.TextFaults.{text_fault_text};
 
 use std::error::Error;
 use std::{error, fmt};
@@ -63,9 +64,6 @@ impl NameFault {
 }
 
 impl fmt::Display for NameFault {
-    ghost use Rattle.std.specs.Prelude.{Some};
-    ghost use Rattle.nb_names.specs.FaultTexts.{name_fault_text};
-
     ghost output = { λ fault. Some (name_fault_text fault) };
 
     fn fmt<W: fmt::Write>(&self, f: &mut fmt::Formatter<W>) -> fmt::Result {
@@ -103,9 +101,6 @@ pub enum TextFault {
 }
 
 impl fmt::Display for TextFault {
-    ghost use Rattle.std.specs.Prelude.{Some};
-    ghost use Rattle.nb_names.specs.TextFaults.{text_fault_text};
-
     ghost output = { λ fault. Some (text_fault_text fault) };
 
     fn fmt<W: fmt::Write>(&self, f: &mut fmt::Formatter<W>) -> fmt::Result {

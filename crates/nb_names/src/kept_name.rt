@@ -1,7 +1,7 @@
 //! NetBIOS names that are kept.
 ghost use Rattle.std.specs.Prelude.{◌≡◌, IfOk};
-ghost use Rattle.nb_names.specs.Code.Kept.{KeepsScope};
-ghost use Rattle.nb_names.specs.Name.{IsByteName};
+ghost use Rattle.nb_names.specs.Code.Kept.{KeepsScope, labels_of, IsKept};
+ghost use Rattle.nb_names.specs.Name.{IsByteName, NetbiosName, name_code};
 
 use crate::lent_name::{LentName, NameForm};
 use crate::limits::NAME_LENGTH;
@@ -21,10 +21,6 @@ pub struct KeptName {
 }
 
 impl Model for KeptName {
-    ghost use Rattle.nb_names.specs.Name.{NetbiosName, name_code};
-    ghost use Rattle.nb_names.specs.Code.Kept.{labels_of};
-    ghost use Rattle.nb_names.specs.Code.Kept.{IsKept};
-
     ghost Value = { NetbiosName };
 
     ghost coded = { name_code };

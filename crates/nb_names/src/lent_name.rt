@@ -8,7 +8,7 @@ ghost use Rattle.nb_streams.specs.Growth.{OnlyAdds};
 ghost use Rattle.nb_names.specs.Code.Kept.{labels_of, IsSpelled};
 ghost use Rattle.nb_names.specs.DomainName.{spelling};
 ghost use Rattle.nb_names.specs.Labels.{NameAt};
-ghost use Rattle.nb_names.specs.Name.{NetbiosName, IsName, IsByteName, IsNoName, IsScope, labels_of_name, name_eq};
+ghost use Rattle.nb_names.specs.Name.{NetbiosName, IsName, IsByteName, IsNoName, IsScope, labels_of_name, name_eq, name_code};
 ghost use Rattle.nb_names.specs.NameFaults.{NetbiosFaultAt};
 ghost use Rattle.nb_names.specs.NameText.{written};
 ghost use Rattle.nb_names.specs.declared.reading.Pointers.TheVariants.{Refused};
@@ -36,9 +36,6 @@ pub struct LentName<'a> {
 }
 
 impl<'a> Model for LentName<'a> {
-    ghost use Rattle.nb_names.specs.Name.{NetbiosName, IsByteName, name_code};
-    ghost use Rattle.nb_names.specs.Code.Kept.{labels_of, IsSpelled};
-
     ghost Value = { NetbiosName };
 
     ghost coded = { name_code };

@@ -1,11 +1,11 @@
 //! NetBIOS names and their scopes.
-ghost use Rattle.std.specs.Prelude.{◌≡◌, ◌↔◌, IfOk, IfErr, IsOkAnd, IsTrue, []};
+ghost use Rattle.std.specs.Prelude.{◌≡◌, ◌↔◌, IfOk, IfErr, IsOkAnd, IsTrue, [], length, refl, ◌≤◌, ℕ, List};
 ghost use Rattle.std.proofs.Common.{rules};
 ghost use Rattle.std.specs.Cmp.{partial_order_from_own_ties};
 ghost use Rattle.std.specs.Cmp.Rules.{comparing};
 ghost use Rattle.std.specs.Ordering.{as_partial_cmp};
-ghost use Rattle.nb_names.specs.Name.{NetbiosName, IsName, IsByteName, IsNoName, labels_of_name, name_eq, name_cmp, IsScope};
-ghost use Rattle.nb_names.specs.DomainName.{AreByteLabels, Pushes, domain_eq, domain_cmp};
+ghost use Rattle.nb_names.specs.Name.{NetbiosName, IsName, IsByteName, IsNoName, labels_of_name, name_eq, name_cmp, IsScope, name_code};
+ghost use Rattle.nb_names.specs.DomainName.{AreByteLabels, Pushes, domain_eq, domain_cmp, spelling};
 ghost use Rattle.nb_names.specs.declared.limits.TheConstants.{MAX_SCOPE};
 
 use crate::domain_name::DomainName;
@@ -29,9 +29,6 @@ pub struct Name {
 }
 
 impl Model for Name {
-    ghost use Rattle.std.specs.Prelude.{◌≡◌, length, refl};
-    ghost use Rattle.nb_names.specs.Name.{NetbiosName, IsByteName, name_code};
-
     ghost Value = { NetbiosName };
 
     ghost coded = { name_code };
@@ -192,10 +189,6 @@ pub struct Scope {
 }
 
 impl Model for Scope {
-    ghost use Rattle.std.specs.Prelude.{◌≤◌, ℕ, List, length, refl};
-    ghost use Rattle.nb_names.specs.DomainName.{spelling};
-    ghost use Rattle.nb_names.specs.Name.{IsScope};
-
     ghost Value = { List (List ℕ) };
 
     ghost view = { λ scope. scope.domain };

@@ -4,6 +4,7 @@ ghost use Rattle.nb_names.specs.Labels.{NameAt};
 ghost use Rattle.nb_names.specs.Name.{NetbiosName, IsName, IsByteName, labels_of_name};
 ghost use Rattle.nb_names.specs.NameFaults.{FaultAt, NetbiosFaultAt};
 ghost use Rattle.nb_names.specs.Skipped.{IsSkipped};
+ghost use Rattle.nb_names.specs.Code.Kept.{AreEnds};
 
 use crate::domain_name::{DomainName, LentDomain};
 use crate::fault::NameFault;
@@ -81,9 +82,6 @@ pub struct NameReader<'a, 'r> {
 }
 
 impl<'a, 'r> Model for NameReader<'a, 'r> {
-    ghost use Rattle.std.specs.Prelude.{ℕ, List};
-    ghost use Rattle.nb_names.specs.Code.Kept.{AreEnds};
-
     ghost Value = { List ℕ };
 
     ghost view = { λ reader. reader.packet.now };

@@ -1,6 +1,6 @@
 //! Why bytes are no packet, and why a packet or a record was not made.
-ghost use Rattle.std.specs.Prelude.{◌≡◌};
-ghost use Rattle.nb_service.specs.FaultTexts.{service_fault_place, service_fault_subject, service_fault_words};
+ghost use Rattle.std.specs.Prelude.{◌≡◌, Some};
+ghost use Rattle.nb_service.specs.FaultTexts.{service_fault_place, service_fault_subject, service_fault_words, service_fault_text, push_fault_text, record_fault_text};
 
 use nb_names::NameFault;
 use nb_streams::NoMemory;
@@ -61,9 +61,6 @@ impl ServiceFault {
 }
 
 impl fmt::Display for ServiceFault {
-    ghost use Rattle.std.specs.Prelude.{Some};
-    ghost use Rattle.nb_service.specs.FaultTexts.{service_fault_text};
-
     ghost output = { λ fault. Some (service_fault_text fault) };
 
     fn fmt<W: fmt::Write>(&self, f: &mut fmt::Formatter<W>) -> fmt::Result {
@@ -79,7 +76,6 @@ impl fmt::Display for ServiceFault {
 impl Error for ServiceFault {}
 
 impl From<NameFault> for ServiceFault {
-    ghost use Rattle.std.specs.Prelude.{◌≡◌};
     ghost use Rattle.nb_service.specs.declared.fault.ServiceFault.TheVariants.{Name};
 
     ghost from_gives = { λ fault e. e ≡ Name fault };
@@ -90,7 +86,6 @@ impl From<NameFault> for ServiceFault {
 }
 
 impl From<NoMemory> for ServiceFault {
-    ghost use Rattle.std.specs.Prelude.{◌≡◌};
     ghost use Rattle.nb_service.specs.declared.fault.ServiceFault.TheVariants.{NoMemory};
 
     ghost from_gives = { λ _ e. e ≡ NoMemory };
@@ -112,9 +107,6 @@ pub enum PushFault {
 }
 
 impl fmt::Display for PushFault {
-    ghost use Rattle.std.specs.Prelude.{Some};
-    ghost use Rattle.nb_service.specs.FaultTexts.{push_fault_text};
-
     ghost output = { λ fault. Some (push_fault_text fault) };
 
     fn fmt<W: fmt::Write>(&self, f: &mut fmt::Formatter<W>) -> fmt::Result {
@@ -128,7 +120,6 @@ impl fmt::Display for PushFault {
 impl Error for PushFault {}
 
 impl From<NoMemory> for PushFault {
-    ghost use Rattle.std.specs.Prelude.{◌≡◌};
     ghost use Rattle.nb_service.specs.declared.fault.PushFault.TheVariants.{NoMemory};
 
     ghost from_gives = { λ _ e. e ≡ NoMemory };
@@ -148,9 +139,6 @@ pub enum RecordFault {
 }
 
 impl fmt::Display for RecordFault {
-    ghost use Rattle.std.specs.Prelude.{Some};
-    ghost use Rattle.nb_service.specs.FaultTexts.{record_fault_text};
-
     ghost output = { λ fault. Some (record_fault_text fault) };
 
     fn fmt<W: fmt::Write>(&self, f: &mut fmt::Formatter<W>) -> fmt::Result {

@@ -1,7 +1,11 @@
 //! Name service packets, and their lists of questions and of records.
 ghost use Rattle.std.specs.Prelude.{◌≡◌, ◌↔◌, OnOk, OnErr, IsErrOf, ◌<◌, [], ◌∷◌, ◌++◌, length, IfOk};
-ghost use Rattle.nb_service.specs.Requests.{empty_packet, IsCounted, with_question, with_record, section_of, IsFull};
+ghost use Rattle.nb_service.specs.Requests.{empty_packet, IsCounted, with_question, with_record, section_of, IsFull, packet_of};
 ghost use Rattle.nb_service.specs.Header.{opcode_of, rcode_of, nm_bits, nm_bits_of};
+ghost use Rattle.nb_service.specs.Packet.{ServicePacket};
+ghost use Rattle.std.specs.Cmp.{decided, partial_equiv_from_equiv};
+ghost use Rattle.nb_service.specs.Equality.{packet_eq};
+ghost use Rattle.nb_service.specs.EqualityFacts.{packet_eq_decides};
 
 use crate::fault::PushFault;
 use crate::flags::{NmFlags, opcode, rcode};
@@ -26,9 +30,6 @@ pub struct Packet<'a> {
 }
 
 impl<'a> Model for Packet<'a> {
-    ghost use Rattle.nb_service.specs.Packet.{ServicePacket};
-    ghost use Rattle.nb_service.specs.Requests.{packet_of, IsCounted};
-
     ghost Value = { ServicePacket };
 
     ghost view = { λ p. packet_of p.id p.word p.questions p.answers p.authorities p.additional };
@@ -159,11 +160,6 @@ impl<'a> Packet<'a> {
 }
 
 impl<'a> PartialEq for Packet<'a> {
-    ghost use Rattle.std.specs.Prelude.{◌≡◌};
-    ghost use Rattle.std.specs.Cmp.{decided, partial_equiv_from_equiv};
-    ghost use Rattle.nb_service.specs.Equality.{packet_eq};
-    ghost use Rattle.nb_service.specs.EqualityFacts.{packet_eq_decides};
-
     ghost eq = { packet_eq };
 
     ghost laws = { partial_equiv_from_equiv (decided packet_eq packet_eq_decides) };
@@ -181,10 +177,6 @@ impl<'a> PartialEq for Packet<'a> {
 }
 
 impl<'a> Eq for Packet<'a> {
-    ghost use Rattle.std.specs.Cmp.{decided};
-    ghost use Rattle.nb_service.specs.Equality.{packet_eq};
-    ghost use Rattle.nb_service.specs.EqualityFacts.{packet_eq_decides};
-
     ghost laws = { decided packet_eq packet_eq_decides };
 }
 

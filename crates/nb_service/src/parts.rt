@@ -35,9 +35,6 @@ pub struct Parts<'a, P: Part> {
 }
 
 impl<'a, P: Part> Model for Parts<'a, P> {
-    ghost use Rattle.std.specs.Prelude.{List, length, ◌/◌};
-    ghost use Rattle.nb_service.specs.Parts.{parts};
-
     ghost Value = { List P };
 
     ghost view = { λ p. parts P.LENGTH P.read (length p.bytes.now / P.LENGTH) p.bytes.now };

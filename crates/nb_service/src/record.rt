@@ -1,7 +1,9 @@
 //! Questions and resource records.
 ghost use Rattle.std.specs.Prelude.{◌≡◌, ◌≢◌, ◌<◌, ◌↔◌, length, IfOk, IsErrOf};
-ghost use Rattle.nb_service.specs.Record.{of_bytes, of_domain, record_of, rdata_of, IsRdataOf};
-ghost use Rattle.nb_service.specs.Equality.{rdata_eq};
+ghost use Rattle.nb_service.specs.Record.{of_bytes, of_domain, record_of, rdata_of, IsRdataOf, ResourceRecord};
+ghost use Rattle.nb_service.specs.Equality.{rdata_eq, question_eq, record_eq};
+ghost use Rattle.std.specs.Cmp.{decided, partial_equiv_from_equiv};
+ghost use Rattle.nb_service.specs.EqualityFacts.{question_eq_decides, record_eq_decides};
 
 use crate::fault::RecordFault;
 use crate::kinds::NS;
@@ -21,11 +23,6 @@ pub struct Question {
 }
 
 impl PartialEq for Question {
-    ghost use Rattle.std.specs.Prelude.{◌≡◌};
-    ghost use Rattle.std.specs.Cmp.{decided, partial_equiv_from_equiv};
-    ghost use Rattle.nb_service.specs.Equality.{question_eq};
-    ghost use Rattle.nb_service.specs.EqualityFacts.{question_eq_decides};
-
     ghost eq = { question_eq };
 
     ghost laws = { partial_equiv_from_equiv (decided question_eq question_eq_decides) };
@@ -38,10 +35,6 @@ impl PartialEq for Question {
 }
 
 impl Eq for Question {
-    ghost use Rattle.std.specs.Cmp.{decided};
-    ghost use Rattle.nb_service.specs.Equality.{question_eq};
-    ghost use Rattle.nb_service.specs.EqualityFacts.{question_eq_decides};
-
     ghost laws = { decided question_eq question_eq_decides };
 }
 
@@ -58,8 +51,6 @@ pub struct Record<'a> {
 }
 
 impl<'a> Model for Record<'a> {
-    ghost use Rattle.nb_service.specs.Record.{ResourceRecord, record_of, rdata_of, IsRdataOf};
-
     ghost Value = { ResourceRecord };
 
     ghost view = { λ r. record_of r.name r.kind r.class r.ttl (rdata_of r.rdata) };
@@ -160,11 +151,6 @@ impl<'a> Record<'a> {
 }
 
 impl<'a> PartialEq for Record<'a> {
-    ghost use Rattle.std.specs.Prelude.{◌≡◌};
-    ghost use Rattle.std.specs.Cmp.{decided, partial_equiv_from_equiv};
-    ghost use Rattle.nb_service.specs.Equality.{record_eq};
-    ghost use Rattle.nb_service.specs.EqualityFacts.{record_eq_decides};
-
     ghost eq = { record_eq };
 
     ghost laws = { partial_equiv_from_equiv (decided record_eq record_eq_decides) };
@@ -181,10 +167,6 @@ impl<'a> PartialEq for Record<'a> {
 }
 
 impl<'a> Eq for Record<'a> {
-    ghost use Rattle.std.specs.Cmp.{decided};
-    ghost use Rattle.nb_service.specs.Equality.{record_eq};
-    ghost use Rattle.nb_service.specs.EqualityFacts.{record_eq_decides};
-
     ghost laws = { decided record_eq record_eq_decides };
 }
 

@@ -2,8 +2,9 @@
 ghost use Rattle.std.specs.Prelude.{◌≡◌, ◌*◌, ℕ, List, [], length, IfSome, MatchOption, ◌<◌, ◌%◌, slice_get, take, drop};
 ghost use Rattle.std.specs.List.{flat_map};
 ghost use Rattle.nb_service.specs.Record.{of_bytes};
-ghost use Rattle.nb_service.specs.Views.{AreEntries, HasEntries, entry_bytes, entries_in, entries_of_data, HasStatus, IsStatus, after_count, node_name_bytes, no_status, status_in, status_of_data};
+ghost use Rattle.nb_service.specs.Views.{AreEntries, HasEntries, entry_bytes, entries_in, entries_of_data, HasStatus, IsStatus, after_count, node_name_bytes, no_status, status_in, status_of_data, entry_of, entry_some, entry_given_back, node_name_of, node_name_some, node_name_given_back, StatusParts};
 ghost use Rattle.nb_service.specs.Header.{node_bits, node_bits_of};
+ghost use Rattle.nb_service.specs.declared.views.TheConstants.{ENTRY_LENGTH, NODE_NAME_LENGTH};
 
 use crate::flags::NodeFlags;
 use crate::kinds::{NB, NBSTAT};
@@ -37,9 +38,6 @@ impl AddressEntry {
 }
 
 impl Part for AddressEntry {
-    ghost use Rattle.nb_service.specs.declared.views.TheConstants.{ENTRY_LENGTH};
-    ghost use Rattle.nb_service.specs.Views.{entry_of, entry_bytes, entry_some, entry_given_back};
-
     ghost LENGTH = { ENTRY_LENGTH };
 
     const LENGTH: usize = ENTRY_LENGTH;
@@ -133,9 +131,6 @@ impl NodeName {
 }
 
 impl Part for NodeName {
-    ghost use Rattle.nb_service.specs.declared.views.TheConstants.{NODE_NAME_LENGTH};
-    ghost use Rattle.nb_service.specs.Views.{node_name_of, node_name_bytes, node_name_some, node_name_given_back};
-
     ghost LENGTH = { NODE_NAME_LENGTH };
 
     const LENGTH: usize = NODE_NAME_LENGTH;
@@ -166,8 +161,6 @@ pub struct NodeStatus<'a> {
 }
 
 impl<'a> Model for NodeStatus<'a> {
-    ghost use Rattle.nb_service.specs.Views.{StatusParts};
-
     ghost Value = { StatusParts };
 
     ghost view = { λ status. record {

@@ -1,6 +1,6 @@
 //! Readers and writers whose calls are counted for contracts.
 ghost use Rattle.std.specs.Prelude.{◌≡◌, ◌≢◌, ◌<◌, length, IfOk, IfErr, IsErrOf, ◌+◌};
-ghost use Rattle.nb_streams.specs.Counted.{no_calls, with_call, TellsRead, TellsWrite};
+ghost use Rattle.nb_streams.specs.Counted.{no_calls, with_call, TellsRead, TellsWrite, CountedOf, counted_code};
 ghost use Rattle.nb_streams.specs.Tally.{count_of};
 
 use std::io::{ErrorKind, Read, Write};
@@ -33,9 +33,6 @@ pub struct Counted<T> {
 }
 
 impl<T> Model for Counted<T> {
-    ghost use Rattle.nb_streams.specs.Counted.{CountedOf, counted_code};
-    ghost use Rattle.nb_streams.specs.Tally.{count_of};
-
     ghost Value = { CountedOf T };
 
     ghost coded = { counted_code T.code };

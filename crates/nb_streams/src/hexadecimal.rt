@@ -1,8 +1,8 @@
 //! Bytes in hexadecimal.
-ghost use Rattle.std.specs.Prelude.{◌≡◌, ◌%◌, ◌<◌, length, Err};
+ghost use Rattle.std.specs.Prelude.{◌≡◌, ◌%◌, ◌<◌, length, Err, Some};
 ghost use Rattle.std.specs.List.{list_all};
 ghost use Rattle.std.specs.Char.{is_ascii_hexdigit};
-ghost use Rattle.nb_streams.specs.Hexadecimal.{ReadsData, ReadsDigits, pair_byte};
+ghost use Rattle.nb_streams.specs.Hexadecimal.{ReadsData, ReadsDigits, pair_byte, digits_fault_text};
 
 use crate::bytes::Bytes;
 use std::alloc::Global;
@@ -116,9 +116,6 @@ pub fn byte_of_pair(high: u8, low: u8) -> Option<u8>
 }
 
 impl fmt::Display for DigitsFault {
-    ghost use Rattle.std.specs.Prelude.{Some};
-    ghost use Rattle.nb_streams.specs.Hexadecimal.{digits_fault_text};
-
     ghost output = { λ fault. Some (digits_fault_text fault) };
 
     fn fmt<W: fmt::Write>(&self, f: &mut fmt::Formatter<W>) -> fmt::Result {

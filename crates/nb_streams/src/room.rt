@@ -1,7 +1,8 @@
 //! Room for the bytes of an input.
-ghost use Rattle.std.specs.Prelude.{◌≡◌, ◌≤◌, ◌+◌, ◌↔◌, IsTrue, length};
+ghost use Rattle.std.specs.Prelude.{◌≡◌, ◌≤◌, ◌+◌, ◌↔◌, IsTrue, length, drop, take};
 ghost use Rattle.nb_streams.specs.declared.limits.TheConstants.{MAX_READ};
-ghost use Rattle.nb_streams.specs.Room.{nothing_held, nothing_within, let_go_of, handed_out, ReadsMore};
+ghost use Rattle.nb_streams.specs.Room.{nothing_held, nothing_within, let_go_of, handed_out, ReadsMore, RoomValue};
+ghost use Rattle.nb_streams.specs.Code.RoomSteps.{IsRoom};
 
 mod moving;
 
@@ -35,10 +36,6 @@ pub struct Room<const OPEN: usize> {
 }
 
 impl<const OPEN: usize> Model for Room<OPEN> {
-    ghost use Rattle.nb_streams.specs.Room.{RoomValue};
-    ghost use Rattle.nb_streams.specs.Code.RoomSteps.{IsRoom};
-    ghost use Rattle.std.specs.Prelude.{drop, take};
-
     ghost Value = { RoomValue };
 
     ghost view = { λ r. record {

@@ -36,7 +36,6 @@ impl Model for DomainName {
 
     ghost invariant = { λ name. IsSpelled name.bytes.items };
 
-
     ghost inverse = { λ labels. record { bytes = record { items = spelling labels } } };
 
     ghost inverse_ok = { λ name spelled i. record { bytes = given_back name.bytes spelled i } };

@@ -161,7 +161,6 @@ impl JsonSink {
 impl Sink for JsonSink {
     type Seen = JsonSink;
 
-
     ghost seen = { λ sink. sink };
 
     ghost after = { λ tokens field. tokens ++ field_tokens field };

@@ -14,7 +14,6 @@ use std::fmt::Display;
 impl Sink for String {
     type Seen = Bytes;
 
-
     ghost seen = { λ text. string_bytes text };
 
     ghost after = { λ bytes field. bytes ++ field_text field };

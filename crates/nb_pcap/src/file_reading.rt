@@ -7,7 +7,7 @@ ghost use Rattle.nb_pcap.specs.contracts.file_reading.FileRoom.{the_row};
 ghost use Rattle.nb_pcap.specs.declared.limits.TheConstants.{MAX_ITEM};
 ghost use Rattle.nb_pcap.specs.Frame.{value_of, frame_at};
 ghost use Rattle.nb_pcap.specs.Seeking.{SeeksFrame};
-ghost use Rattle.nb_pcap.specs.Reading.{nothing_read, ReadsFrame, lent_frame, handed_frame, FileValue, IsFileRoom};
+ghost use Rattle.nb_pcap.specs.Reading.{nothing_read, ReadsFrame, lent_frame, handed_frame};
 
 use crate::context::Context;
 use crate::fault::FileFault;
@@ -78,6 +78,8 @@ pub struct FileRoom {
 }
 
 impl Model for FileRoom {
+    ghost use Rattle.nb_pcap.specs.Reading.{FileValue, IsFileRoom};
+
     ghost Value = { FileValue };
 
     ghost view = { λ f. record {

@@ -1,9 +1,8 @@
 //! Taking the frames of a file, and what they are given to.
-ghost use Rattle.std.specs.Prelude.{◌≡◌, ℕ, List, OnOk};
+ghost use Rattle.std.specs.Prelude.{◌≡◌, ℕ, List};
 ghost use Rattle.std.specs.Io.KnownBytes.{Consumes};
 ghost use Rattle.nb_pcap.specs.declared.taking.StopFault.TheVariants as stop;
 ghost use Rattle.nb_pcap.specs.Taking.{TakesFrames};
-ghost use Rattle.nb_pcap.specs.Frame.{FrameValue, value_of};
 
 use crate::fault::FileFault;
 use crate::file_reading::{FileRoom, next_frame};
@@ -18,6 +17,9 @@ pub struct NotTaken;
 
 /// What the frames of a file are given to, one after another.
 pub trait FrameTaker {
+    ghost use Rattle.std.specs.Prelude.{ℕ, OnOk};
+    ghost use Rattle.nb_pcap.specs.Frame.{FrameValue, value_of};
+
     // What the frames change.
     ghost State: { Type 0 };
 

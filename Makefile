@@ -20,9 +20,9 @@ export PROGRAM DESTDIR PREFIX DEB LIBRARY TARGETS DIST PLUGIN PLUGINS
 run: build
 	$(PROGRAM) replay $(NAMES) <$(CAPTURE)
 
-# Prove and build the program, and print its version. The crates of its commands don't need each other: they are proved side by side.
+# Prove and build the program, and print its version. The crates right below it don't need each other: they are proved side by side.
 build:
-	@(cd crates/nbt_packets && rt lib) & other=$$!; (cd crates/nbt_reassembly && rt lib) && wait $$other
+	@(cd crates/nbt_packets && rt lib && cd ../nbt_usage && rt lib) & other=$$!; (cd crates/nbt_reassembly && rt lib) && wait $$other
 	cd crates/nbt && rt run -- --version
 
 # Build the program without proofs, and replay the same capture: a first look. A built program needs the proofs.

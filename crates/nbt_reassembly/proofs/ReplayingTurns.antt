@@ -1,10 +1,7 @@
 -- What taking the names of words keeps from turn to turn, and what comes before a replay.
-use Rattle.nbt_reassembly.proofs.Common.{◌≡◌, ◌≢◌, ◌<◌, ◌+◌, ◌++◌, ◌∷◌, ℕ, List, [], length, get_or, map, take, drop, Bor, Option, Result, Ok, Err, IfErr, sym, ap, subst, ◌∙◌, map-append, take_more, take-append-drop, drop_more, Consumes, Counts, ShowsUnread, Capacity, Fault, Arguments, TooManyNames, Read, Write, Memory}
+use Rattle.nbt_reassembly.proofs.Common.{◌≡◌, ◌≢◌, ◌<◌, ◌+◌, ◌++◌, ◌∷◌, ℕ, List, [], length, get_or, map, take, drop, Bor, Option, Result, Ok, Err, IfErr, sym, ap, subst, ◌∙◌, map-append, take_more, take-append-drop, drop_more, Consumes, Counts, ShowsUnread, Capacity, Fault, Arguments, TooManyNames, Read, Write, Memory, refl, ArgMatches, key_cmp, MemberValue, Stands, new_member, MayLeave, ReportSaid, AreOptions, Streams, IsCapacity, program_settings, ReplaysEvents, AddsEach, AddsName, AreTexts, Begins, IsNamesFault, IsRefusedName, IsUnbegun, none, more}
 use Rattle.std.specs.FinMap as maps
-use Rattle.std.proofs.Common.{refl}
-use Rattle.clap.specs.declared.parser.matches.ArgMatches.{ArgMatches}
 use Rattle.nb_names.specs.Name.{NetbiosName}
-use Rattle.nb_datagram.specs.Key.{key_cmp}
 use Rattle.nb_capture.specs.declared.comment_writing.Comments.{Comments}
 use Rattle.nb_capture.specs.declared.fault.PrintFault.{PrintFault}
 use Rattle.nb_capture.specs.declared.options.CaptureOptions.{CaptureOptions}
@@ -13,17 +10,10 @@ use Rattle.nb_member.specs.declared.outcome.Event.{Event}
 use Rattle.nb_member.specs.declared.settings.Settings.{Settings}
 use Rattle.nb_member.specs.Events.{none as none_said}
 use Rattle.nb_member.specs.Live.{live}
-use Rattle.nb_member.specs.Member.{MemberValue, Stands, new_member}
-use Rattle.nb_member.specs.ReportFields.{MayLeave, ReportSaid}
 use Rattle.nb_member.specs.Replaying.{Replays}
 use Rattle.nbt_command.specs.declared.fault.Fault.TheVariants.{Text}
 use Rattle.nbt_command.specs.Input.{WasCut}
 use Rattle.nbt_command.specs.Lines.{EndsWith}
-use Rattle.nbt_command.specs.Options.{AreOptions}
-use Rattle.nbt_command.specs.Streams.{Streams}
-use Rattle.nbt_reassembly.specs.Capacity.{IsCapacity, program_settings}
-use Rattle.nbt_reassembly.specs.Commands.{ReplaysEvents}
-use Rattle.nbt_reassembly.specs.Replaying.{AddsEach, AddsName, AreTexts, Begins, IsNamesFault, IsRefusedName, IsUnbegun, none, more}
 
 -- ---- names
 

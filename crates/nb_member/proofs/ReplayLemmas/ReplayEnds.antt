@@ -1,21 +1,14 @@
 -- How a replay ends.
-use Rattle.std.proofs.Common.{◌≡◌, ◌+◌, ◌++◌, ℕ, List, [], ◌∷◌, length, Option, Some, None, Result, Ok, Err, refl, sym, subst, ◌∙◌, inl, inr, append_assoc, arith}
+use Rattle.nb_member.proofs.Common.{◌≡◌, ◌+◌, ◌++◌, ℕ, List, [], ◌∷◌, length, Option, Some, None, Result, Ok, Err, refl, sym, subst, ◌∙◌, inl, inr, arith, Comments, text_of, Event, KeepsSetup, live, MemberValue, Stands, numbered, MayLeave, ReportSaid}
+use Rattle.std.proofs.Common.{append_assoc}
 use Rattle.std.specs.Io.KnownBytes.{Appends, Consumes}
 use Rattle.std.proofs.lemmas.List.{append-nil}
 use Rattle.nb_streams.specs.Counted.{Counts}
 use Rattle.nb_streams.specs.Devices.{ShowsUnread}
-use Rattle.nb_capture.specs.declared.comment_writing.Comments.{Comments}
 use Rattle.nb_capture.specs.declared.fault.PrintFault.{PrintFault}
 use Rattle.nb_capture.specs.declared.fault.PrintFault.TheVariants.{Line, Read, Write, NoMemory}
 use Rattle.nb_capture.specs.CaptureLines.{AreLines}
 use Rattle.nb_capture.specs.LinePrinting.{LeavesOff, Prints, Shows, ShowsLines, TellsLine, before_all, in_first, none, more}
-use Rattle.nb_telling.specs.Texts.{text_of}
-use Rattle.nb_member.specs.declared.outcome.Event.{Event}
-use Rattle.nb_member.specs.Code.Members.{KeepsSetup}
-use Rattle.nb_member.specs.Live.{live}
-use Rattle.nb_member.specs.Member.{MemberValue, Stands}
-use Rattle.nb_member.specs.Report.{numbered}
-use Rattle.nb_member.specs.ReportFields.{MayLeave, ReportSaid}
 use Rattle.nb_member.specs.Replaying.{Replayed, Writes, Stops, Replays, ReplaysInput}
 use Rattle.nb_member.proofs.ReplayLemmas.LineReports.{left_keeps}
 use Rattle.nb_member.proofs.ReplayLemmas.LinesInRow.{lines_keep}

@@ -23,7 +23,7 @@ run: build
 # Prove and build the program, and print its version. What the crates of its commands stand on is proved side by side: a crate that is
 # being proved is waited for.
 build:
-	@proving=; for each in nb_member nb_building nbt_packets nbt_reassembly; do \
+	@proving=; for each in nb_member nbt_usage nbt_packets nbt_reassembly; do \
 	    (cd crates/$$each && exec rt lib) & proving="$$proving $$!"; \
 	done; for each in $$proving; do wait $$each || exit 1; done
 	cd crates/nbt && rt run -- --version

@@ -2,7 +2,7 @@
 """What the bindings, the tools and the page list alike, made of one source each: of include/nbt.h its numbers, its limits and, for Rust and
 Python, its structures and calls; of modules of the tools those of the page.
 
-The refusals of man/nbt.1 and docs/FORMATS.md are made too, of crates/nbt/src/refusals.rt.
+The refusals of man/nbt.1 and docs/FORMATS.md are made too, of crates/nbt_usage/src/refusals.rt.
 
 Usage: tools/lists.py --made writes what isn't kept in the repository: what makes the library or the page begins with it. --write writes that, and
 anew the file that is kept, and what stands within others, as limits in manual pages. --check says which of the

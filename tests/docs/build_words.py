@@ -12,7 +12,7 @@ PACKET = re.compile(r'^    "(\w+)",$', re.MULTILINE)
 PLACES = {
     'crates/nb_building/src/building.rt': ('/// | `what` | `words` |\n', '///\n', r'.+'),
     'docs/FORMATS.md': ('| WHAT | ARG.. |\n', '\n\n', r'.+'),
-    'crates/nbt/src/help.rt': ('const BUILD_HELP: &str =', '{n}{n}', r'[^,:]+'),
+    'crates/nbt_usage/src/help.rt': ('const BUILD_HELP: &str =', '{n}{n}', r'[^,:]+'),
     'man/nbt.1': ('.Sh PACKETS\n', '\n.El\n', r'^\.It (?:Xo\n(?:\.[CA].*\n)+|.+)'),
 }
 # What an item has besides.

@@ -2,7 +2,7 @@
 """The help of the built program beside the sources, the completions and the manual page. Usage: tests/program/helps.py PROGRAM; its last line is 'N
 passed, M failed'.
 
-A help is what the command does, its usage, its options, its text in crates/nbt/src/help.rt, and what a command may say. What a command does and
+A help is what the command does, its usage, its options, its text in crates/nbt_usage/src/help.rt, and what a command may say. What a command does and
 what its options do is as completions/_nbt has it, what it may say as man/nbt.1 does, which also has each command and option; the rest stands in
 tests/cases/help.txt.
 """
@@ -15,7 +15,7 @@ sys.path.insert(1, f'{sys.path[0]}/../lib')
 from parts import check, equal, finish
 
 TOP = pathlib.Path(__file__).resolve().parents[2]
-COMPLETIONS, PAGE, SOURCE = (TOP.joinpath(it).read_text('utf-8') for it in ('completions/_nbt', 'man/nbt.1', 'crates/nbt/src/help.rt'))
+COMPLETIONS, PAGE, SOURCE = (TOP.joinpath(it).read_text('utf-8') for it in ('completions/_nbt', 'man/nbt.1', 'crates/nbt_usage/src/help.rt'))
 # The text of each help, by its constant; the command's own is `STATUSES`.
 TEXTS = {name.removesuffix('_HELP').lower(): re.sub(r'\\\n *', '', text).replace('{n}', '\n')
          for name, text in re.findall(r'pub const (\w+): &str =\s*"(.*?)";', SOURCE, re.DOTALL)}

@@ -19,8 +19,8 @@ ARMS = {'session_type': ('nb_session/src/packet.rt', r'Kind::(?P<name>\w+) => (?
 LIMITS = {'FIRST_ITEM': ('nb_service/src/limits.rt', 'HEADER_LENGTH'), 'MOST_LINE': ('nb_capture/src/limits.rt', 'MAX_LINE'), 'MOST_DATAGRAM': ('nb_datagram/src/limits.rt', 'MAX_LENGTH'),
           'MOST_BODY': ('nb_session/src/limits.rt', 'MAX_MESSAGE'), 'INPUT': ('nb_streams/src/limits.rt', 'MAX_INPUT'),
           'MOST_NAMES': ('nb_member/src/limits.rt', 'MAX_NAMES'), 'KEPT_FOR': ('nb_member/src/limits.rt', 'FRAGMENT_TIMEOUT'),
-          'TAKE_ROOM': ('nb_calls/src/taken.rt', 'TAKE_ROOM'), 'MOST_KEYS': ('nbt/src/limits.rt', 'MOST_KEYS'),
-          'KEYS': ('nbt/src/limits.rt', 'KEYS')}
+          'TAKE_ROOM': ('nb_calls/src/taken.rt', 'TAKE_ROOM'), 'MOST_KEYS': ('nbt_usage/src/limits.rt', 'MOST_KEYS'),
+          'KEYS': ('nbt_usage/src/limits.rt', 'KEYS')}
 
 
 def text_of(path):

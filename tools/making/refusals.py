@@ -1,10 +1,10 @@
-"""What man/nbt.1 and docs/FORMATS.md list of refusals, of crates/nbt/src/refusals.rt and of the advice in limits.rt beside it."""
+"""What man/nbt.1 and docs/FORMATS.md list of refusals, of crates/nbt_usage/src/refusals.rt and of the advice in limits.rt beside it."""
 import re
 import textwrap
 
 from .header import TOP
 
-SOURCES = TOP / 'crates/nbt/src'
+SOURCES = TOP / 'crates/nbt_usage/src'
 TEXT = r'"((?:[^"\\]|\\.)*)"'
 ADVICE = re.compile(rf'pub const (\w+): &str =\s*{TEXT};', re.DOTALL)
 REFUSAL = re.compile(rf'words: {TEXT},\s*number: {TEXT},\s*by: &(?:EACH|\[(.*?)\]),\s*advice: (?:{TEXT}|(\w+)),', re.DOTALL)
@@ -25,7 +25,7 @@ def refusals():
     text = (SOURCES / 'refusals.rt').read_text(encoding='utf-8')
     found = REFUSAL.findall(text)
     if f'[Refusal; {len(found)}]' not in text:
-        raise SystemExit(f'tools/lists.py: {len(found)} refusals of crates/nbt/src/refusals.rt are read, not all')
+        raise SystemExit(f'tools/lists.py: {len(found)} refusals of crates/nbt_usage/src/refusals.rt are read, not all')
     for words, number, by, literal, constant in found:
         yield said(words + number), ', '.join(re.findall(r'\w+', by)) or 'any command', said(literal or advice[constant])
 

@@ -28,10 +28,10 @@ OF_PAGES = {
 # Programs and packages that take nothing of another file.
 OF_SOURCES = {
     'bindings/rust/src/packets.rs': ((r'(one of more than )[\d,]+(?= bytes; `NoMemory`)', '{MOST_LINE:,}'),),
-    'crates/nbt/src/limits.rt': OF_NAMES,
+    'crates/nbt_usage/src/limits.rt': OF_NAMES,
     'tests/plain/capture.rs': ((r'(^const LONGEST_LINE: usize = )[\d_]+', '{MOST_LINE:_}'), (r'(^pub const MOST_INPUT: u64 = )[\d_]+', '{INPUT:_}')),
 }
-# The page of nbt last: what it lists of refusals is made of crates/nbt/src/limits.rt too.
+# The page of nbt last: what it lists of refusals is made of crates/nbt_usage/src/limits.rt too.
 WITHIN = {'man/nbt-station.1': OF_TABLES, 'tools/pkgconfig': ((r'(^Version: ).+', '{VERSION}'),),
           **dict.fromkeys(('bindings/python/pyproject.toml', 'bindings/rust/Cargo.toml', 'bindings/javascript/package.json'), OF_PACKAGE),
           **OF_PAGES, **OF_SOURCES, 'man/nbt.1': OF_NBT}

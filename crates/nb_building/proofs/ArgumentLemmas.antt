@@ -1,11 +1,7 @@
 -- What the texts of arguments stand for, and words one by one.
-use Rattle.nb_building.proofs.Common.{◌≡◌, ℕ, zero, suc, ◌+◌, ◌≤◌, ◌<◌, ◌^◌, true, List, [], ◌∷◌, length, get_or, map, refl, sym, ap, ◌∙◌, arith, Result, Ok, Err, list_all, and_parts, NumberText}
+use Rattle.nb_building.proofs.Common.{◌≡◌, ℕ, zero, suc, ◌+◌, ◌≤◌, ◌<◌, ◌^◌, true, List, [], ◌∷◌, length, get_or, map, refl, sym, ap, ◌∙◌, arith, Result, Ok, Err, list_all, and_parts, NumberText, decimal, AllDigits, ParsesUnsigned, digits_value, decimal_injective, decimal-digits_value, decimal_digit, digits_decimal, first_decimal, parse-decimal, IsNumeralModel, digit_from_value, parse_digits, numerals_by_value, tells_digits}
 use Rattle.std.specs.Char.{is_ascii_digit, digit_value}
-use Rattle.std.specs.Fmt.{decimal}
-use Rattle.std.specs.Str.Parse.{AllDigits, ParsesUnsigned, digits_value}
 use Rattle.std.proofs.lemmas.Bool.Decides.{nat_tests}
-use Rattle.std.proofs.lemmas.Fmt.{decimal_injective, decimal-digits_value, decimal_digit, digits_decimal, first_decimal, parse-decimal}
-use Rattle.std.proofs.lemmas.Str.Parse.{IsNumeralModel, digit_from_value, parse_digits, numerals_by_value, tells_digits}
 
 -- ---- decimal numbers
 

@@ -1,16 +1,9 @@
 -- Packets that words name, from what the calls that make them answer.
-use Rattle.nb_building.proofs.Common.{◌≡◌, ◌≢◌, inl, inr, ℕ, Bool, List, [], ◌∷◌, map, ap, ap₂, ◌∙◌, refl, Result, Ok, Err, ◌<◌, ◌+◌, ◌++◌, length, get_or, take, sym, append_assoc, IfOk, codes, DataText, NetbiosName, labels_of_name, IsText, ResourceData, ResourceRecord, record_of, ServicePacket, IsServiceBuilt, IsSessionBuilt, NamesDatagrams, NamesService, NamesSession, NumberText, WordText, response, HasRdata, response_packet, with_flag, of_service, of_session, GiveTooMuch, append-nil, take_more}
+use Rattle.nb_building.proofs.Common.{◌≡◌, ◌≢◌, inl, inr, ℕ, Bool, List, [], ◌∷◌, map, ap, ap₂, ◌∙◌, refl, Result, Ok, Err, ◌<◌, ◌+◌, ◌++◌, length, get_or, take, sym, append_assoc, IfOk, codes, DataText, NetbiosName, labels_of_name, IsText, ResourceData, ResourceRecord, record_of, ServicePacket, IsServiceBuilt, IsSessionBuilt, NamesDatagrams, NamesService, NamesSession, NumberText, WordText, response, HasRdata, response_packet, with_flag, of_service, of_session, GiveTooMuch, append-nil, take_more, BuildFault, TooLong, IsUnanswered, NS, IN, IsPacket, AreLinesOf, payload_line, payload_lines}
 use Rattle.std.specs.Prelude.{IfErr}
-use Rattle.nb_building.specs.declared.build_fault.BuildFault.{BuildFault}
-use Rattle.nb_building.specs.declared.build_fault.BuildFault.TheVariants.{TooLong}
-use Rattle.nb_building.specs.Refusals.{IsUnanswered}
-use Rattle.nb_service.specs.declared.kinds.TheConstants.{NS}
-use Rattle.nb_service.specs.declared.classes.TheConstants.{IN}
 use Rattle.nb_service.specs.Requests.{packet_of}
 use Rattle.nb_service.specs.Encoding as service
 use Rattle.nb_session.specs.Packet as session
-use Rattle.nb_session.specs.Packet.{IsPacket}
-use Rattle.nb_building.specs.Building.{AreLinesOf, payload_line, payload_lines}
 
 -- what is answered where a packet was made and encoded
 packet_of_ok : {E : Type 0} (r : Result ServicePacket E) (q p : ServicePacket) (bytes : List ℕ) → IfOk r (λ made. made ≡ q) → r ≡ Ok p
@@ -72,20 +65,6 @@ datagrams_named what word words texts q payloads is_what are named is = rw (is_w
 -- words that give too much, one by one
 pub too_much : (what word : List ℕ) (words texts : List (List ℕ)) → what ≡ word → words ≡ texts → GiveTooMuch word texts → GiveTooMuch what words
 too_much what word words texts is_what are much = rw (is_what, are) much
-
--- the same, where a call reports it by its fault
-pub tells_too_much : {A E : Type 0} (P : Type 0) (what word : List ℕ) (words texts : List (List ℕ)) (fault : E) (r : Result A E) → what ≡ word
-    → words ≡ texts → (P → GiveTooMuch word texts) → IfErr r (λ e. e ≡ fault → P) → IfErr r (λ e. e ≡ fault → GiveTooMuch what words)
-tells_too_much P what word words texts fault (Ok a) is_what are much h = tt
-tells_too_much P what word words texts fault (Err e) is_what are much h = λ is. too_much what word words texts is_what are (much (h is))
-
--- what an answer that is too long reports
-pub told_long : {A : Type 0} (place kind : ℕ) (bytes : List ℕ) (r : Result A BuildFault) → r ≡ Err TooLong
-    → IfErr r (IsUnanswered place kind bytes) → (kind ≢ NS) × (65535 < length bytes)
-told_long place kind bytes r is h = of_told (rw is at h) where
-  of_told : IsUnanswered place kind bytes TooLong → (kind ≢ NS) × (65535 < length bytes)
-  of_told (inl (same, other, far)) = (other, far)
-  of_told (inr (clash, ns, none)) = absurd (cc clash)
 
 -- ---- what printing the lines of payloads keeps from turn to turn
 

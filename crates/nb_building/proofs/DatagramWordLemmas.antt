@@ -1,19 +1,9 @@
 -- Words that name no packets of port 138.
-use Rattle.nb_building.proofs.Common.{◌≡◌, ◌≢◌, ◌⊎◌, inl, inr, ◌<◌, ◌≤◌, ℕ, ◌+◌, ◌*◌, List, [], ◌∷◌, length, map, get_or, refl, sym, ap, ◌∙◌, subst, arith, Result, Ok, Err, codes, ◌==◌, if◌then◌else◌, slice_range, IfErr, range_with_len, length-map, get_or-map, DataText, NetbiosName, IsText, Unnamed, CodeText, KeyText, NamesDatagrams, NumberText, error, fragments, queries}
-use Rattle.nb_datagram.specs.declared.key.Key.{Key}
-use Rattle.nb_datagram.specs.declared.key.Kind.{Kind}
-use Rattle.nb_datagram.specs.declared.key.Kind.TheVariants.{Unique, Group, Broadcast}
+use Rattle.nb_building.proofs.Common.{◌≡◌, ◌≢◌, ◌⊎◌, inl, inr, ◌<◌, ◌≤◌, ℕ, ◌+◌, ◌*◌, List, [], ◌∷◌, length, map, get_or, refl, sym, ap, ◌∙◌, subst, arith, Result, Ok, Err, codes, ◌==◌, if◌then◌else◌, slice_range, IfErr, range_with_len, length-map, get_or-map, DataText, NetbiosName, IsText, Unnamed, CodeText, KeyText, NamesDatagrams, NumberText, error, fragments, queries, Key, Kind, Unique, Group, Broadcast, QueryKind, kind_text, query_word, AreTooLong, piece_count, decimal_injective, BuildFault, Memory, TooLong, ZeroPiece, Explains, GiveTooMuch, no_memory, too_long, zero_piece}
 use Rattle.nb_datagram.specs.declared.limits.TheConstants.{MAX_LENGTH}
-use Rattle.nb_datagram.specs.declared.packet.QueryKind.{QueryKind}
 use Rattle.nb_datagram.specs.declared.packet.QueryKind.TheVariants.{Request, Positive, Negative}
-use Rattle.nb_datagram.specs.FaultTexts.{kind_text}
-use Rattle.nb_text.specs.Words.{query_word}
 use Rattle.nb_datagram.specs.Fragment.{DatagramParts, FragmentParts, named_length}
-use Rattle.nb_datagram.specs.Pieces.{AreTooLong, piece, piece_count}
-use Rattle.std.proofs.lemmas.Fmt.{decimal_injective}
-use Rattle.nb_building.specs.declared.build_fault.BuildFault.{BuildFault}
-use Rattle.nb_building.specs.declared.build_fault.BuildFault.TheVariants.{Memory, TooLong, ZeroPiece}
-use Rattle.nb_building.specs.Refusals.{Explains, no_memory, too_long, zero_piece}
+use Rattle.nb_datagram.specs.Pieces.{piece}
 use Rattle.nb_building.proofs.UnnamedLemmas.{one_data}
 
 -- ---- the words of each packet
@@ -81,12 +71,14 @@ pub fragments_explained : {T : Type 0} (what : List ℕ) (texts : List (List ℕ
     (r : Result T BuildFault) → texts ≡ a ∷ b ∷ c ∷ e ∷ f ∷ []
     → ((name : NetbiosName) → IsText name b → d.source ≡ name)
     → ((name : NetbiosName) → IsText name c → d.destination ≡ name) → DataText d.bytes e
-    → NumberText 65535 most f
+    → NumberText 65535 most f → (1 ≤ most → AreTooLong d most → GiveTooMuch what (a ∷ b ∷ c ∷ e ∷ f ∷ []))
+    → IfErr r (λ fault. fault ≡ TooLong → (1 ≤ most) × AreTooLong d most)
     → IfErr r (λ fault. (fault ≡ Memory) ⊎ (((fault ≡ TooLong) ⊎ (fault ≡ ZeroPiece)) × (1 ≤ most → AreTooLong d most)))
     → IfErr r (Explains (NamesDatagrams what texts) what texts)
-fragments_explained what texts a b c e f d most (Ok x) are is_source is_destination is_bytes is_most long = tt
-fragments_explained what texts a b c e f d most (Err fault) are is_source is_destination is_bytes is_most (inl memory) = rw memory no_memory
-fragments_explained what texts a b c e f d most (Err fault) are is_source is_destination is_bytes is_most (inr (inl is, long)) =
-    rw is (too_long (λ payloads. no_fragments texts payloads a b c e f what d most are is_source is_destination is_bytes is_most long))
-fragments_explained what texts a b c e f d most (Err fault) are is_source is_destination is_bytes is_most (inr (inr is, long)) =
+fragments_explained what texts a b c e f d most (Ok x) are is_source is_destination is_bytes is_most much far long = tt
+fragments_explained what texts a b c e f d most (Err fault) are is_source is_destination is_bytes is_most much far (inl memory) = rw memory no_memory
+fragments_explained what texts a b c e f d most (Err fault) are is_source is_destination is_bytes is_most much far (inr (inl is, long)) =
+    rw is (too_long (λ payloads. no_fragments texts payloads a b c e f what d most are is_source is_destination is_bytes is_most long)
+    (let h = far is in rw are (much h.0 h.1)))
+fragments_explained what texts a b c e f d most (Err fault) are is_source is_destination is_bytes is_most much far (inr (inr is, long)) =
     rw is (zero_piece (λ payloads. no_fragments texts payloads a b c e f what d most are is_source is_destination is_bytes is_most long))

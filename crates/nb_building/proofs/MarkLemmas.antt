@@ -1,13 +1,8 @@
 -- Texts that a mark divides: the parts of an address, and of a key.
-use Rattle.nb_building.proofs.Common.{◌≡◌, ◌≢◌, ℕ, zero, suc, ◌<◌, ◌^◌, Bool, eqb, List, [], ◌∷◌, ◌++◌, length, get_or, Bor, Option, Some, None, Result, Ok, Err, refl, sym, ap, ap₂, ◌∙◌, subst, arith, length-append, AllByRecursion, before_first, after_first, position_or_len, IsInRange, eqb-true, eq-eqb, false≢true, get_or-take, length-take, IsErrAnd, MatchResult, AddressText, NumberText, NamesNone, SplitsAt}
+use Rattle.nb_building.proofs.Common.{◌≡◌, ◌≢◌, ℕ, zero, suc, ◌<◌, ◌^◌, Bool, eqb, List, [], ◌∷◌, ◌++◌, length, get_or, Bor, Option, Some, None, Result, Ok, Err, refl, sym, ap, ap₂, ◌∙◌, subst, arith, length-append, AllByRecursion, before_first, after_first, position_or_len, IsInRange, eqb-true, eq-eqb, false≢true, get_or-take, length-take, IsErrAnd, MatchResult, AddressText, NumberText, NamesNone, SplitsAt, decimal, AllDigits, digit_from_value, BuildFault, Word}
 use Rattle.std.specs.Str.Pattern.{FindsChar, SplitsAtFirstByte}
-use Rattle.std.specs.Fmt.{decimal}
-use Rattle.std.specs.Str.Parse.{AllDigits}
 use Rattle.std.proofs.lemmas.List.Sums.{fails_before_first, passes_at_first, split_at_first}
-use Rattle.std.proofs.lemmas.Str.Parse.{digit_from_value}
 use Rattle.std.proofs.Math.Seq.{get_or-append_seam}
-use Rattle.nb_building.specs.declared.build_fault.BuildFault.{BuildFault}
-use Rattle.nb_building.specs.declared.build_fault.BuildFault.TheVariants.{Word}
 use Rattle.nb_building.proofs.ArgumentLemmas.{AllDigits-decimal}
 
 -- a refusal that is passed on

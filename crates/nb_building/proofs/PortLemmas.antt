@@ -1,15 +1,7 @@
 -- Which port the packets that words name are of, by the first word.
-use Rattle.nb_building.proofs.Common.{◌≡◌, inl, inr, ap, Bool, ℕ, List, get_or, Result, Ok, Err, refl, sym, ◌∙◌, arith, codes, ◌==◌, if◌then◌else◌, IfErr, ServicePacket, IsServiceBuilt, IsSessionBuilt, Names, NamesDatagrams, NamesService, NamesSession, query, status, registration, refresh, release, response, request, message, positive, negative, retarget, keepalive, fragments, error, queries, of_service, of_session, of_datagrams}
+use Rattle.nb_building.proofs.Common.{◌≡◌, inl, inr, ap, Bool, ℕ, List, get_or, Result, Ok, Err, refl, sym, ◌∙◌, arith, codes, ◌==◌, if◌then◌else◌, IfErr, ServicePacket, IsServiceBuilt, IsSessionBuilt, Names, NamesDatagrams, NamesService, NamesSession, query, status, registration, refresh, release, response, request, message, positive, negative, retarget, keepalive, fragments, error, queries, of_service, of_session, of_datagrams, Kind, Unique, QueryKind, kind_text, query_word, BuildFault, Explains, IsDatagramWord, IsServiceWord, IsSessionWord}
 use Rattle.nb_session.specs.Packet as session
-use Rattle.nb_datagram.specs.declared.key.Kind.{Kind}
-use Rattle.nb_datagram.specs.declared.key.Kind.TheVariants.{Unique}
-use Rattle.nb_datagram.specs.declared.packet.QueryKind.{QueryKind}
 use Rattle.nb_datagram.specs.declared.packet.QueryKind.TheVariants as query_kind
-use Rattle.nb_datagram.specs.FaultTexts.{kind_text}
-use Rattle.nb_text.specs.Words.{query_word}
-use Rattle.nb_building.specs.declared.build_fault.BuildFault.{BuildFault}
-use Rattle.nb_building.specs.Refusals.{Explains}
-use Rattle.nb_building.specs.Words.{IsDatagramWord, IsServiceWord, IsSessionWord}
 use Rattle.nb_building.proofs.TakenLemmas.{explained_wider}
 
 -- the port, by the first letter of the word, or the third of those that begin with `r`, or the second of those with `m`

@@ -1,9 +1,5 @@
 -- Why words are refused, from why their parts are.
-use Rattle.nb_building.proofs.Common.{◌≡◌, ◌≢◌, inl, inr, ℕ, ◌<◌, ◌^◌, List, [], ◌∷◌, ◌++◌, length, Result, Ok, Err, sym, ◌∙◌, subst, arith, append_assoc, IsInRange, w16, to_be_bytes, IsErrAnd, MatchResult, HexText, AddressText, CodeText, KeyText, NumberText, WordText, IsRefused, SplitsAt}
-use Rattle.nb_streams.specs.HexadecimalFacts.{length-HexText}
-use Rattle.nb_datagram.specs.declared.key.Key.{Key}
-use Rattle.nb_building.specs.declared.build_fault.BuildFault.{BuildFault}
-use Rattle.nb_building.specs.declared.build_fault.BuildFault.TheVariants.{Word}
+use Rattle.nb_building.proofs.Common.{◌≡◌, ◌≢◌, inl, inr, ℕ, ◌<◌, ◌^◌, List, [], ◌∷◌, ◌++◌, length, Result, Ok, Err, sym, ◌∙◌, subst, arith, append_assoc, IsInRange, w16, to_be_bytes, IsErrAnd, MatchResult, HexText, AddressText, CodeText, KeyText, NumberText, WordText, IsRefused, SplitsAt, length-HexText, Key, BuildFault, Word}
 use Rattle.nb_building.proofs.MarkLemmas.{address_lacks, lacks-append, number_lacks, one_split, Lacks}
 
 -- ---- one word

@@ -1,11 +1,5 @@
 -- Why the words of a response name none, where its answer couldn't be made.
-use Rattle.nb_building.proofs.Common.{◌≡◌, ◌≢◌, ◌⊎◌, inl, inr, ◌<◌, Bool, ℕ, List, [], ◌∷◌, get_or, length, Result, Ok, Err, refl, sym, ap, ◌∙◌, subst, arith, codes, IfErr, DataText, IsErrAnd, NamesNone, NetbiosName, IsText, ServicePacket, ResourceData, ResourceRecord, IsServiceBuilt, NamesService, NumberText, WordText, response, HasRdata, plain, domain}
-use Rattle.nb_names.specs.declared.reading.Pointers.TheVariants.{Refused}
-use Rattle.nb_names.specs.Labels.{NameAt}
-use Rattle.nb_service.specs.declared.kinds.TheConstants.{NS}
-use Rattle.nb_building.specs.Refusals.{Explains, IsUnanswered, no_memory, too_long}
-use Rattle.nb_building.specs.declared.build_fault.BuildFault.{BuildFault}
-use Rattle.nb_building.specs.declared.build_fault.BuildFault.TheVariants.{Memory, TooLong, Word}
+use Rattle.nb_building.proofs.Common.{◌≡◌, ◌≢◌, ◌⊎◌, inl, inr, ◌<◌, Bool, ℕ, List, [], ◌∷◌, get_or, length, Result, Ok, Err, refl, sym, ap, ◌∙◌, subst, arith, codes, IfErr, DataText, IsErrAnd, NamesNone, NetbiosName, IsText, ServicePacket, ResourceData, ResourceRecord, IsServiceBuilt, NamesService, NumberText, WordText, response, HasRdata, plain, domain, Refused, NameAt, NS, Explains, IsUnanswered, no_memory, rdata as much_rdata, too_long, BuildFault, Memory, TooLong, Word}
 use Rattle.nb_building.proofs.TakenLemmas.{explained_word, one_word_text}
 use Rattle.nb_building.proofs.UnnamedLemmas.{one_data}
 
@@ -42,7 +36,8 @@ response_explained broadcast texts a b c d e f bytes kind answer (Err fault) are
 response_explained broadcast texts a b c d e f bytes kind answer (Err fault) are is_id is_word is_name is_kind is_ttl is_bytes refused (inr told) =
     of_answer (rw told at refused) where
       of_answer : IsUnanswered 5 kind bytes fault → Explains (IsServiceBuilt broadcast (codes "response") texts) (codes "response") texts fault
-      of_answer (inl (is, other, far)) = rw is (too_long (no_response broadcast texts a b c d e f bytes kind are is_kind is_bytes other far))
+      of_answer (inl (is, other, far)) = rw is (too_long (no_response broadcast texts a b c d e f bytes kind are is_kind is_bytes other far)
+          (rw are (much_rdata kind a b c d e f is_kind other (bytes, is_bytes, far))))
       of_answer (inr (is, ns, none)) =
           rw is (explained_word _ _ _ _ _ 5 refl are (
             is_id,

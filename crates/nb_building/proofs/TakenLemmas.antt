@@ -1,23 +1,11 @@
 -- The words that name a packet are all taken by it, so that words of which one isn't name none.
-use Rattle.nb_building.proofs.Common.{◌≡◌, ◌≢◌, ◌⊎◌, inl, inr, ℕ, zero, suc, Bool, List, [], ◌∷◌, length, map, get_or, Option, Some, None, Result, Ok, Err, refl, sym, ap, ◌∙◌, subst, codes, w16, from_be_bytes, to_be_bytes, IfErr, IsErrAnd, length-map, AllByRecursion, ◌==◌, ServicePacket, ResourceData, DataText, NetbiosName, IsText, HasRdata, IsServiceBuilt, IsSessionBuilt, Names, NamesDatagrams, NamesService, NamesSession, WordText, IsRefused, Unnamed, query, status, registration, refresh, release, response, request, message, positive, negative, retarget, keepalive, fragments, error, queries, of_service, of_session, of_datagrams, plain, domain}
+use Rattle.nb_building.proofs.Common.{◌≡◌, ◌≢◌, ◌⊎◌, inl, inr, ℕ, zero, suc, Bool, List, [], ◌∷◌, length, map, get_or, Option, Some, None, Result, Ok, Err, refl, sym, ap, ◌∙◌, subst, codes, w16, from_be_bytes, to_be_bytes, IfErr, IsErrAnd, length-map, AllByRecursion, ◌==◌, ServicePacket, ResourceData, DataText, NetbiosName, IsText, HasRdata, IsServiceBuilt, IsSessionBuilt, Names, NamesDatagrams, NamesService, NamesSession, WordText, IsRefused, Unnamed, query, status, registration, refresh, release, response, request, message, positive, negative, retarget, keepalive, fragments, error, queries, of_service, of_session, of_datagrams, plain, domain, true, Refused, NameAt, NS, Kind, Unique, Group, Broadcast, QueryKind, kind_text, query_word, Explains, GiveTooMuch, IsTextRefused, miscounted, no_memory, no_packet, too_long, wrong_text, wrong_word, zero_piece, AreTaken, IsFirstWrong, kinds_in, kinds_of, BuildFault, What, Count, Word, Text, TooLong, ZeroPiece, Memory}
 use Rattle.std.proofs.lemmas.Nat.{from_be_bytes-to_be_bytes_2}
-use Rattle.std.proofs.Common.{true, false}
+use Rattle.std.proofs.Common.{false}
 use Rattle.std.specs.Cmp.Lexicographic.{bytes_decides, pointwise}
-use Rattle.nb_names.specs.declared.reading.Pointers.TheVariants.{Refused}
-use Rattle.nb_names.specs.Labels.{NameAt}
 use Rattle.nb_names.specs.NameText.{IsFaultOf}
-use Rattle.nb_service.specs.declared.kinds.TheConstants.{NS}
 use Rattle.nb_session.specs.Packet as session
-use Rattle.nb_datagram.specs.declared.key.Kind.{Kind}
-use Rattle.nb_datagram.specs.declared.key.Kind.TheVariants.{Unique, Group, Broadcast}
-use Rattle.nb_datagram.specs.declared.packet.QueryKind.{QueryKind}
 use Rattle.nb_datagram.specs.declared.packet.QueryKind.TheVariants as query_kind
-use Rattle.nb_datagram.specs.FaultTexts.{kind_text}
-use Rattle.nb_text.specs.Words.{query_word}
-use Rattle.nb_building.specs.Refusals.{Explains, IsTextRefused, miscounted, no_memory, no_packet, too_long, wrong_text, wrong_word, zero_piece}
-use Rattle.nb_building.specs.Words.{AreTaken, IsFirstWrong, kinds_in, kinds_of}
-use Rattle.nb_building.specs.declared.build_fault.BuildFault.{BuildFault}
-use Rattle.nb_building.specs.declared.build_fault.BuildFault.TheVariants.{What, Count, Word, Text, TooLong, ZeroPiece, Memory}
 use Rattle.nb_building.specs.declared.forms.WordKind.{WordKind}
 use Rattle.nb_building.proofs.UnnamedLemmas.{one_hex}
 
@@ -124,7 +112,7 @@ explained_unnamed Named what words _ taken (wrong_word kinds place form wrong) o
     untaken what words kinds place form wrong (taken value named)
 explained_unnamed Named what words _ taken (wrong_text kinds place fault form wrong told) other value named =
     untaken what words kinds place form wrong (taken value named)
-explained_unnamed Named what words _ taken (too_long none) other value named = none value named
+explained_unnamed Named what words _ taken (too_long none much) other value named = none value named
 explained_unnamed Named what words _ taken (zero_piece none) other value named = none value named
 explained_unnamed Named what words _ taken no_memory other value named = absurd (other refl)
 
@@ -137,6 +125,13 @@ named_by_none broadcast what words (Err fault) why =
     explained_unnamed (λ (packets : ℕ × List (List ℕ)). Names broadcast what words packets.0 packets.1) what words fault
     (λ packets. names_taken broadcast what words packets.0 packets.1) why
 
+-- words that are refused as too long give a packet too much
+pub tells_much : {T A : Type 0} (Named : A → Type 0) (what : List ℕ) (words : List (List ℕ)) (r : Result T BuildFault) → IfErr r (Explains Named what words)
+    → IfErr r (λ fault. fault ≡ TooLong → GiveTooMuch what words)
+tells_much Named what words (Ok x) why = tt
+tells_much Named what words (Err _) (too_long none much) = λ is. much
+tells_much Named what words (Err _) others = λ is. absurd (cc is)
+
 -- the same refusal, where nothing more is named
 pub explained_wider : {T A B : Type 0} (Named : A → Type 0) (Wider : B → Type 0) (what : List ℕ) (words : List (List ℕ)) (r : Result T BuildFault)
     → (((value : A) → ¬ Named value) → (value : B) → ¬ Wider value) → IfErr r (Explains Named what words) → IfErr r (Explains Wider what words)
@@ -147,7 +142,7 @@ explained_wider Named Wider what words (Err fault) none why = of_fault fault why
   of_fault _ (miscounted kinds form apart) = miscounted kinds form apart
   of_fault _ (wrong_word kinds place form wrong) = wrong_word kinds place form wrong
   of_fault _ (wrong_text kinds place fault form wrong told) = wrong_text kinds place fault form wrong told
-  of_fault _ (too_long unnamed) = too_long (none unnamed)
+  of_fault _ (too_long unnamed much) = too_long (none unnamed) much
   of_fault _ (zero_piece unnamed) = zero_piece (none unnamed)
   of_fault _ no_memory = no_memory
 

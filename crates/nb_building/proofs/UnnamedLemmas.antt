@@ -1,13 +1,7 @@
 -- Words that name nothing, from their parts.
-use Rattle.nb_building.proofs.Common.{Some, ◌≡◌, ◌≢◌, ◌<◌, ◌⊎◌, inl, inr, ℕ, List, [], ◌∷◌, length, map, get_or, Result, Ok, Err, refl, sym, ap, ◌∙◌, subst, arith, codes, ◌==◌, if◌then◌else◌, IsErrAnd, length-map, DataText, HexText, no_byte, one_more, empty, digits, NetbiosName, IsText, byte_of, AddressText, IsSessionBuilt, NamesSession, NumberText, message, negative, request, retarget, IsRefused, Unnamed}
+use Rattle.nb_building.proofs.Common.{Some, ◌≡◌, ◌≢◌, ◌<◌, ◌⊎◌, inl, inr, ℕ, List, [], ◌∷◌, length, map, get_or, Result, Ok, Err, refl, sym, ap, ◌∙◌, subst, arith, codes, ◌==◌, if◌then◌else◌, IsErrAnd, length-map, DataText, HexText, no_byte, one_more, empty, digits, NetbiosName, IsText, byte_of, AddressText, IsSessionBuilt, NamesSession, NumberText, message, negative, request, retarget, IsRefused, Unnamed, length-HexText, IsPacket, BuildFault, Count, Memory, Explains, miscounted, no_memory, kinds_of}
 use Rattle.std.specs.Prelude.{IfErr}
-use Rattle.nb_streams.specs.HexadecimalFacts.{length-HexText}
 use Rattle.nb_session.specs.Packet as session
-use Rattle.nb_session.specs.Packet.{IsPacket}
-use Rattle.nb_building.specs.declared.build_fault.BuildFault.{BuildFault}
-use Rattle.nb_building.specs.declared.build_fault.BuildFault.TheVariants.{Count, Memory}
-use Rattle.nb_building.specs.Refusals.{Explains, miscounted, no_memory}
-use Rattle.nb_building.specs.Words.{kinds_of}
 
 -- a text stands for data of one length
 data_cases : (bytes text : List ℕ) → DataText bytes text → ((bytes ≡ []) × (text ≡ codes "empty")) ⊎ HexText bytes text

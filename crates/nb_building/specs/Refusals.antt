@@ -54,31 +54,6 @@ pub record IsTextRefused (place : ℕ) (text : List ℕ) (fault : BuildFault) : 
 abbrev pub SplitsAt : ℕ → List ℕ → List ℕ → List ℕ → Type 0
 SplitsAt mark text front behind = (text ≡ front ++ mark ∷ behind) × AllByRecursion (λ byte. byte ≢ mark) front
 
--- ---- all of the words
-
--- Unnamed Named fault: unless memory ran out, nothing is named
-abbrev pub Unnamed : {A : Type 0} → (A → Type 0) → BuildFault → Type 0
-Unnamed {A} Named fault = fault ≢ Memory → (value : A) → ¬ Named value
-
--- Explains Named what words fault: what is true of these words, behind this first one, where they are refused so; the values are
--- the packets that they would name
-pub data Explains {A : Type 0} (Named : A → Type 0) (what : List ℕ) (words : List (List ℕ)) : BuildFault → Type 0 where
-  no_packet : kinds_of what ≡ None → Explains Named what words What
-  miscounted : (kinds : List WordKind) → kinds_of what ≡ Some kinds → length words ≢ length kinds → Explains Named what words Count
-  wrong_word : (kinds : List WordKind) (place : ℕ) → kinds_of what ≡ Some kinds → IsFirstWrong kinds [] words place
-      → Explains Named what words (Word place)
-  wrong_text : (kinds : List WordKind) (place : ℕ) (fault : TextFault) → kinds_of what ≡ Some kinds → IsFirstWrong kinds [] words place
-      → IsFaultOf (get_or words place []) fault → Explains Named what words (Text place fault)
-  too_long : ((value : A) → ¬ Named value) → Explains Named what words TooLong
-  zero_piece : ((value : A) → ¬ Named value) → Explains Named what words ZeroPiece
-  no_memory : Explains Named what words Memory
-
--- IsUnanswered place kind bytes fault: why these bytes, of the word at the place, aren't the RDATA of a record of this type
-abbrev pub IsUnanswered : ℕ → ℕ → List ℕ → BuildFault → Type 0
-IsUnanswered place kind bytes fault =
-    ((fault ≡ TooLong) × (kind ≢ NS) × (65535 < length bytes))
-    ⊎ ((fault ≡ Word place) × (kind ≡ NS) × ((labels : List (List ℕ)) → ¬ NameAt bytes Refused 0 labels (length bytes)))
-
 -- ---- the words that are refused as `too long` (RFC 1002 sections 4.2.1.3, 4.3.1 and 4.4.2): more data than the
 -- length of a record, a message or a fragment can count
 -- That of a fragment counts its names too.
@@ -96,3 +71,28 @@ pub data GiveTooMuch : List ℕ → List (List ℕ) → Type 0 where
   piece : (d : DatagramParts) (most : ℕ) (a b c e f : List ℕ) → KeyText d.key a → IsText d.source b → IsText d.destination c
       → DataText d.bytes e → NumberText 65535 most f → 1 ≤ most → AreTooLong d most
       → GiveTooMuch (kind_text d.kind) (a ∷ b ∷ c ∷ e ∷ f ∷ [])
+
+-- ---- all of the words
+
+-- Unnamed Named fault: unless memory ran out, nothing is named
+abbrev pub Unnamed : {A : Type 0} → (A → Type 0) → BuildFault → Type 0
+Unnamed {A} Named fault = fault ≢ Memory → (value : A) → ¬ Named value
+
+-- Explains Named what words fault: what is true of these words, behind this first one, where they are refused so; the values are
+-- the packets that they would name
+pub data Explains {A : Type 0} (Named : A → Type 0) (what : List ℕ) (words : List (List ℕ)) : BuildFault → Type 0 where
+  no_packet : kinds_of what ≡ None → Explains Named what words What
+  miscounted : (kinds : List WordKind) → kinds_of what ≡ Some kinds → length words ≢ length kinds → Explains Named what words Count
+  wrong_word : (kinds : List WordKind) (place : ℕ) → kinds_of what ≡ Some kinds → IsFirstWrong kinds [] words place
+      → Explains Named what words (Word place)
+  wrong_text : (kinds : List WordKind) (place : ℕ) (fault : TextFault) → kinds_of what ≡ Some kinds → IsFirstWrong kinds [] words place
+      → IsFaultOf (get_or words place []) fault → Explains Named what words (Text place fault)
+  too_long : ((value : A) → ¬ Named value) → GiveTooMuch what words → Explains Named what words TooLong
+  zero_piece : ((value : A) → ¬ Named value) → Explains Named what words ZeroPiece
+  no_memory : Explains Named what words Memory
+
+-- IsUnanswered place kind bytes fault: why these bytes, of the word at the place, aren't the RDATA of a record of this type
+abbrev pub IsUnanswered : ℕ → ℕ → List ℕ → BuildFault → Type 0
+IsUnanswered place kind bytes fault =
+    ((fault ≡ TooLong) × (kind ≢ NS) × (65535 < length bytes))
+    ⊎ ((fault ≡ Word place) × (kind ≡ NS) × ((labels : List (List ℕ)) → ¬ NameAt bytes Refused 0 labels (length bytes)))

@@ -1,4 +1,8 @@
 //! Why no packet is built.
+ghost use Rattle.std.specs.Prelude.{Some, ◌≡◌};
+ghost use Rattle.nb_building.specs.FaultTexts.{build_fault_text};
+ghost use Rattle.nb_building.specs.declared.build_fault.BuildFault.TheVariants.{Memory};
+ghost use Rattle.nb_building.specs.Refusals.{of_cut};
 
 use nb_datagram::CutFault;
 use nb_names::TextFault;
@@ -25,9 +29,6 @@ pub enum BuildFault {
 }
 
 impl fmt::Display for BuildFault {
-    ghost use Rattle.std.specs.Prelude.{Some};
-    ghost use Rattle.nb_building.specs.FaultTexts.{build_fault_text};
-
     ghost output = { λ fault. Some (build_fault_text fault) };
 
     fn fmt<W: fmt::Write>(&self, f: &mut fmt::Formatter<W>) -> fmt::Result {
@@ -42,9 +43,6 @@ impl fmt::Display for BuildFault {
 }
 
 impl From<NoMemory> for BuildFault {
-    ghost use Rattle.std.specs.Prelude.{◌≡◌};
-    ghost use Rattle.nb_building.specs.declared.build_fault.BuildFault.TheVariants.{Memory};
-
     ghost from_gives = { λ _ made. made ≡ Memory };
 
     fn from(_fault: NoMemory) -> BuildFault {
@@ -53,9 +51,6 @@ impl From<NoMemory> for BuildFault {
 }
 
 impl From<CutFault> for BuildFault {
-    ghost use Rattle.std.specs.Prelude.{◌≡◌};
-    ghost use Rattle.nb_building.specs.Refusals.{of_cut};
-
     ghost from_gives = { λ fault made. made ≡ of_cut fault };
 
     fn from(fault: CutFault) -> BuildFault {

@@ -81,8 +81,6 @@ fn service_line(
     requires { IsServiceWord what.now }
     ensures built { IfOk result (λ lines. AreLinesOf broadcast what.now (map (λ w. w.now) words.now)
         (string_bytes lines)) }
-    ensures too_long { IfErr result (λ fault. fault ≡ BuildFault.TooLong →
-        GiveTooMuch what.now (map (λ w. w.now) words.now)) }
     ensures refused { IfErr result
         (Explains (IsServiceBuilt broadcast what.now (map (λ w. w.now) words.now))
         what.now (map (λ w. w.now) words.now)) }
@@ -96,8 +94,6 @@ fn session_line(alloc: Global, what: &str, words: &[&str]) -> Result<String, Bui
     requires { IsSessionWord what.now }
     ensures built { IfOk result (λ lines. (broadcast : Bool) →
         AreLinesOf broadcast what.now (map (λ w. w.now) words.now) (string_bytes lines)) }
-    ensures too_long { IfErr result (λ fault. fault ≡ BuildFault.TooLong →
-        GiveTooMuch what.now (map (λ w. w.now) words.now)) }
     ensures refused { IfErr result
         (Explains (IsSessionBuilt what.now (map (λ w. w.now) words.now))
         what.now (map (λ w. w.now) words.now)) }
@@ -111,8 +107,6 @@ fn datagram_lines(alloc: Global, what: &str, words: &[&str]) -> Result<String, B
     requires { IsDatagramWord what.now }
     ensures built { IfOk result (λ lines. (broadcast : Bool) →
         AreLinesOf broadcast what.now (map (λ w. w.now) words.now) (string_bytes lines)) }
-    ensures too_long { IfErr result (λ fault. fault ≡ BuildFault.TooLong →
-        GiveTooMuch what.now (map (λ w. w.now) words.now)) }
     ensures refused { IfErr result
         (Explains (NamesDatagrams what.now (map (λ w. w.now) words.now))
         what.now (map (λ w. w.now) words.now)) }

@@ -1,11 +1,11 @@
 //! Datagram service packets from arguments.
-ghost use Rattle.std.specs.Prelude.{◌≡◌, ◌≢◌, ◌⊎◌, ◌≤◌, ◌++◌, [], ◌∷◌, map, codes, IfErr, IfOk, OnOk};
+ghost use Rattle.std.specs.Prelude.{◌≡◌, ◌⊎◌, ◌≤◌, ◌++◌, [], ◌∷◌, map, codes, IfErr, IfOk, OnOk};
 ghost use Rattle.nb_datagram.specs.Packet.{packet_bytes};
 ghost use Rattle.nb_datagram.specs.Pieces.{AreTooLong, pieces};
 ghost use Rattle.nb_datagram.specs.FaultTexts.{kind_text};
 ghost use Rattle.nb_text.specs.Words.{query_word};
 ghost use Rattle.nb_building.specs.Built.{NamesDatagrams};
-ghost use Rattle.nb_building.specs.Refusals.{Explains, GiveTooMuch};
+ghost use Rattle.nb_building.specs.Refusals.{Explains};
 ghost use Rattle.nb_building.specs.Words.{IsDatagramWord};
 
 use crate::arguments::{code, data, key, named, number};
@@ -24,8 +24,6 @@ use std::alloc::Global;
 pub fn build(alloc: Global, what: &str, words: &[&str]) -> Result<Items<Bytes>, BuildFault>
     requires { IsDatagramWord what.now }
     ensures built { IfOk result (NamesDatagrams what.now (map (λ w. w.now) words.now)) }
-    ensures too_long { IfErr result (λ fault. fault ≡ BuildFault.TooLong →
-        GiveTooMuch what.now (map (λ w. w.now) words.now)) }
     ensures refused { IfErr result
         (Explains (NamesDatagrams what.now (map (λ w. w.now) words.now))
         what.now (map (λ w. w.now) words.now)) }
@@ -45,8 +43,6 @@ pub fn build(alloc: Global, what: &str, words: &[&str]) -> Result<Items<Bytes>, 
 /// The packets of the pieces of a datagram, from KEY SOURCE DESTINATION HEX MOST.
 fn fragments(alloc: Global, kind: Kind, words: &[&str]) -> Result<Items<Bytes>, BuildFault>
     ensures built { IfOk result (NamesDatagrams (kind_text kind) (map (λ w. w.now) words.now)) }
-    ensures too_long { IfErr result (λ fault. fault ≡ BuildFault.TooLong →
-        GiveTooMuch (kind_text kind) (map (λ w. w.now) words.now)) }
     ensures refused { IfErr result
         (Explains (NamesDatagrams (kind_text kind) (map (λ w. w.now) words.now))
         (kind_text kind) (map (λ w. w.now) words.now)) }
@@ -95,7 +91,6 @@ fn encoded_pieces(alloc: Global, pieces: Pieces<'_>) -> Result<Items<Bytes>, NoM
 /// An error packet, from KEY CODE.
 fn error(alloc: Global, words: &[&str]) -> Result<Items<Bytes>, BuildFault>
     ensures built { IfOk result (NamesDatagrams (codes "error") (map (λ w. w.now) words.now)) }
-    ensures too_long { IfErr result (λ fault. fault ≢ BuildFault.TooLong) }
     ensures refused { IfErr result
         (Explains (NamesDatagrams (codes "error") (map (λ w. w.now) words.now))
         (codes "error") (map (λ w. w.now) words.now)) }
@@ -113,7 +108,6 @@ fn error(alloc: Global, words: &[&str]) -> Result<Items<Bytes>, BuildFault>
 /// A query packet, from KEY NAME.
 fn query(alloc: Global, kind: QueryKind, words: &[&str]) -> Result<Items<Bytes>, BuildFault>
     ensures built { IfOk result (NamesDatagrams (query_word kind) (map (λ w. w.now) words.now)) }
-    ensures too_long { IfErr result (λ fault. fault ≢ BuildFault.TooLong) }
     ensures refused { IfErr result
         (Explains (NamesDatagrams (query_word kind) (map (λ w. w.now) words.now))
         (query_word kind) (map (λ w. w.now) words.now)) }

@@ -9,7 +9,7 @@ ghost use Rattle.nb_service.specs.Requests.{packet_of};
 ghost use Rattle.nb_service.specs.Encoding.{packet_bytes};
 ghost use Rattle.nb_service.specs.Record.{ResourceData, ResourceRecord, record_of};
 ghost use Rattle.nb_building.specs.Built.{IsServiceBuilt, WordText, HasRdata, with_flag};
-ghost use Rattle.nb_building.specs.Refusals.{Explains, IsRefused, IsUnanswered, NamesNone, GiveTooMuch};
+ghost use Rattle.nb_building.specs.Refusals.{Explains, IsRefused, IsUnanswered, NamesNone};
 
 use crate::arguments::{data, long_number, named, word};
 use crate::build_fault::BuildFault;
@@ -33,8 +33,6 @@ use std::alloc::Global;
 pub fn build(alloc: Global, words: &[&str], broadcast: bool) -> Result<Bytes, BuildFault>
     ensures built { IfOk result
         (IsServiceBuilt broadcast (codes "response") (map (λ w. w.now) words.now)) }
-    ensures too_long { IfErr result (λ fault. fault ≡ BuildFault.TooLong →
-        GiveTooMuch (codes "response") (map (λ w. w.now) words.now)) }
     ensures refused { IfErr result
         (Explains (IsServiceBuilt broadcast (codes "response") (map (λ w. w.now) words.now))
         (codes "response") (map (λ w. w.now) words.now)) }
@@ -112,8 +110,6 @@ fn answered(
 ) -> Result<Bytes, BuildFault>
     ensures built { IfOk result (λ bytes. (made : ResourceRecord) × (answer.entry ≡ Ok made)
         × (bytes ≡ packet_bytes (packet_of id word [] (made ∷ []) [] []))) }
-    ensures too_long { IfErr result (λ fault. fault ≡ BuildFault.TooLong →
-        answer.entry ≡ Err BuildFault.TooLong) }
     ensures refused { IfErr result (λ fault. (fault ≡ BuildFault.Memory)
         ⊎ (answer.entry ≡ Err fault)) }
 {

@@ -1,9 +1,9 @@
 //! Name service packets from arguments.
-ghost use Rattle.std.specs.Prelude.{◌≡◌, ◌≢◌, ◌⊎◌, map, codes, IfErr, IfOk, Ok};
+ghost use Rattle.std.specs.Prelude.{◌≡◌, ◌⊎◌, map, codes, IfErr, IfOk, Ok};
 ghost use Rattle.nb_service.specs.Packet.{ServicePacket};
 ghost use Rattle.nb_service.specs.Encoding.{packet_bytes};
 ghost use Rattle.nb_building.specs.Built.{IsServiceBuilt};
-ghost use Rattle.nb_building.specs.Refusals.{Explains, GiveTooMuch};
+ghost use Rattle.nb_building.specs.Refusals.{Explains};
 ghost use Rattle.nb_building.specs.Words.{IsServiceWord};
 
 use crate::arguments::{address, long_number, named, word};
@@ -27,8 +27,6 @@ pub fn build(
 ) -> Result<Bytes, BuildFault>
     requires { IsServiceWord what.now }
     ensures built { IfOk result (IsServiceBuilt broadcast what.now (map (λ w. w.now) words.now)) }
-    ensures too_long { IfErr result (λ fault. fault ≡ BuildFault.TooLong →
-        GiveTooMuch what.now (map (λ w. w.now) words.now)) }
     ensures refused { IfErr result
         (Explains (IsServiceBuilt broadcast what.now (map (λ w. w.now) words.now))
         what.now (map (λ w. w.now) words.now)) }
@@ -48,7 +46,6 @@ pub fn build(
 fn question(alloc: Global, what: &str, words: &[&str], broadcast: bool) -> Result<Bytes, BuildFault>
     requires { (what.now ≡ codes "query") ⊎ (what.now ≡ codes "status") }
     ensures built { IfOk result (IsServiceBuilt broadcast what.now (map (λ w. w.now) words.now)) }
-    ensures too_long { IfErr result (λ fault. fault ≢ BuildFault.TooLong) }
     ensures refused { IfErr result
         (Explains (IsServiceBuilt broadcast what.now (map (λ w. w.now) words.now))
         what.now (map (λ w. w.now) words.now)) }
@@ -69,7 +66,6 @@ fn question(alloc: Global, what: &str, words: &[&str], broadcast: bool) -> Resul
 fn claim(alloc: Global, what: &str, words: &[&str], broadcast: bool) -> Result<Bytes, BuildFault>
     requires { (what.now ≡ codes "registration") ⊎ (what.now ≡ codes "refresh") }
     ensures built { IfOk result (IsServiceBuilt broadcast what.now (map (λ w. w.now) words.now)) }
-    ensures too_long { IfErr result (λ fault. fault ≢ BuildFault.TooLong) }
     ensures refused { IfErr result
         (Explains (IsServiceBuilt broadcast what.now (map (λ w. w.now) words.now))
         what.now (map (λ w. w.now) words.now)) }
@@ -99,7 +95,6 @@ fn claim(alloc: Global, what: &str, words: &[&str], broadcast: bool) -> Result<B
 fn withdrawal(alloc: Global, words: &[&str], broadcast: bool) -> Result<Bytes, BuildFault>
     ensures built { IfOk result
         (IsServiceBuilt broadcast (codes "release") (map (λ w. w.now) words.now)) }
-    ensures too_long { IfErr result (λ fault. fault ≢ BuildFault.TooLong) }
     ensures refused { IfErr result
         (Explains (IsServiceBuilt broadcast (codes "release") (map (λ w. w.now) words.now))
         (codes "release") (map (λ w. w.now) words.now)) }

@@ -1,8 +1,8 @@
 //! Session packets from arguments.
-ghost use Rattle.std.specs.Prelude.{◌≡◌, ◌≢◌, ◌⊎◌, [], map, codes, length, IfErr, IfOk};
+ghost use Rattle.std.specs.Prelude.{◌≡◌, ◌⊎◌, [], map, codes, length, IfErr, IfOk};
 ghost use Rattle.nb_session.specs.Packet.{IsPacket};
 ghost use Rattle.nb_building.specs.Built.{IsSessionBuilt};
-ghost use Rattle.nb_building.specs.Refusals.{Explains, GiveTooMuch};
+ghost use Rattle.nb_building.specs.Refusals.{Explains};
 ghost use Rattle.nb_building.specs.Words.{IsSessionWord};
 
 use crate::arguments::{address, code, data, named, number};
@@ -18,8 +18,6 @@ use std::alloc::Global;
 pub fn build(alloc: Global, what: &str, words: &[&str]) -> Result<Bytes, BuildFault>
     requires { IsSessionWord what.now }
     ensures built { IfOk result (IsSessionBuilt what.now (map (λ w. w.now) words.now)) }
-    ensures too_long { IfErr result (λ fault. fault ≡ BuildFault.TooLong →
-        GiveTooMuch what.now (map (λ w. w.now) words.now)) }
     ensures refused { IfErr result
         (Explains (IsSessionBuilt what.now (map (λ w. w.now) words.now))
         what.now (map (λ w. w.now) words.now)) }
@@ -38,7 +36,6 @@ pub fn build(alloc: Global, what: &str, words: &[&str]) -> Result<Bytes, BuildFa
 /// The bytes of a request, from CALLED CALLING.
 fn request(alloc: Global, words: &[&str]) -> Result<Bytes, BuildFault>
     ensures built { IfOk result (IsSessionBuilt (codes "request") (map (λ w. w.now) words.now)) }
-    ensures too_long { IfErr result (λ fault. fault ≢ BuildFault.TooLong) }
     ensures refused { IfErr result
         (Explains (IsSessionBuilt (codes "request") (map (λ w. w.now) words.now))
         (codes "request") (map (λ w. w.now) words.now)) }
@@ -54,8 +51,6 @@ fn request(alloc: Global, words: &[&str]) -> Result<Bytes, BuildFault>
 /// The bytes of a message, from HEX.
 fn message(alloc: Global, words: &[&str]) -> Result<Bytes, BuildFault>
     ensures built { IfOk result (IsSessionBuilt (codes "message") (map (λ w. w.now) words.now)) }
-    ensures too_long { IfErr result (λ fault. fault ≡ BuildFault.TooLong →
-        GiveTooMuch (codes "message") (map (λ w. w.now) words.now)) }
     ensures refused { IfErr result
         (Explains (IsSessionBuilt (codes "message") (map (λ w. w.now) words.now))
         (codes "message") (map (λ w. w.now) words.now)) }
@@ -73,7 +68,6 @@ fn message(alloc: Global, words: &[&str]) -> Result<Bytes, BuildFault>
 /// The bytes of a negative response, from CODE.
 fn negative(alloc: Global, words: &[&str]) -> Result<Bytes, BuildFault>
     ensures built { IfOk result (IsSessionBuilt (codes "negative") (map (λ w. w.now) words.now)) }
-    ensures too_long { IfErr result (λ fault. fault ≢ BuildFault.TooLong) }
     ensures refused { IfErr result
         (Explains (IsSessionBuilt (codes "negative") (map (λ w. w.now) words.now))
         (codes "negative") (map (λ w. w.now) words.now)) }
@@ -87,7 +81,6 @@ fn negative(alloc: Global, words: &[&str]) -> Result<Bytes, BuildFault>
 /// The bytes of a retarget response, from ADDRESS PORT.
 fn retarget(alloc: Global, words: &[&str]) -> Result<Bytes, BuildFault>
     ensures built { IfOk result (IsSessionBuilt (codes "retarget") (map (λ w. w.now) words.now)) }
-    ensures too_long { IfErr result (λ fault. fault ≢ BuildFault.TooLong) }
     ensures refused { IfErr result
         (Explains (IsSessionBuilt (codes "retarget") (map (λ w. w.now) words.now))
         (codes "retarget") (map (λ w. w.now) words.now)) }
@@ -103,7 +96,6 @@ fn retarget(alloc: Global, words: &[&str]) -> Result<Bytes, BuildFault>
 /// The bytes of a packet that takes no arguments.
 fn bare(alloc: Global, words: &[&str], packet: &Packet<'_>) -> Result<Bytes, BuildFault>
     ensures built { IfOk result (λ bytes. (words.now ≡ []) × IsPacket packet.now bytes) }
-    ensures too_long { IfErr result (λ fault. fault ≢ BuildFault.TooLong) }
     ensures refused { IfErr result (λ fault. (fault ≡ BuildFault.Memory)
         ⊎ ((fault ≡ BuildFault.Count) × ¬ (length words.now ≡ 0))) }
 {

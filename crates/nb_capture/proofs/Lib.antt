@@ -1,3 +1,4 @@
+pub mod Common
 pub mod CaptureLemmas
 pub mod LineLemmas
 pub mod LineTakingLemmas

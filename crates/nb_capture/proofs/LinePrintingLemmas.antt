@@ -1,16 +1,11 @@
 -- What printing the texts of lines keeps from line to line, and how it ends.
-use Rattle.std.proofs.Common.{◌≡◌, ◌+◌, ◌++◌, ℕ, List, [], ◌∷◌, length, take, drop, Option, Result, Ok, Err, refl, sym, subst, arith}
-use Rattle.std.specs.Io.KnownBytes.{Appends, Consumes}
-use Rattle.std.proofs.lemmas.List.{take-append-drop}
-use Rattle.nb_streams.specs.Counted.{Counts, CountedOf}
-use Rattle.nb_streams.specs.Devices.{GrowTo, ShowsUnread, ShowsWriteFault}
-use Rattle.nb_streams.specs.DeviceFacts.{Appends-nil, Appends-more, Appends-kept, fails_from, grows_on}
+use Rattle.nb_capture.proofs.Common.{◌≡◌, ◌+◌, ◌++◌, ℕ, List, [], ◌∷◌, length, take, drop, Option, Result, Ok, Err, refl, sym, subst, arith, Appends, Consumes, take-append-drop, Counts, CountedOf, GrowTo, ShowsUnread, ShowsWriteFault, Appends-nil, Appends-more, Appends-kept, fails_from, grows_on, TakesEach, StopsAt, TakesLines}
 use Rattle.nb_capture.specs.declared.line.Line as capture
 use Rattle.nb_capture.specs.declared.fault.PrintFault.{PrintFault}
 use Rattle.nb_capture.specs.declared.fault.PrintFault.TheVariants.{Read, Write, NoMemory}
 use Rattle.nb_capture.specs.Code.PrintedLines.{PrintsOn, IsUnprinted}
 use Rattle.nb_capture.specs.LinePrinting.{Prints, Shows, ShowsLines, TellsLine, of_capture, before_all, in_first, none, more}
-use Rattle.nb_capture.specs.LineTaking.{TakesEach, none as no_lines, more as more_lines, StopsAt, malformed, unread, no_memory, not_taken, TakesLines}
+use Rattle.nb_capture.specs.LineTaking.{none as no_lines, more as more_lines, malformed, unread, no_memory, not_taken}
 
 -- when a text is that of a line
 abbrev pub TextOf : Type 0 → Type 1

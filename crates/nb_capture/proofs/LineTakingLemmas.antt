@@ -1,20 +1,15 @@
 -- What taking the lines of a capture keeps from line to line, and how it ends.
-use Rattle.std.proofs.Common.{◌≡◌, ◌⊎◌, ◌+◌, ◌≤◌, ◌++◌, ℕ, List, [], ◌∷◌, length, Option, Some, None, Result, Ok, Err, refl, sym, subst, ◌∙◌, ap, inl, inr, append_assoc, arith}
-use Rattle.std.specs.Io.KnownBytes.{Consumes}
-use Rattle.std.proofs.lemmas.List.{append-nil, length-append}
-use Rattle.nb_streams.specs.Counted.{Counts}
+use Rattle.nb_capture.proofs.Common.{◌≡◌, ◌⊎◌, ◌+◌, ◌≤◌, ◌++◌, ℕ, List, [], ◌∷◌, length, Option, Some, None, Result, Ok, Err, refl, sym, subst, ◌∙◌, ap, inl, inr, append_assoc, arith, Consumes, append-nil, length-append, Counts, LineFails, ReadsLine, RoomValue, nothing_within, TakesLine, TakesEach, EndsEarly, TakesLines, HandedOut, nothing_handed, cut_both, was_reading, came, kept_are, none_over, handed_more, handed_all, shows_unread, long_first, bytes_less}
 use Rattle.nb_streams.specs.LineFacts.{any_cut}
 use Rattle.nb_streams.specs.Lines.{CutInto, rest, with_rest}
 use Rattle.nb_capture.specs.declared.line.Line as capture
 use Rattle.nb_capture.specs.declared.fault.LineReadFault.TheVariants as unread
 use Rattle.nb_capture.specs.declared.fault.CaptureFault.{CaptureFault}
 use Rattle.nb_capture.specs.declared.fault.CaptureFault.TheVariants.{Line, Read, NoMemory}
-use Rattle.nb_capture.specs.Code.LineTurns.{LineFails, malformed as line_malformed, no_memory as line_unheld, not_taken as line_not_taken}
-use Rattle.nb_capture.specs.LineReading.{ReadsLine, RoomValue, nothing_within}
-use Rattle.nb_capture.specs.LineTaking.{TakesLine, TakesEach, none, more, EndsEarly, malformed, unread as not_read, no_memory, not_taken, TakesLines}
+use Rattle.nb_capture.specs.Code.LineTurns.{malformed as line_malformed, no_memory as line_unheld, not_taken as line_not_taken}
+use Rattle.nb_capture.specs.LineTaking.{none, more, malformed, unread as not_read, no_memory, not_taken}
 use Rattle.nb_capture.specs.LinesCame.{lines_held, comes_malformed}
 use Rattle.nb_capture.specs.CaptureLines.{AreLines, ComesMalformed, finished, ended, looked_at}
-use Rattle.nb_capture.specs.Shared.LinesSoFar.{HandedOut, nothing_handed, cut_both, was_reading, came, kept_are, none_over, handed_more, handed_all, shows_unread, long_first, bytes_less}
 
 -- TakesOf S: when a line that says this, or nothing, makes one S another
 abbrev pub TakesOf : Type 0 → Type 1

@@ -145,10 +145,5 @@ fn moment_of(text: &[u8]) -> Option<u64>
 fn are_digits(text: &[u8]) -> bool
     ensures { result ≡ list_all is_ascii_digit text.now }
 {
-    for digit in text {
-        if !digit.is_ascii_digit() {
-            return false;
-        }
-    }
-    true
+    text.iter().all(|digit| digit.is_ascii_digit())
 }

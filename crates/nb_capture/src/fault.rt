@@ -1,5 +1,10 @@
 //! Why a line of a capture says nothing, why none was read, and why a capture is read or printed no
 //! further.
+ghost use Rattle.std.specs.Prelude.{◌≡◌, Some};
+ghost use Rattle.nb_capture.specs.declared.fault.PrintFault.TheVariants as faults;
+ghost use Rattle.nb_capture.specs.FaultTexts.{line_fault_text, print_fault_text};
+ghost use Rattle.nb_capture.specs.Code.LineTurns.{line_fault_of};
+ghost use Rattle.nb_capture.specs.LinePrinting.{of_capture};
 
 use nb_streams::{DigitsFault, NoMemory};
 use std::error::Error;
@@ -15,9 +20,6 @@ pub enum LineFault {
 }
 
 impl fmt::Display for LineFault {
-    ghost use Rattle.std.specs.Prelude.{Some};
-    ghost use Rattle.nb_capture.specs.FaultTexts.{line_fault_text};
-
     ghost output = { λ fault. Some (line_fault_text fault) };
 
     fn fmt<W: fmt::Write>(&self, f: &mut fmt::Formatter<W>) -> fmt::Result {
@@ -31,9 +33,6 @@ impl fmt::Display for LineFault {
 impl Error for LineFault {}
 
 impl From<DigitsFault> for LineFault {
-    ghost use Rattle.std.specs.Prelude.{◌≡◌};
-    ghost use Rattle.nb_capture.specs.Code.LineTurns.{line_fault_of};
-
     ghost from_gives = { λ fault made. made ≡ line_fault_of fault };
 
     fn from(fault: DigitsFault) -> LineFault {
@@ -80,9 +79,6 @@ pub enum PrintFault {
 }
 
 impl fmt::Display for PrintFault {
-    ghost use Rattle.std.specs.Prelude.{Some};
-    ghost use Rattle.nb_capture.specs.FaultTexts.{print_fault_text};
-
     ghost output = { λ fault. Some (print_fault_text fault) };
 
     fn fmt<W: fmt::Write>(&self, f: &mut fmt::Formatter<W>) -> fmt::Result {
@@ -98,10 +94,7 @@ impl fmt::Display for PrintFault {
 impl Error for PrintFault {}
 
 impl From<NoMemory> for PrintFault {
-    ghost use Rattle.std.specs.Prelude.{◌≡◌};
-    ghost use Rattle.nb_capture.specs.declared.fault.PrintFault.TheVariants as fault;
-
-    ghost from_gives = { λ _ made. made ≡ fault.NoMemory };
+    ghost from_gives = { λ _ made. made ≡ faults.NoMemory };
 
     fn from(_fault: NoMemory) -> PrintFault {
         PrintFault::NoMemory
@@ -109,9 +102,6 @@ impl From<NoMemory> for PrintFault {
 }
 
 impl From<CaptureFault> for PrintFault {
-    ghost use Rattle.std.specs.Prelude.{◌≡◌};
-    ghost use Rattle.nb_capture.specs.LinePrinting.{of_capture};
-
     ghost from_gives = { λ fault made. made ≡ of_capture fault };
 
     fn from(fault: CaptureFault) -> PrintFault {

@@ -3,6 +3,9 @@ ghost use Rattle.std.specs.Prelude.{◌≡◌, ℕ, List, Err, OnOk, OnErr};
 ghost use Rattle.std.specs.Io.KnownBytes.{Consumes};
 ghost use Rattle.nb_streams.specs.Devices.{ShowsUnread, ShowsWriteFault};
 ghost use Rattle.nb_capture.specs.LinePrinting.{Shows, TellsLine};
+ghost use Rattle.nb_streams.specs.Counted.{CountedOf};
+ghost use Rattle.nb_capture.specs.declared.comment_writing.Comments.{Comments};
+ghost use Rattle.nb_capture.specs.Code.PrintedLines.{PrintsOn, IsUnprinted};
 
 use crate::comment_writing::Comments;
 use crate::fault::PrintFault;
@@ -116,11 +119,6 @@ struct PrintedLines<'a, W, T> {
 }
 
 impl<'a, W: Write, T: LineText> LineTaker for PrintedLines<'a, W, T> {
-    ghost use Rattle.std.specs.Prelude.{ℕ};
-    ghost use Rattle.nb_streams.specs.Counted.{CountedOf};
-    ghost use Rattle.nb_capture.specs.declared.comment_writing.Comments.{Comments};
-    ghost use Rattle.nb_capture.specs.Code.PrintedLines.{PrintsOn, IsUnprinted};
-
     type Fault = PrintFault;
 
     ghost State = { CountedOf W × T.State };

@@ -1,22 +1,12 @@
 -- Each event says one thing.
-use Rattle.std.proofs.Common.{◌≡◌, ◌==◌, ◌<◌, ℕ, List, [], ◌∷◌, refl, sym, ap, subst, ◌∙◌, arith, ◌≢◌, ◌⊎◌, Bool, true, false, inl, inr}
+use Rattle.nb_member.proofs.Common.{◌≡◌, ◌==◌, ◌<◌, ℕ, List, [], ◌∷◌, refl, sym, ap, subst, ◌∙◌, arith, ◌≢◌, ◌⊎◌, Bool, true, false, inl, inr, Direct, Error, Query, FragmentParts, core_of, reach, is_first, IsPacket, TableFault, MisplacedFirst, TooLong, IsMisplaced, Passes, Limits, Event, Settings, limits_of, Saying, came, refused, another, clock, Says, misplaced, too_long, Say, HasBytes, refusal, AllByRecursion, cases_lt, false≢true}
 use Rattle.nb_datagram.specs.declared.fault.DatagramFault.{DatagramFault}
-use Rattle.nb_datagram.specs.declared.packet.Packet.TheVariants.{Direct, Error, Query}
-use Rattle.nb_datagram.specs.Fragment.{FragmentParts, core_of, reach, is_first}
-use Rattle.nb_datagram.specs.Packet.{Packet as AnyPacket, IsPacket}
+use Rattle.nb_datagram.specs.Packet.{Packet as AnyPacket}
 use Rattle.nb_datagram.specs.DatagramFaults.{PacketFails}
-use Rattle.nb_table.specs.declared.fault.TableFault.{TableFault}
-use Rattle.nb_table.specs.declared.fault.TableFault.TheVariants.{MisplacedFirst, TooLong, FullSource, Full, NoMemory}
-use Rattle.nb_table.specs.Insert.{IsMisplaced, Passes}
-use Rattle.nb_table.specs.Limits.{Limits}
-use Rattle.nb_member.specs.declared.outcome.Event.{Event}
+use Rattle.nb_table.specs.declared.fault.TableFault.TheVariants.{FullSource, Full, NoMemory}
 use Rattle.nb_member.specs.declared.outcome.Event.TheVariants.{Packet, Tick}
 use Rattle.nb_member.specs.declared.outcome.MemberFault.TheVariants as fault
-use Rattle.nb_member.specs.declared.settings.Settings.{Settings}
-use Rattle.nb_member.specs.Events.{limits_of, Saying, came, refused, another, clock, Says, fragment, misplaced, too_long, no_packet, error, query, tick, Say, none, more, HasBytes}
-use Rattle.nb_member.specs.Hearing.{refusal}
-use Rattle.std.specs.List.{AllByRecursion}
-use Rattle.std.proofs.lemmas.Bool.{cases_lt, false≢true}
+use Rattle.nb_member.specs.Events.{fragment, no_packet, error, query, tick, none, more}
 use Rattle.nb_streams.specs.Places.{AreBytes}
 
 -- what the packets in bytes are known to be

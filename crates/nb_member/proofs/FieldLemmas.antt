@@ -1,32 +1,17 @@
 -- Fields of reports and listings.
-use Rattle.std.proofs.Common.{◌≡◌, ℕ, List, [], ◌∷◌, ◌++◌, map, codes, Option, Some, None, Result, Ok, Err, refl, sym, ap, ◌∙◌}
+use Rattle.nb_member.proofs.Common.{◌≡◌, ℕ, List, [], ◌∷◌, ◌++◌, map, codes, Option, Some, None, Result, Ok, Err, refl, sym, ap, ◌∙◌, AllByRecursion, Key, ErrorPacket, Error, DatagramParts, packet_bytes, Contents, outline_at, ranges_at, datagram_at, Field, Ends, LineEnds, place_fields, Text, Range, field_text, text_of, Outcome, Kept, Delivered, Unheard, Other, MemberFault, error_of, further_range, key_fields, known_fields, more_fields, outline_fields, places_fields, ranges_fields, error_text, parts_text, result_text, dropped_fields, error_fields, parts_fields, result_fields, outcome_fields, passed_fields}
 use Rattle.std.specs.Fmt.{decimal}
 use Rattle.std.proofs.lemmas.Grind.{flat_map-append}
 use Rattle.std.proofs.lemmas.List.{append_assoc, append-nil}
-use Rattle.std.specs.List.{AllByRecursion}
 use Rattle.nb_streams.specs.Hexadecimal.{digits_text}
 use Rattle.nb_names.specs.NameText.{written}
-use Rattle.nb_datagram.specs.declared.key.Key.{Key}
-use Rattle.nb_datagram.specs.declared.packet.ErrorPacket.{ErrorPacket}
-use Rattle.nb_datagram.specs.declared.packet.Packet.TheVariants.{Error}
-use Rattle.nb_datagram.specs.Fragment.{DatagramParts}
-use Rattle.nb_datagram.specs.Packet.{packet_bytes}
 use Rattle.nb_datagram.specs.FaultTexts.{key_text, kind_text}
 use Rattle.nb_entries.specs.declared.outline.Outline.{Outline}
 use Rattle.nb_entries.specs.declared.ranges.PlaceRange.{PlaceRange}
-use Rattle.nb_table.specs.Contents.{Contents, outline_at, ranges_at, datagram_at}
-use Rattle.nb_telling.specs.Telling.{Field, Ends, LineEnds, place_fields, Text, Range}
-use Rattle.nb_telling.specs.Texts.{field_text, text_of}
 use Rattle.nb_telling.specs.Members.{AreMembers, AreParts, IsMember, nothing, member, list, both, no_part, range, words, parts}
-use Rattle.nb_member.specs.declared.outcome.Outcome.{Outcome}
-use Rattle.nb_member.specs.declared.outcome.Outcome.TheVariants.{Kept, Spoilt, Delivered, Unheard, Other}
-use Rattle.nb_member.specs.declared.outcome.MemberFault.{MemberFault}
-use Rattle.nb_member.specs.Deliveries.{error_of}
+use Rattle.nb_member.specs.declared.outcome.Outcome.TheVariants.{Spoilt}
 use Rattle.nb_member.specs.FaultTexts.{member_fault_place, member_fault_text}
 use Rattle.nb_member.specs.Listing.{end_text, key_line, known_text, more_ranges_text, more_text, partial_text, range_text, ranges_text}
-use Rattle.nb_member.specs.ListingFields.{further_range, key_fields, known_fields, more_fields, outline_fields, places_fields, ranges_fields}
-use Rattle.nb_member.specs.Report.{error_text, parts_text, result_text}
-use Rattle.nb_member.specs.ReportFields.{dropped_fields, error_fields, parts_fields, result_fields, outcome_fields, passed_fields}
 use Rattle.nb_member.specs.Tags.{listed_tag, refused_tag, state_tag, outcome_tag, key_tag}
 use Rattle.nb_telling.specs.Texts as telling
 

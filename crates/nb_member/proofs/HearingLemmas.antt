@@ -1,14 +1,9 @@
 -- Names that are held.
-use Rattle.std.proofs.Common.{◌≡◌, ℕ, zero, suc, Bool, true, false, ◌||◌, List, [], ◌∷◌, refl, ap, ◌∙◌, arith, inl, inr}
-use Rattle.std.specs.Prelude.{Contains}
-use Rattle.std.proofs.lemmas.Bool.{false≢true, or_left, or_right}
-use Rattle.std.proofs.lemmas.List.Elements.{Contains-append_right, Contains-append_cases}
-use Rattle.nb_names.specs.Name.{NetbiosName, name_eq}
+use Rattle.nb_member.proofs.Common.{◌≡◌, ℕ, zero, suc, Bool, true, false, ◌||◌, List, [], ◌∷◌, refl, ap, ◌∙◌, arith, inl, inr, Contains, false≢true, or_left, or_right, Contains-append_right, Contains-append_cases, NetbiosName, name_eq, holds, holds_scope, hears_as, HoldsScope, HearsAs}
 use Rattle.nb_names.specs.DomainName.{domain_eq}
 use Rattle.nb_names.specs.NameFacts.{name_eq_decides, domain_eq_decides}
 use Rattle.nb_datagram.specs.declared.key.Kind.{Kind}
 use Rattle.nb_datagram.specs.declared.key.Kind.TheVariants.{Unique, Group, Broadcast}
-use Rattle.nb_member.specs.Hearing.{holds, holds_scope, hears_as, HoldsScope, HearsAs}
 
 -- a name is in a list of one only where it is that one
 single : (held name : NetbiosName) → Contains (held ∷ []) name → held ≡ name

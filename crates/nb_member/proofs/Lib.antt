@@ -1,3 +1,4 @@
+pub mod Common
 pub mod HearingLemmas
 pub mod EventLemmas
 pub mod LiveLemmas

@@ -1,26 +1,8 @@
 -- Live fragments: how many keys they have, and their tables.
-use Rattle.std.proofs.Common.{◌≡◌, ℕ, zero, suc, ◌-◌, ◌<◌, ◌≤◌, Bool, true, false, cond, List, [], ◌∷◌, map, length, refl, sym, ap, ◌∙◌, arith, Option, None, inl, inr, ◌||◌, not, ◌&&◌, ◌⊎◌, subst, ◌++◌, Some}
-use Rattle.std.specs.Prelude.{is_some, filter, nat_le}
-use Rattle.std.specs.List.{list_any}
+use Rattle.nb_member.proofs.Common.{◌≡◌, ℕ, zero, suc, ◌-◌, ◌<◌, ◌≤◌, Bool, true, false, cond, List, [], ◌∷◌, map, length, refl, sym, ap, ◌∙◌, arith, Option, None, inl, inr, ◌||◌, not, ◌&&◌, ◌⊎◌, subst, ◌++◌, Some, is_some, filter, nat_le, list_any, unsigned_Decides, false≢true, cases_lt, cases_Bool, leb-true, Key, key_cmp, same_key, key_cmp_total, same_key_decides, FragmentParts, Core, core_of, EntryValue, join_entry, joined_at, Contents, entry_in, entry_at, table_of, held_keys, of_source, held_is, get_kept, get-join, keyed, with_key, join, SameCores, Settings, Saying, came, refused, another, clock, Timed, cores, table_from, is_full, is_source_full, NoneFull, live_after, live_from, live, valid, NoneDropped, HasRoomFor, GiveTheSame}
 use Rattle.std.specs.Ordering.{eq_by_cmp}
-use Rattle.std.specs.Cmp.{unsigned_Decides}
 use Rattle.std.specs.Cmp.Lexicographic.{pointwise_decides}
-use Rattle.std.proofs.lemmas.Bool.{false≢true, cases_lt, cases_Bool, leb-true}
 use Rattle.std.proofs.lemmas.List.{append_assoc, append-nil}
-use Rattle.nb_datagram.specs.declared.key.Key.{Key}
-use Rattle.nb_datagram.specs.Key.{key_cmp, same_key, key_cmp_total, same_key_decides}
-use Rattle.nb_datagram.specs.Fragment.{FragmentParts, Core, core_of}
-use Rattle.nb_entries.specs.Entry.{EntryValue, join_entry}
-use Rattle.nb_entries.specs.Maps.{joined_at}
-use Rattle.nb_table.specs.Contents.{Contents, entry_in, entry_at, table_of}
-use Rattle.nb_table.specs.Limits.{held_keys, of_source}
-use Rattle.nb_table.specs.Shared.TableLemmas.{held_is, get_kept, get-join}
-use Rattle.nb_table.specs.Conflict.{keyed, with_key}
-use Rattle.nb_table.specs.Join.{join, SameCores}
-use Rattle.nb_member.specs.declared.settings.Settings.{Settings}
-use Rattle.nb_member.specs.Events.{Saying, came, refused, another, clock}
-use Rattle.nb_member.specs.Live.{Timed, cores, table_from, is_full, is_source_full, NoneFull, live_after, live_from, live}
-use Rattle.nb_member.specs.Agreement.{valid, NoneDropped, HasRoomFor, GiveTheSame}
 use Rattle.std.specs.FinMap as maps
 
 -- ---- how many keys a table has

@@ -1,5 +1,5 @@
 //! Laws of the definitions that the contracts cite. Each is proved; a call does nothing.
-ghost use Rattle.std.specs.Prelude.{◌≡◌, ◌≢◌, ℕ, List, [], filter, Result, Err, ◌++◌, codes};
+ghost use Rattle.std.specs.Prelude.{◌≡◌, ◌≢◌, ℕ, List, [], filter, Option, Result, Err, ◌++◌, codes};
 ghost use Rattle.std.specs.List.{AllByRecursion};
 ghost use Rattle.std.specs.Fmt.{decimal};
 ghost use Rattle.nb_names.specs.Name.{NetbiosName};
@@ -10,7 +10,8 @@ ghost use Rattle.nb_table.specs.Join.{join};
 ghost use Rattle.nb_telling.specs.Members.{AreMembers};
 ghost use Rattle.nb_telling.specs.Texts.{text_of};
 ghost use Rattle.nb_capture.specs.declared.comment_writing.Comments.{Comments};
-ghost use Rattle.nb_capture.specs.LinePrinting.{ShowsLines, TellsLine};
+ghost use Rattle.nb_capture.specs.LinePrinting.{Shows, ShowsLines, TellsLine};
+ghost use Rattle.nb_capture.specs.declared.fault.PrintFault.{PrintFault};
 ghost use Rattle.nb_member.specs.declared.limits.TheConstants.{FRAGMENT_TIMEOUT, MAX_NAMES};
 ghost use Rattle.nb_member.specs.declared.settings.Settings.{Settings};
 ghost use Rattle.nb_member.specs.declared.outcome.Event.{Event};
@@ -28,8 +29,8 @@ ghost use Rattle.nb_member.specs.Agreement.{valid, NoneDropped, GiveTheSame};
 ghost use Rattle.nb_member.specs.Listing.{key_line};
 ghost use Rattle.nb_member.specs.ListingFields.{key_fields};
 ghost use Rattle.nb_member.specs.Report.{parts_text, result_text};
-ghost use Rattle.nb_member.specs.ReportFields.{ReportSaid, dropped_fields, parts_fields, passed_fields, result_fields};
-ghost use Rattle.nb_member.specs.Replaying.{Replayed};
+ghost use Rattle.nb_member.specs.ReportFields.{MayLeave, ReportSaid, dropped_fields, parts_fields, passed_fields, result_fields};
+ghost use Rattle.nb_member.specs.Replaying.{Replayed, Replays};
 ghost use Rattle.nb_table.specs.declared.fault.TableFault.TheVariants as table_fault;
 
 mod deliveries;
@@ -157,6 +158,18 @@ pub fn a_report_is_of_events()
 {
     a_member_does_what_is_said();
     a_member_drops_what_the_clock_ends();
+}
+
+/// What is printed of the lines of an input, a line by its fields, is what a replay of it answers:
+/// the report of the events that the lines say, or a front of that.
+pub fn a_printed_report_is_a_replay()
+    ensures { (comments : Comments) (most : ℕ) (m new : MemberValue) (H : List Event)
+        (s : Stands m H) (bytes : List ℕ) (left before after : Option (List ℕ))
+        (answer : Result ℕ PrintFault) →
+        Shows (TellsLine (ReportSaid comments)) MayLeave most bytes left m new before after answer →
+        Replays comments most m H (live m.settings s.sayings) bytes left new before after answer }
+{
+    a_report_is_of_events();
 }
 
 /// The text of the fields of a key is its line in a listing.

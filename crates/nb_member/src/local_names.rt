@@ -1,7 +1,8 @@
 //! The names of a member.
-ghost use Rattle.std.specs.Prelude.{◌≡◌, [], ◌≤◌, length, Contains, IsTrue, ◌↔◌};
+ghost use Rattle.std.specs.Prelude.{◌≡◌, [], ◌≤◌, length, Contains, IsTrue, ◌↔◌, Some};
 ghost use Rattle.nb_member.specs.declared.limits.TheConstants.{MAX_NAMES};
 ghost use Rattle.nb_member.specs.Hearing.{Adds, holds, holds_scope, hears, hears_as, HoldsScope, Hears};
+ghost use Rattle.nb_member.specs.FaultTexts.{add_fault_text};
 
 use crate::limits::MAX_NAMES;
 use nb_datagram::{Datagram, Kind};
@@ -23,9 +24,6 @@ pub enum AddFault {
 }
 
 impl fmt::Display for AddFault {
-    ghost use Rattle.std.specs.Prelude.{Some};
-    ghost use Rattle.nb_member.specs.FaultTexts.{add_fault_text};
-
     ghost output = { λ fault. Some (add_fault_text fault) };
 
     fn fmt<W: fmt::Write>(&self, f: &mut fmt::Formatter<W>) -> fmt::Result {

@@ -1,7 +1,8 @@
 //! What happens to a member, and what it answers.
-ghost use Rattle.std.specs.Prelude.{◌≡◌};
+ghost use Rattle.std.specs.Prelude.{◌≡◌, Some};
 ghost use Rattle.nb_member.specs.Code.Outcomes.{made_of};
-ghost use Rattle.nb_member.specs.FaultTexts.{member_fault_place};
+ghost use Rattle.nb_member.specs.FaultTexts.{member_fault_place, member_fault_text};
+ghost use Rattle.nb_member.specs.declared.outcome.MemberFault.TheVariants.{Table};
 
 use nb_datagram::{Datagram, DatagramFault, ErrorPacket, Key, LentFragment, UserData};
 use nb_streams::Bytes;
@@ -101,9 +102,6 @@ impl MemberFault {
 }
 
 impl fmt::Display for MemberFault {
-    ghost use Rattle.std.specs.Prelude.{Some};
-    ghost use Rattle.nb_member.specs.FaultTexts.{member_fault_text};
-
     ghost output = { λ fault. Some (member_fault_text fault) };
 
     fn fmt<W: fmt::Write>(&self, f: &mut fmt::Formatter<W>) -> fmt::Result {
@@ -117,9 +115,6 @@ impl fmt::Display for MemberFault {
 impl Error for MemberFault {}
 
 impl From<TableFault> for MemberFault {
-    ghost use Rattle.std.specs.Prelude.{◌≡◌};
-    ghost use Rattle.nb_member.specs.declared.outcome.MemberFault.TheVariants.{Table};
-
     ghost from_gives = { λ fault made. made ≡ Table fault };
 
     fn from(fault: TableFault) -> MemberFault {

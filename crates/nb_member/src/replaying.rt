@@ -1,11 +1,13 @@
 //! Replaying a capture in a member.
-ghost use Rattle.std.specs.Prelude.{◌≡◌, Err};
+ghost use Rattle.std.specs.Prelude.{◌≡◌, Err, ℕ, string_bytes};
 ghost use Rattle.nb_streams.specs.declared.limits.TheConstants.{MAX_INPUT};
 ghost use Rattle.nb_streams.specs.Devices.{ShowsWriteFault};
 ghost use Rattle.nb_capture.specs.declared.comment_writing.Comments.TheVariants.{LeftOut};
 ghost use Rattle.nb_member.specs.Replaying.{ReplaysInput};
+ghost use Rattle.nb_member.specs.Member.{MemberValue};
+ghost use Rattle.nb_member.specs.ReportFields.{MayLeave, ReportSaid};
 
-use crate::laws::a_report_is_of_events;
+use crate::laws::a_printed_report_is_a_replay;
 use crate::line_reports::act_on;
 use crate::member::Member;
 use nb_capture::{
@@ -98,8 +100,8 @@ pub fn replay_with<R: Read, W: Write>(
     ensures settings { member.new.settings ≡ member.old.settings }
     ensures names { member.new.names ≡ member.old.names }
 {
-    // The law that what is reported of lines is the report of their events; the call does nothing.
-    a_report_is_of_events();
+    // The law that what is printed is the report of events; the call does nothing.
+    a_printed_report_is_a_replay();
     let mut text = String::new(alloc);
     let mut report = Report {
         member,
@@ -118,10 +120,6 @@ pub struct Report<'a> {
 }
 
 impl<'a> LineText for Report<'a> {
-    ghost use Rattle.std.specs.Prelude.{ℕ, string_bytes};
-    ghost use Rattle.nb_member.specs.Member.{MemberValue};
-    ghost use Rattle.nb_member.specs.ReportFields.{MayLeave, ReportSaid};
-
     ghost State = { MemberValue };
 
     ghost state = { λ r. r.member.now };

@@ -1,6 +1,6 @@
 -- What ending over counted streams does to the streams that were lent.
 use Rattle.nbt.proofs.Common.{◌≡◌, ◌≢◌, ◌≤◌, ◌⊎◌, inl, inr, ℕ, List, Option, true, refl, sym, ap, subst, arith, Keeps, Text, takes, CountedOf, Counts, no_calls, Keeps-same, Status, BadUsage, Done, Failed, Refused}
-use Rattle.nbt.specs.CommandLine.{AreMisused, AreAlone, nbt_app}
+use Rattle.nbt_usage.specs.CommandLine.{AreMisused, AreAlone, nbt_app}
 use Rattle.nbt_command.specs.Streams.{Streams, streams}
 use Rattle.nbt.specs.Commands.{EndedBy}
 use Rattle.nbt.specs.Ending.{Ends}

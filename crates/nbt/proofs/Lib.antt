@@ -1,4 +1,3 @@
-pub mod CommandRows
 pub mod Common
+pub mod EndedLemmas
 pub mod EndingLemmas
-pub mod MisusedWords

@@ -1,7 +1,7 @@
 -- The command that the matches of clap name, and how it ended (our choice).
 use Rattle.std.specs.Prelude.{◌≡◌, ℕ, List, Some, Result, Ok, Err, codes}
 use Rattle.std.specs.Io.KnownBytes.{Keeps}
-use Rattle.clap.specs.Words.{Text, found_of, rows_of, subcommand_name_of, subcommand_of, subcommand_rows_of}
+use Rattle.clap.specs.Words.{Text, subcommand_name_of, subcommand_of, subcommand_rows_of}
 use Rattle.clap.specs.declared.parser.matches.ArgMatches.{ArgMatches}
 use Rattle.nbt_command.specs.declared.fault.Fault.{Fault}
 use Rattle.nbt_command.specs.declared.fault.Fault.TheVariants.{Arguments}
@@ -11,11 +11,7 @@ use Rattle.nbt_command.specs.FaultTexts.{status_after}
 use Rattle.nbt_command.specs.Streams.{Streams}
 use Rattle.nbt_packets.specs.Commands.{BuildCommand, NameCommand, ShowCommand}
 use Rattle.nbt_reassembly.specs.Commands.{AgreeCommand, ListCommand, MergeCommand, ReplayCommand, SaveCommand}
-use Rattle.nbt.specs.CommandLine.{IsCommand, nbt_app}
-
--- Picks matches name inner: clap entered the subcommand of this name, and these are its own matches
-abbrev pub Picks : ArgMatches → Text → ArgMatches → Type 0
-Picks matches name inner = subcommand_rows_of matches ≡ Some (name, rows_of (found_of inner))
+use Rattle.nbt_usage.specs.CommandLine.{IsCommand, Picks, nbt_app}
 
 -- the status of a command that is done where it has no fault
 abbrev pub with_status : {A : Type 0} → Result A Fault → Result Status Fault

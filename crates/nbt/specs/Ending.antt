@@ -3,10 +3,10 @@ use Rattle.std.specs.Prelude.{◌≡◌, ◌≢◌, ◌≤◌, ◌⊎◌, ℕ, L
 use Rattle.std.specs.Io.KnownBytes.{Keeps}
 use Rattle.clap.specs.Words.{Text, takes}
 use Rattle.nb_streams.specs.Counted.{Counts, no_calls}
-use Rattle.nbt.specs.declared.errors.Audience.{Audience}
-use Rattle.nbt.specs.declared.errors.Audience.TheVariants.{Programs}
+use Rattle.nbt_usage.specs.declared.errors.Audience.{Audience}
+use Rattle.nbt_usage.specs.declared.errors.Audience.TheVariants.{Programs}
 use Rattle.nbt_command.specs.declared.fault.Status.{Status}
-use Rattle.nbt.specs.CommandLine.{AreMisused, AreAlone, nbt_app}
+use Rattle.nbt_usage.specs.CommandLine.{AreMisused, AreAlone, nbt_app}
 use Rattle.nbt.specs.Commands.{EndedBy}
 use Rattle.nbt_command.specs.Status.{code_of}
 

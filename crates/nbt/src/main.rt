@@ -1,25 +1,15 @@
 //! `nbt`: NetBIOS packets on the command line.
 #![tactic(auto)]
 
-mod advice;
-mod command_forms;
-mod command_line;
-mod errors;
-mod help;
-mod hints;
-pub mod laws;
-mod limits;
-mod mistakes;
-mod output;
+mod flushing;
 mod program;
-mod refusals;
 mod streams;
 
-use crate::errors::{Audience, Errors};
-use crate::output::{FlushingInput, Output, SharedOutput};
+use crate::flushing::{FlushingInput, SharedOutput};
 use crate::program::{report, run};
-use crate::streams::{Call, Signature, SignatureInput, run_for};
+use crate::streams::{Call, run_for};
 use nbt_command::Fault;
+use nbt_usage::{Audience, Errors, Output, Signature, SignatureInput, UNREAD};
 use std::alloc::Global;
 use std::cell::{Cell, RefCell};
 use std::env;
@@ -27,12 +17,15 @@ use std::io::{BufWriter, ErrorKind, IsTerminal, Read, Write};
 use std::process::ExitCode;
 
 fn main(rt: HostRuntime) -> ExitCode {
-    let signature = Cell::new(Signature::unread());
+    let signature = Cell::new(UNREAD);
     let code = match run_buffered(&rt, &signature) {
         Ok(code) => code,
         Err(fault) => {
-            let mut errors = Errors::new(rt.stderr(), audience_of(&rt, &signature));
-            report(rt.alloc(), Err(fault), &mut errors).code()
+            let mut errors = Errors {
+                output: Output::new(rt.stderr()),
+                audience: audience_of(&rt, &signature),
+            };
+            report(rt.alloc(), Err(fault), None, &mut errors).code()
         }
     };
     ExitCode::from(code)

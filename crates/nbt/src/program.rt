@@ -1,27 +1,25 @@
 //! The program over any input and output. Between `run` and `run_counted` lies streams.rt.
 ghost use Rattle.std.specs.Prelude.{◌≡◌, ◌≢◌, ◌≤◌, ◌⊎◌, map, string_bytes, true, IfOk, IfErr};
 ghost use Rattle.std.specs.Io.KnownBytes.{Keeps};
-ghost use Rattle.clap.specs.Words.{kind_of, subcommand_name_of, takes};
+ghost use Rattle.clap.specs.Words.{kind_of, takes};
 ghost use Rattle.nbt_command.specs.FaultTexts.{status_after};
-ghost use Rattle.nbt.specs.CommandLine.{AreAlone, DoesRead, nbt_app, AreMisused, Reports, answer_to};
+ghost use Rattle.nbt_usage.specs.CommandLine.{AreAlone, nbt_app, AreMisused, Reports, answer_to};
 ghost use Rattle.nbt_command.specs.Streams.{streams};
 ghost use Rattle.nbt.specs.Commands.{Ended, EndedBy, with_status};
 ghost use Rattle.nbt.specs.Ending.{EndedOver, IsMisuse};
-ghost use Rattle.nbt.specs.Refusals.{IsPrintFault};
+ghost use Rattle.nbt_usage.specs.Refusals.{IsPrintFault};
 ghost use Rattle.nbt_command.specs.Printing.{ExplainsWrite};
 
-use crate::advice::{asked, helped_command, print_advice, refusal_lines};
-use crate::command_forms::Subcommand;
-use crate::command_line::{ClapAnswer, command};
-use crate::errors::{Audience, Errors};
-use crate::hints::{print_dropped, print_hint, print_input, print_mistake, print_unhelped};
-use crate::refusals::refusals;
 use crate::streams::{Call, run_for};
 use clap::{ArgMatches, Error};
 use nb_streams::Counted;
 use nbt_command::{Fault, Status, print};
 use nbt_packets::{run_build, run_name, run_show};
 use nbt_reassembly::{run_agree, run_list, run_merge, run_replay, run_save};
+use nbt_usage::{
+    Audience, ClapAnswer, Errors, REFUSALS, Subcommand, asked, command, print_advice,
+    print_dropped, print_hint, print_input, print_unhelped, refusal_lines,
+};
 use std::alloc::Global;
 use std::io::{Read, Write};
 
@@ -87,22 +85,27 @@ pub fn run_counted<R: Read, W: Write, E: Write>(
     ensures quiet { result ≡ Status.Done → errors.old.audience ≡ Audience.Programs →
         errors.new ≡ errors.old }
 {
-    match asked(alloc, refusals(), words) {
+    match asked(alloc, &REFUSALS, words) {
         Ok(Some(refusal)) => {
-            return report(alloc, done(print_advice(alloc, refusal, output)), errors);
+            return report(
+                alloc,
+                done(print_advice(alloc, refusal, output)),
+                None,
+                errors,
+            );
         }
         Ok(None) => {}
-        Err(_) => return report(alloc, Err(Fault::Memory), errors),
+        Err(_) => return report(alloc, Err(Fault::Memory), None, errors),
     }
     match command(alloc) {
         Ok(command) => match command.try_get_matches_from(words) {
             Ok(matches) => {
                 let outcome = run_command(alloc, &matches, input, output, errors);
-                report_run(alloc, &matches, outcome, errors)
+                report(alloc, outcome, Some(&matches), errors)
             }
             Err(error) => report_unmatched(alloc, words, &error, output, errors),
         },
-        Err(_) => report(alloc, Err(Fault::Memory), errors),
+        Err(_) => report(alloc, Err(Fault::Memory), None, errors),
     }
 }
 
@@ -121,14 +124,10 @@ fn run_command<R: Read, W: Write, E: Write>(
     ensures ran { Ended matches.now (streams R.remaining W.contents
         input.old input.new output.old output.new) result }
     ensures status { IfOk result (λ status. status ≢ Status.BadUsage) }
-    ensures unread { ¬ DoesRead (subcommand_name_of matches.now) → input.new ≡ input.old }
     ensures why { ExplainsWrite result output.old.counts output.new.counts }
     ensures quiet { errors.old.audience ≡ Audience.Programs → errors.new ≡ errors.old }
 {
-    let Some((word, matches)) = matches.subcommand() else {
-        return Err(Fault::Arguments);
-    };
-    let Some(command) = Subcommand::named(word) else {
+    let Some((command, matches)) = Subcommand::entered(matches) else {
         return Err(Fault::Arguments);
     };
     match command {
@@ -168,32 +167,13 @@ fn saved<E: Write>(outcome: Result<u64, Fault>, errors: &mut Errors<'_, E>) -> R
     }
 }
 
-/// The status with which the command that these words name ended, as [`report`] has it. Where they
-/// are a bad packet's, a terminal gets the one that is wrong.
-fn report_run<E: Write>(
-    alloc: Global,
-    matches: &ArgMatches<'_>,
-    outcome: Result<Status, Fault>,
-    errors: &mut Errors<'_, E>,
-) -> Status
-    ensures value { result ≡ status_after outcome }
-    ensures quiet { result ≡ Status.Done → errors.new ≡ errors.old }
-{
-    match outcome {
-        Err(Fault::Build(fault)) => {
-            let _ = errors.print_fault(Fault::Build(fault));
-            print_mistake(alloc, fault, matches, errors);
-            Fault::Build(fault).status()
-        }
-        _ => report(alloc, outcome, errors),
-    }
-}
-
 /// The status with which a command ended. Its fault, if it has one, goes to `errors` as a line; a
-/// person gets advice in a second one.
+/// person gets advice in a second one, which for a packet's words, where they are matched, says what
+/// is wrong with them.
 pub fn report<E: Write>(
     alloc: Global,
     outcome: Result<Status, Fault>,
+    matches: Option<&ArgMatches<'_>>,
     errors: &mut Errors<'_, E>,
 ) -> Status
     ensures value { result ≡ status_after outcome }
@@ -205,7 +185,7 @@ pub fn report<E: Write>(
         Ok(status) => status,
         Err(fault) => {
             let _ = errors.print_fault(fault);
-            print_hint(alloc, fault, errors);
+            print_hint(alloc, fault, matches, errors);
             fault.status()
         }
     }
@@ -226,14 +206,17 @@ fn report_unmatched<W: Write, E: Write>(
     ensures quiet { result ≡ Status.Done → errors.new ≡ errors.old }
 {
     match ClapAnswer::to(error.kind()) {
-        ClapAnswer::Asked => report(alloc, done(print_help(alloc, words, error, output)), errors),
+        ClapAnswer::Asked => {
+            let printed = print_help(alloc, words, error, output);
+            report(alloc, done(printed), None, errors)
+        }
         ClapAnswer::Misused => {
             let _ = write!(errors.output, "{error}");
-            print_unhelped(words, errors);
+            let _ = print_unhelped(words, errors);
             print_input(alloc, words, error, errors);
             Status::BadUsage
         }
-        ClapAnswer::NoMemory => report(alloc, Err(Fault::Memory), errors),
+        ClapAnswer::NoMemory => report(alloc, Err(Fault::Memory), None, errors),
     }
 }
 
@@ -253,9 +236,18 @@ fn print_help<W: Write>(
     ensures err { IfErr result (λ fault. fault ≢ Fault.Write →
         Keeps (W.contents output.old.inner) (W.contents output.new.inner)) }
 {
-    let lines = refusal_lines(alloc, refusals(), helped_command(words))?;
+    let lines = refusal_lines(alloc, &REFUSALS, helped_command(words))?;
     let mut help = String::new(alloc);
     write!(help, "{error}")?;
     help.push_str(lines.as_str())?;
     print(output, help.as_bytes())
+}
+
+/// The command whose help the words ask for; another word, where they ask for no command's.
+fn helped_command(words: &[String]) -> &str {
+    match words {
+        [_, help, command, ..] if help.as_str() == "help" => command.as_str(),
+        [_, command, ..] => command.as_str(),
+        _ => "",
+    }
 }

@@ -1,17 +1,15 @@
-//! The program over streams that are lent to it, and what its input begins with.
+//! The program over streams that are lent to it.
 //!
 //! A contract over a stream that holds a reference doesn't say which one it holds afterwards, so
 //! each stream is moved out of its place and counted, and moved back once the run has ended.
 ghost use Rattle.std.specs.Prelude.{◌≡◌, map, string_bytes};
 ghost use Rattle.nbt.specs.Ending.{IsQuiet, Ends};
 
-use crate::errors::{Audience, Errors};
 use crate::program::run_counted;
 use core::mem::replace_with;
 use nb_streams::Counted;
+use nbt_usage::{Audience, Errors, Output};
 use std::alloc::Global;
-use std::cell::Cell;
-use std::io;
 use std::io::{Read, Write};
 
 /// What a run is given besides its streams.
@@ -92,84 +90,15 @@ fn with_errors<R: Read, W: Write, E: Write>(errors: E, rest: (Call<'_>, R, W)) -
     let (call, input, output) = rest;
     let mut input = Counted::new(input);
     let mut output = Counted::new(output);
-    let mut errors = Errors::new(errors, call.audience);
+    let mut errors = Errors {
+        output: Output::new(errors),
+        audience: call.audience,
+    };
     let status = run_counted(call.alloc, call.words, &mut input, &mut output, &mut errors);
-    let code = status.code();
-    (
-        errors.into_inner(),
-        (code, input.into_inner(), output.into_inner()),
-    )
-}
-
-/// How many bytes a format is known by.
-const WIDTH: usize = 4;
-
-/// What a pcap file begins with, of microseconds and of nanoseconds and in either byte order, and
-/// what a pcapng file does.
-const PCAP: [[u8; WIDTH]; 5] = [
-    [0xa1, 0xb2, 0xc3, 0xd4],
-    [0xd4, 0xc3, 0xb2, 0xa1],
-    [0xa1, 0xb2, 0x3c, 0x4d],
-    [0x4d, 0x3c, 0xb2, 0xa1],
-    [0x0a, 0x0d, 0x0d, 0x0a],
-];
-
-/// The first four bytes of an input, as far as it was read.
-#[derive(Clone, Copy)]
-pub struct Signature {
-    bytes: [u8; WIDTH],
-    held: usize,
-}
-
-impl Signature {
-    /// That of an input of which nothing was read.
-    pub fn unread() -> Signature {
-        Signature {
-            bytes: [0; WIDTH],
-            held: 0,
-        }
-    }
-
-    /// Whether a pcap or a pcapng file begins so.
-    pub fn is_pcap(&self) -> bool {
-        self.held == WIDTH && PCAP.contains(&self.bytes)
-    }
-
-    /// The signature once these bytes were read too.
-    fn with(self, read: &[u8]) -> Signature {
-        let mut signature = self;
-        for byte in read {
-            if signature.held < WIDTH {
-                signature.bytes[signature.held] = *byte;
-                signature.held += 1;
-            } else {
-                break;
-            }
-        }
-        signature
-    }
-}
-
-/// An input whose signature is kept in a cell.
-#[derive(Drop)]
-pub struct SignatureInput<'a, R> {
-    input: R,
-    signature: &'a Cell<Signature>,
-}
-
-impl<'a, R> SignatureInput<'a, R> {
-    /// This input, of which nothing was read yet, with this cell.
-    pub fn new(input: R, signature: &'a Cell<Signature>) -> SignatureInput<'a, R> {
-        SignatureInput { input, signature }
-    }
-}
-
-impl<'a, R: Read> Read for SignatureInput<'a, R> {
-    ghost remaining = { λ r. R.remaining r.input };
-
-    fn read(&mut self, buf: &mut [u8]) -> io::Result<usize> {
-        let count = self.input.read(buf)?;
-        self.signature.set(self.signature.get().with(&buf[..count]));
-        Ok(count)
-    }
+    let Errors {
+        output: Output { device },
+        audience: _,
+    } = errors;
+    let left = (status.code(), input.into_inner(), output.into_inner());
+    (device.into_inner(), left)
 }

@@ -1,22 +1,8 @@
 -- How a command ends that prints the lines of a capture.
-use Rattle.std.specs.Prelude.{List, Option}
-use Rattle.nb_capture.specs.declared.line.Line as capture
-use Rattle.nb_capture.specs.LinePrinting.{Shows}
 use Rattle.nbt_command.proofs.Common.{◌≡◌, ℕ, Result, Err, Counts, ShowsWriteFault, Fault, Read, Write}
 use Rattle.nb_capture.specs.declared.fault.PrintFault.{PrintFault}
 use Rattle.nb_capture.specs.declared.fault.PrintFault.TheVariants as printing
-use Rattle.nbt_command.specs.Lines.{EndsWith}
 use Rattle.nbt_command.specs.Reported.{of_printing}
-
--- with the fault of the printing
-pub ends_shown : {S : Type 0} (IsText : ℕ → List ℕ → S → S → List ℕ → Type 0) (MayLeave : Option capture.Line → S → S → Type 0) (most : ℕ) (bytes : List ℕ)
-    (left : Option (List ℕ)) (first last : S) (before after : Option (List ℕ)) (why : PrintFault)
-    → Shows IsText MayLeave most bytes left first last before after (Err why)
-    → EndsWith (Shows IsText MayLeave most bytes left first last before after) (Err (of_printing why))
-ends_shown IsText MayLeave most bytes left first last before after (printing.Line n) s = s
-ends_shown IsText MayLeave most bytes left first last before after printing.Read s = s
-ends_shown IsText MayLeave most bytes left first last before after printing.Write s = s
-ends_shown IsText MayLeave most bytes left first last before after printing.NoMemory s = s
 
 -- a fault in reading is one of the printing in reading
 pub ends_unread : (X : Type 0) (answer : Result ℕ PrintFault) (why : PrintFault) → (answer ≡ Err printing.Read → X) → answer ≡ Err why

@@ -6,19 +6,15 @@ use Rattle.nb_streams.specs.Devices.{ShowsUnread}
 use Rattle.nb_capture.specs.declared.options.CaptureOptions.{CaptureOptions}
 use Rattle.nb_capture.specs.declared.line.Line as capture
 use Rattle.nb_capture.specs.declared.fault.PrintFault.{PrintFault}
-use Rattle.nb_capture.specs.declared.fault.PrintFault.TheVariants as printing
 use Rattle.nb_capture.specs.LinePrinting.{Shows}
 use Rattle.nbt_command.specs.declared.fault.Fault.{Fault}
-use Rattle.nbt_command.specs.declared.fault.Fault.TheVariants.{Line, Read, Write, Memory}
+use Rattle.nbt_command.specs.declared.fault.Fault.TheVariants.{Read}
+use Rattle.nbt_command.specs.Reported.{of_printing}
 
 -- EndsWith IsAnswer result: where lines are printed with such an answer, a command ends so
 abbrev pub EndsWith : (Result ℕ PrintFault → Type 0) → Result Unit Fault → Type 0
 EndsWith IsAnswer (Ok _) = (n : ℕ) × IsAnswer (Ok n)
-EndsWith IsAnswer (Err (Line n)) = IsAnswer (Err (printing.Line n))
-EndsWith IsAnswer (Err Read) = IsAnswer (Err printing.Read)
-EndsWith IsAnswer (Err Write) = IsAnswer (Err printing.Write)
-EndsWith IsAnswer (Err Memory) = IsAnswer (Err printing.NoMemory)
-EndsWith IsAnswer (Err _) = ⊥
+EndsWith IsAnswer (Err fault) = (why : PrintFault) × (fault ≡ of_printing why) × IsAnswer (Err why)
 
 -- what stands where memory ran out isn't used again
 abbrev pub AnyLeft : {S : Type 0} → Option capture.Line → S → S → Type 0

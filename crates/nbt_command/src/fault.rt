@@ -1,7 +1,9 @@
 //! What the program reports on standard error, and its exit statuses.
-ghost use Rattle.std.specs.Prelude.{◌≡◌, ◌≤◌};
-ghost use Rattle.nbt_command.specs.FaultTexts.{status_of};
+ghost use Rattle.std.specs.Prelude.{◌≡◌, ◌≤◌, Some};
+ghost use Rattle.nbt_command.specs.FaultTexts.{status_of, fault_text};
 ghost use Rattle.nbt_command.specs.Status.{code_of};
+ghost use Rattle.nbt_command.specs.declared.fault.Fault.TheVariants.{Text, Name, Memory};
+ghost use Rattle.nbt_command.specs.Reported.{of_building, of_digits, of_capture, of_printing};
 
 use nb_building::BuildFault;
 use nb_capture::{CaptureFault, PrintFault};
@@ -68,9 +70,6 @@ impl Fault {
 }
 
 impl fmt::Display for Fault {
-    ghost use Rattle.std.specs.Prelude.{Some};
-    ghost use Rattle.nbt_command.specs.FaultTexts.{fault_text};
-
     ghost output = { λ fault. Some (fault_text fault) };
 
     fn fmt<W: fmt::Write>(&self, f: &mut fmt::Formatter<W>) -> fmt::Result {
@@ -97,9 +96,6 @@ impl fmt::Display for Fault {
 }
 
 impl From<TextFault> for Fault {
-    ghost use Rattle.std.specs.Prelude.{◌≡◌};
-    ghost use Rattle.nbt_command.specs.declared.fault.Fault.TheVariants.{Text};
-
     ghost from_gives = { λ fault made. made ≡ Text fault };
 
     fn from(fault: TextFault) -> Fault {
@@ -108,9 +104,6 @@ impl From<TextFault> for Fault {
 }
 
 impl From<NameFault> for Fault {
-    ghost use Rattle.std.specs.Prelude.{◌≡◌};
-    ghost use Rattle.nbt_command.specs.declared.fault.Fault.TheVariants.{Name};
-
     ghost from_gives = { λ fault made. made ≡ Name fault };
 
     fn from(fault: NameFault) -> Fault {
@@ -119,9 +112,6 @@ impl From<NameFault> for Fault {
 }
 
 impl From<BuildFault> for Fault {
-    ghost use Rattle.std.specs.Prelude.{◌≡◌};
-    ghost use Rattle.nbt_command.specs.Reported.{of_building};
-
     ghost from_gives = { λ fault made. made ≡ of_building fault };
 
     fn from(fault: BuildFault) -> Fault {
@@ -133,9 +123,6 @@ impl From<BuildFault> for Fault {
 }
 
 impl From<DigitsFault> for Fault {
-    ghost use Rattle.std.specs.Prelude.{◌≡◌};
-    ghost use Rattle.nbt_command.specs.Reported.{of_digits};
-
     ghost from_gives = { λ fault made. made ≡ of_digits fault };
 
     fn from(fault: DigitsFault) -> Fault {
@@ -147,9 +134,6 @@ impl From<DigitsFault> for Fault {
 }
 
 impl From<CaptureFault> for Fault {
-    ghost use Rattle.std.specs.Prelude.{◌≡◌};
-    ghost use Rattle.nbt_command.specs.Reported.{of_capture};
-
     ghost from_gives = { λ fault made. made ≡ of_capture fault };
 
     fn from(fault: CaptureFault) -> Fault {
@@ -162,9 +146,6 @@ impl From<CaptureFault> for Fault {
 }
 
 impl From<PrintFault> for Fault {
-    ghost use Rattle.std.specs.Prelude.{◌≡◌};
-    ghost use Rattle.nbt_command.specs.Reported.{of_printing};
-
     ghost from_gives = { λ fault made. made ≡ of_printing fault };
 
     fn from(fault: PrintFault) -> Fault {
@@ -178,9 +159,6 @@ impl From<PrintFault> for Fault {
 }
 
 impl From<NoMemory> for Fault {
-    ghost use Rattle.std.specs.Prelude.{◌≡◌};
-    ghost use Rattle.nbt_command.specs.declared.fault.Fault.TheVariants.{Memory};
-
     ghost from_gives = { λ _ made. made ≡ Memory };
 
     fn from(_fault: NoMemory) -> Fault {
@@ -189,9 +167,6 @@ impl From<NoMemory> for Fault {
 }
 
 impl From<AllocError> for Fault {
-    ghost use Rattle.std.specs.Prelude.{◌≡◌};
-    ghost use Rattle.nbt_command.specs.declared.fault.Fault.TheVariants.{Memory};
-
     ghost from_gives = { λ _ made. made ≡ Memory };
 
     fn from(_fault: AllocError) -> Fault {
@@ -200,9 +175,6 @@ impl From<AllocError> for Fault {
 }
 
 impl<T: Drop> From<AllocFailed<T>> for Fault {
-    ghost use Rattle.std.specs.Prelude.{◌≡◌};
-    ghost use Rattle.nbt_command.specs.declared.fault.Fault.TheVariants.{Memory};
-
     ghost from_gives = { λ _ made. made ≡ Memory };
 
     fn from(_fault: AllocFailed<T>) -> Fault {

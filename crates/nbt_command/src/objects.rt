@@ -1,10 +1,11 @@
 //! The JSON objects of the lines of a capture (our choice).
 #![tactic(auto, using(nb_telling::proofs::FoldLemmas::told_both))]
 
-ghost use Rattle.std.specs.Prelude.{◌≡◌, ◌∷◌, [], OnOk, IfOk, fold, string_bytes};
+ghost use Rattle.std.specs.Prelude.{◌≡◌, ◌∷◌, [], OnOk, IfOk, fold, string_bytes, ℕ, List};
 ghost use Rattle.nb_telling.specs.Telling.{Number, Text, tag_of};
 ghost use Rattle.nb_telling.specs.ObjectLines.{IsObject};
-ghost use Rattle.nbt_command.specs.Objects.{CommentObject, ObjectOf, PrintsComment, arrival_fields, bare_tag, comment_fields, comment_tag, comment_of, head_fields, line_tag};
+ghost use Rattle.nbt_command.specs.Objects.{CommentObject, ObjectOf, PrintsComment, arrival_fields, bare_tag, comment_fields, comment_tag, comment_of, head_fields, line_tag, ObjectSaid};
+ghost use Rattle.nbt_command.specs.Lines.{AnyLeft};
 
 use crate::printing_lines::LineFields;
 use nb_capture::{Comments, Line, LineText, push_comment_bytes};
@@ -39,10 +40,6 @@ impl<T: LineFields> Objects<T> {
 }
 
 impl<T: LineFields> LineText for Objects<T> {
-    ghost use Rattle.std.specs.Prelude.{ℕ, List, string_bytes};
-    ghost use Rattle.nbt_command.specs.Lines.{AnyLeft};
-    ghost use Rattle.nbt_command.specs.Objects.{ObjectSaid};
-
     ghost State = { List ℕ × T.State };
 
     ghost state = { λ o. (string_bytes o.comment, T.state o.told) };

@@ -60,7 +60,7 @@ fn lines_of(alloc: Global, matches: &ArgMatches<'_>) -> Result<String, BuildFaul
 }
 
 /// The words after WHAT.
-pub fn words_of<'a>(matches: &'a ArgMatches<'_>) -> &'a [&'a str]
+fn words_of<'a>(matches: &'a ArgMatches<'_>) -> &'a [&'a str]
     ensures { map (λ w. w.now) result.now ≡
         unwrap_or (option_map raw_values (matched_of (found_of matches.now) (codes "ARG"))) [] }
 {

@@ -6,6 +6,6 @@ mod name;
 mod show;
 mod texts;
 
-pub use build::{run_build, words_of};
+pub use build::run_build;
 pub use name::run_name;
 pub use show::run_show;

@@ -2,7 +2,11 @@
 //! stands of those that are refused.
 ghost use Rattle.std.specs.Prelude.{◌≡◌, ◌++◌, ℕ, List, codes, OnOk, string_bytes};
 ghost use Rattle.std.specs.Fmt.{decimal};
-ghost use Rattle.nbt_packets.specs.Showing.{ShowsSaid, ShowsValue};
+ghost use Rattle.nbt_packets.specs.Showing.{ShowsSaid, ShowsValue, Said, IsBrief};
+ghost use Rattle.nbt_command.specs.Lines.{AnyLeft};
+ghost use Rattle.nb_text.specs.Shown.{Shown};
+ghost use Rattle.nb_text.specs.TellsFront.{ShowsFront};
+ghost use Rattle.nbt_packets.specs.ShowingFields.{FrontFields, BriefFields, PacketFields};
 
 use nb_capture::{Comments, Line, LineText, push_comment};
 use nb_streams::{NoMemory, push_decimal};
@@ -32,10 +36,6 @@ impl<P> Texts<P> {
 }
 
 impl<P: PayloadText> LineText for Texts<P> {
-    ghost use Rattle.std.specs.Prelude.{string_bytes};
-    ghost use Rattle.nbt_command.specs.Lines.{AnyLeft};
-    ghost use Rattle.nbt_packets.specs.Showing.{Said};
-
     ghost State = { Unit {0} };
 
     ghost state = { λ t. tt };
@@ -151,8 +151,6 @@ pub trait PayloadText {
 
 /// All of a packet.
 impl PayloadText for Packets {
-    ghost use Rattle.nb_text.specs.Shown.{Shown};
-
     ghost is_text = { Shown };
 
     fn push(&mut self, port: u16, payload: &[u8], text: &mut String) -> Result<(), NoMemory> {
@@ -166,8 +164,6 @@ pub struct Fronts;
 
 /// The packet, or why there is none, and what still stands.
 impl PayloadText for Fronts {
-    ghost use Rattle.nb_text.specs.TellsFront.{ShowsFront};
-
     ghost is_text = { ShowsFront };
 
     fn push(&mut self, port: u16, payload: &[u8], text: &mut String) -> Result<(), NoMemory> {
@@ -177,8 +173,6 @@ impl PayloadText for Fronts {
 
 /// The fields of these.
 impl LineFields for Fronts {
-    ghost use Rattle.nbt_packets.specs.ShowingFields.{FrontFields};
-
     ghost State = { Unit {0} };
 
     ghost state = { λ s. tt };
@@ -213,8 +207,6 @@ impl Phrases {
 
 /// A payload's phrase, and the end of the line.
 impl PayloadText for Phrases {
-    ghost use Rattle.nbt_packets.specs.Showing.{IsBrief};
-
     ghost is_text = { IsBrief };
 
     fn push(&mut self, port: u16, payload: &[u8], text: &mut String) -> Result<(), NoMemory> {
@@ -226,8 +218,6 @@ impl PayloadText for Phrases {
 
 /// A payload's phrase, and the packet.
 impl LineFields for Phrases {
-    ghost use Rattle.nbt_packets.specs.ShowingFields.{BriefFields};
-
     ghost State = { Unit {0} };
 
     ghost state = { λ s. tt };
@@ -254,8 +244,6 @@ impl LineFields for Phrases {
 pub struct Packets;
 
 impl LineFields for Packets {
-    ghost use Rattle.nbt_packets.specs.ShowingFields.{PacketFields};
-
     ghost State = { Unit {0} };
 
     ghost state = { λ s. tt };

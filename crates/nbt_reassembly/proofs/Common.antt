@@ -20,3 +20,20 @@ pub use Rattle.nb_datagram.specs.declared.key.Key.{Key}
 pub use Rattle.nb_member.specs.Member.{MemberValue, Stands, new_member}
 pub use Rattle.nb_table.specs.Limits.{TableValue}
 pub use Rattle.nbt_reassembly.specs.declared.capacity.Capacity.{Capacity}
+pub use Rattle.nbt_reassembly.specs.Tables.{AreTables, CompareFails, ComparesTables, FailsOn, IsElsewhere, IsTableFault, IsTableLine, JoinFails, MergeFails, MergesTables, PrintsJoin, TablesFail, contents_of, fault_of_join, input_fails, no_line, not_joined, not_two, one_fails}
+pub use Rattle.nb_table.specs.Contents.{Contents}
+pub use Rattle.nb_table.specs.Join.{AreTaken, join, joined_all}
+pub use Rattle.nbt_reassembly.specs.Differences.{differ_at, differing, lines_of_keys}
+pub use Rattle.nbt_reassembly.specs.Code.Marks.{Marks, marked, with_mark}
+pub use Rattle.nb_member.specs.ReportFields.{MayLeave, OutcomeFields, ReportSaid, TellsOutcome, dropped, dropped_fields, passed, passed_fields, result_fields, taken}
+pub use Rattle.nbt_command.specs.Options.{AreOptions, IsGiven}
+pub use Rattle.nbt_command.specs.Streams.{Streams}
+pub use Rattle.nbt_reassembly.specs.Capacity.{IsCapacity, IsSourceLimit, most_keys, program_settings}
+pub use Rattle.nbt_reassembly.specs.Commands.{ListCommand, PrintsTables, ReplaysEvents, listed_as}
+pub use Rattle.nbt_reassembly.specs.Replaying.{AddsEach, AddsName, AreTexts, Begins, IsNamesFault, IsRefusedName, IsUnbegun, more, none}
+pub use Rattle.nb_member.specs.declared.outcome.MemberFault.{MemberFault}
+pub use Rattle.nbt_command.specs.Printing.{PrintsText, line}
+pub use Rattle.nbt_reassembly.specs.SaveFaults.{PayloadStops, SaidStops, StopsSaving, UnsavedLine, output_fails}
+pub use Rattle.nbt_reassembly.specs.Saving.{SavesCapture, SavesLine, TakesInput, new_saver, saved_digits, saved_line}
+pub use Rattle.nbt_command.specs.Shared.PrintedLemmas.{cut_in_front, prints_as, prints_front, prints_kept, prints_rest, prints_text, prints_uncut}
+pub use Rattle.nb_table.specs.Shared.TreeLemmas.{entries_are, insert_is}

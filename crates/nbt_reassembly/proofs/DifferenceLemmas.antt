@@ -1,21 +1,17 @@
 -- The keys that are marked are those at which two tables differ, ascending.
-use Rattle.nbt_reassembly.proofs.Common.{◌≡◌, ◌&&◌, ◌||◌, cond, Bool, true, false, not, List, [], ◌∷◌, map, Option, Some, None, is_some, IsTrue, ◌↔◌, true≢false, refl, sym, ◌∙◌, ap, ap₂, subst, T, option_eq, list_any, Key, key_cmp, key_cmp_total, key_cmp_exact}
+use Rattle.nbt_reassembly.proofs.Common.{◌≡◌, ◌&&◌, ◌||◌, cond, Bool, true, false, not, List, [], ◌∷◌, map, Option, Some, None, is_some, IsTrue, ◌↔◌, true≢false, refl, sym, ◌∙◌, ap, ap₂, subst, T, option_eq, list_any, Key, key_cmp, key_cmp_total, key_cmp_exact, Contents, join, differ_at, differing, Marks, with_mark, marked}
 use Rattle.std.specs.Option.{option_map}
 use Rattle.std.specs.Ordering.{eq_by_cmp, is_lt}
 use Rattle.std.specs.FinMap.{is_sorted}
 use Rattle.std.specs.FinMap.Entries.{below_all}
 use Rattle.std.specs.FinMap as maps
 use Rattle.nb_entries.specs.Maps.{joined_at}
-use Rattle.nb_table.specs.Contents.{Contents}
 use Rattle.nb_entries.specs.Entry.{EntryValue, join_entry}
 use Rattle.nb_entries.specs.Equal.{same_entry}
-use Rattle.nb_table.specs.Join.{join}
 use Rattle.nb_entries.specs.Shared.EqualLemmas.{entry_decides}
 use Rattle.nb_entries.specs.Shared.MarksLemmas.{options_decide}
 use Rattle.nb_table.specs.Shared.TableLemmas.{entries_kept, keys_kept, get_kept, get-join}
 use Rattle.nb_entries.specs.Shared.MapsLemmas.{one_key}
-use Rattle.nbt_reassembly.specs.Differences.{differ_at, differing}
-use Rattle.nbt_reassembly.specs.Code.Marks.{Marks, with_mark, marked}
 
 -- ---- one key
 

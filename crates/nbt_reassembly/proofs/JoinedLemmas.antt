@@ -1,14 +1,9 @@
 -- What `nbt merge` and `nbt agree` have done once the tables of the whole input are read.
-use Rattle.nbt_reassembly.proofs.Common.{◌≡◌, ◌≢◌, ◌≤◌, ◌<◌, ◌+◌, ◌++◌, [], ◌∷◌, ℕ, List, length, take, drop, get_or, slice_get, slice_index_or, Option, Some, refl, sym, ap, ◌∙◌, ap₂, subst, suc, arith, Result, Ok, Err, Appends, Consumes, IsAtEnd, AllZip, AppendsFront, HasLines, TableValue, Capacity, Fault, Memory, NoTables, TwoTablesWanted, Write}
+use Rattle.nbt_reassembly.proofs.Common.{◌≡◌, ◌≢◌, ◌≤◌, ◌<◌, ◌+◌, ◌++◌, [], ◌∷◌, ℕ, List, length, take, drop, get_or, slice_get, slice_index_or, Option, Some, refl, sym, ap, ◌∙◌, ap₂, subst, suc, arith, Result, Ok, Err, Appends, Consumes, IsAtEnd, AllZip, AppendsFront, HasLines, TableValue, Capacity, Fault, Memory, NoTables, TwoTablesWanted, Write, Contents, join, joined_all, AreTaken, PrintsText, most_keys, AreTables, contents_of, fault_of_join, FailsOn, IsElsewhere, IsTableLine, JoinFails, MergeFails, input_fails, MergesTables, PrintsJoin, CompareFails, ComparesTables, TablesFail, no_line, not_joined, not_two, one_fails}
 use Rattle.nb_streams.specs.declared.limits.TheConstants.{MAX_INPUT}
-use Rattle.nb_table.specs.Contents.{Contents}
-use Rattle.nb_table.specs.Join.{join, joined_all, AreTaken}
 use Rattle.nb_table.specs.Merging.{Fits, IsRefused}
 use Rattle.nb_table.specs.declared.fault.TableFault.{TableFault}
-use Rattle.nbt_command.specs.Printing.{PrintsText}
-use Rattle.nbt_reassembly.specs.Capacity.{most_keys}
-use Rattle.nbt_reassembly.specs.Tables.{AreTables, contents_of, fault_of_join, FailsOn, IsElsewhere, IsTableLine, JoinFails, MergeFails, input_fails, MergesTables, PrintsJoin, CompareFails, ComparesTables}
-use Rattle.nbt_reassembly.specs.Tables.{TablesFail, line_fails, no_line, not_joined, not_two, one_fails}
+use Rattle.nbt_reassembly.specs.Tables.{line_fails}
 
 -- one of the tables isn't joined to those before it, and this is reported
 pub join_fails : (first : TableValue) (others : List TableValue) (index : ℕ) (why : TableFault) (fault : Fault)

@@ -1,9 +1,5 @@
 -- What `nbt list` prints, by what is asked for.
-use Rattle.nbt_reassembly.proofs.Common.{◌≡◌, Bool, false, true, codes, subst, Result, ArgMatches, Fault}
-use Rattle.nbt_reassembly.specs.Commands.{ListCommand, PrintsTables}
-use Rattle.nbt_command.specs.Streams.{Streams}
-use Rattle.nbt_reassembly.specs.Commands.{listed_as}
-use Rattle.nbt_command.specs.Options.{IsGiven}
+use Rattle.nbt_reassembly.proofs.Common.{◌≡◌, Bool, false, true, codes, subst, Result, ArgMatches, Fault, ListCommand, PrintsTables, Streams, listed_as, IsGiven}
 
 -- the join of tables as it is asked for
 pub listed : (matches : ArgMatches) (json : Bool) (s : Streams) (r : Result Unit Fault) → ((given : Bool) → IsGiven matches (codes "json") given → json ≡ given)

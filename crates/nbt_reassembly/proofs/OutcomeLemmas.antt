@@ -1,10 +1,8 @@
 -- What is told of what became of a line.
-use Rattle.nbt_reassembly.proofs.Common.{Result, ℕ, List, arith, MemberValue}
+use Rattle.nbt_reassembly.proofs.Common.{Result, ℕ, List, arith, MemberValue, MemberFault, OutcomeFields, TellsOutcome, dropped, dropped_fields, passed, passed_fields, result_fields, taken}
 use Rattle.nb_telling.specs.Telling.{Field}
 use Rattle.nb_telling.specs.Members.{AreMembers}
-use Rattle.nb_member.specs.declared.outcome.MemberFault.{MemberFault}
 use Rattle.nb_member.specs.declared.outcome.Outcome.{Outcome}
-use Rattle.nb_member.specs.ReportFields.{OutcomeFields, TellsOutcome, dropped, dropped_fields, passed, passed_fields, result_fields, taken}
 use Rattle.nb_capture.specs.declared.line.Line as capture
 use Rattle.nbt_command.specs.Objects.{TellsFields}
 

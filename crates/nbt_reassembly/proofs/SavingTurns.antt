@@ -1,14 +1,11 @@
 -- What taking the lines of a capture comes to.
-use Rattle.nbt_reassembly.proofs.Common.{◌≡◌, ◌≢◌, ℕ, List, Option, Some, None, Result, Ok, Err, IfErr, refl, subst, Consumes, IfErr-at_err, Counts, ShowsUnread, with_rest, TableValue, Key, PacketLine, Tick, MemberValue, Capacity, Fault, FullSource, Full, Memory, Read, Write}
+use Rattle.nbt_reassembly.proofs.Common.{◌≡◌, ◌≢◌, ℕ, List, Option, Some, None, Result, Ok, Err, IfErr, refl, subst, Consumes, IfErr-at_err, Counts, ShowsUnread, with_rest, TableValue, Key, PacketLine, Tick, MemberValue, Capacity, Fault, FullSource, Full, Memory, Read, Write, MemberFault, PayloadStops, SaidStops, StopsSaving, UnsavedLine, saved_digits, SavesCapture, SavesLine, TakesInput, new_saver}
 use Rattle.nb_table.specs.declared.fault.TableFault.TheVariants as tables
 use Rattle.nb_capture.specs.declared.line.Line.{Line}
-use Rattle.nb_member.specs.declared.outcome.MemberFault.{MemberFault}
 use Rattle.nb_member.specs.declared.outcome.MemberFault.TheVariants.{Table}
 use Rattle.nb_capture.specs.LineTaking.{TakesEach, EndsEarly, malformed, unread, no_memory, not_taken, TakesLines}
 use Rattle.nb_member.specs.Taking.{Takes}
 use Rattle.nbt_command.specs.Reported.{of_capture}
-use Rattle.nbt_reassembly.specs.SaveFaults.{PayloadStops, SaidStops, StopsSaving, UnsavedLine}
-use Rattle.nbt_reassembly.specs.Saving.{saved_digits, SavesCapture, SavesLine, TakesInput, new_saver}
 
 -- ---- what a line says
 

@@ -1,7 +1,6 @@
 -- What counting lines, and reading the table of each, keeps from turn to turn.
-use Rattle.nbt_reassembly.proofs.Common.{◌≡◌, ◌≤◌, ◌<◌, ◌+◌, ◌++◌, [], ◌∷◌, ℕ, List, length, refl, sym, ◌∙◌, ap, subst, append_assoc, arith, AllZip, append-nil, length-append, IsLine, HasLines, TableValue, Capacity, Fault}
+use Rattle.nbt_reassembly.proofs.Common.{◌≡◌, ◌≤◌, ◌<◌, ◌+◌, ◌++◌, [], ◌∷◌, ℕ, List, length, refl, sym, ◌∙◌, ap, subst, append_assoc, arith, AllZip, append-nil, length-append, IsLine, HasLines, TableValue, Capacity, Fault, IsTableLine, IsTableFault, AreTables, TablesFail}
 use Rattle.nb_streams.specs.LineFacts.{any_lines, first_line, no_lines, one_line, same_lines}
-use Rattle.nbt_reassembly.specs.Tables.{IsTableLine, IsTableFault, AreTables, TablesFail}
 
 -- so many lines stand before the rest
 pub record IsCounting (text rest : List ℕ) (count : ℕ) : Type 0 where

@@ -1,6 +1,6 @@
 -- What each command does, by what clap's matches hold for its options and arguments (our choice).
 use Rattle.std.specs.Prelude.{◌≡◌, ◌≢◌, ◌⊎◌, ℕ, Bool, false, true, List, [], codes, Option, Result, IfOk, IfErr, OnOk}
-use Rattle.std.specs.Io.KnownBytes.{Keeps}
+use Rattle.std.specs.Io.KnownBytes.{Consumes, Keeps}
 use Rattle.std.specs.Result.{IsErrAnd}
 use Rattle.clap.specs.Words.{Text}
 use Rattle.clap.specs.declared.parser.matches.ArgMatches.{ArgMatches}
@@ -8,6 +8,7 @@ use Rattle.nb_streams.specs.declared.limits.TheConstants.{MAX_INPUT}
 use Rattle.nb_member.specs.Listing.{listing}
 use Rattle.nb_member.specs.ListingFields.{listed_objects}
 use Rattle.nb_member.specs.Member.{MemberValue}
+use Rattle.nb_member.specs.Replaying as member_replays
 use Rattle.nb_member.specs.ReportFields.{MayLeave, OutcomeFields, ReportSaid}
 use Rattle.nb_table.specs.Contents.{Contents}
 use Rattle.nbt_command.specs.declared.fault.Fault.{Fault}
@@ -17,8 +18,9 @@ use Rattle.nbt_command.specs.declared.fault.Status.TheVariants.{BadUsage}
 use Rattle.nbt_command.specs.Input.{WasCut}
 use Rattle.nb_capture.specs.declared.comment_writing.Comments.{Comments}
 use Rattle.nb_capture.specs.declared.line.Line.{Line}
+use Rattle.nb_capture.specs.declared.options.CaptureOptions.{CaptureOptions}
 use Rattle.nb_capture.specs.LinePrinting.{TellsLine}
-use Rattle.nbt_command.specs.Lines.{AnyLeft, ShowsCapture}
+use Rattle.nbt_command.specs.Lines.{AnyLeft, EndsWith, ShowsCapture}
 use Rattle.nbt_command.specs.Objects.{ObjectSaid}
 use Rattle.nbt_command.specs.Options.{AreOptions, IsGiven, IsInputLimit}
 use Rattle.nbt_command.specs.Printing.{PrintsFront, PrintsLine}
@@ -43,9 +45,22 @@ pub record Replays {S : Type 0} (matches : ArgMatches) (IsText : Comments → �
   pub begins : Begins (IsCapacity matches) (AreTexts matches) member
   pub tells : ShowsCapture (AreOptions matches) (λ options. TellsLine (IsText options.comments)) MayLeave (begun member) s.old_in s.new_in s.reads s.reads_after s.old_out s.new_out result
 
--- `nbt replay`: the report, or its objects. By the law `a_report_is_of_events` of nb_member a report is of what is live
+-- ReplaysEvents matches s result: a new member, which stands for no events, replayed what was read of the input, and the report of
+-- the events that its lines say was printed
+pub record ReplaysEvents (matches : ArgMatches) (s : Streams) (result : Result Unit Fault) : Type 0 where
+  pub member : MemberValue
+  pub begins : Begins (IsCapacity matches) (AreTexts matches) member
+  pub options : CaptureOptions
+  pub asked : AreOptions matches options
+  pub bytes : List ℕ
+  pub read : Consumes s.old_in s.new_in bytes
+  pub new : MemberValue
+  pub replays : EndsWith (member_replays.Replays options.comments options.most member [] [] bytes s.new_in new s.old_out s.new_out) result
+
+-- `nbt replay`: the report, of the lines and of the events that they say, or its objects
 pub record ReplayCommand (matches : ArgMatches) (s : Streams) (result : Result Unit Fault) : Type 0 where
   pub text : IsGiven matches (codes "json") false → Replays matches ReportSaid MayLeave (λ m. m) s result ⊎ IsUnstarted (IsCapacity matches) (AreTexts matches) s result
+  pub events : IsGiven matches (codes "json") false → ReplaysEvents matches s result ⊎ IsUnstarted (IsCapacity matches) (AreTexts matches) s result
   pub json : IsGiven matches (codes "json") true → Replays matches (ObjectSaid OutcomeFields) AnyLeft (λ m. ([], m)) s result ⊎ IsUnstarted (IsCapacity matches) (AreTexts matches) s result
   pub cut : IfErr result (λ fault. fault ≡ Read → (most : ℕ) × IsInputLimit matches most × WasCut most s.old_in s.new_in s.reads s.reads_after)
   pub why : WritesShow s result

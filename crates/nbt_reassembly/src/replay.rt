@@ -4,11 +4,13 @@ ghost use Rattle.nbt_reassembly.specs.Commands.{ReplayCommand};
 ghost use Rattle.nbt_command.specs.Streams.{streams};
 ghost use Rattle.nbt_reassembly.specs.Replaying.{AddsEach, AddsName, AreTexts, Begins, IsNamesFault, IsRefusedName, IsUnbegun};
 ghost use Rattle.nbt_reassembly.specs.Capacity.{IsCapacity};
+ghost use Rattle.nb_member.specs.Member.{MemberValue};
+ghost use Rattle.nb_member.specs.ReportFields.{OutcomeFields};
 
 use crate::capacity::{capacity_of, settings_with};
 use clap::ArgMatches;
 use nb_capture::Line;
-use nb_member::laws::fields_are_members as outcomes_are_members;
+use nb_member::laws::{a_printed_report_is_a_replay, fields_are_members as outcomes_are_members};
 use nb_member::{AddFault, LocalNames, Member, Report, tell_line};
 use nb_names::name_from_text;
 use nb_streams::{Counted, NoMemory};
@@ -44,6 +46,8 @@ pub fn run_replay<R: Read, W: Write>(
         let objects = Objects::new(alloc, Outcomes { alloc, member });
         return print_lines(alloc, objects, options, input, output);
     }
+    // The law that what is printed is the report of events; the call does nothing.
+    a_printed_report_is_a_replay();
     let mut text = String::new(alloc);
     let report = Report {
         member: &mut member,
@@ -109,9 +113,6 @@ pub struct Outcomes {
 }
 
 impl LineFields for Outcomes {
-    ghost use Rattle.nb_member.specs.Member.{MemberValue};
-    ghost use Rattle.nb_member.specs.ReportFields.{OutcomeFields};
-
     ghost State = { MemberValue };
 
     ghost state = { λ s. s.member };

@@ -2,8 +2,9 @@
 ghost use Rattle.std.specs.Prelude.{Some, IfOk, IfErr, OnOk};
 ghost use Rattle.nbt_reassembly.specs.Commands.{SaveCommand};
 ghost use Rattle.nbt_command.specs.Streams.{streams};
-ghost use Rattle.nbt_reassembly.specs.SaveFaults.{PayloadStops, SaidStops, StopsSaving};
-ghost use Rattle.nbt_reassembly.specs.Saving.{TakesInput, TakesPayload, TakesSaid};
+ghost use Rattle.nbt_reassembly.specs.SaveFaults.{PayloadStops, SaidStops, StopsSaving, UnsavedLine};
+ghost use Rattle.nbt_reassembly.specs.Saving.{TakesInput, TakesPayload, TakesSaid, SavesLine};
+ghost use Rattle.nb_member.specs.Member.{MemberValue};
 
 use crate::capacity::{Capacity, PORT, capacity_of, settings_with};
 use crate::tables::print_saved;
@@ -73,10 +74,6 @@ struct Saver {
 }
 
 impl LineTaker for Saver {
-    ghost use Rattle.nb_member.specs.Member.{MemberValue};
-    ghost use Rattle.nbt_reassembly.specs.SaveFaults.{UnsavedLine};
-    ghost use Rattle.nbt_reassembly.specs.Saving.{SavesLine};
-
     type Fault = Fault;
 
     ghost State = { MemberValue };

@@ -1,20 +1,10 @@
 -- Lines: one value at most, and one of three kinds.
-use Rattle.std.proofs.Common.{◌≡◌, ◌≢◌, ℕ, zero, ◌%◌, ◌^◌, true, false, List, [], ◌∷◌, ◌++◌, length, refl, sym, ap, ◌∙◌, arith, Some, None, ◌⊎◌, inl, inr, ◌≤◌, Result, Ok, Err}
-use Rattle.std.specs.Prelude.{Contains, codes, slice_get, MatchOption}
-use Rattle.std.specs.List.{list_all}
-use Rattle.std.specs.Char.{is_ascii_digit, is_ascii_hexdigit}
+use Rattle.nb_capture.proofs.Common.{◌≡◌, ◌≢◌, ℕ, zero, ◌%◌, ◌^◌, true, false, List, [], ◌∷◌, ◌++◌, length, refl, sym, ap, ◌∙◌, arith, Some, None, ◌⊎◌, inl, inr, ◌≤◌, Result, Ok, Err, Contains, codes, slice_get, MatchOption, list_all, is_ascii_digit, is_ascii_hexdigit, digits_value, AllDigits, ParsesUnsigned, false≢true, cases_Bool, cases_lt, cases_eq, Contains-append_right, bytes_eq-Decides, Packet, Tick, MAX_LINE, MAX_MOMENT_DIGITS, PortText, names, datagrams, sessions, MomentText, HasWords, packet, tick, Blank, comment, HasValue, SaysNothing, IsMalformed, DataText, empty, digits, HexText}
 use Rattle.std.specs.Str.{bytes_eq, IsAscii}
-use Rattle.std.specs.Str.Parse.{digits_value, AllDigits, ParsesUnsigned}
-use Rattle.std.proofs.lemmas.Bool.{false≢true, cases_Bool, cases_lt, cases_eq}
-use Rattle.std.proofs.lemmas.List.Elements.{Contains-append_right}
-use Rattle.std.proofs.lemmas.Slice.Eq.{bytes_eq-Decides}
 use Rattle.nb_capture.specs.declared.line.Line.{Line}
-use Rattle.nb_capture.specs.declared.line.Line.TheVariants.{Packet, Tick}
-use Rattle.nb_capture.specs.declared.limits.TheConstants.{MAX_LINE, MAX_MOMENT_DIGITS}
 use Rattle.nb_capture.proofs.CaptureLemmas.Words.{AllDigits-from_test, test-from_AllDigits, Contains-behind, Contains-before, Blank-cases, Says-cases, packet_behind, packet_at_space, packet_has_space, tick_behind, moment_no_space, port_no_space, tick_no_space, one_split}
 use Rattle.nb_streams.specs.HexadecimalFacts.{HexText-from_test, test-from_HexText, DataText-cases, length-HexText, one_HexText}
-use Rattle.nb_capture.specs.Capture.{PortText, names, datagrams, sessions, MomentText, HasWords, packet, tick, Blank, nothing, comment, HasValue, SaysNothing, IsMalformed}
-use Rattle.nb_streams.specs.Hexadecimal.{DataText, empty, digits, HexText}
+use Rattle.nb_capture.specs.Capture.{nothing}
 use Rattle.std.specs.Result.{result_ok}
 use Rattle.std.proofs.lemmas.Str.Parse.{parse_digits, numerals_by_value, tells_digits}
 use Rattle.std.proofs.lemmas.Fmt.{IsAscii-from_digits}

@@ -1,21 +1,11 @@
 -- The words of a line, and what stands between spaces.
-use Rattle.std.proofs.Common.{◌≡◌, ◌≢◌, ℕ, zero, suc, ◌+◌, ◌<◌, ◌==◌, Bool, true, false, not, List, [], ◌∷◌, ◌++◌, get_or, refl, sym, ap, ◌∙◌, arith, Err, Some, None, ◌⊎◌, inl, inr}
-use Rattle.std.specs.Prelude.{IsTrue, Contains, codes, slice_get}
-use Rattle.std.specs.List.{IsAnyAnswer, list_all}
-use Rattle.std.specs.Char.{digit_value, is_ascii_digit}
-use Rattle.std.specs.Str.Parse.{AllDigits}
-use Rattle.std.proofs.lemmas.Bool.{false≢true, and_parts}
-use Rattle.std.proofs.lemmas.Bool.Decides.{Decides-eqb, nat_tests}
-use Rattle.std.proofs.lemmas.List.Elements.{contains_decides, Decides-contains, Contains-append_right, Contains-append_cases}
+use Rattle.nb_capture.proofs.Common.{◌≡◌, ◌≢◌, ℕ, zero, suc, ◌+◌, ◌<◌, ◌==◌, Bool, true, false, not, List, [], ◌∷◌, ◌++◌, get_or, refl, sym, ap, ◌∙◌, arith, Err, Some, None, ◌⊎◌, inl, inr, IsTrue, Contains, codes, slice_get, IsAnyAnswer, list_all, digit_value, is_ascii_digit, AllDigits, false≢true, and_parts, Decides-eqb, nat_tests, contains_decides, Decides-contains, Contains-append_right, Contains-append_cases, Packet, Tick, line_fault_of, PortText, names, datagrams, sessions, MomentText, HasWords, packet, tick, Blank, comment, ReadsBy, NeedsMemory, for_payload, DataText, ReadsData}
 pub use Rattle.nb_streams.specs.LineFacts.{one_split}
 use Rattle.nb_capture.specs.declared.line.Line.{Line}
-use Rattle.nb_capture.specs.declared.line.Line.TheVariants.{Packet, Tick}
 use Rattle.nb_capture.specs.declared.fault.LineFault.{LineFault}
-use Rattle.nb_capture.specs.Code.LineTurns.{line_fault_of}
 use Rattle.nb_streams.specs.declared.hexadecimal.DigitsFault.{DigitsFault}
 use Rattle.nb_streams.specs.declared.hexadecimal.DigitsFault.TheVariants.{BadDigits, NoMemory}
-use Rattle.nb_capture.specs.Capture.{PortText, names, datagrams, sessions, MomentText, HasWords, packet, tick, Blank, nothing, comment, ReadsBy, NeedsMemory, for_payload}
-use Rattle.nb_streams.specs.Hexadecimal.{DataText, ReadsData}
+use Rattle.nb_capture.specs.Capture.{nothing}
 
 -- ---- comments
 

@@ -1,14 +1,8 @@
 -- What a room for lines holds, and where its input ends.
-use Rattle.std.proofs.Common.{◌≡◌, ◌<◌, ◌≤◌, ◌+◌, ◌++◌, ◌∷◌, ℕ, List, length, take, drop, sym, ◌∙◌, ap, subst, inl, inr, append_assoc, arith, [], Option, Some, None, Ok}
-use Rattle.std.specs.Prelude.{Contains, IfSome, MatchOption}
-use Rattle.std.proofs.lemmas.List.{length-drop, take-append-drop, take-take, drop-drop, append-nil, take_all}
-use Rattle.std.proofs.lemmas.List.Elements.{Contains-append_left, Contains-append_cases}
+use Rattle.nb_capture.proofs.Common.{◌≡◌, ◌<◌, ◌≤◌, ◌+◌, ◌++◌, ◌∷◌, ℕ, List, length, take, drop, sym, ◌∙◌, ap, subst, inl, inr, append_assoc, arith, [], Option, Some, None, Ok, Contains, IfSome, MatchOption, length-drop, take-append-drop, take-take, drop-drop, append-nil, take_all, Contains-append_left, Contains-append_cases, Counts, ReadsMore, handed_out, with_bytes, MAX_LINE, IsFeedAt, HandsFirst, line_of_size, standing_so, IsTooLong, ReadsLine, RoomValue, ManyCalls, no_call}
 use Rattle.std.proofs.Math.Seq.{take-add}
-use Rattle.nb_streams.specs.Counted.{Counts}
-use Rattle.nb_streams.specs.Room.{RoomValue as Held, ReadsMore, handed_out, with_bytes}
-use Rattle.nb_capture.specs.declared.limits.TheConstants.{MAX_LINE}
-use Rattle.nb_capture.specs.Code.LineSteps.{IsFeedAt, HandsFirst, line_of_size, standing_so}
-use Rattle.nb_capture.specs.LineReading.{IsTooLong, ReadsLine, RoomValue, ManyCalls, no_call, one_more}
+use Rattle.nb_streams.specs.Room.{RoomValue as Held}
+use Rattle.nb_capture.specs.LineReading.{one_more}
 use Rattle.nb_capture.proofs.LineLemmas.Seeking.{IsSeeking, empty_is, turn_none, turn_last}
 use Rattle.nb_capture.specs.declared.line_reading.First.TheVariants as first
 use Rattle.nb_capture.specs.declared.line_room.Standing.TheVariants.{Reading, Ended}

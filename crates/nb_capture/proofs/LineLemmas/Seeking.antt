@@ -1,13 +1,6 @@
 -- What reading to a line keeps from read to read.
-use Rattle.std.proofs.Common.{◌≡◌, ◌⊎◌, ◌≤◌, ◌<◌, ◌+◌, ◌++◌, ◌∷◌, ℕ, List, [], take, drop, length, Option, Some, None, Result, Ok, Err, refl, sym, ◌∙◌, ap, subst, inl, inr, append_assoc, arith}
-use Rattle.std.specs.Prelude.{Contains}
-use Rattle.std.specs.Io.KnownBytes.{Consumes, IsAtEnd}
-use Rattle.std.proofs.lemmas.List.Elements.{Contains-append_left}
-use Rattle.std.proofs.lemmas.List.{append-nil, length-append, length-take-le, take_at, take_all, drop_all}
-use Rattle.nb_streams.specs.Counted.{Counts}
-use Rattle.nb_streams.specs.Devices.{GrowTo}
-use Rattle.nb_streams.specs.DeviceFacts.{Consumes-nil, Consumes-more, Consumes-kept, grows_on, cut_from}
-use Rattle.nb_streams.specs.Room.{RoomValue as Held, ReadsMore, let_go_of, handed_out, with_bytes}
+use Rattle.nb_capture.proofs.Common.{◌≡◌, ◌⊎◌, ◌≤◌, ◌<◌, ◌+◌, ◌++◌, ◌∷◌, ℕ, List, [], take, drop, length, Option, Some, None, Result, Ok, Err, refl, sym, ◌∙◌, ap, subst, inl, inr, append_assoc, arith, Contains, Consumes, IsAtEnd, Contains-append_left, append-nil, length-append, length-take-le, take_at, take_all, drop_all, Counts, GrowTo, Consumes-nil, Consumes-more, Consumes-kept, grows_on, cut_from, ReadsMore, let_go_of, handed_out, with_bytes, MAX_LINE, Answers, LastRead, ReadsLine, Repeats, RoomValue, IsOpen, IsTooLong, HandsFirst, IsFeedAt, IsRoom, Suits, standing_so}
+use Rattle.nb_streams.specs.Room.{RoomValue as Held}
 use Rattle.nb_streams.specs.declared.limits.TheConstants.{MAX_READ}
 use Rattle.nb_streams.specs.declared.fault.RoomFault.{RoomFault}
 use Rattle.nb_streams.specs.declared.fault.RoomFault.TheVariants as fault
@@ -16,9 +9,6 @@ use Rattle.nb_capture.specs.declared.fault.LineReadFault.{LineReadFault}
 use Rattle.nb_capture.specs.declared.fault.LineReadFault.TheVariants.{Read, TooLong, NoMemory}
 use Rattle.nb_capture.specs.declared.line_room.Standing.{Standing}
 use Rattle.nb_capture.specs.declared.line_room.Standing.TheVariants as standing
-use Rattle.nb_capture.specs.declared.limits.TheConstants.{MAX_LINE}
-use Rattle.nb_capture.specs.LineReading.{Answers, LastRead, ReadsLine, Repeats, RoomValue, IsOpen, IsTooLong}
-use Rattle.nb_capture.specs.Code.LineSteps.{HandsFirst, IsFeedAt, IsRoom, Suits, standing_so}
 
 -- these bytes were read, and none so far seen is a line feed
 pub record IsSeeking (old : Held) (before now : Option (List ℕ)) (counts later : Counts) (room : Held) (seen : ℕ) : Type 0 where

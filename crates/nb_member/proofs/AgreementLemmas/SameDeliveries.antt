@@ -1,28 +1,12 @@
 -- What members hand over that are given the same fragments.
-use Rattle.std.proofs.Common.{◌≡◌, ◌↔◌, Bool, cond, List, [], ◌∷◌, Option, Some, None, sym, ap, ◌∙◌, inl, inr, subst}
-use Rattle.std.proofs.lemmas.Bool.{cases_Bool}
-use Rattle.std.specs.Option.{option_to_list}
+use Rattle.nb_member.proofs.Common.{◌≡◌, ◌↔◌, Bool, cond, List, [], ◌∷◌, Option, Some, None, sym, ap, ◌∙◌, inl, inr, subst, cases_Bool, option_to_list, NetbiosName, Key, Core, DatagramParts, IsSpoilt, Contents, table_of, IsWholeAt, datagram_at, Settings, hears, Hears, Saying, table_from, live, cores, deliveries, of_key, heard, whole_of, HandsOverOnce, HandOverTheSame, HandsOverTheSenders, valid, NoneDropped, GiveTheSame, Event, Pair, none_from}
 use Rattle.std.specs.FinMap as maps
-use Rattle.nb_names.specs.Name.{NetbiosName}
-use Rattle.nb_datagram.specs.declared.key.Key.{Key}
-use Rattle.nb_datagram.specs.Fragment.{Core, DatagramParts}
 use Rattle.nb_entries.specs.declared.slot.Slot.TheVariants.{Spoilt}
-use Rattle.nb_table.specs.Conflict.{IsSpoilt}
-use Rattle.nb_table.specs.Contents.{Contents, table_of, IsWholeAt, datagram_at}
 use Rattle.nb_table.specs.Sender.{HasPartsAlone, HasAll, Gives}
-use Rattle.nb_member.specs.declared.settings.Settings.{Settings}
 use Rattle.nb_member.proofs.HearingLemmas.{Hears-from_test, test-from_Hears}
 use Rattle.nb_member.proofs.LiveLemmas.{TablesKnown, live_is_valid, rooms, same_live}
 use Rattle.nb_member.proofs.DeliveryLemmas.WholeKeys.{DatagramsKnown, filters_swap, all_heard_from_none}
-use Rattle.nb_member.specs.Hearing.{hears, Hears}
-use Rattle.nb_member.specs.Events.{Saying}
-use Rattle.nb_member.specs.Live.{table_from, live, cores}
-use Rattle.nb_member.specs.Deliveries.{deliveries}
-use Rattle.nb_member.specs.Agreement.{of_key, heard, whole_of, HandsOverOnce, HandOverTheSame, HandsOverTheSenders, valid, NoneDropped, GiveTheSame}
-use Rattle.nb_member.specs.declared.outcome.Event.{Event}
-use Rattle.nb_member.specs.declared.pair.Pair.{Pair}
 use Rattle.nb_member.proofs.AgreementLemmas.SameTable.{BothDid}
-use Rattle.nb_entries.specs.Shared.MapsLemmas.{none_from}
 
 -- a table has a key spoilt where its fragments disagree about it
 abbrev pub SpoiltKnown : Type 0

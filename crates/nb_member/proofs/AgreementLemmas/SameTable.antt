@@ -1,28 +1,11 @@
 -- What two members that are given the same fragments hold, and what the merge of two members' tables is.
-use Rattle.std.proofs.Common.{◌≡◌, ℕ, true, List, [], ◌∷◌, ◌++◌, length, take, drop, refl, sym, ap, subst, ◌∙◌, arith, Option, Some, None}
+use Rattle.nb_member.proofs.Common.{◌≡◌, ℕ, true, List, [], ◌∷◌, ◌++◌, length, take, drop, refl, sym, ap, subst, ◌∙◌, arith, Option, Some, None, false≢true, take-append-drop, length-drop, NetbiosName, Key, key_cmp, Core, Contents, table_of, join, SameCores, Event, Pair, RunReport, RunStop, Settings, GiveTheSame, AreGivenTheSame, StoppedForMemory, TookAll, Agree, deliveries, Saying, came, Says, Say, Timed, cores, table_from, is_full, HasRoom, NoneFull, live_after, live_from, live, MemberValue, contents, new_member, Stands, MeetsLimit, StopsBefore, TakesEvents}
 use Rattle.std.specs.FinMap as maps
-use Rattle.std.proofs.lemmas.Bool.{false≢true}
-use Rattle.std.proofs.lemmas.List.{append-nil, take-append-drop, length-drop}
-use Rattle.nb_names.specs.Name.{NetbiosName}
-use Rattle.nb_datagram.specs.declared.key.Key.{Key}
-use Rattle.nb_datagram.specs.Key.{key_cmp}
-use Rattle.nb_datagram.specs.Fragment.{Core}
-use Rattle.nb_table.specs.Contents.{Contents, table_of}
-use Rattle.nb_table.specs.Join.{join, SameCores}
-use Rattle.nb_member.specs.declared.outcome.Event.{Event}
-use Rattle.nb_member.specs.declared.pair.Pair.{Pair}
-use Rattle.nb_member.specs.declared.event_taking.RunReport.{RunReport}
-use Rattle.nb_member.specs.declared.event_taking.RunStop.{RunStop}
+use Rattle.std.proofs.lemmas.List.{append-nil}
 use Rattle.nb_member.specs.declared.event_taking.RunStop.TheVariants.{Full, FullSource, NoMemory}
-use Rattle.nb_member.specs.declared.settings.Settings.{Settings}
 use Rattle.nb_member.proofs.EventLemmas.{say_by}
 use Rattle.nb_member.proofs.LiveLemmas.{cores-append}
-use Rattle.nb_member.specs.Agreement.{GiveTheSame, AreGivenTheSame, StoppedForMemory, TookAll, Agree}
-use Rattle.nb_member.specs.Deliveries.{deliveries}
-use Rattle.nb_member.specs.Events.{Saying, came, Says, Say, none, more}
-use Rattle.nb_member.specs.Live.{Timed, cores, table_from, is_full, HasRoom, NoneFull, live_after, live_from, live}
-use Rattle.nb_member.specs.Member.{MemberValue, contents, new_member, Stands}
-use Rattle.nb_member.specs.EventTaking.{MeetsLimit, StopsBefore, TakesEvents}
+use Rattle.nb_member.specs.Events.{none, more}
 
 -- what the sayings of events are known to be
 pub record SayingsKnown : Type 0 where

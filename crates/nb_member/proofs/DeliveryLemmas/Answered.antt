@@ -1,28 +1,10 @@
 -- What an answer shows of the datagrams and error packets that are handed out.
-use Rattle.std.proofs.Common.{◌≡◌, ℕ, Bool, true, false, cond, List, [], ◌∷◌, ◌++◌, refl, sym, ap, ◌∙◌, Option, Some, None, Result, Ok, Err}
-use Rattle.std.specs.Prelude.{filter, option_and_then}
-use Rattle.std.specs.List.{flat_map}
-use Rattle.std.specs.Option.{option_to_list}
-use Rattle.nb_names.specs.Name.{NetbiosName}
-use Rattle.nb_datagram.specs.declared.key.Key.{Key}
-use Rattle.nb_datagram.specs.declared.packet.ErrorPacket.{ErrorPacket}
-use Rattle.nb_datagram.specs.Fragment.{DatagramParts, FragmentParts}
+use Rattle.nb_member.proofs.Common.{◌≡◌, ℕ, Bool, true, false, cond, List, [], ◌∷◌, ◌++◌, refl, sym, ap, ◌∙◌, Option, Some, None, Result, Ok, Err, filter, option_and_then, flat_map, option_to_list, NetbiosName, Key, ErrorPacket, DatagramParts, FragmentParts, Contents, newly_whole, datagram_at, EntryValue, MemberFault, Outcome, Delivered, Unheard, Settings, Answers, AnswersFragment, outcome_of, delivery_in, error_in, made_by, errors_by, error_of, hears, unheard, Saying, came, refused, another, clock, Timed, table_from, is_full, live_after}
 use Rattle.nb_entries.specs.declared.outline.Change.TheVariants as change
 use Rattle.nb_entries.specs.Change.{Change, whole_by as made_whole}
 use Rattle.nb_table.specs.Change.{IsChange}
-use Rattle.nb_table.specs.Contents.{Contents, newly_whole, datagram_at}
-use Rattle.nb_entries.specs.Entry.{EntryValue}
 use Rattle.nb_entries.specs.Whole.{datagram_of, newly}
-use Rattle.nb_member.specs.declared.outcome.MemberFault.{MemberFault}
-use Rattle.nb_member.specs.declared.outcome.Outcome.{Outcome}
-use Rattle.nb_member.specs.declared.outcome.Outcome.TheVariants.{Delivered, Unheard}
-use Rattle.nb_member.specs.declared.settings.Settings.{Settings}
 use Rattle.nb_member.proofs.TakingLemmas.Payloads.{live_same}
-use Rattle.nb_member.specs.Taking.{Answers, AnswersFragment, outcome_of}
-use Rattle.nb_member.specs.Deliveries.{delivery_in, error_in, made_by, errors_by, error_of}
-use Rattle.nb_member.specs.Hearing.{hears, unheard}
-use Rattle.nb_member.specs.Events.{Saying, came, refused, another, clock}
-use Rattle.nb_member.specs.Live.{Timed, table_from, is_full, live_after}
 use Rattle.nb_entries.specs.Shared.WholeLemmas.{newly_none, newly_same}
 
 -- ---- what becomes whole

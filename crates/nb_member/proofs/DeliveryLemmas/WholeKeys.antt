@@ -1,31 +1,12 @@
 -- What becomes whole, and that it does so once.
-use Rattle.std.proofs.Common.{◌≡◌, ◌↔◌, Bool, true, false, cond, List, [], ◌∷◌, ◌++◌, length, get_or, option_and_then, Option, Some, None, refl, sym, ap, ◌∙◌, subst, ap₂}
+use Rattle.nb_member.proofs.Common.{◌≡◌, ◌↔◌, Bool, true, false, cond, List, [], ◌∷◌, ◌++◌, length, get_or, option_and_then, Option, Some, None, refl, sym, ap, ◌∙◌, subst, ap₂, filter, option_to_list, filter-append, NetbiosName, Key, same_key, same_key_decides, Core, core_of, DatagramParts, joined_at, Held, EntryFacts, EntryValue, join_entry, facts_agree, facts_together, facts_of, at-none, Contents, table_of, datagram_at, newly_whole, join, get-join, get-table_of-one, get-table_of, Settings, Saying, came, refused, another, clock, Timed, cores, table_from, is_full, live_after, live_from, live, DropsNone, NoneDropped, of_key, heard, hears, made_by, made, deliveries}
 use Rattle.std.proofs.lemmas.Option.{none-some, slice_get-get_or}
-use Rattle.std.specs.Prelude.{filter}
-use Rattle.std.specs.Option.{option_to_list}
-use Rattle.std.proofs.lemmas.List.Elements.{filter-append}
-use Rattle.nb_names.specs.Name.{NetbiosName}
-use Rattle.nb_datagram.specs.declared.key.Key.{Key}
-use Rattle.nb_datagram.specs.Key.{same_key, same_key_decides}
-use Rattle.nb_datagram.specs.Fragment.{Core, core_of, DatagramParts}
-use Rattle.nb_entries.specs.Maps.{joined_at}
-use Rattle.nb_entries.specs.declared.slot.Slot.TheVariants.{Spoilt, Held}
-use Rattle.nb_entries.specs.Entry.{EntryFacts, EntryValue, join_entry, facts_agree, facts_together, facts_of}
+use Rattle.nb_entries.specs.declared.slot.Slot.TheVariants.{Spoilt}
 use Rattle.nb_entries.specs.Whole.{IsDatagram, datagram_of, newly}
 use Rattle.nb_entries.specs.Shared.MarksLemmas.{first_left}
 use Rattle.nb_entries.specs.Shared.CoverLemmas.{in_union}
-use Rattle.nb_entries.specs.Shared.MapsLemmas.{at-none}
 use Rattle.nb_entries.specs.Shared.WholeLemmas.{newly_same}
-use Rattle.nb_table.specs.Contents.{Contents, table_of, datagram_at, newly_whole}
-use Rattle.nb_table.specs.Join.{join}
-use Rattle.nb_table.specs.Shared.TableLemmas.{get-join, get-table_of-one, get-table_of}
-use Rattle.nb_member.specs.declared.settings.Settings.{Settings}
 use Rattle.nb_member.proofs.LiveLemmas.{cores-append}
-use Rattle.nb_member.specs.Events.{Saying, came, refused, another, clock}
-use Rattle.nb_member.specs.Live.{Timed, cores, table_from, is_full, live_after, live_from, live}
-use Rattle.nb_member.specs.Agreement.{DropsNone, NoneDropped, of_key, heard}
-use Rattle.nb_member.specs.Hearing.{hears}
-use Rattle.nb_member.specs.Deliveries.{made_by, made, deliveries}
 use Rattle.std.specs.FinMap as maps
 
 -- ---- what an event makes of a key: whole it stays as it is, unless it is spoilt, and spoilt it stays

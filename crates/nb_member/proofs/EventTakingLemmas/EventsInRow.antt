@@ -1,22 +1,8 @@
 -- Events in a row, one after another.
-use Rattle.std.proofs.Common.{◌≡◌, ℕ, ◌+◌, ◌≤◌, List, [], ◌∷◌, ◌++◌, length, take, drop, refl, sym, ap, subst, ◌∙◌, arith}
-use Rattle.std.specs.Prelude.{filter, Bool, cond}
+use Rattle.nb_member.proofs.Common.{◌≡◌, ℕ, ◌+◌, ◌≤◌, List, [], ◌∷◌, ◌++◌, length, take, drop, refl, sym, ap, subst, ◌∙◌, arith, filter, Bool, cond, filter-append, NetbiosName, ErrorPacket, DatagramParts, Event, RunReport, Settings, made_by, errors_by, made, deliveries, errors, hears, Saying, came, refused, another, clock, Says, Say, Timed, NoneFull, live_after, live_from, live, MemberValue, StandsOver, Stands, HandedOut, HasTaken, IsLeft, refused_count, StopsBefore, TakesEvents}
 use Rattle.std.proofs.lemmas.List.{append_assoc, append-nil}
-use Rattle.std.proofs.lemmas.List.Elements.{filter-append}
 use Rattle.std.proofs.lemmas.List.Sums.{fold-append}
-use Rattle.nb_names.specs.Name.{NetbiosName}
-use Rattle.nb_datagram.specs.declared.packet.ErrorPacket.{ErrorPacket}
-use Rattle.nb_datagram.specs.Fragment.{DatagramParts}
-use Rattle.nb_member.specs.declared.outcome.Event.{Event}
-use Rattle.nb_member.specs.declared.event_taking.RunReport.{RunReport}
-use Rattle.nb_member.specs.declared.settings.Settings.{Settings}
-use Rattle.nb_member.specs.Deliveries.{made_by, errors_by, made, deliveries, errors}
-use Rattle.nb_member.specs.Hearing.{hears}
-use Rattle.nb_member.specs.Events.{Saying, came, refused, another, clock, Says, Say, none, more}
-use Rattle.nb_member.specs.Live.{Timed, NoneFull, live_after, live_from, live}
-use Rattle.nb_member.specs.Member.{MemberValue, StandsOver, Stands}
-use Rattle.nb_member.specs.Code.EventTurns.{HandedOut, HasTaken}
-use Rattle.nb_member.specs.EventTaking.{IsLeft, refused_count, StopsBefore, TakesEvents}
+use Rattle.nb_member.specs.Events.{none, more}
 
 -- ---- what two lists of events say, one after the other
 

@@ -1,37 +1,18 @@
 -- One event of several, and what they come to.
-use Rattle.std.proofs.Common.{◌≡◌, ◌<◌, ◌≤◌, ◌+◌, ◌++◌, ℕ, suc, Bool, true, false, cond, List, [], ◌∷◌, length, take, drop, get_or, refl, sym, ap, ◌∙◌, arith, subst, append-nil, drop-cons, add-one, take_all, inl, inr, Option, Some, None, Result, Ok, Err}
-use Rattle.std.specs.Prelude.{filter, unwrap_or, MatchOption}
+use Rattle.nb_member.proofs.Common.{◌≡◌, ◌<◌, ◌≤◌, ◌+◌, ◌++◌, ℕ, suc, Bool, true, false, cond, List, [], ◌∷◌, length, take, drop, get_or, refl, sym, ap, ◌∙◌, arith, subst, drop-cons, add-one, take_all, inl, inr, Option, Some, None, Result, Ok, Err, filter, unwrap_or, MatchOption, NetbiosName, Key, ErrorPacket, Direct, Error, Query, FragmentParts, DatagramParts, TableFault, Event, MemberFault, Outcome, RunReport, RunStop, Settings, KeepsSetup, BeginsFull, Answers, Does, delivery_in, error_in, made_by, errors_by, hears, Saying, came, refused, another, clock, Says, Timed, is_full, is_source_full, HasRoom, live_after, live_from, MemberValue, StandsOver, with_timed, after_clock, MeetsLimit, IsLeft, IsPayload, refused_count, StopsAt, StopsBefore, TakesEvents, noted, HandedOut, HasTaken, TakesEvent}
+use Rattle.std.proofs.Common.{append-nil}
 use Rattle.std.proofs.Math.ListN.{drop_of_length-le}
 use Rattle.std.proofs.Math.Seq.{take-suc}
-use Rattle.nb_names.specs.Name.{NetbiosName}
-use Rattle.nb_datagram.specs.declared.key.Key.{Key}
-use Rattle.nb_datagram.specs.declared.packet.ErrorPacket.{ErrorPacket}
 use Rattle.nb_datagram.specs.declared.fault.DatagramFault.{DatagramFault}
-use Rattle.nb_datagram.specs.declared.packet.Packet.TheVariants.{Direct, Error, Query}
-use Rattle.nb_datagram.specs.Fragment.{FragmentParts, DatagramParts}
-use Rattle.nb_table.specs.declared.fault.TableFault.{TableFault}
 use Rattle.nb_table.specs.declared.fault.TableFault.TheVariants as table_fault
-use Rattle.nb_member.specs.declared.outcome.Event.{Event}
 use Rattle.nb_member.specs.declared.outcome.Event.TheVariants.{Packet, Tick}
-use Rattle.nb_member.specs.declared.outcome.MemberFault.{MemberFault}
 use Rattle.nb_member.specs.declared.outcome.MemberFault.TheVariants as fault
-use Rattle.nb_member.specs.declared.outcome.Outcome.{Outcome}
-use Rattle.nb_member.specs.declared.event_taking.RunReport.{RunReport}
-use Rattle.nb_member.specs.declared.event_taking.RunStop.{RunStop}
 use Rattle.nb_member.specs.declared.event_taking.RunStop.TheVariants.{NoMemory}
-use Rattle.nb_member.specs.declared.settings.Settings.{Settings}
 use Rattle.nb_member.proofs.TakingLemmas.FullKeys.{stops_at, meets_none}
 use Rattle.nb_member.proofs.EventTakingLemmas.EventsInRow.{TookOver, took_none, took_more, takes_from}
 use Rattle.nb_member.proofs.EventLemmas.{SaysOf, of_packet, of_fault, IsInvalid, says_by}
-use Rattle.nb_member.specs.Code.Members.{KeepsSetup, BeginsFull}
-use Rattle.nb_member.specs.Taking.{Answers, Does, Takes}
-use Rattle.nb_member.specs.Deliveries.{delivery_in, error_in, made_by, errors_by}
-use Rattle.nb_member.specs.Hearing.{hears}
-use Rattle.nb_member.specs.Events.{Saying, came, refused, another, clock, Says, tick}
-use Rattle.nb_member.specs.Live.{Timed, is_full, is_source_full, HasRoom, live_after, live_from}
-use Rattle.nb_member.specs.Member.{MemberValue, StandsOver, with_timed, after_clock}
-use Rattle.nb_member.specs.EventTaking.{MeetsLimit, IsLeft, IsPayload, refused_count, StopsAt, StopsBefore, TakesEvents}
-use Rattle.nb_member.specs.Code.EventTurns.{noted, HandedOut, HasTaken, TakesEvent}
+use Rattle.nb_member.specs.Taking.{Takes}
+use Rattle.nb_member.specs.Events.{tick}
 
 -- ---- what is known of a step
 

@@ -1,21 +1,8 @@
 -- Keys whose timers have run out, taken out of a table and of the moments.
-use Rattle.std.proofs.Common.{◌≡◌, ℕ, ◌≤◌, Bool, true, false, not, cond, ◌&&◌, ◌||◌, List, [], ◌∷◌, ◌++◌, Option, Some, None, is_some, refl, sym, ap, ◌∙◌}
-use Rattle.std.specs.Prelude.{filter}
+use Rattle.nb_member.proofs.Common.{◌≡◌, ℕ, ◌≤◌, Bool, true, false, not, cond, ◌&&◌, ◌||◌, List, [], ◌∷◌, ◌++◌, Option, Some, None, is_some, refl, sym, ap, ◌∙◌, filter, eq_by_cmp_equiv, Key, key_cmp, same_key, key_cmp_total, key_cmp_exact, EntryValue, Contents, TableValue, one_key, same_table, false≢true, is_over, Moments, lasts, HaveOneSetOfKeys, StandOnce}
 use Rattle.std.specs.FinMap as maps
-use Rattle.std.specs.Cmp.{eq_by_cmp_equiv}
-use Rattle.nb_datagram.specs.declared.key.Key.{Key}
-use Rattle.nb_datagram.specs.Key.{key_cmp, same_key, key_cmp_total, key_cmp_exact}
-use Rattle.nb_entries.specs.Entry.{EntryValue}
-use Rattle.nb_table.specs.Contents.{Contents}
-use Rattle.nb_table.specs.Limits.{TableValue}
-use Rattle.nb_entries.specs.Shared.MapsLemmas.{one_key}
-use Rattle.nb_table.specs.Shared.TableLemmas.{same_table}
-use Rattle.std.proofs.lemmas.Bool.{false≢true}
 use Rattle.nb_member.proofs.LiveLemmas.{fewer_keys}
 use Rattle.nb_member.proofs.MemberLemmas.Timers.{none_is}
-use Rattle.nb_member.specs.Live.{is_over}
-use Rattle.nb_member.specs.Member.{Moments, lasts}
-use Rattle.nb_member.specs.Code.Members.{HaveOneSetOfKeys, StandOnce}
 
 -- a table without one key
 abbrev pub without : TableValue → Key → TableValue

@@ -1,22 +1,8 @@
 -- Members stand for the fragments that are live: after a fragment, and after a look at the clock.
-use Rattle.std.proofs.Common.{◌≡◌, ℕ, ◌≤◌, Bool, true, false, not, ◌&&◌, ◌||◌, inl, inr, cond, List, [], ◌∷◌, ◌++◌, refl, sym, ap, ◌∙◌, arith, Option, Some, None}
-use Rattle.std.specs.Prelude.{filter, nat_le, is_some}
+use Rattle.nb_member.proofs.Common.{◌≡◌, ℕ, ◌≤◌, Bool, true, false, not, ◌&&◌, ◌||◌, inl, inr, cond, List, [], ◌∷◌, ◌++◌, refl, sym, ap, ◌∙◌, arith, Option, Some, None, filter, nat_le, is_some, cases_Bool, false≢true, leb-true, le-leb, or_left, or_right, Key, same_key, key_cmp_total, same_key_decides, FragmentParts, Core, core_of, keyed, EntryValue, Contents, table_of, join, held_keys, of_source, Limits, IsFull, IsFullSource, Settings, clock, limits_of, Timed, cores, table_from, start_at, is_over, outlives, is_full, is_source_full, live_after, MemberValue, with_timed, StandsOver, Moments, begun, lasts, after_fragment, after_clock}
 use Rattle.std.specs.FinMap as maps
-use Rattle.std.proofs.lemmas.Bool.{cases_Bool, false≢true, leb-true, le-leb, or_left, or_right}
-use Rattle.nb_datagram.specs.declared.key.Key.{Key}
-use Rattle.nb_datagram.specs.Key.{same_key, key_cmp_total, same_key_decides}
-use Rattle.nb_datagram.specs.Fragment.{FragmentParts, Core, core_of}
-use Rattle.nb_table.specs.Conflict.{keyed}
-use Rattle.nb_entries.specs.Entry.{EntryValue}
-use Rattle.nb_table.specs.Contents.{Contents, table_of}
-use Rattle.nb_table.specs.Join.{join}
-use Rattle.nb_table.specs.Limits.{held_keys, of_source, Limits, IsFull, IsFullSource}
-use Rattle.nb_member.specs.declared.settings.Settings.{Settings}
 use Rattle.nb_member.proofs.MemberLemmas.DroppedKeys.{get-lasting}
 use Rattle.nb_member.proofs.LiveLemmas.{cores-append, cores-filter}
-use Rattle.nb_member.specs.Events.{clock, limits_of}
-use Rattle.nb_member.specs.Live.{Timed, cores, table_from, start_at, is_over, outlives, is_full, is_source_full, live_after}
-use Rattle.nb_member.specs.Member.{MemberValue, with_timed, StandsOver, Moments, begun, lasts, after_fragment, after_clock}
 
 -- ---- full keys
 

@@ -1,26 +1,8 @@
 -- The moments of keys, as fragments come and tables are merged.
-use Rattle.std.proofs.Common.{◌≡◌, ◌≢◌, ℕ, ◌+◌, Bool, true, false, cond, ◌||◌, arith, [], ◌∷◌, Option, Some, None, is_some, refl, sym, ap, ◌∙◌, List, map}
-use Rattle.std.proofs.lemmas.Bool.{false≢true}
-use Rattle.std.specs.List.{list_any}
-use Rattle.std.specs.Prelude.{T}
-use Rattle.std.specs.Cmp.{eq_by_cmp_equiv}
+use Rattle.nb_member.proofs.Common.{◌≡◌, ◌≢◌, ℕ, ◌+◌, Bool, true, false, cond, ◌||◌, arith, [], ◌∷◌, Option, Some, None, is_some, refl, sym, ap, ◌∙◌, List, map, false≢true, list_any, T, eq_by_cmp_equiv, Key, key_cmp, same_key, key_cmp_total, same_key_decides, key_cmp_exact, FragmentParts, Core, core_of, Held, joined_onto, first_of, joined_at, EntryValue, join_entry, facts_of, get-joined, lt_not_eq, T_left, T_right, Contents, table_of, join, TableValue, IsFull, IsFullSource, NeedsNoMemory, Passes, with_fragment, same_table, join_one, needs_new, Moments, begun, HaveOneSetOfKeys, begun_each, start_after}
 use Rattle.std.specs.FinMap.{is_sorted}
 use Rattle.std.specs.FinMap.Entries.{below_all}
-use Rattle.nb_datagram.specs.declared.key.Key.{Key}
-use Rattle.nb_datagram.specs.Key.{key_cmp, same_key, key_cmp_total, same_key_decides, key_cmp_exact}
-use Rattle.nb_datagram.specs.Fragment.{FragmentParts, Core, core_of}
-use Rattle.nb_entries.specs.declared.slot.Slot.TheVariants.{Held}
-use Rattle.nb_entries.specs.Maps.{joined_onto, first_of, joined_at}
-use Rattle.nb_entries.specs.Entry.{EntryValue, join_entry, facts_of}
-use Rattle.nb_entries.specs.Shared.MapsLemmas.{get-joined, lt_not_eq, T_left, T_right}
-use Rattle.nb_table.specs.Contents.{Contents, table_of}
-use Rattle.nb_table.specs.Join.{join}
-use Rattle.nb_table.specs.Limits.{TableValue, IsFull, IsFullSource}
-use Rattle.nb_table.specs.Insert.{Takes as TableTakes, NeedsNoMemory, Passes, with_fragment}
-use Rattle.nb_table.specs.Shared.TableLemmas.{same_table, join_one, needs_new}
-use Rattle.nb_member.specs.Member.{Moments, begun}
-use Rattle.nb_member.specs.Code.Members.{HaveOneSetOfKeys, begun_each}
-use Rattle.nb_member.specs.Taking.{start_after}
+use Rattle.nb_table.specs.Insert.{Takes as TableTakes}
 use Rattle.std.specs.FinMap as maps
 
 -- ---- tables whose keys have moments

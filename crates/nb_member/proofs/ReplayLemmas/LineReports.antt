@@ -1,32 +1,19 @@
 -- What acting on one line comes to.
-use Rattle.std.proofs.Common.{◌≡◌, ◌≢◌, ◌+◌, ◌++◌, ◌∷◌, ℕ, List, [], Option, Some, None, Result, Ok, Err, refl, sym, subst, ◌∙◌, append_assoc, ap, inl, inr, arith}
-use Rattle.std.specs.Prelude.{codes}
+use Rattle.nb_member.proofs.Common.{◌≡◌, ◌≢◌, ◌+◌, ◌++◌, ◌∷◌, ℕ, List, [], Option, Some, None, Result, Ok, Err, refl, sym, subst, ◌∙◌, ap, inl, inr, arith, codes, Comments, Event, MemberFault, FragmentParts, Outcome, MayAct, MayLeave, OutcomeFields, ReportSaid, ReportsOutcome, TellsOutcome, dropped_fields, passed_fields, result_fields, Field, field_text, text_of, appended, Does, TakesFragment, KeepsSetup, Saying, clock, Says, Timed, live_after, MemberValue, StandsOver, contents, with_timed, after_clock, ReportOfLine, passed, taken, dropped, numbered, result_text}
+use Rattle.std.proofs.Common.{append_assoc}
 use Rattle.std.specs.FinMap as maps
 use Rattle.std.specs.Fmt.{decimal}
-use Rattle.nb_capture.specs.declared.comment_writing.Comments.{Comments}
-use Rattle.nb_member.specs.declared.outcome.Event.{Event}
 use Rattle.nb_member.specs.declared.outcome.Event.TheVariants as event
 use Rattle.nb_capture.specs.declared.line.Line.{Line as Value}
 use Rattle.nb_capture.specs.declared.line.Line.TheVariants.{Packet, Tick}
-use Rattle.nb_member.specs.declared.outcome.MemberFault.{MemberFault}
 use Rattle.nb_member.specs.declared.outcome.MemberFault.TheVariants as member_fault
-use Rattle.nb_datagram.specs.Fragment.{FragmentParts}
-use Rattle.nb_member.specs.declared.outcome.Outcome.{Outcome}
-use Rattle.nb_member.specs.ReportFields.{MayAct, MayLeave, OutcomeFields, ReportSaid, ReportsOutcome, TellsOutcome, dropped_fields, passed_fields, result_fields}
 use Rattle.nb_member.specs.ReportFields as outcome
 use Rattle.nb_table.specs.declared.fault.TableFault.TheVariants.{NoMemory}
-use Rattle.nb_telling.specs.Telling.{Field}
-use Rattle.nb_telling.specs.Texts.{field_text, text_of}
-use Rattle.nb_telling.proofs.FoldLemmas.{appended}
 use Rattle.nb_member.proofs.FieldLemmas.{dropped_same, result_same}
 use Rattle.nb_member.proofs.TakingLemmas.Payloads.{refused_keeps}
-use Rattle.nb_member.specs.Taking.{Does, Takes, TakesFragment, fragment, error, query, no_packet}
-use Rattle.nb_member.specs.Code.Members.{KeepsSetup}
+use Rattle.nb_member.specs.Taking.{Takes, fragment, error, query, no_packet}
 use Rattle.nb_capture.specs.Capture.{HasValue, Reads, SaysNothing, line_feed, space, blank_text}
-use Rattle.nb_member.specs.Events.{Saying, clock, Says}
-use Rattle.nb_member.specs.Live.{Timed, live_after}
-use Rattle.nb_member.specs.Member.{MemberValue, StandsOver, contents, with_timed, after_clock}
-use Rattle.nb_member.specs.Report.{ReportOfLine, nothing, passed, taken, tick, dropped, numbered, result_text}
+use Rattle.nb_member.specs.Report.{nothing, tick}
 
 -- ReportsLine comments m L n line new text: the member m, which stands for the fragments L, acted on line n of a capture
 -- and became new; text is the line's report

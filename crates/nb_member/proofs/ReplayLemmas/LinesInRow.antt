@@ -1,18 +1,9 @@
 -- The report of lines in a row.
-use Rattle.std.proofs.Common.{◌≡◌, ◌+◌, ◌++◌, ℕ, List, [], ◌∷◌, refl, sym, subst, ap, ◌∙◌}
-use Rattle.nb_names.specs.Name.{NetbiosName}
-use Rattle.nb_capture.specs.declared.comment_writing.Comments.{Comments}
+use Rattle.nb_member.proofs.Common.{◌≡◌, ◌+◌, ◌++◌, ℕ, List, [], ◌∷◌, refl, sym, subst, ap, ◌∙◌, NetbiosName, Comments, Event, Settings, KeepsSetup, Saying, clock, Say, Timed, live_from, live, MemberValue, StandsOver, Stands, ReportOfLine, passed, taken, ReportOf, ReportSaid}
 use Rattle.nb_capture.specs.LinePrinting.{ShowsLines, TellsLine, none, more}
-use Rattle.nb_member.specs.declared.outcome.Event.{Event}
-use Rattle.nb_member.specs.declared.settings.Settings.{Settings}
-use Rattle.nb_member.specs.Code.Members.{KeepsSetup}
-use Rattle.nb_member.specs.Events.{Saying, clock, Say}
 use Rattle.nb_member.specs.Events as saying
-use Rattle.nb_member.specs.Live.{Timed, live_from, live}
-use Rattle.nb_member.specs.Member.{MemberValue, StandsOver, Stands}
-use Rattle.nb_member.specs.Report.{ReportOfLine, nothing, passed, taken, tick, ReportOf}
+use Rattle.nb_member.specs.Report.{nothing, tick}
 use Rattle.nb_member.specs.Report as reports
-use Rattle.nb_member.specs.ReportFields.{ReportSaid}
 use Rattle.nb_member.specs.Replaying.{Replayed}
 use Rattle.nb_member.proofs.ReplayLemmas.LineReports.{MembersKnown, ReportsLine, line_reported, said_keeps}
 use Rattle.nb_member.proofs.EventTakingLemmas.EventsInRow.{live_from-append, say-append}

@@ -1,21 +1,14 @@
 -- How a replay ends.
-use Rattle.std.proofs.Common.{◌≡◌, ◌+◌, ◌++◌, ℕ, List, [], ◌∷◌, length, Option, Some, None, Result, Ok, Err, refl, sym, subst, ◌∙◌, inl, inr, append_assoc, arith}
+use Rattle.nb_member.proofs.Common.{◌≡◌, ◌+◌, ◌++◌, ℕ, List, [], ◌∷◌, length, Option, Some, None, Result, Ok, Err, refl, sym, subst, ◌∙◌, inl, inr, arith, Comments, text_of, Event, KeepsSetup, live, MemberValue, Stands, numbered, MayLeave, ReportSaid}
+use Rattle.std.proofs.Common.{append_assoc}
 use Rattle.std.specs.Io.KnownBytes.{Appends, Consumes}
 use Rattle.std.proofs.lemmas.List.{append-nil}
 use Rattle.nb_streams.specs.Counted.{Counts}
 use Rattle.nb_streams.specs.Devices.{ShowsUnread}
-use Rattle.nb_capture.specs.declared.comment_writing.Comments.{Comments}
 use Rattle.nb_capture.specs.declared.fault.PrintFault.{PrintFault}
 use Rattle.nb_capture.specs.declared.fault.PrintFault.TheVariants.{Line, Read, Write, NoMemory}
 use Rattle.nb_capture.specs.CaptureLines.{AreLines}
 use Rattle.nb_capture.specs.LinePrinting.{LeavesOff, Prints, Shows, ShowsLines, TellsLine, before_all, in_first, none, more}
-use Rattle.nb_telling.specs.Texts.{text_of}
-use Rattle.nb_member.specs.declared.outcome.Event.{Event}
-use Rattle.nb_member.specs.Code.Members.{KeepsSetup}
-use Rattle.nb_member.specs.Live.{live}
-use Rattle.nb_member.specs.Member.{MemberValue, Stands}
-use Rattle.nb_member.specs.Report.{numbered}
-use Rattle.nb_member.specs.ReportFields.{MayLeave, ReportSaid}
 use Rattle.nb_member.specs.Replaying.{Replayed, Writes, Stops, Replays, ReplaysInput}
 use Rattle.nb_member.proofs.ReplayLemmas.LineReports.{left_keeps}
 use Rattle.nb_member.proofs.ReplayLemmas.LinesInRow.{lines_keep}
@@ -112,7 +105,7 @@ stops_some known comments most m _ _ H s bytes left before after done _ are p (i
     (subst (λ (bs : List ℕ). Appends before after bs) (sym (append-nil p.text)) p.printed)
 
 -- what was printed is what a replay answers
-replays : ReportsKnown → (comments : Comments) (most : ℕ) (m new : MemberValue) (H : List Event) (s : Stands m H) (bytes : List ℕ) (left before after : Option (List ℕ))
+pub replays : ReportsKnown → (comments : Comments) (most : ℕ) (m new : MemberValue) (H : List Event) (s : Stands m H) (bytes : List ℕ) (left before after : Option (List ℕ))
     (answer : Result ℕ PrintFault) → Shows (TellsLine (ReportSaid comments)) MayLeave most bytes left m new before after answer
     → Replays comments most m H (live m.settings s.sayings) bytes left new before after answer
 replays known comments most m new H s bytes left before after (Ok n) t = (t.0, t.1, t.2, t.3, t.4, writes known comments m new H s _ before after t.5)
@@ -151,13 +144,19 @@ TellsBytes comments most first left counts later m new before after answer =
     (bytes : List ℕ) × Consumes first left bytes × ((answer ≡ Err Read → ShowsUnread most bytes counts later)
     × Shows (TellsLine (ReportSaid comments)) MayLeave most bytes left m new before after answer)
 
+-- what the law on what is printed says
+abbrev pub ReplaysKnown : Type 0
+ReplaysKnown = (comments : Comments) (most : ℕ) (m new : MemberValue) (H : List Event) (s : Stands m H) (bytes : List ℕ) (left before after : Option (List ℕ))
+    (answer : Result ℕ PrintFault) → Shows (TellsLine (ReportSaid comments)) MayLeave most bytes left m new before after answer
+    → Replays comments most m H (live m.settings s.sayings) bytes left new before after answer
+
 -- the member is what the lines left
-pub replays_bytes : ReportsKnown → (comments : Comments) (most : ℕ) (first left : Option (List ℕ)) (counts later : Counts) (old made new : MemberValue) (before after : Option (List ℕ))
+pub replays_bytes : ReplaysKnown → (comments : Comments) (most : ℕ) (first left : Option (List ℕ)) (counts later : Counts) (old made new : MemberValue) (before after : Option (List ℕ))
     (answer : Result ℕ PrintFault) → new ≡ made → TellsBytes comments most first left counts later old made before after answer
     → ReplaysInput comments most old new first left counts later before after answer
 replays_bytes known comments most first left counts later old made new before after answer is t =
     subst (λ (x : MemberValue). ReplaysInput comments most old x first left counts later before after answer) (sym is)
-    (t.0, t.1, (t.2.0, λ H s. replays known comments most old made H s t.0 left before after answer t.2.1))
+    (t.0, t.1, (t.2.0, λ H s. known comments most old made H s t.0 left before after answer t.2.1))
 
 pub bytes_keep : (comments : Comments) (most : ℕ) (first left : Option (List ℕ)) (counts later : Counts) (old made : MemberValue) (before after : Option (List ℕ))
     (answer : Result ℕ PrintFault) → TellsBytes comments most first left counts later old made before after answer → KeepsSetup old made

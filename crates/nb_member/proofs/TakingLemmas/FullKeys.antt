@@ -1,27 +1,13 @@
 -- Payloads for which a member's table has no room.
-use Rattle.std.proofs.Common.{◌≡◌, ◌≢◌, ℕ, inl, inr, true, List, refl, sym, ap, subst, arith, ◌∙◌, Option, Some, None}
-use Rattle.std.specs.Prelude.{unwrap_or, MatchOption, IfSome}
-use Rattle.std.proofs.lemmas.Bool.{cases_Bool, false≢true}
-use Rattle.nb_datagram.specs.declared.key.Key.{Key}
-use Rattle.nb_datagram.specs.declared.packet.Packet.TheVariants.{Direct, Error, Query}
-use Rattle.nb_datagram.specs.Fragment.{FragmentParts}
-use Rattle.nb_datagram.specs.Packet.{Packet as AnyPacket, IsPacket}
-use Rattle.nb_table.specs.declared.fault.TableFault.{TableFault}
+use Rattle.nb_member.proofs.Common.{◌≡◌, ◌≢◌, ℕ, inl, inr, true, List, refl, sym, ap, subst, arith, ◌∙◌, Option, Some, None, unwrap_or, MatchOption, IfSome, cases_Bool, false≢true, Key, Direct, Error, Query, FragmentParts, IsPacket, TableFault, Passes, Refuses, Limits, Settings, Saying, came, limits_of, Says, Timed, HasRoom, is_full, is_source_full, MemberValue, contents, StandsOver, MeetsLimit, StopsAt, IsFullAs, MeetsFull, BeginsFull, limit_of, RunStop}
+use Rattle.nb_datagram.specs.Packet.{Packet as AnyPacket}
 use Rattle.nb_table.specs.declared.fault.TableFault.TheVariants as table_fault
-use Rattle.nb_table.specs.Insert.{Passes, Takes as TableTakes, Refuses}
-use Rattle.nb_table.specs.Limits.{Limits}
+use Rattle.nb_table.specs.Insert.{Takes as TableTakes}
 use Rattle.nb_member.specs.declared.outcome.Event.TheVariants.{Packet}
-use Rattle.nb_member.specs.declared.settings.Settings.{Settings}
 use Rattle.nb_member.specs.Events as saying
 use Rattle.nb_member.proofs.EventLemmas.{SaysOf, of_packet, of_fault, says_by}
 use Rattle.nb_member.proofs.MemberLemmas.LiveAfter.{full_is, source_full_is, is_full_is, is_source_full_is, source_room_is, is_source_room}
 use Rattle.nb_member.proofs.TakingLemmas.Payloads.{valid_is}
-use Rattle.nb_member.specs.Events.{Saying, came, limits_of, Says}
-use Rattle.nb_member.specs.Live.{Timed, HasRoom, is_full, is_source_full}
-use Rattle.nb_member.specs.Member.{MemberValue, contents, StandsOver}
-use Rattle.nb_member.specs.EventTaking.{MeetsLimit, StopsAt}
-use Rattle.nb_member.specs.Code.Members.{IsFullAs, MeetsFull, BeginsFull, limit_of}
-use Rattle.nb_member.specs.declared.event_taking.RunStop.{RunStop}
 use Rattle.nb_member.specs.declared.event_taking.RunStop.TheVariants.{Full, FullSource, NoMemory}
 
 passes_is : (l : Limits) (settings : Settings) (f : FragmentParts) → l ≡ limits_of settings → Passes (limits_of settings) f → Passes l f

@@ -1,30 +1,14 @@
 -- A member that stands for fragments does what its events say.
-use Rattle.std.proofs.Common.{◌≡◌, ◌∙◌, ℕ, Bool, true, false, cond, List, [], ◌∷◌, ◌++◌, refl, sym, ap, arith, subst, inl, inr, Result, Ok, Err}
-use Rattle.std.proofs.lemmas.Bool.{cases_Bool}
-use Rattle.nb_datagram.specs.declared.key.Key.{Key}
-use Rattle.nb_datagram.specs.declared.packet.Packet.TheVariants.{Direct}
-use Rattle.nb_datagram.specs.Fragment.{FragmentParts, Core}
-use Rattle.nb_datagram.specs.Packet.{IsPacket}
-use Rattle.nb_table.specs.declared.fault.TableFault.TheVariants.{MisplacedFirst, TooLong, FullSource, Full, NoMemory}
+use Rattle.nb_member.proofs.Common.{◌≡◌, ◌∙◌, ℕ, Bool, true, false, cond, List, [], ◌∷◌, ◌++◌, refl, sym, ap, arith, subst, inl, inr, Result, Ok, Err, cases_Bool, Key, Direct, FragmentParts, Core, IsPacket, MisplacedFirst, TooLong, Contents, table_of, Passes, join, Limits, IsFull, IsFullSource, MemberFault, Outcome, Settings, Answers, Does, IsTaken, TakesFragment, Saying, came, refused, another, limits_of, Says, Timed, HasRoom, table_from, is_full, is_source_full, live_after, MemberValue, contents, StandsOver, refusal}
+use Rattle.nb_table.specs.declared.fault.TableFault.TheVariants.{FullSource, Full, NoMemory}
 use Rattle.nb_table.specs.Change.{IsChange}
-use Rattle.nb_table.specs.Contents.{Contents, table_of}
-use Rattle.nb_table.specs.Insert.{Passes}
-use Rattle.nb_table.specs.Join.{join}
-use Rattle.nb_table.specs.Limits.{Limits, IsFull, IsFullSource}
 use Rattle.nb_member.specs.declared.outcome.Event.TheVariants.{Packet}
-use Rattle.nb_member.specs.declared.outcome.MemberFault.{MemberFault}
 use Rattle.nb_member.specs.declared.outcome.MemberFault.TheVariants as fault
-use Rattle.nb_member.specs.declared.outcome.Outcome.{Outcome}
-use Rattle.nb_member.specs.declared.settings.Settings.{Settings}
 use Rattle.nb_member.specs.Events as saying
 use Rattle.nb_member.specs.Taking as taking
 use Rattle.nb_member.proofs.EventLemmas.{PacketsKnown, one_saying}
 use Rattle.nb_member.proofs.MemberLemmas.LiveAfter.{full_is, source_full_is, is_full_is, is_source_full_is, is_source_room, stands_more}
-use Rattle.nb_member.specs.Taking.{Answers, Does, IsTaken, TakesFragment, Takes}
-use Rattle.nb_member.specs.Events.{Saying, came, refused, another, limits_of, Says}
-use Rattle.nb_member.specs.Live.{Timed, HasRoom, table_from, is_full, is_source_full, live_after}
-use Rattle.nb_member.specs.Member.{MemberValue, contents, StandsOver}
-use Rattle.nb_member.specs.Hearing.{refusal}
+use Rattle.nb_member.specs.Taking.{Takes}
 
 -- tables of two lists, one after the other
 abbrev pub TablesJoin : Type 0

@@ -33,10 +33,6 @@ prints_rest front rest old mid new (Err fault) before after is =
 
 -- ---- what a text that is printed leaves
 
-pub prints_whole : (text : List ℕ) (old new : Option (List ℕ)) (r : Result (Unit {0}) Fault) → PrintsText text old new r → OnOk r (Appends old new text)
-prints_whole text old new (Ok done) p = p
-prints_whole text old new (Err fault) p = tt
-
 pub prints_kept : (text : List ℕ) (old new : Option (List ℕ)) (r : Result (Unit {0}) Fault) → PrintsText text old new r → IfErr r (λ fault. fault ≢ Write → Keeps old new)
 prints_kept text old new (Ok done) p = tt
 prints_kept text old new (Err Write) p = λ other. absurd (other refl)

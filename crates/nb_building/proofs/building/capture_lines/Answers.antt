@@ -1,9 +1,6 @@
-use Rattle.nb_building.proofs.Common.{◌≡◌, ℕ, Err, None}
+use Rattle.nb_building.proofs.Common.{◌≡◌, ℕ, Err, None, no_packet, What, forms, kinds_of}
 use Rattle.nb_building.proofs.PortLemmas.{datagram_explained, datagram_word, service_explained, service_word, session_explained, session_word}
-use Rattle.nb_building.specs.Refusals.{no_packet}
-use Rattle.nb_building.specs.declared.build_fault.BuildFault.TheVariants.{What}
-use Rattle.nb_building.specs.Words.{forms, kinds_of}
-use Rattle.nb_building.proofs.TakenLemmas.{named_by_none, no_form}
+use Rattle.nb_building.proofs.TakenLemmas.{named_by_none, no_form, tells_much}
 use Rattle.nb_building.proofs.building.capture_lines.Goals as goal
 
 -- a word that names no packet
@@ -75,6 +72,15 @@ returns-in-request-clause-refused c =
 pub returns-in-unique-clause-refused : goal.returns-in-unique-clause-refused
 returns-in-unique-clause-refused c =
     named_by_none _ _ _ c.datagram_lines.result (datagram_explained _ _ _ c.datagram_lines.result (datagram_word _ c.in-unique.is) c.datagram_lines.ensures.refused)
+
+pub returns-in-query-clause-too_long : goal.returns-in-query-clause-too_long
+returns-in-query-clause-too_long c = tells_much _ _ _ c.service_line.result c.service_line.ensures.refused
+
+pub returns-in-request-clause-too_long : goal.returns-in-request-clause-too_long
+returns-in-request-clause-too_long c = tells_much _ _ _ c.session_line.result c.session_line.ensures.refused
+
+pub returns-in-unique-clause-too_long : goal.returns-in-unique-clause-too_long
+returns-in-unique-clause-too_long c = tells_much _ _ _ c.datagram_lines.result c.datagram_lines.ensures.refused
 
 pub returns-in_default-clause-why : goal.returns-in_default-clause-why
 returns-in_default-clause-why c = no_packet (unknown c)

@@ -1,5 +1,4 @@
-use Rattle.nb_building.proofs.Common.{◌∙◌, ap, of_datagrams}
-use Rattle.nb_building.specs.Building.{payload_lines}
+use Rattle.nb_building.proofs.Common.{◌∙◌, ap, of_datagrams, payload_lines}
 use Rattle.nb_building.proofs.TakenLemmas.{memory_passed_on}
 use Rattle.nb_building.proofs.building.datagram_lines.Goals as goal
 

@@ -1,5 +1,4 @@
-use Rattle.nb_building.proofs.Common.{◌≡◌, string_bytes, take}
-use Rattle.nb_building.specs.Building.{payload_lines}
+use Rattle.nb_building.proofs.Common.{◌≡◌, string_bytes, take, payload_lines}
 use Rattle.nb_building.proofs.building.lines.Given as goal
 
 abbrev pub invariant-loop-payload : goal.invariant-loop-payload

@@ -21,15 +21,6 @@ returns-in-found-clause-built c = rw c.in-found.is c.query-in-found.ensures.buil
 pub returns-in-missing-clause-built : goal.returns-in-missing-clause-built
 returns-in-missing-clause-built c = rw c.in-missing.is c.query-in-missing.ensures.built
 
-pub returns-in-unique-clause-too_long : goal.returns-in-unique-clause-too_long
-returns-in-unique-clause-too_long c = rw c.in-unique.is c.fragments.ensures.too_long
-
-pub returns-in-group-clause-too_long : goal.returns-in-group-clause-too_long
-returns-in-group-clause-too_long c = rw c.in-group.is c.fragments-in-group.ensures.too_long
-
-pub returns-in-broadcast-clause-too_long : goal.returns-in-broadcast-clause-too_long
-returns-in-broadcast-clause-too_long c = rw c.in-broadcast.is c.fragments-in-broadcast.ensures.too_long
-
 pub returns-in-unique-clause-refused : goal.returns-in-unique-clause-refused
 returns-in-unique-clause-refused c = rw c.in-unique.is c.fragments.ensures.refused
 

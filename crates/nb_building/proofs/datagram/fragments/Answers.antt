@@ -1,7 +1,6 @@
-use Rattle.nb_building.proofs.Common.{inr, ◌≡◌, ◌∙◌, ap, arith, length, refl, fragments, datagram, piece}
-use Rattle.nb_building.specs.Refusals.{too_long}
+use Rattle.nb_building.proofs.Common.{inr, ◌≡◌, ◌∙◌, ap, arith, length, refl, fragments, datagram, piece, too_long}
 use Rattle.nb_building.proofs.ArgumentLemmas.{five_words}
-use Rattle.nb_building.proofs.BuiltLemmas.{fragments_named, tells_too_much, too_much}
+use Rattle.nb_building.proofs.BuiltLemmas.{fragments_named, too_much}
 use Rattle.nb_building.proofs.UnnamedLemmas.{one_data}
 use Rattle.nb_building.proofs.DatagramWordLemmas.{fragment_words, fragments_explained}
 use Rattle.nb_building.proofs.TakenLemmas.{kind_form, other_count, refused_at, text_refused_at}
@@ -15,19 +14,6 @@ returns-in-Ok-clause-built c =
     (λ cut. fragments _ c.in_ok-most.most _ _ _ _ _ c.in_ok-key.ensures c.in_ok-source.ensures.found c.in_ok-destination.ensures.found
     c.in_ok-data.ensures c.in_ok-most.ensures cut.0 c.in-Ok.ensures.1 cut.1)
     (rw c.in-Ok.ensures.0 at c.fragments_of.ensures.built)
-
-pub returns-in-Ok-clause-too_long : goal.returns-in-Ok-clause-too_long
-returns-in-Ok-clause-too_long c =
-    tells_too_much _ _ _ _ _ _ c.fragments_of.result refl
-    (five_words (λ w. w.now) _ c.args.words.now c.in-len5.len_at_least c.in-len5.len_below)
-    (λ far. piece _ c.in_ok-most.most _ _ _ _ _ c.in_ok-key.ensures c.in_ok-source.ensures.found c.in_ok-destination.ensures.found
-    c.in_ok-data.ensures c.in_ok-most.ensures far.0 far.1)
-    (rw c.in-Ok.ensures.0 at c.fragments_of.ensures.too_long)
-
-pub returns-in-Err-clause-too_long : goal.returns-in-Err-clause-too_long
-returns-in-Err-clause-too_long c too =
-    too_much _ _ _ _ refl (five_words (λ w. w.now) _ c.args.words.now c.in-len5.len_at_least c.in-len5.len_below)
-    (datagram c.args.kind _ _ _ _ _ (_, c.in_ok-data.ensures, c.in-Err.ensures))
 
 pub returns-in_err-key-clause-refused : goal.returns-in_err-key-clause-refused
 returns-in_err-key-clause-refused c =
@@ -64,12 +50,16 @@ returns-in-Err-clause-refused c = too_long (λ payloads names.
     let h = fragment_words _ _ _ _ _ _ _ _ (five_words (λ w. w.now) _ c.args.words.now c.in-len5.len_at_least c.in-len5.len_below) names in
     let same = one_data _ h.whole.bytes _ c.in_ok-data.ensures h.bytes in
     absurd (omega (arith, c.in-Err.ensures, ap length same, h.short)))
+    (too_much _ _ _ _ refl (five_words (λ w. w.now) _ c.args.words.now c.in-len5.len_at_least c.in-len5.len_below)
+    (datagram c.args.kind _ _ _ _ _ (_, c.in_ok-data.ensures, c.in-Err.ensures)))
 
 pub returns-in-Ok-clause-refused : goal.returns-in-Ok-clause-refused
 returns-in-Ok-clause-refused c =
     fragments_explained _ _ _ _ _ _ _ _ c.in_ok-most.most c.fragments_of.result (five_words (λ w. w.now) _ c.args.words.now c.in-len5.len_at_least c.in-len5.len_below)
     c.in_ok-source.ensures.only c.in_ok-destination.ensures.only c.in_ok-data.ensures c.in_ok-most.ensures
-    (rw c.in-Ok.ensures.0 at c.fragments_of.ensures.refused)
+    (λ some far. piece _ c.in_ok-most.most _ _ _ _ _ c.in_ok-key.ensures c.in_ok-source.ensures.found c.in_ok-destination.ensures.found
+    c.in_ok-data.ensures c.in_ok-most.ensures some far)
+    (rw c.in-Ok.ensures.0 at c.fragments_of.ensures.too_long) (rw c.in-Ok.ensures.0 at c.fragments_of.ensures.refused)
 
 pub returns-in_default-clause-refused : goal.returns-in_default-clause-refused
 returns-in_default-clause-refused c = other_count _ (λ w. w.now) _ c.args.words.now _ (kind_form c.args.kind) (λ is.

@@ -1,5 +1,4 @@
-use Rattle.nb_building.proofs.Common.{◌≡◌, ap, ◌∙◌, arith, map, Direct, packet_bytes}
-use Rattle.nb_datagram.specs.Pieces.{AreTooLong}
+use Rattle.nb_building.proofs.Common.{◌≡◌, ap, ◌∙◌, arith, map, Direct, packet_bytes, AreTooLong}
 use Rattle.nb_building.proofs.datagram.fragments_of.Goals as goal
 
 pub returns-clause-built : goal.returns-clause-built

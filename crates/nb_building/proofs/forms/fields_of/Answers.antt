@@ -1,5 +1,4 @@
-use Rattle.nb_building.proofs.Common.{sym}
-use Rattle.nb_building.specs.Words.{forms}
+use Rattle.nb_building.proofs.Common.{sym, forms}
 use Rattle.nb_building.proofs.TakenLemmas.{no_form}
 use Rattle.nb_building.proofs.forms.fields_of.Goals as goal
 

@@ -1,6 +1,4 @@
-use Rattle.nb_building.proofs.Common.{refl, ◌≡◌, ◌≤◌, length, sym, ap, ◌∙◌, inl, inr, Err, cases_lt, of_bytes, of_domain, record_of, plain, domain}
-use Rattle.nb_service.specs.declared.classes.TheConstants.{IN}
-use Rattle.nb_service.specs.declared.kinds.TheConstants.{NS}
+use Rattle.nb_building.proofs.Common.{refl, ◌≡◌, ◌≤◌, length, sym, ap, ◌∙◌, inl, inr, Err, cases_lt, of_bytes, of_domain, record_of, plain, domain, IN, NS}
 use Rattle.nb_building.proofs.ServiceWordLemmas.{no_domain}
 use Rattle.nb_building.proofs.response.answer.Goals as goal
 

@@ -1,6 +1,6 @@
-use Rattle.nb_building.proofs.Common.{inr, arith, refl, rdata}
+use Rattle.nb_building.proofs.Common.{inr, arith, refl}
 use Rattle.nb_building.proofs.ArgumentLemmas.{six_words}
-use Rattle.nb_building.proofs.BuiltLemmas.{response_built, tells_too_much, told_long}
+use Rattle.nb_building.proofs.BuiltLemmas.{response_built}
 use Rattle.nb_building.proofs.ServiceWordLemmas.{response_explained}
 use Rattle.nb_building.proofs.TakenLemmas.{other_count, refused_at, text_refused_at}
 use Rattle.nb_building.proofs.response.build.Goals.{in_default-via-then-words-lt6, in_default-via-else-words-lt6+else-words-lt7}
@@ -12,14 +12,6 @@ returns-clause-built c =
     (six_words (λ w. w.now) _ c.args.words.now c.in-len6.len_at_least c.in-len6.len_below)
     c.in_ok-id.ensures c.in_ok-flags.ensures c.in_ok-name.ensures.found c.in_ok-kind.ensures c.in_ok-ttl.ensures c.in_ok-rdata.ensures
     (rw c.as_slice.ensures at c.answer.ensures.made) c.answered.ensures.built
-
-pub returns-clause-too_long : goal.returns-clause-too_long
-returns-clause-too_long c =
-    tells_too_much _ _ _ _ _ _ c.answered.result refl
-    (six_words (λ w. w.now) _ c.args.words.now c.in-len6.len_at_least c.in-len6.len_below)
-    (λ long. let far = told_long _ _ _ c.answer.result long (rw c.as_slice.ensures at c.answer.ensures.refused) in
-    rdata _ _ _ _ _ _ _ c.in_ok-kind.ensures far.0 (_, c.in_ok-rdata.ensures, far.1))
-    c.answered.ensures.too_long
 
 pub returns-in_err-id-clause-refused : goal.returns-in_err-id-clause-refused
 returns-in_err-id-clause-refused c =

@@ -6,9 +6,6 @@ returns-in-release-clause-built c = rw c.in-release.is c.withdrawal.ensures.buil
 pub returns-in-response-clause-built : goal.returns-in-response-clause-built
 returns-in-response-clause-built c = rw c.in-response.is c.build.ensures.built
 
-pub returns-in-response-clause-too_long : goal.returns-in-response-clause-too_long
-returns-in-response-clause-too_long c = rw c.in-response.is c.build.ensures.too_long
-
 pub returns-in-release-clause-refused : goal.returns-in-release-clause-refused
 returns-in-release-clause-refused c = rw c.in-release.is c.withdrawal.ensures.refused
 

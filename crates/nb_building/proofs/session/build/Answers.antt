@@ -22,9 +22,6 @@ pub returns-in-keepalive-clause-built : goal.returns-in-keepalive-clause-built
 returns-in-keepalive-clause-built c =
     bare_built (λ w. w.now) _ _ c.args.words.now _ c.bare-in-keepalive.result c.in-keepalive.is keepalive c.bare-in-keepalive.ensures.built
 
-pub returns-in-message-clause-too_long : goal.returns-in-message-clause-too_long
-returns-in-message-clause-too_long c = rw c.in-message.is c.message.ensures.too_long
-
 pub returns-in-positive-clause-refused : goal.returns-in-positive-clause-refused
 returns-in-positive-clause-refused c = bare_explained (λ w. w.now) _ _ c.args.words.now c.bare.result c.in-positive.is refl c.bare.ensures.refused
 

@@ -1,8 +1,5 @@
-use Rattle.std.specs.Prelude.{codes}
-use Rattle.std.proofs.lemmas.Slice.Eq.{strip_prefix_is}
-use Rattle.std.proofs.lemmas.Bool.Decides.{Decides-eqb}
+use Rattle.nb_capture.proofs.Common.{codes, strip_prefix_is, Decides-eqb, names, datagrams, sessions}
 use Rattle.nb_capture.proofs.capture.after_port.Goals as goal
-use Rattle.nb_capture.specs.Capture.{names, datagrams, sessions}
 
 pub returns-in-Some : goal.returns-in-Some
 returns-in-Some c =

@@ -1,7 +1,6 @@
-use Rattle.std.proofs.lemmas.Result.{err_from_is_err_and}
+use Rattle.nb_capture.proofs.Common.{err_from_is_err_and, packet}
 use Rattle.nb_capture.proofs.CaptureLemmas.Words.{packet_behind, packet_at_space, packet_has_space, payload_refused}
 use Rattle.nb_capture.proofs.capture.packet_of.Goals as goal
-use Rattle.nb_capture.specs.Capture.{packet}
 
 pub returns-in_default : goal.returns-in_default
 returns-in_default c =

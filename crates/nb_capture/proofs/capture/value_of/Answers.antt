@@ -1,8 +1,5 @@
-use Rattle.std.specs.Prelude.{codes, ◌≡◌, ◌++◌}
-use Rattle.std.proofs.lemmas.Slice.Eq.{strip_prefix_is}
-use Rattle.std.proofs.lemmas.Bool.Decides.{Decides-eqb}
+use Rattle.nb_capture.proofs.Common.{codes, ◌≡◌, ◌++◌, strip_prefix_is, Decides-eqb, tick}
 use Rattle.nb_capture.proofs.capture.value_of.Goals as goal
-use Rattle.nb_capture.specs.Capture.{tick}
 
 pub returns-in-Some-moment_of : goal.returns-in-Some-moment_of
 returns-in-Some-moment_of c =

@@ -1,7 +1,5 @@
-use Rattle.std.proofs.Common.{◌≡◌, ◌++◌, drop, string_bytes}
-use Rattle.std.specs.List.{flat_map}
+use Rattle.nb_capture.proofs.Common.{◌≡◌, ◌++◌, drop, string_bytes, flat_map, byte_text}
 use Rattle.nb_streams.specs.Growth.{OnlyAdds}
-use Rattle.nb_capture.specs.Capture.{byte_text}
 use Rattle.nb_capture.proofs.comment_writing.push_comment_bytes.Given as goal
 
 abbrev pub invariant-loop-byte : goal.invariant-loop-byte

@@ -1,7 +1,4 @@
-use Rattle.std.proofs.Common.{ℕ, List, subst}
-use Rattle.std.specs.Prelude.{Contains}
-use Rattle.std.proofs.lemmas.List.{take_rest}
-use Rattle.nb_capture.specs.Code.LineSteps.{IsFeedAt}
+use Rattle.nb_capture.proofs.Common.{ℕ, List, subst, Contains, take_rest, IsFeedAt}
 use Rattle.nb_capture.proofs.LineLemmas.Ending.{clear_both, feed_from}
 use Rattle.nb_capture.proofs.line_reading.feed_after.Goals as goal
 

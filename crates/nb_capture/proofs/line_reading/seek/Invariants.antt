@@ -1,5 +1,4 @@
-use Rattle.std.proofs.Common.{◌-◌, ◌≡◌, ◌⊎◌}
-use Rattle.nb_capture.specs.LineReading.{IsOpen}
+use Rattle.nb_capture.proofs.Common.{◌-◌, ◌≡◌, ◌⊎◌, IsOpen}
 use Rattle.nb_capture.proofs.LineLemmas.Seeking.{IsSeeking}
 use Rattle.nb_capture.proofs.line_reading.seek.Given as goal
 

@@ -1,6 +1,4 @@
-use Rattle.std.proofs.Common.{◌∙◌, Err, ap, refl, subst}
-use Rattle.std.proofs.lemmas.Result.{IfErr-weaker, on_ok_weaker}
-use Rattle.nb_capture.specs.Capture.{Reads}
+use Rattle.nb_capture.proofs.Common.{◌∙◌, Err, ap, refl, subst, IfErr-weaker, on_ok_weaker, Reads}
 use Rattle.nb_capture.specs.Code.LineTurns.{malformed, no_memory, not_taken}
 use Rattle.nb_capture.proofs.line_taking.take_line.Goals as goal
 

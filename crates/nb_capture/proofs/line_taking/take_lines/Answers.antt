@@ -1,6 +1,4 @@
-use Rattle.std.proofs.Common.{◌+◌, ◌∙◌, arith, refl, Some, None, Ok, Err}
-use Rattle.std.proofs.lemmas.Result.{err_from_is_err_and}
-use Rattle.nb_capture.specs.Shared.LinesSoFar.{of_result, bytes_less}
+use Rattle.nb_capture.proofs.Common.{◌+◌, ◌∙◌, arith, refl, Some, None, Ok, Err, err_from_is_err_and, of_result, bytes_less}
 use Rattle.nb_capture.proofs.LineTakingLemmas.{fault_alike, line_alike, first_turn, next_turn, ends_at_line, ends_too_long, ends_unread, ends_unheld, ends_at_end}
 use Rattle.nb_capture.proofs.line_taking.take_lines.Goals as goal
 

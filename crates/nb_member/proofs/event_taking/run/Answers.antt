@@ -1,8 +1,7 @@
-use Rattle.std.proofs.Common.{◌≡◌, arith, sym, ap, ◌∙◌, ◌+◌, Bool, cond}
+use Rattle.nb_member.proofs.Common.{◌≡◌, arith, sym, ap, ◌∙◌, ◌+◌, Bool, cond, HandedOut}
 use Rattle.nb_member.proofs.EventTakingLemmas.OneEvent.{none_so_far, so_far_more, stopped_at, all_taken}
 use Rattle.nb_member.proofs.event_taking.run.Goals as goal
 use Rattle.nb_member.proofs.event_taking.run.Goals.{then-was_refused, else-was_refused}
-use Rattle.nb_member.specs.Code.EventTurns.{HandedOut}
 
 pub loop-index-init : goal.loop-index-init
 loop-index-init c =

@@ -1,8 +1,5 @@
-use Rattle.std.proofs.Common.{filter, ap, sym, ◌∙◌}
-use Rattle.nb_table.specs.Limits.{TableValue}
+use Rattle.nb_member.proofs.Common.{filter, ap, sym, ◌∙◌, TableValue, hears, contents}
 use Rattle.nb_table.specs.Merging.{newly_handed}
-use Rattle.nb_member.specs.Hearing.{hears}
-use Rattle.nb_member.specs.Member.{contents}
 use Rattle.nb_member.proofs.laws.a_preview_is_what_is_handed_over.Goals as goal
 
 pub returns : goal.returns

@@ -1,8 +1,6 @@
-use Rattle.std.proofs.Common.{ap, inr, sym, ◌∙◌}
-use Rattle.std.proofs.lemmas.Result.{on_ok_weaker}
+use Rattle.nb_member.proofs.Common.{ap, inr, sym, ◌∙◌, on_ok_weaker, dropped_fields, passed_fields, result_fields}
 use Rattle.nb_capture.specs.declared.line.Line.TheVariants.{Packet}
 use Rattle.nb_member.specs.Code.Outcomes.{answer_of}
-use Rattle.nb_member.specs.ReportFields.{dropped_fields, passed_fields, result_fields}
 use Rattle.nb_member.proofs.ReplayLemmas.LineReports.{did_drop, did_pass, did_take, may_take}
 use Rattle.nb_member.proofs.line_reports.tell_line.Goals as goal
 

@@ -1,5 +1,4 @@
-use Rattle.std.proofs.Common.{arith}
-use Rattle.nb_member.specs.ListingFields.{key_fields}
+use Rattle.nb_member.proofs.Common.{arith, key_fields}
 use Rattle.nb_telling.proofs.ObjectLemmas.{told_object}
 use Rattle.nb_member.proofs.listing.key_object.Goals as goal
 

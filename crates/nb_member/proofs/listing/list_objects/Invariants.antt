@@ -1,5 +1,4 @@
-use Rattle.std.proofs.Common.{◌≡◌, ◌++◌}
-use Rattle.nb_member.specs.ListingFields.{key_objects, listed_objects}
+use Rattle.nb_member.proofs.Common.{◌≡◌, ◌++◌, key_objects, listed_objects}
 use Rattle.nb_member.proofs.listing.list_objects.Given as goal
 
 abbrev pub invariant-loop-key : goal.invariant-loop-key

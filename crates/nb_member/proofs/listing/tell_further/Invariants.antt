@@ -1,6 +1,4 @@
-use Rattle.std.proofs.Common.{◌≡◌, fold, map}
-use Rattle.nb_telling.specs.Telling.{Grows}
-use Rattle.nb_member.specs.ListingFields.{further_range}
+use Rattle.nb_member.proofs.Common.{◌≡◌, fold, map, Grows, further_range}
 use Rattle.nb_member.proofs.listing.tell_further.Given as goal
 
 abbrev pub invariant-loop-range : goal.invariant-loop-range

@@ -1,7 +1,6 @@
-use Rattle.std.proofs.Common.{filter, rules, ap, ◌∙◌}
+use Rattle.nb_member.proofs.Common.{filter, rules, ap, ◌∙◌, hears}
 use Rattle.std.proofs.lemmas.Fn.{filter_same}
 use Rattle.nb_member.proofs.member.heard_of.Goals as goal
-use Rattle.nb_member.specs.Hearing.{hears}
 
 pub returns : goal.returns
 returns c =

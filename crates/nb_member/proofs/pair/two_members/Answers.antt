@@ -1,12 +1,7 @@
-use Rattle.std.proofs.Common.{subst}
-use Rattle.nb_member.specs.declared.pair.Pair.{Pair}
+use Rattle.nb_member.proofs.Common.{subst, Pair, AreGivenTheSame, HandsOverOnce, HandsOverTheSenders, StoppedForMemory, valid, cores, MemberValue, TakesEvents}
 use Rattle.nb_member.proofs.AgreementLemmas.SameTable.{BothDid, both_did, agree}
 use Rattle.nb_member.proofs.AgreementLemmas.SameDeliveries.{of_each, both_same}
 use Rattle.nb_member.proofs.pair.two_members.Goals as goal
-use Rattle.nb_member.specs.Agreement.{AreGivenTheSame, HandsOverOnce, HandsOverTheSenders, StoppedForMemory, valid}
-use Rattle.nb_member.specs.Live.{cores}
-use Rattle.nb_member.specs.Member.{MemberValue}
-use Rattle.nb_member.specs.EventTaking.{TakesEvents}
 
 pub returns-clause-a : goal.returns-clause-a
 returns-clause-a c =

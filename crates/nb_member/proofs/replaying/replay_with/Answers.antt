@@ -4,7 +4,7 @@ use Rattle.nb_member.proofs.replaying.replay_with.Goals as goal
 
 pub returns-clause-replays : goal.returns-clause-replays
 returns-clause-replays g c =
-    replays_bytes c.a_report_is_of_events.ensures _ _ _ _ c.args.reader.now.counts c.print_lines.new.reader.counts _ _ _ _ _ c.print_lines.result (search rules) c.print_lines.ensures.printed
+    replays_bytes c.a_printed_report_is_a_replay.ensures _ _ _ _ c.args.reader.now.counts c.print_lines.new.reader.counts _ _ _ _ _ c.print_lines.result (search rules) c.print_lines.ensures.printed
 
 pub returns-clause-settings : goal.returns-clause-settings
 returns-clause-settings g c =

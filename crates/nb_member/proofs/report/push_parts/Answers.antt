@@ -1,8 +1,4 @@
-use Rattle.std.proofs.Common.{ℕ, List, ◌++◌, ◌∙◌, ap, string_bytes}
-use Rattle.std.proofs.lemmas.Result.{on_ok_weaker}
-use Rattle.nb_telling.specs.Texts.{field_text}
-use Rattle.nb_telling.proofs.FoldLemmas.{appended}
-use Rattle.nb_member.specs.ReportFields.{parts_fields}
+use Rattle.nb_member.proofs.Common.{ℕ, List, ◌++◌, ◌∙◌, ap, string_bytes, on_ok_weaker, field_text, appended, parts_fields}
 use Rattle.nb_member.proofs.report.push_parts.Goals as goal
 
 pub returns-clause-added : goal.returns-clause-added

@@ -1,9 +1,5 @@
-use Rattle.std.proofs.Common.{ℕ, List, Option, ◌∙◌, ap, sym, fold}
-use Rattle.std.proofs.lemmas.Result.{on_ok_weaker}
-use Rattle.nb_datagram.specs.declared.packet.ErrorPacket.{ErrorPacket}
-use Rattle.nb_telling.specs.Telling.{Digits}
+use Rattle.nb_member.proofs.Common.{ℕ, List, Option, ◌∙◌, ap, sym, fold, on_ok_weaker, ErrorPacket, Digits, error_fields}
 use Rattle.nb_member.specs.Tags.{error_tag}
-use Rattle.nb_member.specs.ReportFields.{error_fields}
 use Rattle.nb_member.proofs.report.tell_error.Goals as goal
 
 pub returns-clause-told : goal.returns-clause-told

@@ -1,10 +1,7 @@
-use Rattle.std.proofs.Common.{◌≡◌, List, sym, ap, ◌∙◌, subst, rules}
+use Rattle.nb_member.proofs.Common.{◌≡◌, List, sym, ap, ◌∙◌, subst, rules, Key, Moments, begun_each}
 use Rattle.std.specs.FinMap as maps
-use Rattle.nb_datagram.specs.declared.key.Key.{Key}
 use Rattle.nb_member.proofs.MemberLemmas.Timers.{AreAnswered, answered, answered_on}
 use Rattle.nb_member.proofs.timed_table.begin_each.Goals as goal
-use Rattle.nb_member.specs.Member.{Moments}
-use Rattle.nb_member.specs.Code.Members.{begun_each}
 
 pub loop-key-init : goal.loop-key-init
 loop-key-init c =

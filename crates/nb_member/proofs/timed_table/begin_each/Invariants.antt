@@ -1,8 +1,7 @@
-use Rattle.std.proofs.Common.{◌≡◌}
+use Rattle.nb_member.proofs.Common.{◌≡◌, begun_each}
 use Rattle.std.specs.FinMap as maps
 use Rattle.nb_member.proofs.MemberLemmas.Timers.{AreAnswered}
 use Rattle.nb_member.proofs.timed_table.begin_each.Given as goal
-use Rattle.nb_member.specs.Code.Members.{begun_each}
 
 abbrev pub invariant-loop-key : goal.invariant-loop-key
 invariant-loop-key l =

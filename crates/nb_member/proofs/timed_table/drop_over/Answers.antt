@@ -1,6 +1,4 @@
-use Rattle.std.proofs.Common.{ℕ, ◌≤◌, List, length, arith, sym, ◌∙◌, ap}
-use Rattle.std.proofs.lemmas.List.{drop_all}
-use Rattle.nb_datagram.specs.declared.key.Key.{Key}
+use Rattle.nb_member.proofs.Common.{ℕ, ◌≤◌, List, length, arith, sym, ◌∙◌, ap, drop_all, Key}
 use Rattle.nb_member.proofs.MemberLemmas.DroppedKeys.{dropped_each, dropped_each_is}
 use Rattle.nb_member.proofs.timed_table.drop_over.Goals as goal
 

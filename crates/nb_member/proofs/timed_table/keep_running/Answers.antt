@@ -1,7 +1,6 @@
-use Rattle.std.proofs.Common.{not, Some, rules}
+use Rattle.nb_member.proofs.Common.{not, Some, rules, is_over}
 use Rattle.std.proofs.lemmas.Fn.{filter_same}
 use Rattle.nb_member.proofs.timed_table.keep_running.Goals as goal
-use Rattle.nb_member.specs.Live.{is_over}
 
 pub returns : goal.returns
 returns c =

@@ -1,6 +1,7 @@
 use Rattle.nbt.proofs.Common.{ap₂, refl, ◌∙◌, Keeps-same, takes}
-use Rattle.nbt.proofs.CommandRows.{alone_is_taken, no_usage_for_memory, lacked_memory, on_some, ran_words}
-use Rattle.nbt.proofs.MisusedWords.{asked_is_help, asked_is_untaken, misused_end, taken_is_no_misuse}
+use Rattle.nbt.proofs.EndedLemmas.{lacked_memory, on_some, ran_words}
+use Rattle.nbt_usage.specs.Shared.TakenWords.{alone_is_taken, no_usage_for_memory}
+use Rattle.nbt_usage.specs.Shared.MisusedWords.{asked_is_help, asked_is_untaken, misused_end, taken_is_no_misuse}
 use Rattle.nbt.proofs.program.run_counted.Goals as goal
 
 pub returns-in-Err-try_get_matches_from-clause-alone :
@@ -14,7 +15,7 @@ pub returns-in-Ok-try_get_matches_from-clause-ran :
     goal.returns-in-Ok-try_get_matches_from-clause-ran
 returns-in-Ok-try_get_matches_from-clause-ran g c taken =
     ran_words _ _ c.in-Ok-try_get_matches_from.matches _ c.run_command-outcome.result _ c.in-Ok.ensures c.in-Ok-try_get_matches_from.ensures.matches
-    c.run_command-outcome.ensures.ran c.report_run.ensures.value
+    c.run_command-outcome.ensures.ran c.report.ensures.value
 
 pub returns-in-Err-try_get_matches_from-clause-ran :
     goal.returns-in-Err-try_get_matches_from-clause-ran

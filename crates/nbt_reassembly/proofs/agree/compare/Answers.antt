@@ -1,5 +1,4 @@
-use Rattle.nbt_reassembly.proofs.Common.{sym, ap, ◌∙◌, length, arith, IfErr-weaker, IfOk-weaker, err_from_is_err_and}
-use Rattle.nbt_reassembly.specs.Capacity.{most_keys}
+use Rattle.nbt_reassembly.proofs.Common.{sym, ap, ◌∙◌, length, arith, IfErr-weaker, IfOk-weaker, err_from_is_err_and, most_keys}
 use Rattle.nbt_reassembly.proofs.JoinedLemmas.{as_many, compare_of_count, compare_of_line, compares_tables, two_items}
 use Rattle.nbt_reassembly.proofs.agree.compare.Goals as goal
 use Rattle.nbt_reassembly.proofs.agree.compare.Goals.{in_default, in_default-2}

@@ -1,7 +1,5 @@
-use Rattle.nbt_reassembly.proofs.Common.{◌++◌, List, ap, ◌∙◌, codes, key_cmp, Key}
+use Rattle.nbt_reassembly.proofs.Common.{◌++◌, List, ap, ◌∙◌, codes, key_cmp, Key, lines_of_keys, line}
 use Rattle.std.specs.FinMap as maps
-use Rattle.nbt_reassembly.specs.Differences.{lines_of_keys}
-use Rattle.nbt_command.specs.Printing.{line}
 use Rattle.nbt_reassembly.proofs.agree.differences_of.Goals as goal
 
 pub returns : goal.returns

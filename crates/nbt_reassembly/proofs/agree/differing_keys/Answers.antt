@@ -1,6 +1,5 @@
-use Rattle.nbt_reassembly.proofs.Common.{ap, ◌∙◌, key_cmp}
+use Rattle.nbt_reassembly.proofs.Common.{ap, ◌∙◌, key_cmp, marked}
 use Rattle.std.specs.FinMap as maps
-use Rattle.nbt_reassembly.specs.Code.Marks.{marked}
 use Rattle.nbt_reassembly.proofs.DifferenceLemmas.{marks_are}
 use Rattle.nbt_reassembly.proofs.agree.differing_keys.Goals as goal
 

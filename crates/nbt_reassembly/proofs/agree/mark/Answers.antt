@@ -1,6 +1,5 @@
-use Rattle.nbt_reassembly.proofs.Common.{◌∙◌, key_cmp_total, key_cmp_exact, key_cmp}
+use Rattle.nbt_reassembly.proofs.Common.{◌∙◌, key_cmp_total, key_cmp_exact, key_cmp, insert_is}
 use Rattle.std.specs.FinMap as maps
-use Rattle.nb_table.specs.Shared.TreeLemmas.{insert_is}
 use Rattle.nbt_reassembly.proofs.DifferenceLemmas.{unmarked, now_marked}
 use Rattle.nbt_reassembly.proofs.agree.mark.Goals as goal
 

@@ -1,6 +1,5 @@
-use Rattle.nbt_reassembly.proofs.Common.{◌≡◌, key_cmp}
+use Rattle.nbt_reassembly.proofs.Common.{◌≡◌, key_cmp, marked}
 use Rattle.std.specs.FinMap as maps
-use Rattle.nbt_reassembly.specs.Code.Marks.{marked}
 use Rattle.nbt_reassembly.proofs.agree.mark_each.Given as goal
 
 abbrev pub invariant-loop-key : goal.invariant-loop-key

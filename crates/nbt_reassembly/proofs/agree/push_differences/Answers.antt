@@ -1,8 +1,5 @@
-use Rattle.nbt_reassembly.proofs.Common.{◌++◌, List, ap, append_assoc, map, sym, ◌∙◌, codes, string_bytes, Key, key_cmp, key_cmp_total, key_cmp_exact}
+use Rattle.nbt_reassembly.proofs.Common.{◌++◌, List, ap, append_assoc, map, sym, ◌∙◌, codes, string_bytes, Key, key_cmp, key_cmp_total, key_cmp_exact, entries_are, lines_of_keys, line}
 use Rattle.std.specs.FinMap as maps
-use Rattle.nb_table.specs.Shared.TreeLemmas.{entries_are}
-use Rattle.nbt_reassembly.specs.Differences.{lines_of_keys}
-use Rattle.nbt_command.specs.Printing.{line}
 use Rattle.nbt_reassembly.proofs.agree.push_differences.Goals as goal
 
 pub loop-key-init : goal.loop-key-init

@@ -1,7 +1,5 @@
-use Rattle.nbt_reassembly.proofs.Common.{◌≡◌, ◌++◌, string_bytes, codes, key_cmp}
+use Rattle.nbt_reassembly.proofs.Common.{◌≡◌, ◌++◌, string_bytes, codes, key_cmp, lines_of_keys, line}
 use Rattle.std.specs.FinMap as maps
-use Rattle.nbt_reassembly.specs.Differences.{lines_of_keys}
-use Rattle.nbt_command.specs.Printing.{line}
 use Rattle.nbt_reassembly.proofs.agree.push_differences.Given as goal
 
 abbrev pub invariant-loop-key : goal.invariant-loop-key

@@ -1,5 +1,4 @@
-use Rattle.nbt_reassembly.proofs.Common.{sym, subst, codes, ExplainsUnsignedError, HasUnsignedDigitsIfOk, ParsesUnsigned}
-use Rattle.nbt_reassembly.specs.Capacity.{IsSourceLimit}
+use Rattle.nbt_reassembly.proofs.Common.{sym, subst, codes, ExplainsUnsignedError, HasUnsignedDigitsIfOk, ParsesUnsigned, IsSourceLimit}
 use Rattle.nbt_command.specs.Shared.OptionLemmas.{number_given, number_or}
 use Rattle.nbt_reassembly.proofs.capacity.capacity_of.Goals as goal
 

@@ -1,6 +1,4 @@
-use Rattle.nbt_reassembly.proofs.Common.{Bool, ◌∙◌, ap, sym}
-use Rattle.nbt_reassembly.specs.Commands.{listed_as}
-use Rattle.nbt_command.specs.Shared.PrintedLemmas.{prints_as, prints_text}
+use Rattle.nbt_reassembly.proofs.Common.{Bool, ◌∙◌, ap, sym, listed_as, prints_as, prints_text}
 use Rattle.nbt_reassembly.proofs.list.print_keys.Goals as goal
 
 pub returns-then-json-clause-printed : goal.returns-then-json-clause-printed

@@ -1,9 +1,6 @@
-use Rattle.nbt_reassembly.proofs.Common.{err_from_is_err_and, Keeps-same}
-use Rattle.nbt_reassembly.specs.Commands.{listed_as}
-use Rattle.nbt_reassembly.specs.Capacity.{IsCapacity}
+use Rattle.nbt_reassembly.proofs.Common.{err_from_is_err_and, Keeps-same, listed_as, IsCapacity, prints_uncut}
 use Rattle.nbt_reassembly.proofs.JoinedLemmas.{join_prints}
 use Rattle.nbt_reassembly.proofs.ListedLemmas.{listed}
-use Rattle.nbt_command.specs.Shared.PrintedLemmas.{prints_uncut}
 use Rattle.nbt_reassembly.proofs.list.run_list.Goals as goal
 
 pub returns : goal.returns

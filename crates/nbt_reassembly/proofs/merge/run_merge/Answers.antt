@@ -1,8 +1,5 @@
-use Rattle.nbt_reassembly.proofs.Common.{err_from_is_err_and, Keeps-same}
-use Rattle.nbt_reassembly.specs.Capacity.{IsCapacity}
-use Rattle.nbt_reassembly.specs.Saving.{saved_line}
+use Rattle.nbt_reassembly.proofs.Common.{err_from_is_err_and, Keeps-same, IsCapacity, saved_line, prints_uncut}
 use Rattle.nbt_reassembly.proofs.JoinedLemmas.{join_prints}
-use Rattle.nbt_command.specs.Shared.PrintedLemmas.{prints_uncut}
 use Rattle.nbt_reassembly.proofs.merge.run_merge.Goals as goal
 
 pub returns : goal.returns

@@ -1,5 +1,4 @@
-use Rattle.nbt_reassembly.proofs.Common.{map, take}
-use Rattle.nbt_reassembly.specs.Replaying.{AddsEach}
+use Rattle.nbt_reassembly.proofs.Common.{map, take, AddsEach}
 use Rattle.nbt_reassembly.proofs.replay.names_of.Given as goal
 
 abbrev pub invariant-loop-word : goal.invariant-loop-word

@@ -1,7 +1,5 @@
-use Rattle.nbt_reassembly.proofs.Common.{Err, err_from_is_err_and, Keeps-same}
-use Rattle.nbt_reassembly.specs.SaveFaults.{output_fails, line_fails, no_capacity}
-use Rattle.nbt_command.specs.Shared.PrintedLemmas.{prints_front, prints_kept}
-use Rattle.nbt_reassembly.specs.Saving.{saved_line}
+use Rattle.nbt_reassembly.proofs.Common.{Err, err_from_is_err_and, Keeps-same, output_fails, prints_front, prints_kept, saved_line}
+use Rattle.nbt_reassembly.specs.SaveFaults.{line_fails, no_capacity}
 use Rattle.nbt_reassembly.proofs.SavingTurns.{saves_capture, stops_before}
 use Rattle.nbt_reassembly.proofs.save.run_save.Goals as goal
 

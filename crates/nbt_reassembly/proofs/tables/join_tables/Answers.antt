@@ -1,5 +1,4 @@
-use Rattle.nbt_reassembly.proofs.Common.{ap, sym}
-use Rattle.nbt_reassembly.specs.Tables.{fault_of_join}
+use Rattle.nbt_reassembly.proofs.Common.{ap, sym, fault_of_join}
 use Rattle.nbt_reassembly.proofs.JoinedLemmas.{join_fails}
 use Rattle.nbt_reassembly.proofs.tables.join_tables.Goals as goal
 

@@ -1,6 +1,5 @@
-use Rattle.nbt_reassembly.proofs.Common.{◌≡◌, ◌+◌, length, rules, err_from_is_err_and}
-use Rattle.nbt_reassembly.specs.Capacity.{IsCapacity}
-use Rattle.nbt_reassembly.specs.Tables.{MergeFails, input_fails, no_capacity}
+use Rattle.nbt_reassembly.proofs.Common.{◌≡◌, ◌+◌, length, rules, err_from_is_err_and, IsCapacity, MergeFails, input_fails}
+use Rattle.nbt_reassembly.specs.Tables.{no_capacity}
 use Rattle.nbt_reassembly.proofs.JoinedLemmas.{elsewhere, first_taken, merge_of_join, merge_of_line, merge_of_none, merges_tables}
 use Rattle.nbt_reassembly.proofs.tables.joined_input.Goals as goal
 

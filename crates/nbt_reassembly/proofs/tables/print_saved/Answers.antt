@@ -1,6 +1,4 @@
-use Rattle.nbt_reassembly.proofs.Common.{[], ◌∷◌, refl}
-use Rattle.nbt_reassembly.specs.Saving.{saved_digits}
-use Rattle.nbt_command.specs.Shared.PrintedLemmas.{cut_in_front, prints_rest, prints_text}
+use Rattle.nbt_reassembly.proofs.Common.{[], ◌∷◌, refl, saved_digits, cut_in_front, prints_rest, prints_text}
 use Rattle.nbt_reassembly.proofs.tables.print_saved.Goals as goal
 
 pub returns-in-Ok-clause-prints : goal.returns-in-Ok-clause-prints

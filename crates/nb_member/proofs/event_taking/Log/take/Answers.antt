@@ -1,9 +1,7 @@
-use Rattle.std.proofs.Common.{sym, ap, ◌∙◌, subst, refl, false}
-use Rattle.nb_member.specs.declared.outcome.Event.{Event}
+use Rattle.nb_member.proofs.Common.{sym, ap, ◌∙◌, subst, refl, false, Event, HandedOut, HasTaken, TakesEvent}
 use Rattle.nb_member.specs.declared.outcome.Event.TheVariants.{Packet}
 use Rattle.nb_member.proofs.EventTakingLemmas.OneEvent.{clock_step}
 use Rattle.nb_member.proofs.event_taking.Log.take.Goals as goal
-use Rattle.nb_member.specs.Code.EventTurns.{HandedOut, HasTaken, TakesEvent}
 
 pub returns-in-Packet-clause-step : goal.returns-in-Packet-clause-step
 returns-in-Packet-clause-step c = λ L stands.

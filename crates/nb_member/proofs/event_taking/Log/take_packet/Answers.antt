@@ -1,12 +1,7 @@
-use Rattle.std.proofs.Common.{List, sym, ap, ◌++◌, ◌∙◌, subst, Err}
-use Rattle.nb_datagram.specs.declared.packet.ErrorPacket.{ErrorPacket}
-use Rattle.nb_datagram.specs.Fragment.{DatagramParts}
+use Rattle.nb_member.proofs.Common.{List, sym, ap, ◌++◌, ◌∙◌, subst, Err, ErrorPacket, DatagramParts, RunStop, delivery_in, error_in, HandedOut, TakesEvent}
 use Rattle.nb_member.specs.declared.outcome.Event.TheVariants.{Packet}
-use Rattle.nb_member.specs.declared.event_taking.RunStop.{RunStop}
 use Rattle.nb_member.proofs.EventTakingLemmas.OneEvent.{StepsKnown, payload_step, no_room_step}
 use Rattle.nb_member.proofs.event_taking.Log.take_packet.Goals as goal
-use Rattle.nb_member.specs.Deliveries.{delivery_in, error_in}
-use Rattle.nb_member.specs.Code.EventTurns.{HandedOut, TakesEvent}
 
 pub returns-then-not-has_made_room-clause-step : goal.returns-then-not-has_made_room-clause-step
 returns-then-not-has_made_room-clause-step c = λ L stands.

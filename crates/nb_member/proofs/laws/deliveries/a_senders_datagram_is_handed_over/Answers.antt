@@ -1,9 +1,6 @@
-use Rattle.std.proofs.Common.{[]}
+use Rattle.nb_member.proofs.Common.{[], cores, valid, deliveries}
 use Rattle.nb_member.proofs.AgreementLemmas.SameDeliveries.{senders}
 use Rattle.nb_member.proofs.laws.deliveries.a_senders_datagram_is_handed_over.Goals as goal
-use Rattle.nb_member.specs.Live.{cores}
-use Rattle.nb_member.specs.Agreement.{valid}
-use Rattle.nb_member.specs.Deliveries.{deliveries}
 
 pub returns : goal.returns
 returns c =

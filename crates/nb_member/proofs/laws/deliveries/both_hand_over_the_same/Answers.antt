@@ -1,11 +1,8 @@
-use Rattle.std.proofs.Common.{[]}
+use Rattle.nb_member.proofs.Common.{[], cores, valid, deliveries}
 use Rattle.nb_member.proofs.LiveLemmas.{TablesKnown}
 use Rattle.nb_member.proofs.DeliveryLemmas.WholeKeys.{DatagramsKnown}
 use Rattle.nb_member.proofs.AgreementLemmas.SameDeliveries.{first_once, second_once, the_same}
 use Rattle.nb_member.proofs.laws.deliveries.both_hand_over_the_same.Goals as goal
-use Rattle.nb_member.specs.Live.{cores}
-use Rattle.nb_member.specs.Agreement.{valid}
-use Rattle.nb_member.specs.Deliveries.{deliveries}
 
 pub returns : goal.returns
 returns c =

@@ -1,7 +1,6 @@
-use Rattle.std.proofs.Common.{◌≡◌, sym, ◌∙◌, rules}
+use Rattle.nb_member.proofs.Common.{◌≡◌, sym, ◌∙◌, rules, hears}
 use Rattle.nb_member.proofs.HearingLemmas.{Hears-from_test, test-from_Hears}
 use Rattle.nb_member.proofs.local_names.LocalNames.hears.Goals as goal
-use Rattle.nb_member.specs.Hearing.{hears}
 
 pub returns-clause-heard : goal.returns-clause-heard
 returns-clause-heard c =

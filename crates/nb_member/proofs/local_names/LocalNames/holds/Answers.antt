@@ -1,7 +1,6 @@
-use Rattle.std.proofs.Common.{◌≡◌, sym, ◌∙◌, rules}
+use Rattle.nb_member.proofs.Common.{◌≡◌, sym, ◌∙◌, rules, holds}
 use Rattle.nb_member.proofs.HearingLemmas.{Contains-from_holds, holds-from_Contains}
 use Rattle.nb_member.proofs.local_names.LocalNames.holds.Goals as goal
-use Rattle.nb_member.specs.Hearing.{holds}
 
 pub returns-clause-held : goal.returns-clause-held
 returns-clause-held c =

@@ -1,7 +1,6 @@
-use Rattle.std.proofs.Common.{◌≡◌, sym, ◌∙◌, rules}
+use Rattle.nb_member.proofs.Common.{◌≡◌, sym, ◌∙◌, rules, holds_scope}
 use Rattle.nb_member.proofs.HearingLemmas.{HoldsScope-from_test, test-from_HoldsScope}
 use Rattle.nb_member.proofs.local_names.LocalNames.holds_scope.Goals as goal
-use Rattle.nb_member.specs.Hearing.{holds_scope}
 
 pub returns-clause-held : goal.returns-clause-held
 returns-clause-held c =

@@ -1,7 +1,5 @@
-use Rattle.std.proofs.Common.{filter, refl, ap, ◌∙◌}
-use Rattle.std.proofs.lemmas.Result.{err_from_is_err_and}
+use Rattle.nb_member.proofs.Common.{filter, refl, ap, ◌∙◌, err_from_is_err_and, hears}
 use Rattle.nb_member.proofs.member.Member.absorb.Goals as goal
-use Rattle.nb_member.specs.Hearing.{hears}
 
 pub returns-in_err-datagrams-clause-fault : goal.returns-in_err-datagrams-clause-fault
 returns-in_err-datagrams-clause-fault c =

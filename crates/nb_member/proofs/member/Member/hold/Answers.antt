@@ -1,10 +1,7 @@
-use Rattle.std.proofs.Common.{Ok, Err, refl, subst}
-use Rattle.std.proofs.lemmas.Result.{IfErr-weaker, on_ok_weaker}
-use Rattle.nb_datagram.specs.Packet.{Packet, IsPacket}
-use Rattle.nb_member.specs.declared.outcome.Outcome.TheVariants.{Other}
-use Rattle.nb_member.specs.declared.outcome.MemberFault.{MemberFault}
+use Rattle.nb_member.proofs.Common.{Ok, Err, refl, subst, IfErr-weaker, on_ok_weaker, IsPacket, Other, MemberFault, TakesFragment}
+use Rattle.nb_datagram.specs.Packet.{Packet}
 use Rattle.nb_member.proofs.member.Member.hold.Goals as goal
-use Rattle.nb_member.specs.Taking.{Takes, TakesFragment, fragment, error, query, no_packet}
+use Rattle.nb_member.specs.Taking.{Takes, fragment, error, query, no_packet}
 
 pub returns-in-Ok-Direct-default-clause-taken : goal.returns-in-Ok-Direct-default-clause-taken
 returns-in-Ok-Direct-default-clause-taken c =

@@ -1,6 +1,5 @@
-use Rattle.std.proofs.Common.{sym, ◌∙◌, subst}
-use Rattle.nb_datagram.specs.declared.packet.Packet.TheVariants.{Direct}
-use Rattle.nb_datagram.specs.Packet.{Packet, IsPacket}
+use Rattle.nb_member.proofs.Common.{sym, ◌∙◌, subst, Direct, IsPacket}
+use Rattle.nb_datagram.specs.Packet.{Packet}
 use Rattle.nb_member.proofs.TakingLemmas.FullKeys.{begins_by}
 use Rattle.nb_member.proofs.member.Member.limit_met.Goals as goal
 

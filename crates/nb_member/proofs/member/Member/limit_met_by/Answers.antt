@@ -1,8 +1,5 @@
-use Rattle.std.proofs.Common.{◌≡◌, ◌∙◌, ap, subst}
-use Rattle.std.specs.Prelude.{MatchOption}
-use Rattle.nb_table.specs.Limits.{TableValue}
-use Rattle.nb_table.specs.Insert.{Takes, Refuses}
-use Rattle.nb_member.specs.Member.{MemberValue}
+use Rattle.nb_member.proofs.Common.{◌≡◌, ◌∙◌, ap, subst, MatchOption, TableValue, Refuses, MemberValue}
+use Rattle.nb_table.specs.Insert.{Takes}
 use Rattle.nb_member.proofs.TakingLemmas.FullKeys.{met_by}
 use Rattle.nb_member.proofs.member.Member.limit_met_by.Goals as goal
 

@@ -1,9 +1,5 @@
-use Rattle.std.proofs.Common.{filter, ap, subst, ◌∙◌}
-use Rattle.std.proofs.lemmas.Result.{err_from_is_err_and}
-use Rattle.nb_table.specs.Join.{join}
-use Rattle.nb_table.specs.Limits.{TableValue}
+use Rattle.nb_member.proofs.Common.{filter, ap, subst, ◌∙◌, err_from_is_err_and, join, TableValue, hears}
 use Rattle.nb_table.specs.Merging.{Fits, IsRefused, newly_handed}
-use Rattle.nb_member.specs.Hearing.{hears}
 use Rattle.nb_member.proofs.member.Member.preview.Goals as goal
 
 pub returns-in_err-datagrams-clause-fault : goal.returns-in_err-datagrams-clause-fault

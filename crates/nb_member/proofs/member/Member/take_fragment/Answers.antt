@@ -1,8 +1,5 @@
-use Rattle.std.proofs.Common.{ap, ◌∙◌}
-use Rattle.std.proofs.lemmas.Result.{err_from_is_err_and}
+use Rattle.nb_member.proofs.Common.{ap, ◌∙◌, err_from_is_err_and, MemberValue, with_timed, outcome_of}
 use Rattle.nb_member.proofs.member.Member.take_fragment.Goals as goal
-use Rattle.nb_member.specs.Member.{MemberValue, with_timed}
-use Rattle.nb_member.specs.Taking.{outcome_of}
 
 pub returns : goal.returns
 returns c =

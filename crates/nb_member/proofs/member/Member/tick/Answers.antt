@@ -1,9 +1,7 @@
-use Rattle.std.proofs.Common.{ap, ◌∙◌, arith}
+use Rattle.nb_member.proofs.Common.{ap, ◌∙◌, arith, TableValue, TimedValue}
 use Rattle.std.specs.FinMap as maps
-use Rattle.nb_table.specs.Limits.{TableValue}
 use Rattle.nb_member.proofs.MemberLemmas.DroppedKeys.{fewer_left}
 use Rattle.nb_member.proofs.member.Member.tick.Goals as goal
-use Rattle.nb_member.specs.Member.{TimedValue}
 
 pub overflow_sub-result : goal.overflow_sub-result
 overflow_sub-result c =

@@ -1,10 +1,7 @@
-use Rattle.std.proofs.Common.{◌≡◌, Bool, false, cond, sym, ap, ◌∙◌, subst}
+use Rattle.nb_member.proofs.Common.{◌≡◌, Bool, false, cond, sym, ap, ◌∙◌, subst, key_cmp, key_cmp_total, key_cmp_exact, Moments, StandOnce}
 use Rattle.std.specs.FinMap as maps
-use Rattle.nb_datagram.specs.Key.{key_cmp, key_cmp_total, key_cmp_exact}
 use Rattle.nb_member.proofs.MemberLemmas.DroppedKeys.{not_found, once_pushed}
 use Rattle.nb_member.proofs.timed_table.Starts.begin_new.Goals as goal
-use Rattle.nb_member.specs.Member.{Moments}
-use Rattle.nb_member.specs.Code.Members.{StandOnce}
 
 pub invariant_of-self-2 : goal.invariant_of-self-2
 invariant_of-self-2 c =

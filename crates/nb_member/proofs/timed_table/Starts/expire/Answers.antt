@@ -1,9 +1,7 @@
-use Rattle.std.proofs.Common.{◌∙◌, ap, sym, subst}
+use Rattle.nb_member.proofs.Common.{◌∙◌, ap, sym, subst, key_cmp, StandOnce}
 use Rattle.std.specs.FinMap as maps
-use Rattle.nb_datagram.specs.Key.{key_cmp}
 use Rattle.nb_member.proofs.MemberLemmas.DroppedKeys.{once_running, running_is}
 use Rattle.nb_member.proofs.timed_table.Starts.expire.Goals as goal
-use Rattle.nb_member.specs.Code.Members.{StandOnce}
 
 pub invariant_of-self : goal.invariant_of-self
 invariant_of-self c =

@@ -1,10 +1,7 @@
-use Rattle.std.proofs.Common.{ap, ◌∙◌}
+use Rattle.nb_member.proofs.Common.{ap, ◌∙◌, key_cmp, Moments, begun_each}
 use Rattle.std.specs.FinMap as maps
-use Rattle.nb_datagram.specs.Key.{key_cmp}
 use Rattle.nb_member.proofs.MemberLemmas.Timers.{begun_of}
 use Rattle.nb_member.proofs.timed_table.Starts.with_keys.Goals as goal
-use Rattle.nb_member.specs.Member.{Moments}
-use Rattle.nb_member.specs.Code.Members.{begun_each}
 
 pub returns : goal.returns
 returns c =

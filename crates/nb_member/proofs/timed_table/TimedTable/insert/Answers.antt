@@ -1,12 +1,7 @@
-use Rattle.std.proofs.Common.{sym, ap, ◌∙◌}
+use Rattle.nb_member.proofs.Common.{sym, ap, ◌∙◌, err_from_is_err_and, Key, core_of, TableValue, Moments, begun}
 use Rattle.std.specs.FinMap as maps
-use Rattle.std.proofs.lemmas.Result.{err_from_is_err_and}
-use Rattle.nb_datagram.specs.declared.key.Key.{Key}
-use Rattle.nb_datagram.specs.Fragment.{core_of}
-use Rattle.nb_table.specs.Limits.{TableValue}
 use Rattle.nb_member.proofs.MemberLemmas.Timers.{begun_already, known_key, new_key, one_set_after, new_needs_memory, table_restored}
 use Rattle.nb_member.proofs.timed_table.TimedTable.insert.Goals as goal
-use Rattle.nb_member.specs.Member.{Moments, begun}
 
 pub returns-in_err-change-clause-refused : goal.returns-in_err-change-clause-refused
 returns-in_err-change-clause-refused c =

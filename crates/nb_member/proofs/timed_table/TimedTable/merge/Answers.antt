@@ -1,7 +1,5 @@
-use Rattle.std.proofs.Common.{sym, ap, ◌∙◌}
+use Rattle.nb_member.proofs.Common.{sym, ap, ◌∙◌, err_from_is_err_and, TableValue}
 use Rattle.std.specs.FinMap as maps
-use Rattle.std.proofs.lemmas.Result.{err_from_is_err_and}
-use Rattle.nb_table.specs.Limits.{TableValue}
 use Rattle.nb_member.proofs.MemberLemmas.Timers.{one_set_merged}
 use Rattle.nb_member.proofs.timed_table.TimedTable.merge.Goals as goal
 

@@ -1,9 +1,6 @@
-use Rattle.std.proofs.Common.{sym, ap, ◌∙◌, is_some}
+use Rattle.nb_member.proofs.Common.{sym, ap, ◌∙◌, is_some, key_cmp, TableValue, Moments}
 use Rattle.std.specs.FinMap as maps
-use Rattle.nb_datagram.specs.Key.{key_cmp}
-use Rattle.nb_table.specs.Limits.{TableValue}
 use Rattle.nb_member.proofs.timed_table.TimedTable.new.Goals as goal
-use Rattle.nb_member.specs.Member.{Moments}
 
 pub invariant_of-result : goal.invariant_of-result
 invariant_of-result c =

@@ -1,9 +1,7 @@
-use Rattle.std.proofs.Common.{sym, ap, ◌∙◌}
+use Rattle.nb_member.proofs.Common.{sym, ap, ◌∙◌, TableValue, Moments}
 use Rattle.std.specs.FinMap as maps
-use Rattle.nb_table.specs.Limits.{TableValue}
 use Rattle.nb_member.proofs.MemberLemmas.DroppedKeys.{one_set_left}
 use Rattle.nb_member.proofs.timed_table.TimedTable.tick.Goals as goal
-use Rattle.nb_member.specs.Member.{Moments}
 
 pub invariant_of-self : goal.invariant_of-self
 invariant_of-self c =

@@ -1,6 +1,0 @@
-use Rattle.nbt.proofs.Common.{◌≡◌, take, fold, App, app_of}
-use Rattle.nbt.specs.Code.CommandForms.{with_form}
-use Rattle.nbt.proofs.command_line.with_commands.Given as goal
-
-abbrev pub invariant-loop-form : goal.invariant-loop-form
-invariant-loop-form l = (app : App) → app_of l.fn.command ≡ app → app_of l.command ≡ fold with_form app (take l.form-index l.forms)

@@ -1,7 +1,0 @@
-use Rattle.nbt.proofs.Common.{refl}
-use Rattle.std.specs.Fmt.{digits}
-use Rattle.nbt.proofs.laws.limits_are_these_numbers.Goals as goal
-
-pub returns-clause-usual : goal.returns-clause-usual
-unfolding digits
-returns-clause-usual c = (refl, refl)

@@ -1,2 +1,0 @@
--- Words that private functions' contracts alone cite.
-pub mod CommandForms

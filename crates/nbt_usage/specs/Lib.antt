@@ -1,0 +1,4 @@
+pub mod CommandLine
+pub mod Refusals
+pub mod Code
+pub mod Shared

@@ -1,0 +1,3 @@
+-- Lemmas that the program cites too. No clause cites a lemma of these files.
+pub mod TakenWords
+pub mod MisusedWords

@@ -1,6 +1,6 @@
 //! Fragments of datagrams, which borrow their data.
 ghost use Rattle.std.specs.Prelude.{◌≡◌, ◌≤◌, ◌<◌, ◌+◌, length, MatchResult};
-ghost use Rattle.nb_datagram.specs.Fragment.{named_length, has_more, is_first, FragmentParts};
+ghost use Rattle.nb_datagram.specs.Fragment.{named_length, has_more, is_first};
 ghost use Rattle.nb_datagram.specs.declared.limits.TheConstants.{MAX_LENGTH};
 ghost use Rattle.std.specs.Cmp.{decided, partial_equiv_from_equiv};
 ghost use Rattle.nb_datagram.specs.Equality.{fragment_eq};
@@ -33,6 +33,8 @@ pub struct Fragment<'a, N: NameForm = Name> {
 pub type LentFragment<'a> = Fragment<'a, LentName<'a>>;
 
 impl<'a, N: NameForm> Model for Fragment<'a, N> {
+    ghost use Rattle.std.specs.Prelude.{◌≤◌};
+    ghost use Rattle.nb_datagram.specs.Fragment.{FragmentParts, named_length};
     ghost use Rattle.nb_datagram.specs.declared.limits.TheConstants.{MAX_LENGTH};
 
     ghost Value = { FragmentParts };

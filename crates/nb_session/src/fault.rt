@@ -1,6 +1,6 @@
 //! Why bytes are no session packet.
-ghost use Rattle.std.specs.Prelude.{◌≡◌, Some};
-ghost use Rattle.nb_session.specs.FaultTexts.{session_fault_place, session_fault_subject, session_fault_words, session_fault_text};
+ghost use Rattle.std.specs.Prelude.{◌≡◌};
+ghost use Rattle.nb_session.specs.FaultTexts.{session_fault_place, session_fault_subject, session_fault_words};
 
 use nb_names::NameFault;
 use std::error::Error;
@@ -68,6 +68,9 @@ impl SessionFault {
 }
 
 impl fmt::Display for SessionFault {
+    ghost use Rattle.std.specs.Prelude.{Some};
+    ghost use Rattle.nb_session.specs.FaultTexts.{session_fault_text};
+
     ghost output = { λ fault. Some (session_fault_text fault) };
 
     fn fmt<W: fmt::Write>(&self, f: &mut fmt::Formatter<W>) -> fmt::Result {
@@ -83,6 +86,7 @@ impl fmt::Display for SessionFault {
 impl Error for SessionFault {}
 
 impl From<NameFault> for SessionFault {
+    ghost use Rattle.std.specs.Prelude.{◌≡◌};
     ghost use Rattle.nb_session.specs.declared.fault.SessionFault.TheVariants.{Name};
 
     ghost from_gives = { λ fault e. e ≡ Name fault };

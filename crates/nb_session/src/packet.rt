@@ -1,11 +1,8 @@
 //! Session packets as values, and their kinds.
-ghost use Rattle.std.specs.Prelude.{◌≡◌, ◌≤◌, ◌<◌, length, MatchResult, ◌↔◌, ℕ, IsTrue, MatchOption, List, Some, codes, ◌==◌};
+ghost use Rattle.std.specs.Prelude.{◌≡◌, ◌≤◌, ◌<◌, length, MatchResult, ◌↔◌, ℕ, IsTrue, MatchOption};
 ghost use Rattle.nb_session.specs.declared.limits.TheConstants.{MAX_MESSAGE};
 ghost use Rattle.nb_session.specs.Packet.{kind_of};
 ghost use Rattle.nb_session.specs.Header.{type_of, MayHave};
-ghost use Rattle.std.specs.Cmp.Lexicographic.{pointwise};
-ghost use Rattle.std.proofs.Common.{rules};
-ghost use Rattle.std.specs.Cmp.Rules.{comparing};
 
 use crate::limits::{MAX_MESSAGE, MAX_REQUEST, MIN_REQUEST};
 use nb_names::{LentName, Name, NameForm};
@@ -154,6 +151,7 @@ pub struct MessageData<'a> {
 }
 
 impl<'a> Model for MessageData<'a> {
+    ghost use Rattle.std.specs.Prelude.{ℕ, List, ◌≤◌, length};
     ghost use Rattle.nb_session.specs.declared.limits.TheConstants.{MAX_MESSAGE};
 
     ghost Value = { List ℕ };
@@ -168,6 +166,8 @@ impl<'a> Model for MessageData<'a> {
 pub struct TooLong;
 
 impl fmt::Display for TooLong {
+    ghost use Rattle.std.specs.Prelude.{Some, codes};
+
     ghost output = { λ _. Some (codes "too long") };
 
     fn fmt<W: fmt::Write>(&self, f: &mut fmt::Formatter<W>) -> fmt::Result {
@@ -212,6 +212,11 @@ impl<'a> MessageData<'a> {
 }
 
 impl PartialEq for MessageData<'_> {
+    ghost use Rattle.std.specs.Prelude.{◌==◌};
+    ghost use Rattle.std.specs.Cmp.Lexicographic.{pointwise};
+    ghost use Rattle.std.proofs.Common.{rules};
+    ghost use Rattle.std.specs.Cmp.Rules.{comparing};
+
     ghost eq = { pointwise ◌==◌ };
 
     ghost laws = { Prim.search (comparing, rules) };
@@ -222,5 +227,8 @@ impl PartialEq for MessageData<'_> {
 }
 
 impl Eq for MessageData<'_> {
+    ghost use Rattle.std.proofs.Common.{rules};
+    ghost use Rattle.std.specs.Cmp.Rules.{comparing};
+
     ghost laws = { Prim.search (comparing, rules) };
 }

@@ -163,6 +163,9 @@ pub struct Room {
 }
 
 impl Model for Room {
+    ghost use Rattle.std.specs.Prelude.{ℕ, List, ◌≤◌, length};
+    ghost use Rattle.nb_session.specs.declared.limits.TheConstants.{MAX_PACKET};
+
     ghost Value = { List ℕ };
 
     ghost view = { λ room. room.bytes.items };

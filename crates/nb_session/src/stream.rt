@@ -3,7 +3,7 @@ ghost use Rattle.std.specs.Prelude.{◌≡◌, ◌≤◌, ◌+◌, ◌*◌, [], 
 ghost use Rattle.std.specs.Borrow.{sem};
 ghost use Rattle.std.specs.Io.BufRead.{Rests};
 ghost use Rattle.nb_session.specs.contracts.stream.Stream.{the_row};
-ghost use Rattle.nb_session.specs.Stream.{Feeds, Takes, running, KeptStream};
+ghost use Rattle.nb_session.specs.Stream.{Feeds, Takes, running};
 
 use crate::fault::SessionFault;
 use crate::packet_bytes::PacketBytes;
@@ -32,6 +32,9 @@ pub struct Stream {
 }
 
 impl Model for Stream {
+    ghost use Rattle.std.specs.Prelude.{drop, ◌≤◌, length};
+    ghost use Rattle.nb_session.specs.Stream.{KeptStream};
+
     ghost Value = { KeptStream };
 
     ghost view = { λ s. record {
@@ -54,6 +57,7 @@ pub enum FeedFault {
 }
 
 impl From<AllocError> for FeedFault {
+    ghost use Rattle.std.specs.Prelude.{◌≡◌};
     ghost use Rattle.nb_session.specs.declared.stream.FeedFault.TheVariants.{NoMemory};
 
     ghost from_gives = { λ _ e. e ≡ NoMemory };

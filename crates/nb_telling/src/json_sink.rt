@@ -1,12 +1,12 @@
 //! Fields as JSON.
-ghost use Rattle.std.specs.Prelude.{◌≡◌, ◌≤◌, ◌++◌, ◌∷◌, [], ℕ, List, IfOk, OnOk, map, drop, length, ⊤};
+ghost use Rattle.std.specs.Prelude.{◌≡◌, ◌≤◌, ◌++◌, ◌∷◌, [], ℕ, List, IfOk, OnOk, map};
 ghost use Rattle.std.specs.Fmt.{decimal};
-ghost use Rattle.json.specs.Token.{begin_object, end_object, key, number, string, Token, tokens_code};
+ghost use Rattle.json.specs.Token.{begin_object, end_object, key, number, string};
 ghost use Rattle.json.specs.Print.{print};
 ghost use Rattle.nb_telling.specs.Telling.{Field};
 ghost use Rattle.nb_telling.specs.Members.{AreMembers, IsJson};
 ghost use Rattle.nb_telling.specs.Texts.{names_of};
-ghost use Rattle.nb_telling.specs.Tokens.{tokens_of, field_tokens};
+ghost use Rattle.nb_telling.specs.Tokens.{tokens_of};
 
 use crate::sink::{FieldTag, Flag, Shows, Sink};
 use json::Writer;
@@ -30,6 +30,8 @@ pub struct JsonRoom {
 }
 
 impl Model for JsonRoom {
+    ghost use Rattle.std.specs.Prelude.{◌≤◌, List, drop, length, ℕ};
+
     ghost Value = { List ℕ };
 
     ghost view = { λ room. drop room.start room.bytes.items };
@@ -99,6 +101,9 @@ pub struct JsonSink {
 }
 
 impl Model for JsonSink {
+    ghost use Rattle.std.specs.Prelude.{◌≡◌, List, length};
+    ghost use Rattle.json.specs.Token.{Token, tokens_code};
+
     ghost Value = { List Token };
 
     ghost coded = { tokens_code };
@@ -160,6 +165,9 @@ impl JsonSink {
 /// text.
 impl Sink for JsonSink {
     type Seen = JsonSink;
+
+    ghost use Rattle.std.specs.Prelude.{◌++◌, ⊤};
+    ghost use Rattle.nb_telling.specs.Tokens.{field_tokens};
 
     ghost seen = { λ sink. sink };
 

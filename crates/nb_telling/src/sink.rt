@@ -3,9 +3,6 @@ ghost use Rattle.std.specs.Prelude.{◌≡◌, IfSome, OnOk, fold, ◌++◌, ℕ
 ghost use Rattle.nb_streams.specs.Growth.{OnlyAdds};
 ghost use Rattle.nb_telling.specs.Telling.{Field, Text, Number, Digits, Data, Set, Known, Range, Words, At, Begins, Ends, Part, PartEnds, LineEnds, Grows, tag_of, place_fields};
 ghost use Rattle.nb_telling.specs.Texts.{names_of};
-ghost use Rattle.nb_names.specs.NameText.{written, labels_written};
-ghost use Rattle.nb_streams.specs.Addresses.{address_text};
-ghost use Rattle.nb_datagram.specs.FaultTexts.{key_text};
 
 use nb_datagram::{Key, push_key};
 use nb_names::{DomainName, LentDomain, LentName, Name, push_domain, push_lent_name, push_name};
@@ -170,6 +167,8 @@ pub trait Shows {
 }
 
 impl Shows for Name {
+    ghost use Rattle.nb_names.specs.NameText.{written};
+
     ghost shown = { written };
 
     fn push_to(&self, text: &mut String) -> Result<(), NoMemory> {
@@ -178,6 +177,8 @@ impl Shows for Name {
 }
 
 impl<'a> Shows for LentName<'a> {
+    ghost use Rattle.nb_names.specs.NameText.{written};
+
     ghost shown = { written };
 
     fn push_to(&self, text: &mut String) -> Result<(), NoMemory> {
@@ -186,6 +187,8 @@ impl<'a> Shows for LentName<'a> {
 }
 
 impl Shows for DomainName {
+    ghost use Rattle.nb_names.specs.NameText.{labels_written};
+
     ghost shown = { labels_written };
 
     fn push_to(&self, text: &mut String) -> Result<(), NoMemory> {
@@ -194,6 +197,8 @@ impl Shows for DomainName {
 }
 
 impl<'a> Shows for LentDomain<'a> {
+    ghost use Rattle.nb_names.specs.NameText.{labels_written};
+
     ghost shown = { labels_written };
 
     fn push_to(&self, text: &mut String) -> Result<(), NoMemory> {
@@ -202,6 +207,8 @@ impl<'a> Shows for LentDomain<'a> {
 }
 
 impl Shows for [u8; 4] {
+    ghost use Rattle.nb_streams.specs.Addresses.{address_text};
+
     ghost shown = { address_text };
 
     fn push_to(&self, text: &mut String) -> Result<(), NoMemory> {
@@ -210,6 +217,8 @@ impl Shows for [u8; 4] {
 }
 
 impl Shows for Key {
+    ghost use Rattle.nb_datagram.specs.FaultTexts.{key_text};
+
     ghost shown = { key_text };
 
     fn push_to(&self, text: &mut String) -> Result<(), NoMemory> {

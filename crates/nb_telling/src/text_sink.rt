@@ -2,8 +2,8 @@
 #![tactic(auto, using(nb_streams::specs::Growth::front_stays))]
 
 ghost use Rattle.std.specs.Prelude.{◌≡◌, ◌++◌, OnOk, string_bytes};
-ghost use Rattle.nb_streams.specs.Growth.{OnlyAdds, IsFrontOf};
-ghost use Rattle.nb_telling.specs.Texts.{joined, names_of, field_text};
+ghost use Rattle.nb_streams.specs.Growth.{OnlyAdds};
+ghost use Rattle.nb_telling.specs.Texts.{joined, names_of};
 
 use crate::sink::{FieldTag, Flag, Shows, Sink};
 use nb_streams::{Bytes, NoMemory, push_data, push_decimal, push_digits, push_shown};
@@ -13,6 +13,10 @@ use std::fmt::Display;
 /// and of where lists begin and end.
 impl Sink for String {
     type Seen = Bytes;
+
+    ghost use Rattle.std.specs.Prelude.{◌++◌, string_bytes};
+    ghost use Rattle.nb_streams.specs.Growth.{IsFrontOf};
+    ghost use Rattle.nb_telling.specs.Texts.{field_text};
 
     ghost seen = { λ text. string_bytes text };
 

@@ -8,7 +8,7 @@ ghost use Rattle.nb_telling.specs.Texts.{names_of};
 ghost use Rattle.nb_text.specs.declared.brief.gist.Listed.{Listed};
 ghost use Rattle.nb_text.specs.Fields.{list_fields};
 ghost use Rattle.nb_text.specs.ServiceSaid.{few, first};
-ghost use Rattle.nb_text.specs.Views.{fields_by, flags_by, listed_by, parts_in, units_by, name_flags, status_view, address_listed, entry_fields, name_listed, node_name_fields};
+ghost use Rattle.nb_text.specs.Views.{fields_by, flags_by, listed_by, parts_in, units_by, name_flags, status_view};
 ghost use Rattle.nb_text.specs.Words.{is_set, names_set};
 
 use crate::brief::gist::{Few, Listed};
@@ -164,6 +164,8 @@ impl<'a> ViewParts for AddressEntries<'a> {
 }
 
 impl ViewPart for AddressEntry {
+    ghost use Rattle.nb_text.specs.Views.{address_listed, entry_fields};
+
     ghost fields = { entry_fields };
 
     ghost listed = { address_listed };
@@ -212,6 +214,8 @@ impl<'a> ViewParts for NodeStatus<'a> {
 }
 
 impl ViewPart for NodeName {
+    ghost use Rattle.nb_text.specs.Views.{name_listed, node_name_fields};
+
     ghost fields = { node_name_fields };
 
     ghost listed = { name_listed };

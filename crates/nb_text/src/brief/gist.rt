@@ -6,7 +6,7 @@ ghost use Rattle.nb_service.specs.Code.Steps.{HasRow, RowOf};
 ghost use Rattle.nb_service.specs.Items.{SeesRecord};
 ghost use Rattle.nb_service.specs.Packet.{RecordAt};
 ghost use Rattle.nb_service.specs.Record.{ResourceRecord};
-ghost use Rattle.nb_text.specs.ServiceSaid.{few, gist_of, listed_text};
+ghost use Rattle.nb_text.specs.ServiceSaid.{few, gist_of};
 ghost use Rattle.nb_text.specs.declared.brief.gist.Listed.{Listed};
 
 use crate::views::{first_flags, first_unit, list_view};
@@ -101,6 +101,8 @@ impl Default for Listed {
 }
 
 impl Shows for Listed {
+    ghost use Rattle.nb_text.specs.ServiceSaid.{listed_text};
+
     ghost shown = { listed_text };
 
     fn push_to(&self, text: &mut String) -> Result<(), NoMemory> {

@@ -15,7 +15,7 @@ pub returns-in-Ok-try_get_matches_from-clause-ran :
     goal.returns-in-Ok-try_get_matches_from-clause-ran
 returns-in-Ok-try_get_matches_from-clause-ran g c taken =
     ran_words _ _ c.in-Ok-try_get_matches_from.matches _ c.run_command-outcome.result _ c.in-Ok.ensures c.in-Ok-try_get_matches_from.ensures.matches
-    c.run_command-outcome.ensures.ran c.report.ensures.value
+    c.run_command-outcome.ensures.ran c.report-in-Ok-try_get_matches_from.ensures.value
 
 pub returns-in-Err-try_get_matches_from-clause-ran :
     goal.returns-in-Err-try_get_matches_from-clause-ran

@@ -168,8 +168,8 @@ fn saved<E: Write>(outcome: Result<u64, Fault>, errors: &mut Errors<'_, E>) -> R
 }
 
 /// The status with which a command ended. Its fault, if it has one, goes to `errors` as a line; a
-/// person gets advice in a second one, which for a packet's words, where they are matched, says what
-/// is wrong with them.
+/// person gets advice in a second one, which for a packet's words, where they are matched, says
+/// what is wrong with them.
 pub fn report<E: Write>(
     alloc: Global,
     outcome: Result<Status, Fault>,

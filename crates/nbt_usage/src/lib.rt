@@ -1,4 +1,4 @@
-//! How `nbt` is used: its command line, its help, and what those who use it are told of a refusal.
+//! How `nbt` is used: its command line, its help, and what is reported of a refusal.
 #![tactic(auto)]
 
 mod advice;

@@ -20,13 +20,9 @@ export PROGRAM DESTDIR PREFIX DEB LIBRARY TARGETS DIST PLUGIN PLUGINS
 run: build
 	$(PROGRAM) replay $(NAMES) <$(CAPTURE)
 
-# Prove and build the program, and print its version. What the crates of its commands stand on is proved side by side: a crate that is
-# being proved is waited for.
+# Prove and build the program, and print its version.
 build:
-	@proving=; for each in nb_member nbt_usage nbt_packets nbt_reassembly; do \
-	    (cd crates/$$each && exec rt lib) & proving="$$proving $$!"; \
-	done; for each in $$proving; do wait $$each || exit 1; done
-	cd crates/nbt && rt run -- --version
+	tools/program
 
 # Build the program without proofs, and replay the same capture: a first look. A built program needs the proofs.
 try:

@@ -181,10 +181,6 @@ fn lower_of(key: Key, least: Option<Key>) -> Key
 }
 
 /// The table whose saved bytes these are, with these limits, which it keeps.
-///
-/// # Errors
-///
-/// As [`load`].
 pub(crate) fn loaded(
     alloc: Global,
     input: &[u8],

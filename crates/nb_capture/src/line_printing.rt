@@ -45,10 +45,6 @@ pub trait LineText {
 
     /// Makes the text of the line with this number, which says this, or nothing, with these
     /// comments.
-    ///
-    /// # Errors
-    ///
-    /// [`NoMemory`] where memory ran out.
     fn make(
         &mut self,
         number: u64,

@@ -76,10 +76,6 @@ pub fn next_from<'a, R: Read>(
 
 /// Reads to the next line, and answers how many bytes it has. They are the first of those that the
 /// room then has handed out.
-///
-/// # Errors
-///
-/// Those of [`next_line`].
 fn advance<R: Read>(
     lines: &mut LineRoom,
     reader: &mut Counted<R>,

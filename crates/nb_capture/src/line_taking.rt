@@ -106,10 +106,6 @@ pub fn take_lines<R: Read, T: LineTaker>(
 }
 
 /// Gives the line with this number to a taker. A payload is read into this room.
-///
-/// # Errors
-///
-/// The taker's, or what it makes of [`CaptureFault::Line`] and [`CaptureFault::NoMemory`].
 fn take_line<T: LineTaker>(
     room: &mut Vec<u8>,
     number: u64,

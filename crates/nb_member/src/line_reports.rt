@@ -55,10 +55,6 @@ pub fn tell_line<S: Sink>(
 }
 
 /// Reports what became of a payload of port 138.
-///
-/// # Errors
-///
-/// [`NoMemory`] where memory ran out, when the payload was taken or after.
 fn tell_taken<S: Sink>(
     alloc: Global,
     taken: Result<LentOutcome<'_>, MemberFault>,
@@ -80,10 +76,6 @@ fn tell_taken<S: Sink>(
 /// Acts on the line of a capture with this number, which says this, or nothing, and makes a text
 /// its line of the report, which is empty where it has none: that of a comment is the comment,
 /// where comments are printed.
-///
-/// # Errors
-///
-/// [`NoMemory`] where memory ran out, before the line was acted on or after.
 pub(crate) fn act_on(
     number: u64,
     line: &[u8],
@@ -103,10 +95,6 @@ pub(crate) fn act_on(
 }
 
 /// Acts on what a line says, and makes a text the line of the report about it.
-///
-/// # Errors
-///
-/// [`NoMemory`] where memory ran out, before this was acted on or after.
 fn outcome_line(
     number: u64,
     said: &Line,

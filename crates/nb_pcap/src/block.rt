@@ -89,10 +89,6 @@ pub fn block_order(order: Order, bytes: &[u8]) -> Option<Order>
 }
 
 /// How many bytes a block of this kind has, by its first length.
-///
-/// # Errors
-///
-/// [`FileFault::BadBlock`] and [`FileFault::TooLong`].
 fn sized(kind: BlockKind, size: u32) -> Result<usize, FileFault>
     ensures { result ≡ sized kind size }
 {

@@ -39,10 +39,6 @@ fn no_section(alloc: Global) -> Section
 }
 
 /// How many bytes the first part of a file has at least, as far as the bytes at its front say.
-///
-/// # Errors
-///
-/// Those of [`size_of`].
 fn first_size(bytes: &[u8]) -> Result<usize, FileFault>
     requires { MAGIC_LENGTH ≤ length bytes.now }
     ensures { result ≡ first_size bytes.now }
@@ -113,10 +109,6 @@ pub fn is_end(context: &Context, rest: &[u8]) -> bool
 }
 
 /// Takes in the first part of a file, which is as long as it says.
-///
-/// # Errors
-///
-/// Those of [`take_in`].
 fn take_first(alloc: Global, context: &mut Context, part: &[u8]) -> Result<Option<Head>, FileFault>
     requires beginning { context.old ≡ Beginning }
     requires whole { size_of Beginning part.now ≡ Ok (length part.now) }

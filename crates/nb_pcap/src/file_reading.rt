@@ -187,10 +187,6 @@ pub fn next_frame<'a, R: Read>(
 }
 
 /// Reads to the next frame, which the room then has handed out, and answers where it stands.
-///
-/// # Errors
-///
-/// Those of [`next_frame`].
 fn advance<R: Read>(file: &mut FileRoom, reader: &mut Counted<R>) -> Result<Option<Head>, FileFault>
     ensures { ReadsFrame file.old (R.remaining reader.old.inner) (R.remaining reader.new.inner)
         reader.old.counts reader.new.counts (handed_frame file.new result) file.new }

@@ -41,10 +41,6 @@ pub enum Part {
 }
 
 /// Reads once, and answers how many bytes came: none at the end.
-///
-/// # Errors
-///
-/// [`FileFault::Read`] and [`FileFault::NoMemory`].
 fn read_once<R: Read>(room: &mut PartRoom, reader: &mut Counted<R>) -> Result<usize, FileFault>
     requires lent { room.old.lent ≡ [] }
     requires few { length room.old.rest ≤ MAX_ITEM }
@@ -62,10 +58,6 @@ fn read_once<R: Read>(room: &mut PartRoom, reader: &mut Counted<R>) -> Result<us
 }
 
 /// Reads until the next part is held, or one that is passed over begins.
-///
-/// # Errors
-///
-/// Those of [`size_of`] and [`read_once`].
 fn wait<R: Read>(
     room: &mut PartRoom,
     context: &Context,
@@ -103,10 +95,6 @@ fn front_of(bytes: &[u8], count: usize) -> &[u8]
 }
 
 /// Takes in the next part, which is held, and hands it out.
-///
-/// # Errors
-///
-/// Those of [`take_in`].
 fn take_whole(
     alloc: Global,
     room: &mut PartRoom,
@@ -164,10 +152,6 @@ fn pass_bytes<R: Read>(
 }
 
 /// Reads until so many bytes are held, and answers whether they are: else the file is at its end.
-///
-/// # Errors
-///
-/// Those of [`read_once`].
 fn fill<R: Read>(
     room: &mut PartRoom,
     reader: &mut Counted<R>,

@@ -40,10 +40,6 @@ pub struct Section {
 
 /// A head, where the captured bytes are no more than a frame may have, and than the block has room
 /// for.
-///
-/// # Errors
-///
-/// [`FileFault::TooLong`] and [`FileFault::BadBlock`].
 fn fitting(head: Head, room: usize) -> Result<Head, FileFault>
     ensures { result ≡ fitting head room }
 {
@@ -68,10 +64,6 @@ fn captured_of(snap: u32, original: u32) -> u32
 }
 
 /// Where the frame of a Simple Packet stands.
-///
-/// # Errors
-///
-/// [`FileFault::NoInterface`], [`FileFault::TooLong`] and [`FileFault::BadBlock`].
 fn simple_head(section: &Section, block: &[u8]) -> Result<Head, FileFault>
     requires { SIMPLE_LENGTH ≤ length block.now }
     ensures { result ≡ simple_head section.now block.now }
@@ -94,10 +86,6 @@ fn simple_head(section: &Section, block: &[u8]) -> Result<Head, FileFault>
 }
 
 /// Where the frame of an Enhanced or obsolete Packet of this interface stands.
-///
-/// # Errors
-///
-/// [`FileFault::NoInterface`], [`FileFault::TooLong`] and [`FileFault::BadBlock`].
 fn timed_head(section: &Section, which: usize, block: &[u8]) -> Result<Head, FileFault>
     requires { PACKET_LENGTH ≤ length block.now }
     ensures { result ≡ timed_head section.now which block.now }
@@ -133,10 +121,6 @@ fn section_after(alloc: Global, section: &Section, order: Order) -> Section
 }
 
 /// Takes in a whole block of this kind, the order of whose numbers is this.
-///
-/// # Errors
-///
-/// Those of [`take_block`].
 fn take_kind(
     alloc: Global,
     kind: BlockKind,

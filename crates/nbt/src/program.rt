@@ -110,10 +110,6 @@ pub fn run_counted<R: Read, W: Write, E: Write>(
 }
 
 /// Runs the subcommand that the words name, and answers the status with which it was done.
-///
-/// # Errors
-///
-/// Those of the subcommand, and [`Fault::Arguments`] where the words name none.
 fn run_command<R: Read, W: Write, E: Write>(
     alloc: Global,
     matches: &ArgMatches<'_>,
@@ -221,11 +217,6 @@ fn report_unmatched<W: Write, E: Write>(
 }
 
 /// Prints clap's help or the version, and after the help of a command what it may refuse.
-///
-/// # Errors
-///
-/// [`Fault::Memory`] where memory ran out; nothing is printed then. [`Fault::Write`] where the
-/// output failed.
 fn print_help<W: Write>(
     alloc: Global,
     words: &[String],

@@ -87,10 +87,6 @@ pub fn bare(name: &'static str) -> FieldTag
 }
 
 /// The object of the line with this number, which says this, after this comment, as a line.
-///
-/// # Errors
-///
-/// [`NoMemory`] where memory ran out.
 fn line_object<T: LineFields>(
     number: u64,
     said: &Line,
@@ -112,10 +108,6 @@ fn line_object<T: LineFields>(
 
 /// What is printed of the line with this number, which is a comment or empty: the object of the
 /// comment as a line, where comments are printed. The comment is kept.
-///
-/// # Errors
-///
-/// [`NoMemory`] where memory ran out.
 fn blank_object(
     number: u64,
     line: &[u8],

@@ -44,11 +44,6 @@ pub fn run_name<W: Write>(
 }
 
 /// Prints the spelling, in hexadecimal, of the name that a text stands for.
-///
-/// # Errors
-///
-/// [`Fault::Text`] where the text is of no name, [`Fault::Memory`] where memory ran out; nothing
-/// is printed then. [`Fault::Write`] where the output failed.
 fn print_spelling<W: Write>(alloc: Global, text: &str, output: &mut Counted<W>) -> Result<(), Fault>
     ensures printed { OnOk result (PrintsSpelling text.now
         (W.contents output.old.inner) (W.contents output.new.inner)) }
@@ -85,11 +80,6 @@ fn print_name<W: Write>(alloc: Global, digits: &str, output: &mut Counted<W>) ->
 }
 
 /// Prints a text as a line.
-///
-/// # Errors
-///
-/// [`Fault::Memory`] where memory ran out; nothing is printed then. [`Fault::Write`] where the
-/// output failed.
 fn print_line<W: Write>(mut text: String, output: &mut Counted<W>) -> Result<(), Fault>
     ensures prints { PrintsText (line (string_bytes text))
         (W.contents output.old.inner) (W.contents output.new.inner) result }

@@ -49,10 +49,6 @@ pub fn run_agree<R: Read, W: Write>(
 
 /// Reads two tables, and prints whether they are equal, and where they aren't, if that is asked
 /// for.
-///
-/// # Errors
-///
-/// Those of [`run_agree`].
 fn compare<R: Read, W: Write>(
     alloc: Global,
     list: bool,
@@ -93,11 +89,6 @@ fn compare<R: Read, W: Write>(
 
 /// Prints whether two tables are the same, and where they aren't, if that is asked for; answers the
 /// status for it.
-///
-/// # Errors
-///
-/// [`Fault::Memory`] where memory ran out; nothing is printed then. [`Fault::Write`] where the
-/// output failed.
 fn tell_same<W: Write>(
     alloc: Global,
     list: bool,

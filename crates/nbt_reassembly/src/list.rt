@@ -38,11 +38,6 @@ pub fn run_list<R: Read, W: Write>(
 }
 
 /// Prints a line for each key of a table, ascending, or an object.
-///
-/// # Errors
-///
-/// [`Fault::Memory`] where memory ran out; nothing is printed then. [`Fault::Write`] where the
-/// output failed.
 fn print_keys<W: Write>(
     alloc: Global,
     json: bool,

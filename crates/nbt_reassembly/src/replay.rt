@@ -57,10 +57,6 @@ pub fn run_replay<R: Read, W: Write>(
 }
 
 /// The member that a replay begins with: new, with the names of the words.
-///
-/// # Errors
-///
-/// Those of [`run_replay`] that come before any input is read.
 fn member_of(alloc: Global, matches: &ArgMatches<'_>) -> Result<Member, Fault>
     ensures made { IfOk result (Begins (IsCapacity matches.now) (AreTexts matches.now)) }
     ensures fault { IfErr result

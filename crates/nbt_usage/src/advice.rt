@@ -63,10 +63,6 @@ fn words_behind_help(words: &[String]) -> Option<&[String]>
 }
 
 /// The refusal with this text, whatever the case of its letters.
-///
-/// # Errors
-///
-/// `NoMemory` where memory ran out.
 fn refusal_in_any_case<'a>(
     alloc: Global,
     refusals: &'a [Refusal],

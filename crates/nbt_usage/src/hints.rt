@@ -115,10 +115,6 @@ pub fn print_dropped<E: Write>(dropped: u64, errors: &mut Errors<'_, E>)
 
 /// How a command reads the files that these words give it, of which it refuses the first; an empty
 /// text where they give it none.
-///
-/// # Errors
-///
-/// `NoMemory` where memory ran out.
 fn input_line(alloc: Global, words: &[String]) -> Result<String, NoMemory> {
     let mut line = String::new(alloc);
     if let Some(start) = first_file(words) {

@@ -47,10 +47,6 @@ fn make_room<const OPEN: usize>(bytes: &mut Vec<u8>, held: usize) -> Result<(), 
 }
 
 /// Reads once into a part of a buffer.
-///
-/// # Errors
-///
-/// Those of [`read_some`].
 fn read_into<R: Read>(
     reader: &mut Counted<R>,
     buffer: &mut [u8],
@@ -69,10 +65,6 @@ fn read_into<R: Read>(
 }
 
 /// Reads once after so many first bytes of a vector.
-///
-/// # Errors
-///
-/// Those of [`read_some`].
 fn read_after<R: Read>(
     reader: &mut Counted<R>,
     bytes: &mut Vec<u8>,

@@ -43,7 +43,11 @@ cluster() {
     gives table there/nbt-dask "$program" many --shard-bytes 560000
     grouped there/nbt-dask 3 flow.table --shard-bytes $((line + 1)) flow
     shows_progress there/nbt-dask
-    refusals there/nbt-dask 4 wide '16500 keys and * bytes of saved tables, *. Cut by source address: --by-source 3'
+    refusals there/nbt-dask
+    captures there/nbt-dask
+    links there/nbt-dask
+    replaced there/nbt-dask
+    harmless there/nbt-dask
 }
 
 # cluster_ends: the worker, then the scheduler.

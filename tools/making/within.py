@@ -21,8 +21,6 @@ OF_PAGES = {
     'docs/GUIDE.md': ((r'(`--keys N`\.\*\* )[\d,]+( if not given, )[\d,]+(?= at most)', '{KEYS:,}', '{MOST_KEYS:,}'),
                       (r'(`[^`]*--keys )\d+(?=`)', '{MOST_KEYS}'), (r'(An input has at most [\d,]+ bytes, a line )[\d,]+\d', '{MOST_LINE:,}'),
                       (r'(`replay` takes up to )\d+', '{MOST_NAMES}'), (r'(\| head -n )\d+(?= >names)', '{MOST_NAMES}')),
-    'docs/SCALING.md': ((r'([Mm]ore than )[\d,]+(?= keys)', '{MOST_KEYS:,}'), (r'(`nbt merge --keys )\d+', '{MOST_KEYS}'),
-                        (r'(of which a group may have )\d+', '{MOST_KEYS}')),
     'docs/SUMMARY.md': ((r'(`nbt replay --keys )\d+', '{MOST_KEYS}'),),
 }
 # Programs and packages that take nothing of another file.

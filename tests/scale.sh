@@ -68,13 +68,14 @@ variant slow "save | merge)
     while [ -s '$room/held' ] && [ \"\$(sed -n \"\$(cat '$room/held')s/ .*//p\" '$room/started')\" = \$\$ ]; do sleep 0.1; done 2>/dev/null ;;"
 
 # Programs that give no table at each try: their memory runs out, or they are killed; one prints no table at all, one does so instead of
-# a table, one joins none, and one hangs.
+# a table, one joins none, one hangs, and one kills its worker.
 variant starving "save) echo >>'$room/started'; echo nbt: memory >&2; exit 3 ;;"
 variant killed '*) kill -9 $$ ;;'
 variant echoing '*) echo "$@"; exit ;;'
 variant lying 'save | merge) echo 4e42543200; exit ;;'
 variant unjoining 'merge) exit 3 ;;'
 variant hanging 'save) exec sleep 1000 ;;'
+variant deadly 'save) kill -9 $PPID ;;'
 
 # awaits COMMAND..: waits until a command goes well, for some minutes at most.
 awaits() {

@@ -88,7 +88,7 @@ def held(*words, **how):
     """A run whose first run of the program stands still."""
     Path(ROOM, 'started').write_text('')
     Path(ROOM, 'held').write_text('1')
-    run = Run('gaps', '--workers', '1', *words, **how)
+    run = Run('gaps', *(words if '--workers' in words else ('--workers', '1', *words)), **how)
     run.await_program()
     return run
 
@@ -157,6 +157,23 @@ def killed(rng):
     return None if hit and found == (0, '', [], True) else f'{found}, killed after {hit} s'
 
 
+def one_stopped():
+    """One of two workers stands still, and the other one does all."""
+    run = held('--wait', '40', '--workers', '2', '--shard-bytes', '600000')
+    os.kill(int(Path(ROOM, 'started').read_text().split()[1]), signal.SIGSTOP)
+    let_go()
+    found = run.wait(), run.errors(), run.left(), run.made('gaps.table')
+    return None if found == (0, '', [], True) else found
+
+
+def deadly():
+    """A program that kills its worker each time ends the run with a line."""
+    run = Run('gaps', '--workers', '2', program=f'{ROOM}/deadly')
+    found = run.wait(), run.errors().replace(WAITING, ''), run.left(), (run.folder / 'out').exists()
+    wanted = 3, f'nbt-dask: {ROOM}/gaps: lines 1 to 4440 (shard g0000-000000): each worker that tried it died\n', [], False
+    return None if found == wanted else f'{found}, not {wanted}'
+
+
 def stopped():
     """A worker that stands still ends the run with a line."""
     run = held('--wait', '3')
@@ -183,6 +200,8 @@ def kills():
     rng = random.Random(seed)
     for number in range(RUNS):
         yield f'nbt-dask, workers killed, run {number} of seed {seed}', killed(rng)
+    yield 'nbt-dask, one of two workers stands still', one_stopped()
+    yield 'nbt-dask, a program that kills its worker', deadly()
     yield 'nbt-dask, a worker that stands still', stopped()
     yield 'nbt-dask, a program that stands still', hangs()
 

@@ -48,7 +48,7 @@ def settle(seconds):
     """What dask does by itself: how often it tries, when a worker that is silent counts as lost, and that it says nothing."""
     import dask
     dask.config.set({'distributed.scheduler.allowed-failures': TRIES, 'distributed.comm.timeouts.connect': '10s',
-                     'distributed.scheduler.worker-ttl': '%ds' % max(10, seconds // 2)})
+                     'distributed.scheduler.worker-ttl': '%ds' % max(10, seconds // 4)})
     for each in ('distributed', 'asyncio', 'tornado'):
         logging.getLogger(each).setLevel(logging.CRITICAL)
     warnings.filterwarnings('ignore')

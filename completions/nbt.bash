@@ -30,11 +30,10 @@ _nbt_tool() {
     nbt-look) words='-i --live --summary --frame --json --html --name --host --port --kind --time --color --quiet --version -r --help' ;;
     nbt-pcap2cap) words='--bare --no-ticks --cut --quiet --port --live -i --help' ;;
     nbt-cap2pcap) words='--help' ;;
-    nbt-parallel) words='--force --program --shard-bytes --by-source --no-estimate --tables --quiet --jobs --sshlogin --retries --help --list' ;;
-    nbt-dask) words='--force --program --shard-bytes --by-source --no-estimate --tables --quiet --scheduler --workers --send --wait --help' ;;
+    nbt-dask) words='--force --program --shard-bytes --by-source --tables --quiet --scheduler --workers --send --wait --help' ;;
     nbt-station) words='--bind --port --address --keys --per-source --json --save --pid --join --help' ;;
     esac
     COMPREPLY=()
     [[ $2 != -* ]] || COMPREPLY=($(compgen -W "$words" -- "$2"))
 }
-complete -o default -F _nbt_tool nbt-look nbt-pcap2cap nbt-cap2pcap nbt-parallel nbt-dask nbt-station
+complete -o default -F _nbt_tool nbt-look nbt-pcap2cap nbt-cap2pcap nbt-dask nbt-station

@@ -125,7 +125,7 @@ enum nbt_status {
 
     /* A station, and its names. */
     NBT_NAME_PRESENT = 100,   /* a name stands there twice; *at: where its second text begins */
-    NBT_TOO_MANY_NAMES = 101, /* more than 254 names; *at: where the text of the 255th begins */
+    NBT_TOO_MANY_NAMES = 101, /* more than NBT_MOST_NAMES names; *at: where the text of the first of the others begins */
     NBT_NO_STATION = 102,     /* the station is none */
 
     /* A part of a packet. */
@@ -330,9 +330,9 @@ uint32_t nbt_json(uint16_t port, const uint8_t *payload, size_t payload_length,
                   uint8_t *into, size_t into_length, size_t *used);
 
 /* The phrase of a payload that came to this port, without a line feed: what the command `nbt show --brief` prints of it
- * after the two numbers of its line (the words are our choice). Ports are as of nbt_show. Of a payload of at most 131,097
- * bytes, as many as a line of a capture has, it has at most 205 bytes where no name has more than 19, else at most 1,633; of any
- * payload at most 222 and 1,652, which is less than NBT_BRIEF_ROOM.
+ * after the two numbers of its line (the words are our choice). Ports are as of nbt_show. Of a payload of at most
+ * NBT_LINE_ROOM bytes, as many as a line of a capture has, it has at most 205 bytes where no name has more than 19, else at most
+ * 1,633; of any payload at most 222 and 1,652, which is less than NBT_BRIEF_ROOM.
  * NBT_NO_MEMORY, NBT_NO_ROOM. */
 uint32_t nbt_brief(uint16_t port, const uint8_t *payload, size_t payload_length,
                    uint8_t *into, size_t into_length, size_t *used);
@@ -354,7 +354,7 @@ struct nbt_line {
 /* Reads a line of a capture, which is without its line feed: `PORT MOMENT HEX` is a packet, whose bytes HEX has, or the word `empty`;
  * `tick MOMENT` is the clock; a line that is empty or begins with `#` is blank (our choice; docs/FORMATS.md has the form). The payload
  * is written, of at most NBT_LINE_ROOM bytes; of any other line no byte is. At NBT_NO_ROOM `*said` is as it was, too.
- * NBT_BAD_LINE for any other line, and for one of more than 262,200 bytes, NBT_NO_MEMORY for a payload of a byte or more alone,
+ * NBT_BAD_LINE for any other line, and for one of more than NBT_MOST_LINE bytes, NBT_NO_MEMORY for a payload of a byte or more alone,
  * NBT_NO_ROOM, judged in this order. */
 uint32_t nbt_capture_line(const uint8_t *line, size_t line_length, struct nbt_line *said,
                           uint8_t *into, size_t into_length, size_t *used);

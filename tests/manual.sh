@@ -6,7 +6,7 @@
 set -uo pipefail
 . "$(dirname "$0")/lib/counting.sh"
 program=$(realpath "${1:-$here/../crates/nbt/out/nbt}")
-tools=(nbt-look nbt-pcap2cap nbt-cap2pcap nbt-parallel nbt-dask nbt-station)
+tools=(nbt-look nbt-pcap2cap nbt-cap2pcap nbt-dask nbt-station)
 
 # Pages of other programs needn't be installed.
 lint() {
@@ -60,7 +60,7 @@ usable() {
     done
     [ -f "$at/share/doc/nbt/README.md" ] && [ -f "$at/share/doc/nbt/docs/GUIDE.md" ]
     count $? "make install PREFIX=$1: the pages"
-    cmp -s "$here/../completions/nbt.bash" "$at/share/bash-completion/completions/nbt-parallel" && [ -f "$at/share/zsh/site-functions/_nbt" ]
+    cmp -s "$here/../completions/nbt.bash" "$at/share/bash-completion/completions/nbt-dask" && [ -f "$at/share/zsh/site-functions/_nbt" ]
     count $? "make install PREFIX=$1: the completions"
     [ -z "$(find "$at" -name __pycache__)" ]
     count $? "the tools installed below $1 leave nothing there"
@@ -138,7 +138,7 @@ nbt-look --fr|--frame
 nbt-pcap2cap --b|--bare
 nbt-pcap2cap -|--bare --no-ticks --cut --quiet --port --live -i --help
 nbt-cap2pcap --|--help
-nbt-parallel --s|--shard-bytes --sshlogin
+nbt-dask --s|--shard-bytes --scheduler --send
 nbt-dask --w|--workers --wait
 nbt-station --p|--port --per-source --pid
 END

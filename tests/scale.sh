@@ -1,7 +1,6 @@
 #!/usr/bin/env bash
-# tools/nbt-parallel and tools/nbt-dask over a capture of 9 MiB, on two workers: killed workers, killed clients, and
-# inputs and devices that are refused. What isn't installed is left out. Usage: tests/scale.sh [PROGRAM]; its last line is
-# 'N passed, M failed, K skipped'.
+# tools/nbt-dask over a capture of 9 MiB: killed workers, clients that are killed or ended by signals, and inputs and devices that are
+# refused. What isn't installed is left out. Usage: tests/scale.sh [PROGRAM]; its last line is 'N passed, M failed, K skipped'.
 set -uo pipefail
 . "$(dirname "$0")/lib/counting.sh"
 . "$here/scale/cluster_cases.sh"
@@ -26,10 +25,10 @@ ends() {
 # told STATUS TEXT TABLE WORD..: it does so, with at most a line there; OUT is the table, byte for byte, or isn't there where none is
 # named. Nothing else is left of a command that ends well.
 told() {
-    ends "$1" "$2" "${@:4}" out && [ "$(wc -l <errors)" -le 1 ] && [ ! -s output ] && [[ $1 -ne 0 || ! -e out.work ]] &&
+    ends "$1" "$2" "${@:4}" out && [ "$(wc -l <errors)" -le 1 ] && [ ! -s output ] &&
         if [ -n "$3" ]; then cmp -s "$3" out; else [ ! -e out ]; fi
     count $? "${*:4}: $(cat errors)"
-    rm -rf out out.work
+    rm -f out
 }
 
 # refuses STATUS TEXT WORD.. leaves no OUT, keeps STATUS TEXT WORD.. one that is a saved table; gives TABLE WORD.. makes one.
@@ -69,21 +68,14 @@ variant slow "save | merge)
     while [ -s '$room/held' ] && [ \"\$(sed -n \"\$(cat '$room/held')s/ .*//p\" '$room/started')\" = \$\$ ]; do sleep 0.1; done 2>/dev/null ;;"
 
 # Programs that give no table at each try: their memory runs out, or they are killed; one prints no table at all, one does so instead of
-# a table, and one joins none.
+# a table, one joins none, one hangs, and one kills its worker.
 variant starving "save) echo >>'$room/started'; echo nbt: memory >&2; exit 3 ;;"
 variant killed '*) kill -9 $$ ;;'
 variant echoing '*) echo "$@"; exit ;;'
 variant lying 'save | merge) echo 4e42543200; exit ;;'
 variant unjoining 'merge) exit 3 ;;'
-
-# quick: GNU parallel, by a script that answers for its version, and gives each run what parallel finds out of a machine anew in each folder.
-quick() {
-    echo | PARALLEL_HOME=$room/found parallel --plain --will-cite true
-    mkdir quick
-    printf '#!/bin/sh\n[ "$1" != --version ] || exec echo GNU parallel\nmkdir -p "$PARALLEL_HOME" && cp -r %s/tmp "$PARALLEL_HOME"\nexec %s "$@"\n' \
-        "$room/found" "$(command -v parallel)" >quick/parallel && chmod +x quick/parallel
-    PATH=$room/quick:$PATH
-}
+variant hanging 'save) exec sleep 1000 ;;'
+variant deadly 'save) kill -9 $PPID ;;'
 
 # awaits COMMAND..: waits until a command goes well, for some minutes at most.
 awaits() {
@@ -111,70 +103,93 @@ begins() {
 # loses_worker WORD..: a worker is killed while it works.
 loses_worker() {
     begins 4 ended "$@"
-    kill -9 "$(sed -n '4s/.* //p' started)" && rm held && wait $! && cmp -s table out && [ ! -e out.work ] && [ ! -s errors ]
+    kill -9 "$(sed -n '4s/.* //p' started)" && rm held && wait $! && cmp -s table out && [ ! -s errors ]
     count $? "$*, a worker killed: $(cat errors)"
-    rm -rf held out out.work
+    rm -rf held out
 }
 
 # loses_client WORD..: the client is killed while it works.
 loses_client() {
     begins 4 "$@"
-    if [ "$1" = ./nbt-parallel ]; then
-        ends 3 "nbt-parallel: $room/out.work: another run is at work there" "$@" gaps out
-        count $? "$*, while it runs: $(cat errors)"
-    fi
     kill -9 $! && rm held && ! wait $! 2>/dev/null && [ ! -e out ]
     count $? "$*, the client killed: nothing is there"
     rm -f held
     : >started
 }
 
-# refusals ENGINE TRIES CAPTURE TEXT: a line that is refused, programs that fail, after so many tries where no other number is asked for, or
-# print no table, an OUT that stays, and a table that would be too large.
+# refusals ENGINE: a line that is refused, programs that fail, after four tries, or print no table, and an OUT that stays.
 refusals() {
-    local name=${1##*/}
-    refuses 1 "$name: bad: line 4000 is malformed (shard g0000-000001)" "$1" "$program" bad --shard-bytes 1400000
+    refuses 1 "nbt-dask: bad: line 4000 is malformed (shard g0000-000001)" "$1" "$program" bad --shard-bytes 1400000
     : >started
-    refuses 3 "$name: gaps: lines * (shard g0000-00000?): *nbt: memory*" "${1/once/.}" "$room/starving" gaps
-    [ "$(wc -l <started)" -eq "$2" ]
+    refuses 3 "nbt-dask: gaps: lines * (shard g0000-00000?): *nbt: memory*" "$1" "$room/starving" gaps
+    [ "$(wc -l <started)" -eq 4 ]
     count $? "$1 tries $(wc -l <started) times"
-    refuses 3 "$name: gaps: lines * (shard g0000-00000?): *signal 9 ended the program*" "$1" "$room/killed" gaps
-    keeps 3 "$name: gaps: lines * (shard g0000-00000?): *$room/echoing printed isn't a saved table*" "$1" "$room/echoing" --force gaps
-    keeps 3 "$name: gaps: lines * (shard g0000-00000?): *$room/lying printed isn't a saved table*truncated*" "$1" "$room/lying" --force gaps
-    cp bad kept && ends 2 "$name: kept is there, and is no saved table*" "$1" "$program" gaps kept && cmp -s bad kept
+    refuses 3 "nbt-dask: gaps: lines * (shard g0000-00000?): *signal 9 ended the program*" "$1" "$room/killed" gaps
+    keeps 3 "nbt-dask: gaps: lines * (shard g0000-00000?): *$room/echoing printed isn't a saved table*" "$1" "$room/echoing" --force gaps
+    keeps 3 "nbt-dask: gaps: lines * (shard g0000-00000?): *$room/lying printed isn't a saved table*truncated*" "$1" "$room/lying" --force gaps
+    refuses 3 "nbt-dask: a merge of 7 tables of group 0: *" "$1" "$room/unjoining" --shard-bytes 1400000 many
+    cp bad kept && ends 2 "nbt-dask: kept is there, and is no saved table*" "$1" "$program" gaps kept && cmp -s bad kept
     count $? "$1: OUT is a capture: $(cat errors)"
     # The result itself too.
-    keeps 2 "$name: out is there, and is a saved table: --force replaces it" "$1" "$program" --tables flow.table
+    keeps 2 "nbt-dask: out is there, and is a saved table: --force replaces it" "$1" "$program" --tables flow.table
     cp flow.table out
     gives gaps.table "$1" "$program" --tables gaps.table --force
-    : >started
-    refuses 1 "$name: $3 has about $4" "$1" "$room/slow" "$3"
-    [ ! -s started ]
-    count $? "$1: nothing is begun where a table is too large"
-}
-
-# Of what both engines are made of.
-shared_refusals() {
-    refuses 1 "nbt-parallel: ever: lines 1 to * has * bytes, *: keys live across *(--by-source 3)*(nbt-pcap2cap --no-ticks)*" \
-        ./nbt-parallel "$program" ever
-    refuses 1 'nbt-parallel: * is a pcap file, and a capture is wanted: nbt-pcap2cap --no-ticks makes one of it' \
-        ./nbt-parallel "$program" "$here/../examples/office.pcap"
-    refuses 3 'nbt-parallel: nowhere: no such file' ./nbt-parallel "$program" many nowhere
-    refuses 3 'nbt-parallel: ./nbt: no such program*' ./nbt-parallel ./nbt many
-    refuses 1 'nbt-parallel: 2 tables are left, of which no two can be merged:*' ./nbt-parallel "$program" --tables small large small
-    # A malformed line in a group's shard that has ticks; what ticks dropped is no part of an estimate.
-    sed '3990s/.*/138 0 xyz/' flow >torn
-    refuses 1 'nbt-parallel: torn: line 3990 is malformed (shard g0000-00000?)' once/nbt-parallel "$program" --by-source 2 torn
-    { head -n 8000 wide; echo tick 2000; sed -n '8001,$s/^138 0 /138 3000 /p' wide; echo tick 5000; tail -n 2000 gaps; } >past
-    gives gaps.table ./nbt-parallel "$program" --shard-bytes 16777216 past
-    refuses 1 'nbt-parallel: wide has about 16500 keys and * bytes of saved tables in 2 groups, *--by-source 3' \
-        ./nbt-parallel "$program" --by-source 2 wide
-    refuses 1 'nbt-parallel: *: nbt: full: *' once/nbt-parallel "$program" --no-estimate keys
     : >out
-    gives rubbish.table ./nbt-parallel "$program" --jobs 200% --shard-bytes 16777216 rubbish
+    gives gaps.table "$1" "$program" gaps
 }
 
-# full_disk PART ENGINE: a full disk: OUT's folder is one of 1 MiB; one of 3 MiB has no room for tables in OUT.work.
+# captures ENGINE: captures that can't be cut, or aren't any, and tables that are too large for one.
+captures() {
+    refuses 1 "nbt-dask: ever: lines 1 to * has * bytes, *: keys live across *\(--by-source 3\)*\(nbt-pcap2cap --no-ticks\)*" "$1" "$program" ever
+    refuses 1 'nbt-dask: * is a pcap file, and a capture is wanted: nbt-pcap2cap --no-ticks makes one of it' \
+        "$1" "$program" "$here/../examples/office.pcap"
+    refuses 3 'nbt-dask: nowhere: no such file' "$1" "$program" many nowhere
+    refuses 1 'nbt-dask: 2 tables are left, of which no two can be merged:*' "$1" "$program" --tables small large small
+    refuses 1 'nbt-dask: 2 tables are left, of which no two can be merged:* --by-source ?' "$1" "$program" wide
+    refuses 1 'nbt-dask: a merge: nbt: full: there are more than 65535 keys. Cut by source address, *' "$1" "$program" keys
+    # A malformed line in a group's shard that has ticks.
+    sed '3990s/.*/138 0 xyz/' flow >torn
+    refuses 1 'nbt-dask: torn: line 3990 is malformed (shard g0000-00000?)' "$1" "$program" --by-source 2 torn
+    gives table "$1" "$program" --tables part.*.table
+    grouped "$1" 3 '' wide
+    # Comments make no difference, and go to all groups.
+    sed '1~2i # a comment' flow >said
+    grouped "$1" 3 flow.table --shard-bytes $((line + 1)) said
+    grouped "$1" 3 flow.table --send --shard-bytes $((line + 1)) flow
+}
+
+# links ENGINE: an OUT that is a link, to a saved table or to nothing, stays, and what it leads to.
+links() {
+    local target
+    for target in linked.table nothing; do
+        cp flow.table linked.table && ln -s $target out
+        ends 2 'nbt-dask: out is a link: it is left as it is, and so is what it leads to' "$1" "$program" --force gaps out &&
+            [ "$(readlink out)" = $target ] && cmp -s flow.table linked.table && [ ! -e nothing ]
+        count $? "$1: OUT is a link to $target: $(cat errors)"
+        rm out
+    done
+}
+
+# replaced ENGINE: a capture that is replaced by one of the same size and time has another table.
+replaced() {
+    cp gaps swapped && gives gaps.table "$1" "$program" swapped
+    tac gaps | awk '/^138 / && !done { $3 = substr($3, 1, length($3) - 2) (substr($3, length($3) - 1) == "00" ? "01" : "00"); done = 1 } 1' |
+        tac >swapping
+    save <swapping >swapping.table && ! cmp -s gaps.table swapping.table && touch -r swapped swapping &&
+        [ "$(stat -c '%s %Y' swapped)" = "$(stat -c '%s %Y' swapping)" ] && cp -p swapping swapped
+    count $? 'a capture of the same size and time has another table'
+    gives swapping.table "$1" "$program" swapped
+}
+
+# harmless ENGINE: a name whose bytes act on a terminal.
+harmless() {
+    ends 3 'nbt-dask: no\\x1b\[31m\\nsuch\\x9b\\u202e: no such file' "$1" "$program" $'no\e[31m\nsuch\x9b\xe2\x80\xae' out
+    count $? "$1: a name that would act on a terminal: $(cat errors)"
+    ends 2 '*nbt-dask: error: *--\\x1b\[31m' "$1" "$program" $'--\e[31m' gaps out
+    count $? "$1: a word that would act on a terminal: $(cat errors)"
+}
+
+# full_disk PART ENGINE: a full disk: OUT's folder is one of 1 MiB.
 full_disk() {
     mkdir -p disk
     if unshare -rm mount -t tmpfs none disk 2>/dev/null; then
@@ -185,19 +200,14 @@ full_disk() {
 }
 
 fills_disk() {
-    ends 0 'nbt-*: No space left on device' unshare -rm bash -c 'mount -t tmpfs -o size=1m none disk; echo 4e425432 >disk/out
-        "$1" "$2" --force many disk/out; echo $?; cat disk/out; ls disk' - "$1" "$program" &&
-        printf '3\n4e425432\nout\n' | cmp -s - <(grep -v out.work output)
+    ends 0 'nbt-dask: disk/out: No space left on device' unshare -rm bash -c 'mount -t tmpfs -o size=1m none disk; echo 4e425432 >disk/out
+        "$1" "$2" --force many disk/out; echo $?; cat disk/out; ls disk' - "$1" "$program" && printf '3\n4e425432\nout\n' | cmp -s - output
     count $? "$1: a full disk: $(cat errors)"
-    [ "$1" = ./nbt-parallel ] || return 0
-    ends 0 "nbt-parallel: $room/disk/out.work*: No space left on device" unshare -rm bash -c 'mount -t tmpfs -o size=3m none disk
-        "$1" "$2" gaps disk/out; echo $?; ls disk' - "$1" "$program" && printf '3\nout.work\n' | cmp -s - output
-    count $? "$1: a disk that a table fills: $(cat errors)"
 }
 
 inputs() {
     local each
-    python3 -S -E "$here/scale/scale_capture.py" many keys gaps flow ever wide rubbish "$room"
+    python3 -S -E "$here/scale/scale_capture.py" many keys gaps flow ever wide "$room"
     sed '4000s/.*/138 0 xyz/' gaps >bad
     save <many >table
     split -C 5m many part.
@@ -211,105 +221,6 @@ inputs() {
     python3 -S -E -m compileall -q $tools/nbt_shards $tools/nbt_pcap
     save <gaps >gaps.table
     save <flow >flow.table
-    save <rubbish >rubbish.table
-}
-
-# folders: a folder, or a link, of the name OUT.work that isn't of an earlier run is left as it is.
-folders() {
-    mkdir out.work && cp gaps out.work/monday
-    left_alone monday gaps
-    mkdir out.work && cp gaps out.work/monday && : >out.work/lock
-    left_alone 'lock monday' gaps
-    mkdir theirs && cp gaps theirs/monday && ln -s theirs out.work
-    left_alone monday gaps
-    ends 3 'nbt-parallel: gaps: merge g0000-level01-000000.table: *' once/nbt-parallel "$room/unjoining" --shard-bytes $((line + 1)) gaps out &&
-        [ ! -e out ] && mv out.work unjoined
-    count $? "nbt-parallel, tables that can't be joined: $(cat errors)"
-    cp -r unjoined out.work && mv theirs/monday out.work
-    left_alone "$(ls out.work | xargs)" gaps --shard-bytes $((line + 1))
-    rm -r theirs
-}
-
-# left_alone FILES WORD..: OUT.work has these files after the run too, of which monday is a capture as before.
-left_alone() {
-    ends 2 "nbt-parallel: $room/out.work is there, and isn't of an earlier run: it is left as it is" \
-        ./nbt-parallel "$program" "${@:2}" out && [ ! -e out ] && [ "$(ls out.work | xargs)" = "$1" ] && cmp -s gaps out.work/monday
-    count $? "nbt-parallel: OUT.work has $1: $(cat errors)"
-    rm -rf out.work
-}
-
-# programs: a table that another program made isn't used.
-programs() {
-    cp -r unjoined out.work
-    : >started
-    ends 0 '*out.work is of other captures, of another program, or of other words: begun anew' ./nbt-parallel "$room/slow" \
-        --shard-bytes $((line + 1)) gaps out && cmp -s gaps.table out && [ "$(wc -l <started)" -ge 8 ]
-    count $? "nbt-parallel, after another program: $(cat errors)"
-    rm -f out
-    # A run that was killed when it had put OUT, before it took OUT.work away: one of the same words, and one of others.
-    # A shard that isn't what was cut.
-    cp -r unjoined out.work && rm out.work/*/g0000-000002.table && sed -i '$d' out.work/*/g0000-000002.shard
-    refuses 1 'nbt-parallel: gaps: lines * (shard g0000-000002): it has * line ends and * bytes here, *' \
-        once/nbt-parallel "$room/unjoining" --shard-bytes $((line + 1)) gaps
-    cp -r unjoined out.work
-    printf '%s %s\n' "$(ls out.work | grep -v lock)" "$(sha256sum <flow.table | cut -d ' ' -f 1)" >>out.work/lock
-    keeps 0 '' ./nbt-parallel "$room/unjoining" --shard-bytes $((line + 1)) gaps
-    mkdir out.work && printf 'nbt-parallel\n%016d %s\n' 0 "$(sha256sum <flow.table | cut -d ' ' -f 1)" >out.work/lock
-    keeps 2 'nbt-parallel: out is there, and is a saved table: --force replaces it' ./nbt-parallel "$program" gaps
-}
-
-# settings: the user's settings of GNU parallel, of which the installed tool has none, a parallel that is killed, and numbers that are none.
-settings() {
-    local word
-    mkdir -p home/.parallel killing && echo --dry-run >home/.parallel/config
-    HOME=$room/home PARALLEL=--dry-run PARALLEL_HOME=$room/home/.parallel TMPDIR=$room/nowhere PATH=/usr/bin:/bin \
-        gives gaps.table "$room/installed/bin/nbt-parallel" gaps
-    [ "$(find home ! -type d)" = home/.parallel/config ]
-    count $? 'nbt-parallel leaves nothing in the home folder'
-    for word in x '' 1.5 -- 9999999; do
-        ends 2 '*nbt-parallel: error: argument --jobs: *' ./nbt-parallel "$program" --jobs "$word" gaps out && [ ! -e out ]
-        count $? "nbt-parallel --jobs '$word': $(tail -n 1 errors)"
-    done
-    printf '#!/bin/sh\n[ "$1" = --version ] || kill -9 $$\nexec %s "$@"\n' "$(command -v parallel)" >killing/parallel && chmod +x killing/parallel
-    PATH=$room/killing:$PATH refuses 3 'nbt-parallel: gaps: lines 1 to 4440 (shard g0000-000000): signal 9 ended GNU parallel; the same words again go on' \
-        ./nbt-parallel "$program" gaps
-}
-
-# lists_nothing STATUS TEXT FILE: what can't be listed.
-lists_nothing() {
-    ends "$1" "$2" "${list[@]}" --list "$3"
-    count $? "nbt-parallel --list: $(cat errors)"
-}
-
-with_parallel() {
-    loses_worker ./nbt-parallel "$room/slow"
-    loses_client ./nbt-parallel "$room/slow"
-    gives table ./nbt-parallel "$room/slow" many --shard-bytes 1400000
-    ! has_started 7
-    count $? "./nbt-parallel, run again: it goes on where it was, $(wc -l <started) runs of the program"
-    refusals once/nbt-parallel 3 keys '66000 keys and * bytes of saved tables, *. Cut by source address: --by-source 2'
-    shared_refusals
-    folders
-    programs
-    settings
-    gives table ./nbt-parallel "$program" --jobs +1 --tables part.*.table
-    grouped ./nbt-parallel 3 '' wide
-    # Comments make no difference, and go to all groups.
-    sed '1~2i # a comment' flow >said
-    grouped ./nbt-parallel 3 flow.table --jobs -1 --shard-bytes $((line + 1)) said
-
-    # An OUT of several lines.
-    list=(python3 -S -E "$tools/nbt-parallel" --program "$program")
-    ends 0 '' "${list[@]}" --list lines &&
-        sort output | cmp -s - <("$program" list --keys "$many" <flow.table | sort)
-    count $? "nbt-parallel --list: $(cat errors)"
-    "${list[@]}" --list lines 2>errors | head -c 1 >output
-    [ "${PIPESTATUS[0]}" -eq 3 ] && [ "$(cat errors)" = 'nbt-parallel: the program that reads this ended' ]
-    count $? "nbt-parallel --list, its reader ends: $(cat errors)"
-    { cat flow.table; echo 4e425432; } >faulty
-    lists_nothing 1 'nbt-parallel: faulty: line 2: nbt: truncated' faulty
-    lists_nothing 3 'nbt-parallel: nowhere: No such file or directory' nowhere
-    shows_progress ./nbt-parallel
 }
 
 # shows_progress ENGINE: how many shards are done, on a terminal; it is gone at the end.
@@ -332,21 +243,14 @@ with_dask() {
     PATH=$room/installed/bin:$PATH DASK_DISTRIBUTED__SCHEDULER__ALLOWED_FAILURES=0 loses_worker nbt-dask --workers 2 --send
     kill "$port" 2>errors
     mv nbt installed/bin
+    refuses 3 'nbt-dask: ./nbt: no such program*' "$python" "$tools/nbt-dask" --workers 1 --program ./nbt many
     cluster
 }
 
+# Signals, closed streams, and workers that are killed at random moments: each run has its own workers, and ends.
+with_signals() { counted "$here/scale/killed.py" "$python" "$tools/nbt-dask" "$program" "$room" "$1"; }
+
 part inputs inputs
-if [[ $(parallel --version 2>/dev/null) == 'GNU parallel'* ]]; then
-    quick
-    mkdir once
-    engine nbt-parallel python3 -S -E "$tools/nbt-parallel" --jobs 2
-    engine once/nbt-parallel python3 -S -E "$tools/nbt-parallel" --jobs 2 --retries 1
-    part nbt-parallel with_parallel
-    full_disk nbt-parallel-disk ./nbt-parallel
-else
-    lacks nbt-parallel 'GNU parallel'
-    lacks nbt-parallel-disk 'GNU parallel'
-fi
 for python in python3 /usr/bin/python3 ''; do
     [ -n "$python" ] && "$python" -c 'import importlib.util, sys; sys.exit(not importlib.util.find_spec("distributed"))' 2>/dev/null && break
 done
@@ -354,7 +258,9 @@ if [ -n "$python" ]; then
     part nbt-dask with_dask
     full_disk nbt-dask-disk ./nbt-dask
     part nbt-dask-ends cluster_ends
+    part nbt-dask-signals with_signals signals
+    part nbt-dask-kills with_signals kills
 else
-    for each in nbt-dask nbt-dask-disk nbt-dask-ends; do lacks $each python3-distributed; done
+    for each in nbt-dask nbt-dask-disk nbt-dask-ends nbt-dask-signals nbt-dask-kills; do lacks $each python3-distributed; done
 fi
 finish

@@ -10,7 +10,7 @@ import sys
 
 HERE = os.path.dirname(os.path.abspath(__file__))
 BUILT = os.path.join(HERE, '..', 'crates', 'nbt', 'out', 'nbt')
-TOOLS = 'nbt-look', 'nbt-pcap2cap', 'nbt-cap2pcap', 'nbt-parallel', 'nbt-dask', 'nbt-station'
+TOOLS = 'nbt-look', 'nbt-pcap2cap', 'nbt-cap2pcap', 'nbt-dask', 'nbt-station'
 WRITTEN = 'Completion of nbt and its tools. tools/completions.py wrote it from their help texts.'
 
 COMMAND = re.compile(r'^  ([a-z]+) +(.*)', re.MULTILINE)

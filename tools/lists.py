@@ -5,9 +5,9 @@ Python, its structures and calls; of modules of the tools those of the page.
 The refusals of man/nbt.1 and docs/FORMATS.md are made too, of crates/nbt_usage/src/refusals.rt.
 
 Usage: tools/lists.py --made writes what isn't kept in the repository: what makes the library or the page begins with it. --write writes that, and
-anew the file that is kept, and what stands within others, as limits in manual pages. --check says which of the
+anew the file that is kept, and what stands within others, as the limits of docs/FORMATS.md. --check says which of the
 latter differ from that, and which numbers of nbt.h aren't those of the crates' sources; its last line is 'N passed, M failed', a case for
-each file and each number.
+each file, each number and each page.
 """
 import re
 import sys
@@ -15,7 +15,7 @@ import sys
 sys.dont_write_bytecode = True
 from making import crates, javascript, python, refusals, rust, scripts
 from making.header import HEADER, TOP, Header
-from making.within import OF_HEADER, WITHIN
+from making.within import DISTINCT, LISTED, PAGES, WITHIN, limits_listed, repeated
 
 MADE = {'bindings/python/nbt/header.py': python.python_file, 'bindings/rust/src/header.rs': rust.rust_file,
         'bindings/javascript/header.mjs': javascript.module_file, 'bindings/javascript/header.d.mts': javascript.types_file}
@@ -32,9 +32,7 @@ def write_made(header):
 
 def with_limits(path, patterns, header):
     """A file with what stands of the header within it."""
-    over = {f'OVER_{name}': number + 1 for name, number in header.limits.items()}
-    named = {name: ', '.join(f'{it.name} {it.digits}' for it in header.enums[enum]) for enum, name in python.IN_PYTHON.items()}
-    said = {'VERSION': header.version, 'MOST_HELD': crates.constants('nb_capture/src/limits.rt')['MAX_HELD'], **header.limits, **over, **named}
+    said = {'VERSION': header.version, **header.limits}
     text = path.read_text(encoding='utf-8')
     for pattern, *wanted in patterns:
         words = ''.join(f'\\g<{at}>{each}' for at, each in enumerate(wanted, 1)).format(**said)
@@ -45,13 +43,24 @@ def with_limits(path, patterns, header):
 
 
 def kept():
-    """Each file that is kept, as it should be: include/nbt.h first, whose comments the others have."""
-    yield HEADER, with_limits(HEADER, OF_HEADER, Header())
+    """Each file that is kept, as it should be. What it lists of refusals is made of crates/nbt_usage/src/limits.rt too."""
     header = Header()
     yield TOP / 'tools/nbt_pcap/header.py', python.tools_file(header)
     for name, patterns in WITHIN.items():
-        text = with_limits(TOP / name, patterns, header)
-        yield TOP / name, refusals.MAKERS.get(name, str)(text)
+        yield TOP / name, with_limits(TOP / name, patterns, header)
+    for name, maker in refusals.MAKERS.items():
+        text = maker((TOP / name).read_text(encoding='utf-8'))
+        yield TOP / name, limits_listed(text, header.limits) if name == LISTED else text
+
+
+def pages():
+    """What is wrong with each page, if anything is: the limits are listed once, and no other page says them."""
+    limits = Header().limits
+    for path in sorted(each for pattern in PAGES for each in TOP.glob(pattern)):
+        name = str(path.relative_to(TOP))
+        found = repeated(path.read_text(encoding='utf-8'), limits)
+        wanted = [f'{limits[each]:,}' for each in DISTINCT] if name == LISTED else []
+        yield found != wanted and f'{name} says the limits {found}, not {wanted}: {LISTED} has them'
 
 
 def check():
@@ -65,7 +74,8 @@ def check():
         cases += 1
         if number != wanted:
             faults.append(f'{name}: nbt.h has {number}, the crates have {wanted}')
-    return faults, cases
+    said = list(pages())
+    return faults + [each for each in said if each], cases + len(said)
 
 
 def main():

@@ -1,7 +1,7 @@
 #!/usr/bin/env python3
-"""Runs a command and sends it Ctrl-C.  Usage: tests/lib/interrupted.py SECONDS|TEXT FILE OUT COMMAND..
+"""Runs a command and sends it Ctrl-C, or another signal.  Usage: tests/lib/interrupted.py [SIGTERM|..] SECONDS|TEXT FILE OUT COMMAND..
 
-Its input, a pipe, has the bytes of FILE and no end. Its output goes to the file OUT. Ctrl-C comes so many seconds after the shell at the
+Its input, a pipe, has the bytes of FILE and no end. Its output goes to the file OUT. The signal comes so many seconds after the shell at the
 front of a tool has begun Python, or once OUT has TEXT. The status is that of the command; 124 is one that waits two minutes for that.
 """
 import pathlib
@@ -14,7 +14,9 @@ PATIENCE = 120
 
 
 def main():
-    when, given, path, *command = sys.argv[1:]
+    words = sys.argv[1:]
+    number = signal.Signals[words.pop(0)] if words[0].startswith('SIG') else signal.SIGINT
+    when, given, path, *command = words
     is_time = when.replace('.', '', 1).isdigit()
     with open(path, 'wb') as out:
         process = subprocess.Popen(command, stdin=subprocess.PIPE, stdout=out, bufsize=0)
@@ -27,7 +29,7 @@ def main():
             return 124
         time.sleep(0.001 if is_time else 0.02)
     time.sleep(float(when) if is_time else 0)
-    process.send_signal(signal.SIGINT)
+    process.send_signal(number)
     try:
         status = process.wait(PATIENCE)
         return status if status >= 0 else 128 - status

@@ -16,7 +16,7 @@ from wire import CLIENT, JOE, datagram, first_level
 TOOL, PROGRAM = map(os.path.abspath, sys.argv[1:3])
 PATIENCE = 20
 OWN = ('--bind', '127.0.0.1:0')
-ENDING = signal.SIGTERM, signal.SIGINT, signal.SIGHUP
+ENDING = signal.SIGTERM, signal.SIGINT, signal.SIGHUP, signal.SIGQUIT
 # The time and the sender of a line, which is of this machine or none.
 FRONT = re.compile(r'^[0-9]{4}-[0-9]{2}-[0-9]{2}T[0-9]{2}:[0-9]{2}:[0-9]{2}\.[0-9]{6}Z ((127|10)(\.[0-9]{1,3}){3}:[0-9]{1,5}|-) ')
 ANN, NOBODY = first_level('ANN', 0x20), first_level('NOBODY', 0x20)

@@ -13,7 +13,7 @@ import tempfile
 import time
 import unittest
 
-from station_runs import (DELIVERED, EMPTY, GROUP, NOBODY, OWN, PATIENCE, PROGRAM, TOOL, UNIQUE, capture, expect, nbt, packet, read,
+from station_runs import (DELIVERED, EMPTY, ENDING, GROUP, NOBODY, OWN, PATIENCE, PROGRAM, TOOL, UNIQUE, capture, expect, nbt, packet, read,
                           station, until, whole_tables, written)
 from wire import FRED, pieces
 
@@ -206,7 +206,8 @@ def interrupted_before_it_listens():
     """A signal while it begins, or waits for a table to join, ends it without a traceback."""
     with tempfile.TemporaryDirectory() as folder:
         os.mkfifo(os.path.join(folder, 'pipe'))
-        for number, words in (signal.SIGINT, 'interrupted'), (signal.SIGTERM, 'ended by a signal'), (signal.SIGHUP, 'ended by a signal'):
+        for number, words in (signal.SIGINT, 'interrupted'), (signal.SIGTERM, 'ended by a signal'), \
+                (signal.SIGHUP, 'ended by a signal'), (signal.SIGQUIT, 'ended by a signal'):
             for moment in 0, 0.02, 0.05, 0.1, 0.2, 1:
                 each = subprocess.Popen([TOOL, *OWN, '--join', 'pipe', '--save', 'table', '--pid', 'pid', 'FRED<20>'], cwd=folder,
                                         stdout=subprocess.DEVNULL, stderr=subprocess.PIPE, text=True)
@@ -228,6 +229,29 @@ def hangup_that_is_ignored():
         each.reached()
         expect((0, ''), each.ended())
         expect([DELIVERED % (1, b'hello'.hex())], each.lines(1))
+
+
+def nothing_is_left():
+    """However a signal ends it, a station leaves no folder in TMPDIR, and no file beside its table."""
+    for number in ENDING:
+        with tempfile.TemporaryDirectory() as temporary, station('--save', 'table', env=dict(os.environ, TMPDIR=temporary)) as each:
+            expect((0, ''), each.ended(number))
+            expect((['out', 'table'], []), (each.files(), os.listdir(temporary)))
+
+
+def names_on_a_terminal():
+    """Bytes of a name that act on a terminal are shown by their numbers; without standard error the statuses are the same."""
+    name, shown = 'no\x1b[31m\nsuch\udc9b\u202e', 'no\\x1b[31m\\nsuch\\x9b\\u202e'
+    for words, status, said in ((('--save', f'{name}/table'), 3, f'{shown}/table: No such file or directory'),
+                                (('--join', name), 3, f'{shown}: No such file or directory'),
+                                ((f'--{name}',), 2, f'error: unrecognized arguments: --{shown}'),
+                                ((name,), 1, 'bad text')):
+        command = [TOOL, *OWN, *words, *(['FRED<20>'] if status != 1 else [])]
+        done = subprocess.run(command, capture_output=True, timeout=PATIENCE)
+        expect((status, True), (done.returncode, said in done.stderr.decode()))
+        expect([], [each for each in done.stderr if each < 0x20 and each != 0x0a or each > 0x7e])
+        expect((status, b''), (lambda it: (it.returncode, it.stdout))(
+            subprocess.run(['sh', '-c', 'exec "$@" 2>&-', '-', *command], stdout=subprocess.PIPE, timeout=PATIENCE)))
 
 
 # ---- networks
@@ -287,6 +311,6 @@ def within_a_network():
 
 
 CASES = (refused_beginnings, modes_of_saved_tables, pid_files, failing_devices, unread_output, unread_errors, closed_streams,
-         interrupted_before_it_listens, hangup_that_is_ignored, broadcasts_heard, broadcasts_of_a_network)
+         interrupted_before_it_listens, hangup_that_is_ignored, nothing_is_left, names_on_a_terminal, broadcasts_heard, broadcasts_of_a_network)
 # Run by broadcasts_of_a_network, elsewhere.
 WITHIN = (within_a_network,)

@@ -43,15 +43,35 @@ cluster() {
     gives table there/nbt-dask "$program" many --shard-bytes 560000
     grouped there/nbt-dask 3 flow.table --shard-bytes $((line + 1)) flow
     shows_progress there/nbt-dask
-    refusals there/nbt-dask 4 wide '16500 keys and * bytes of saved tables, *. Cut by source address: --by-source 3'
+    refusals there/nbt-dask
+    captures there/nbt-dask
+    links there/nbt-dask
+    replaced there/nbt-dask
+    harmless there/nbt-dask
 }
 
 # cluster_ends: the worker, then the scheduler.
 cluster_ends() {
     kill "$worker" && awaits has_ended "$worker"
+    stands_still
     meanwhile "the scheduler $address has ended, or can't be reached any more" gaps kill -9 "$scheduler"
     refuses 3 "nbt-dask: no scheduler at $address: *" there/nbt-dask "$program" gaps
     kill $server && wait $server
+}
+
+# stands_still: a scheduler that stands still, which is a child of the process that serves it, ends the run with a line.
+stands_still() {
+    local client stopped
+    : >errors
+    ended ./nbt-dask "$program" gaps out --wait 4 >output 2>errors &
+    client=$!
+    awaits grep -q 'has no workers' errors
+    read -ra stopped <"/proc/$server/task/$server/children"
+    kill -STOP "${stopped[@]}"
+    wait $client
+    [ $? -eq 3 ] && [ ! -e out ] && [ "$(tail -n 1 errors)" = "nbt-dask: the scheduler $address doesn't answer, 4 seconds long" ]
+    count $? "nbt-dask, whose scheduler stands still: $(cat errors)"
+    kill -CONT "${stopped[@]}"
 }
 
 # meanwhile WHY CAPTURE COMMAND..: nbt-dask says that it waits for a worker, a command runs, and it ends for this reason.

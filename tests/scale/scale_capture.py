@@ -8,7 +8,6 @@ gaps   FOLDER/gaps: 40 bursts of packets, five seconds apart, a tick after each;
 flow   FOLDER/flow: a packet each 5 ms, and a tick each 100 ms, so that keys live across each tick
 ever   FOLDER/ever: the same of more than 16 MiB, of longer packets
 wide   FOLDER/wide: 16,500 datagrams, each in one packet, whose table has 21 MB; all addresses are even
-rubbish  FOLDER/rubbish: 70,000 payloads that look like fragments and have no names, and a datagram
 """
 import os
 import random
@@ -73,12 +72,6 @@ def ever(rng):
 def wide(rng):
     for place in range(16_500):
         yield line(0, datagram(place // 25, rng.randbytes(550), bytes([10, 0, 0, 2 + 2 * (place % 25)])))
-
-
-def rubbish(rng):
-    for place in range(70_000):
-        yield line(0, datagram(place & 0xffff, b'\xff' * 44, rng.randbytes(4), names=b''))
-    yield line(0, own(50, b'there'))
 
 
 def main():

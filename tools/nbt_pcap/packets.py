@@ -9,7 +9,8 @@ from .lines import Ends
 # From where to where packets go of which nothing is known (RFC 5737).
 SOURCE, TARGET = ipaddress.ip_address('192.0.2.1'), ipaddress.ip_address('192.0.2.2')
 UDP, TCP = 17, 6
-MOST_IN_UDP, MOST_IN_TCP = 65_535 - 28, 65_535 - 60
+# The length of IPv4 counts its header; that of IPv6 doesn't.
+MOST_IN_UDP, MOST_IN_TCP = {4: 65_535 - 28, 6: 65_535 - 8}, 65_535 - 60
 FIRST_PORT, LAST_PORT = 1_024, 65_535
 SYN, SYN_ACK, PSH_ACK = 0x02, 0x12, 0x18
 # How many streams are known by their ends, and how far apart sequence numbers of two with the same ends lie.

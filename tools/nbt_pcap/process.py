@@ -7,6 +7,8 @@ import sys
 
 NAME = os.path.basename(sys.argv[0])
 INTERRUPTED = 130
+# What ends a tool besides Ctrl-C.
+ENDING = signal.SIGTERM, signal.SIGHUP, signal.SIGQUIT
 
 
 class Stopped(Exception):
@@ -33,12 +35,24 @@ class ReaderEnded(Stopped):
         super().__init__(3, 'the program that reads this ended')
 
 
-def say(text, name=True):
-    """A line on standard error, whatever bytes a file's name has."""
-    if isinstance(text, str):
-        text = text.encode(errors='surrogateescape')
+def harmless(text):
+    """A text of which nothing acts on a terminal: what can't be printed, as a name of a file may have it, is shown by its number."""
+    if isinstance(text, bytes):
+        text = text.decode(errors='surrogateescape')
+    return ''.join(each if each.isprintable() else number_of(each) for each in text)
+
+
+def number_of(character):
+    """An escape as Python has it; of a byte that isn't UTF-8 that of the byte."""
+    if '\udc80' <= character <= '\udcff':
+        return '\\x%02x' % (ord(character) - 0xdc00)
+    return character.encode('unicode_escape').decode()
+
+
+def say(text, name=True, number=2):
+    """A line on standard error, or on a copy of it."""
     try:
-        os.write(2, (NAME.encode(errors='surrogateescape') + b': ' if name else b'') + text + b'\n')
+        os.write(number, (harmless('%s: ' % NAME if name else '') + harmless(text) + '\n').encode())
     except OSError:
         pass
 
@@ -64,7 +78,7 @@ def write_all(data):
         data = data[write(data):]
 
 
-def open_closed_streams():
+def open_streams():
     """Puts /dev/null where a standard stream is closed, so that no other file gets its number. Answers which were."""
     closed = []
     for number in (0, 1, 2):
@@ -73,6 +87,13 @@ def open_closed_streams():
         except OSError:
             closed.append(number)
             os.open(os.devnull, os.O_RDWR)
+    sys.stderr = sys.stderr or os.fdopen(2, 'w', closefd=False)
+    return closed
+
+
+def open_closed_streams():
+    """The same for a tool that prints."""
+    closed = open_streams()
     if 1 in closed:
         raise Stopped(3, 'standard output is closed')
     return closed
@@ -100,9 +121,14 @@ def run(main):
     sys.exit(status)
 
 
+def heeded(signals):
+    """Those of these signals that weren't ignored when the tool began: what nohup, or a shell, has it ignore stays ignored."""
+    return [each for each in signals if signal.getsignal(each) is not signal.SIG_IGN]
+
+
 def heed_signals():
-    """From here on SIGTERM and SIGHUP stop the tool."""
-    for each in (signal.SIGTERM, signal.SIGHUP):
+    """From here on these signals stop the tool, which then takes away what it made."""
+    for each in heeded(ENDING):
         signal.signal(each, stop)
 
 

@@ -7,7 +7,7 @@ import select
 import signal
 import subprocess
 
-from .process import ReaderEnded, say
+from .process import ReaderEnded, heeded, say
 from .rows import BETWEEN, FIELDS
 
 PART = 65_536
@@ -15,7 +15,7 @@ BETWEEN_TICKS = 0.5
 # How often tshark is asked to end a capture, before it is killed.
 MOST_REQUESTS = 10
 # What ends the capture of a network.
-ENDING = (signal.SIGINT, signal.SIGTERM, signal.SIGHUP)
+ENDING = (signal.SIGINT, signal.SIGTERM, signal.SIGHUP, signal.SIGQUIT)
 # Frames whose headers end before their ports do.
 HEADER_CUT = '((_ws.short || _ws.malformed) && frame.protocols matches ":(udp|tcp)$")'
 # Fragments of IP, of which only the times are wanted.
@@ -107,7 +107,7 @@ class Stopping:
     def __init__(self, process, signals):
         self.process = process
         self.requests = 0
-        for each in signals:
+        for each in heeded(signals):
             signal.signal(each, self.begin)
 
     def begin(self, *_):

@@ -1,1 +1,1 @@
-"""What nbt-parallel and nbt-dask are made of."""
+"""What nbt-dask is made of."""

@@ -1,5 +1,6 @@
-"""What a shard has, what a task reads again, and what is told of a shard that was refused."""
+"""What a shard has, read where it is saved, and what is said of a shard that was refused."""
 import hashlib
+import io
 import re
 import zlib
 
@@ -7,10 +8,10 @@ from nbt_pcap.header import INPUT, MOST_KEYS
 from nbt_pcap.process import Stopped
 
 from .cutting import place_of
+from .sources import groups_of
 
 BLOCK = 1 << 22
-
-SOURCE = re.compile(rb'138 [0-9]{1,20} [0-9A-Fa-f]{8}([0-9A-Fa-f]{8})')
+MALFORMED = re.compile('nbt: line ([0-9]+)')
 
 
 def lines_of(each):
@@ -25,16 +26,6 @@ def lines_of(each):
         raise Stopped(3, '%s have changed while they were read' % place_of(each))
 
 
-def shard_bytes(shard, checksum=None):
-    """What the shard has: all of its range, or its group's lines of it. The range has to have the checksum, if there is one."""
-    read = hashlib.sha256()
-    parts = checked([whole(shard.range)] if shard.group is None else lines_of(shard.range), read if checksum else None)
-    data = b''.join(part for part in parts if shard.group is None or group_of(part, shard.groups) in (None, shard.group))
-    if checksum and read.digest() != checksum:
-        raise Stopped(3, '%s: a worker reads other bytes there; --send sends the shards' % place_of(shard.range))
-    return data
-
-
 def whole(each):
     """The bytes of a range, which has to have as many lines as when it was cut."""
     with open(each.capture, 'rb') as file:
@@ -45,53 +36,53 @@ def whole(each):
     return data
 
 
-def checked(parts, checksum):
-    """The parts as they come, each added to the checksum."""
-    for part in parts:
-        if checksum:
-            checksum.update(part)
-        yield part
-
-
-def checksum_of(each):
-    """The checksum of a range, by which a task elsewhere tells that it reads the same bytes."""
-    left, checksum = each.end - each.begin, hashlib.sha256()
-    with open(each.capture, 'rb') as file:
-        file.seek(each.begin)
-        while left and (block := file.read(min(left, BLOCK))):
-            checksum.update(block)
-            left -= len(block)
-    return checksum.digest()
-
-
-def rows_by_source(shard):
-    """The lines of a shard's range by group, some at a time: for each group a row of them. Each has all ticks."""
-    rows, held = [[] for _ in range(shard.groups)], 0
-    for line in lines_of(shard.range):
-        group = group_of(line, shard.groups)
-        for row in rows if group is None else [rows[group]]:
-            row.append(line)
-        held += len(line)
-        if held > INPUT:
-            yield rows
-            rows, held = [[] for _ in range(shard.groups)], 0
-    yield rows
-
-
 def line_count(data):
     """How many lines there are; the last may lack its line feed."""
     return data.count(b'\n') + (not data.endswith(b'\n') and len(data) > 0)
 
 
-def group_of(line, groups):
+def digest_of(each):
+    """The digest of a range: by it a task elsewhere tells that it reads the same bytes."""
+    left, digest = each.end - each.begin, hashlib.sha256()
+    with open(each.capture, 'rb') as file:
+        file.seek(each.begin)
+        while left and (block := file.read(min(left, BLOCK))):
+            digest.update(block)
+            left -= len(block)
+    return digest.digest()
+
+
+def shard_lines(shard, wanted, sent, program, seconds):
+    """The shard's lines, and their places in its range; all of them are one piece, and have no places. Of a group `nbt show` says which it has.
+    The bytes that are read here have the digest that is wanted."""
+    read, lines, places = hashlib.sha256(), [], []
+    if shard.group is None:
+        lines = [whole(shard.range) if sent is None else sent]
+        read.update(lines[0])
+    else:
+        groups = groups_of(program, range_lines(shard.range, sent), shard.groups, seconds)
+        for place, line in enumerate(range_lines(shard.range, sent), 1):
+            read.update(line)
+            if group_of(line, shard.groups, groups.get(place, 0)) in (None, shard.group):
+                lines.append(line)
+                places.append(place)
+    if sent is None and read.digest() != wanted:
+        raise Stopped(3, '%s: a worker reads other bytes there; --send sends the shards' % place_of(shard.range))
+    return lines, places
+
+
+def range_lines(each, sent):
+    return lines_of(each) if sent is None else io.BytesIO(sent)
+
+
+def group_of(line, groups, source):
     """The group of a line, or None for a tick, which each group has. Comments and payloads of other ports, which a table has
-    nothing of, are spread over all groups; what else has no source address is of group 0."""
+    nothing of, are spread over all groups; what else there is has the group of its source."""
     if line.startswith(b'tick '):
         return None
     if line.startswith((b'#', b'137 ', b'139 ')):
         return zlib.crc32(line) % groups
-    payload = SOURCE.match(line)
-    return int(payload[1], 16) % groups if payload else 0
+    return source
 
 
 def judge_size(shard, size):
@@ -101,23 +92,18 @@ def judge_size(shard, size):
                       'shorter shards (--shard-bytes) where no tick is in the way' % (place_of(shard.range), shard.group, size, INPUT))
 
 
+def placed(words, places):
+    """The program's words on a line of the shard, with its place in the range."""
+    malformed = MALFORMED.fullmatch(words)
+    return 'nbt: line %d' % places[int(malformed[1]) - 1] if malformed and places else words
+
+
 def refusal(shard, words):
     """The text for a shard of which the program had these words on standard error."""
-    malformed = re.fullmatch(r'nbt: line ([0-9]+)', words)
+    malformed = MALFORMED.fullmatch(words)
     if malformed:
-        return '%s: line %d is malformed (shard %s)' % (shard.range.capture, line_of(shard, int(malformed[1])), shard.name)
+        return '%s: line %d is malformed (shard %s)' % (shard.range.capture, shard.range.first + int(malformed[1]) - 1, shard.name)
     return '%s (shard %s): %s' % (place_of(shard.range), shard.name, explained(words))
-
-
-def line_of(shard, place):
-    """The number in the capture of a line of the shard."""
-    if shard.group is None:
-        return shard.range.first + place - 1
-    for number_there, line in enumerate(lines_of(shard.range), shard.range.first):
-        place -= group_of(line, shard.groups) in (None, shard.group)
-        if place == 0:
-            return number_there
-    raise Stopped(3, '%s have changed while they were read' % place_of(shard.range))
 
 
 def explained(words):

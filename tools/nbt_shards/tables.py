@@ -1,14 +1,13 @@
 """Which tables are merged together, and how OUT is written."""
 import contextlib
-import hashlib
 import os
 
 from nbt_pcap.header import INPUT
 from nbt_pcap.process import Stopped, faults_of
 
-from .groups import HALF
-
 MOST_TOGETHER = 16
+# Two tables of so many bytes can always be merged.
+HALF = INPUT // 2
 
 
 def grouped(sizes, options):
@@ -49,18 +48,15 @@ def part_beside(out):
 
 
 def write_whole(part, lines):
-    """Writes the lines to a file that is on the disk then, and answers a checksum of them."""
-    checksum = hashlib.sha256()
+    """Writes the lines to a file that is on the disk then."""
     try:
         with open(part, 'wb') as file:
             for line in lines:
-                checksum.update(line)
                 file.write(line)
             file.flush()
             os.fsync(file.fileno())
     except OSError as error:
         raise OSError(error.errno, error.strerror, error.filename or part) from error
-    return checksum.hexdigest()
 
 
 def put(part, out):
@@ -71,11 +67,3 @@ def put(part, out):
         os.fsync(handle)
     finally:
         os.close(handle)
-
-
-def checksum_of_file(path):
-    checksum = hashlib.sha256()
-    with open(path, 'rb') as file:
-        while block := file.read(1 << 20):
-            checksum.update(block)
-    return checksum.hexdigest()

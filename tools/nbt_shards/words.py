@@ -3,18 +3,19 @@ import argparse
 import os
 
 from nbt_pcap.header import INPUT, MOST_LINE
+from nbt_pcap.parsing import Parser
 from nbt_pcap.process import Stopped, faults_of
 
-from .groups import MOST_GROUPS
+MOST_GROUPS = 4_096
 
 ABOUT = 'Makes the saved table of captures of any size: cuts them, saves each shard, and merges the tables in a tree.'
 # How pcap files of both byte orders begin, with microseconds and nanoseconds, and pcapng files.
 PCAPS = (b'\xd4\xc3\xb2\xa1', b'\xa1\xb2\xc3\xd4', b'\x4d\x3c\xb2\xa1', b'\xa1\xb2\x3c\x4d', b'\n\r\r\n')
 
 
-def parser(name, epilog):
-    """The words that both engines take."""
-    words = argparse.ArgumentParser(prog=name, description=ABOUT, epilog=epilog)
+def words_of():
+    """The command line."""
+    words = Parser(prog='nbt-dask', description=ABOUT, epilog='The manual page is nbt-dask(1).')
     words.add_argument('captures', metavar='CAPTURE', nargs='+', help='captures, as `nbt save` reads them')
     words.add_argument('out', metavar='OUT', help='the file for the saved table; it appears when all is done')
     words.add_argument('--force', action='store_true', help='replace OUT, if it is a saved table')
@@ -23,10 +24,15 @@ def parser(name, epilog):
                        help='how many bytes of a capture a shard has at most, where ticks allow it (8388608)')
     words.add_argument('--by-source', metavar='N', type=number(1, MOST_GROUPS),
                        help='N tables, a line of OUT each: a source address goes to the table with its number modulo N')
-    words.add_argument('--no-estimate', action='store_true',
-                       help='begin without working out whether the table is too large')
     words.add_argument('--tables', action='store_true', help='the inputs are saved tables, a line each')
     words.add_argument('--quiet', action='store_true', help='no progress; without it a terminal shows how many shards are done')
+    place = words.add_mutually_exclusive_group(required=True)
+    place.add_argument('--scheduler', metavar='ADDRESS', help='the scheduler of a cluster, as tcp://10.0.0.5:8786')
+    place.add_argument('--workers', metavar='N', type=number(1, 1_024), help='so many workers on this machine')
+    words.add_argument('--send', action='store_true',
+                       help='send the shards to the workers; otherwise they read the captures by their paths')
+    words.add_argument('--wait', metavar='N', type=number(1, 86_400), default=60,
+                       help='how many seconds the run waits: for a worker, for a task to end, for an answer of the scheduler (60)')
     return words
 
 
@@ -40,7 +46,7 @@ def number(least, most):
 
 
 def judge(options):
-    """Refuses words that don't go together, and an OUT that is no place for a table."""
+    """Refuses words that don't go together, and captures that are none."""
     if options.tables and options.by_source:
         raise Stopped(2, '--tables and --by-source: a saved table isn\'t cut')
     for capture in options.captures:
@@ -52,8 +58,6 @@ def judge(options):
     folder = os.path.dirname(os.path.abspath(options.out))
     if not os.path.isdir(folder):
         raise Stopped(3, '%s: no such folder' % folder)
-    if os.path.exists(options.out) and not is_table(options.out):
-        raise Stopped(2, '%s is there, and is no saved table: it is left as it is' % options.out)
 
 
 def judge_kind(capture):
@@ -64,10 +68,18 @@ def judge_kind(capture):
         raise Stopped(1, '%s is a pcap file, and a capture is wanted: nbt-pcap2cap --no-ticks makes one of it' % capture)
 
 
-def judge_force(options):
-    """Refuses to replace a saved table without the word for it."""
-    if not options.force and os.path.exists(options.out) and os.path.getsize(options.out):
-        raise Stopped(2, '%s is there, and is a saved table: --force replaces it' % options.out)
+def judge_out(options):
+    """Refuses an OUT that is no place for a table, or is one that may not be replaced."""
+    out = options.out
+    if os.path.islink(out):
+        raise Stopped(2, '%s is a link: it is left as it is, and so is what it leads to' % out)
+    if not os.path.exists(out):
+        return
+    with faults_of(out):
+        if not is_table(out):
+            raise Stopped(2, '%s is there, and is no saved table: it is left as it is' % out)
+    if not options.force and os.path.getsize(out):
+        raise Stopped(2, '%s is there, and is a saved table: --force replaces it' % out)
 
 
 def is_table(path):

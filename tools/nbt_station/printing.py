@@ -4,6 +4,8 @@ import queue
 import select
 import threading
 
+from nbt_pcap.process import harmless
+
 NAME = 'nbt-station'
 # How many bytes of lines may wait for the reader of standard output.
 ROOM = 8 << 20
@@ -15,7 +17,7 @@ def say(text):
     """A line on standard error, which is left out where its reader stands still."""
     try:
         if select.select([], [2], [], MOMENT)[1]:
-            os.write(2, f'{NAME}: {text}\n'.encode(errors='surrogateescape'))
+            os.write(2, f'{NAME}: {harmless(str(text))}\n'.encode())
     except OSError:
         pass
 

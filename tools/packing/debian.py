@@ -73,7 +73,7 @@ def program_deb(room, folder, program):
         'packets of a pcap file or a network are, tools that make its captures from pcap',
         'files, and saved tables of captures of any size, and nbt-station, which opens a',
         'socket, and wants the package python3-nbt.'],
-        ['Recommends: tshark', 'Suggests: python3-rich, parallel, python3-distributed, python3-nbt'], '/usr/share/doc/nbt/CHANGELOG.md')
+        ['Recommends: tshark', 'Suggests: python3-rich, python3-distributed, python3-nbt'], '/usr/share/doc/nbt/CHANGELOG.md')
     run('make', '-s', '-C', TOP, 'install', f'PROGRAM={program}', f'DESTDIR={deb.root}', 'PREFIX=/usr')
     run('strip', '--strip-unneeded', deb.path('usr/bin/nbt'))
     for name in os.listdir(deb.path('usr/share/man/man1')):

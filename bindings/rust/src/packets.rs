@@ -111,7 +111,7 @@ pub enum Line {
 ///
 /// # Errors
 ///
-/// `BadLine` for any other line, and for one of more than 262,200 bytes; `NoMemory`.
+/// `BadLine` for any other line, and for one of more bytes than `NBT_MOST_LINE` of include/nbt.h; `NoMemory`.
 pub fn capture_line(line: &[u8]) -> Result<Option<Line>> {
     let mut said = FoundLine::EMPTY;
     let payload = written!(nbt_capture_line([line], &mut said))?;

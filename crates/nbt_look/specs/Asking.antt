@@ -1,0 +1,22 @@
+-- What words of the command line mean (our choice).
+use Rattle.std.specs.Prelude.{◌≡◌, ℕ, ◌≤◌, List, ◌∷◌, ◌++◌}
+use Rattle.core.specs.Str.Parse.{digits_value, without_leading_plus}
+use Rattle.std.specs.Net.Grammar.{IsIpText}
+use Rattle.std.specs.declared.net.ip_addr.IpAddr.{IpAddr}
+use Rattle.std.specs.declared.net.ip_addr.IpAddr.TheVariants.{V4, V6}
+use Rattle.nbt_look.specs.declared.wanted.Prefix.{Prefix}
+
+-- the byte of `/`
+abbrev pub slash : ℕ
+slash = 47
+
+-- how many bits an address of this version has
+abbrev pub width_of : IpAddr → ℕ
+width_of (V4 address) = 32
+width_of (V6 address) = 128
+
+-- MeansPrefix word prefix: the word is an address, or one, a slash, and the decimal number of its first bits that are meant
+pub data MeansPrefix (word : List ℕ) (prefix : Prefix) : Type 0 where
+  alone : IsIpText word prefix.start → prefix.bits ≡ width_of prefix.start → MeansPrefix word prefix
+  first_bits : (address digits : List ℕ) → word ≡ address ++ slash ∷ digits → IsIpText address prefix.start
+      → digits_value 10 (without_leading_plus digits) ≡ prefix.bits → prefix.bits ≤ width_of prefix.start → MeansPrefix word prefix

@@ -1,0 +1,52 @@
+-- The program's command line, as clap reads it (our choice).
+use Rattle.std.specs.Prelude.{◌-◌, ◌^◌, Some, true, codes}
+use Rattle.clap.specs.Words.{App, Rule, new_app, new_rule, with_rule}
+use Rattle.clap.specs.Simple.{on_top}
+use Rattle.clap.specs.declared.builder.action.ArgAction.TheVariants.{Append, Set, SetTrue}
+use Rattle.clap.specs.declared.builder.value_parser.ValueParser.TheVariants.{Unsigned}
+
+-- `--quiet`, which is given or not
+abbrev pub quiet_rule : Rule
+quiet_rule = record (new_rule (codes "quiet")) { long = Some (codes "quiet"); action = Some SetTrue }
+
+-- `--host ADDRESS`, any number of times
+abbrev pub host_rule : Rule
+host_rule = record (new_rule (codes "host")) { long = Some (codes "host"); action = Some Append; value_names = 1 }
+
+-- `--port PORT`, a number of sixteen bits, any number of times
+abbrev pub port_rule : Rule
+port_rule = record (new_rule (codes "port")) {
+  long = Some (codes "port");
+  action = Some Append;
+  value_names = 1;
+  parser = Some (Unsigned 0 65_535);
+}
+
+-- `-c N`, from 1 to the greatest number of 64 bits
+abbrev pub count_rule : Rule
+count_rule = record (new_rule (codes "count")) {
+  short = Some 99;
+  action = Some Set;
+  value_names = 1;
+  parser = Some (Unsigned 1 (2 ^ 64 - 1));
+}
+
+-- the word FILE, which is required
+abbrev pub file_rule : Rule
+file_rule = record (new_rule (codes "FILE")) { required = true; action = Some Set }
+
+-- the program has a version, and no argument
+abbrev pub top_app : App
+top_app = on_top (λ s. record s { has_version = true }) (new_app (codes "nbt-look"))
+
+-- `--time WHEN`
+abbrev pub time_rule : Rule
+time_rule = record (new_rule (codes "time")) { long = Some (codes "time"); action = Some Set; value_names = 1 }
+
+-- the same with its options
+abbrev pub with_options : App
+with_options = with_rule (with_rule (with_rule (with_rule (with_rule top_app quiet_rule) host_rule) port_rule) count_rule) time_rule
+
+-- the whole command line: `[--quiet] [--host ADDRESS].. [--port PORT].. [-c N] [--time WHEN] FILE`
+abbrev pub look_app : App
+look_app = with_rule with_options file_rule

@@ -1,0 +1,14 @@
+pub mod Columns
+pub mod Times
+pub mod Ends
+pub mod Standing
+pub mod Wanted
+pub mod Counting
+pub mod Listing
+pub mod Totals
+pub mod Printing
+pub mod Beginning
+pub mod FaultTexts
+pub mod Running
+pub mod CommandLine
+pub mod Asking

@@ -1,0 +1,89 @@
+-- What the last lines say: how many frames there are, what they have, and how many packets are shown (our choice).
+use Rattle.std.specs.Prelude.{ℕ, ◌&&◌, Bool, true, false, not, List, [], ◌∷◌, ◌++◌, codes, cond, nat_eq}
+use Rattle.std.specs.Fmt.{decimal}
+use Rattle.nbt_look.specs.declared.counting.LeftOut.{LeftOut as Why}
+use Rattle.nbt_look.specs.declared.counting.LeftOut.TheVariants as why
+use Rattle.nbt_look.specs.declared.counting.Counts.{Counts}
+use Rattle.nbt_look.specs.declared.listing.Listing.{Listing}
+use Rattle.nbt_look.specs.Counting.{count_of, has_none}
+use Rattle.nbt_look.specs.Wanted.{wants_all}
+
+-- a reason, in words that go with any number
+abbrev pub words_of : Why → List ℕ
+words_of why.Cut = codes "cut by the snap length"
+words_of why.Segment = codes "of TCP port 139 not read yet"
+words_of why.Fragment = codes "in fragments of IP not read yet"
+words_of why.BadLength = codes "a length that the packet lacks"
+words_of why.CutHeader = codes "with a header that is cut"
+words_of why.BadHeader = codes "with a bad header"
+words_of why.Ppp = codes "in PPP over Ethernet"
+words_of why.Mpls = codes "in MPLS"
+words_of why.Llc = codes "in LLC"
+words_of why.Tags = codes "with more than four VLAN tags"
+words_of why.Link = codes "of an unknown link type"
+
+-- all reasons, in the order in which they are said
+abbrev pub all_reasons : List Why
+all_reasons =
+    why.Cut ∷ why.Segment ∷ why.Fragment ∷ why.BadLength ∷ why.CutHeader ∷ why.BadHeader ∷ why.Ppp ∷ why.Mpls ∷ why.Llc
+    ∷ why.Tags ∷ why.Link ∷ []
+
+-- what stands before a reason, where another one stands before it or none
+abbrev pub lead_text : Bool → List ℕ
+lead_text true = codes ", "
+lead_text false = codes ": "
+
+-- reason_text begun count w: how many frames a reason left out, where others stand before it or none
+abbrev pub reason_text : Bool → ℕ → Why → List ℕ
+reason_text begun count w = lead_text begun ++ (decimal count ++ (codes " " ++ words_of w))
+
+-- reasons_text c begun reasons: how many frames each of them left out, where it did
+abbrev pub reasons_text : Counts → Bool → List Why → List ℕ
+reasons_text c begun [] = []
+reasons_text c begun (w ∷ ws) =
+    cond (nat_eq (count_of w c) 0) (reasons_text c begun ws)
+    (reason_text begun (count_of w c) w ++ reasons_text c true ws)
+
+-- so many of something, whose plural has an s
+abbrev pub plural_text : ℕ → List ℕ → List ℕ
+plural_text count what = decimal count ++ (codes " " ++ (what ++ cond (nat_eq count 1) [] (codes "s")))
+
+-- how many frames and packets there are
+abbrev pub packets_text : Counts → List ℕ
+packets_text c =
+    plural_text c.frames (codes "frame")
+    ++ (codes ", " ++ (plural_text c.packets (codes "packet") ++ (codes ", " ++ (decimal c.malformed ++ codes " malformed, "))))
+
+-- how many are left out, and why
+abbrev pub left_out_text : Counts → List ℕ
+left_out_text c = decimal c.left_out ++ (codes " left out" ++ reasons_text c false all_reasons)
+
+-- shown_text all shown: how many packets have a line, where not all are wanted
+abbrev pub shown_text : Bool → ℕ → List ℕ
+shown_text true shown = []
+shown_text false shown = codes "; " ++ (decimal shown ++ codes " shown")
+
+-- how many frames have no packet, where others have
+abbrev pub others_text : Counts → List ℕ
+others_text c =
+    cond (not (nat_eq c.packets 0) && not (nat_eq c.others 0))
+    (plural_text c.others (codes "frame")
+    ++ (codes " without a packet: " ++ (plural_text c.others (codes "frame") ++ codes " of other ports and protocols\n")))
+    []
+
+-- that there is none
+abbrev pub none_text : Counts → List ℕ
+none_text c = cond (has_none c) (codes "no frame has UDP of port 137 or 138, or TCP of port 139\n") []
+
+-- the line that counts frames and packets
+abbrev pub totals_text : Listing → List ℕ
+totals_text l = packets_text l.counts ++ (left_out_text l.counts ++ (shown_text (wants_all l.asked.wanted) l.shown ++ codes "\n"))
+
+-- without_text all c: what is said where frames have no packet and all packets are wanted, or none has one
+abbrev pub without_text : Bool → Counts → List ℕ
+without_text true c = others_text c ++ none_text c
+without_text false c = none_text c
+
+-- the last lines
+abbrev pub last_text : Listing → List ℕ
+last_text l = totals_text l ++ without_text (wants_all l.asked.wanted) l.counts

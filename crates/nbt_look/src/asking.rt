@@ -1,0 +1,134 @@
+//! What the command line asks for, as values.
+ghost use Rattle.std.specs.Prelude.{◌≡◌, ◌++◌, ◌∷◌, IfSome};
+ghost use Rattle.std.specs.Net.Grammar.{IsIpText};
+ghost use Rattle.core.specs.Str.Parse.{digits_value, without_leading_plus};
+ghost use Rattle.nbt_look.specs.Asking.{MeansPrefix, slash, width_of};
+
+use crate::asked::{Asked, Times};
+use crate::wanted::{Filter, Prefix};
+use clap::ArgMatches;
+use nb_streams::{Items, NoMemory};
+use std::alloc::Global;
+use std::net::IpAddr;
+use std::str;
+
+/// Why the words of a command line ask for nothing.
+#[derive(Clone, Copy, Debug)]
+pub enum AskFault<'a> {
+    /// This is neither an address nor a prefix.
+    Host(&'a str),
+    /// This is no way to show times.
+    Time(&'a str),
+    /// Memory ran out.
+    NoMemory,
+}
+
+impl From<NoMemory> for AskFault<'_> {
+    fn from(_fault: NoMemory) -> Self {
+        AskFault::NoMemory
+    }
+}
+
+/// What the options ask of the list.
+///
+/// # Errors
+///
+/// - [`AskFault::Host`] for the first word of `--host` that is neither an address nor a prefix.
+/// - [`AskFault::Time`] where the word of `--time` is neither `start` nor `utc`.
+/// - [`AskFault::NoMemory`] where memory ran out.
+pub fn asked_of<'a>(alloc: Global, matches: &ArgMatches<'a>) -> Result<Asked, AskFault<'a>> {
+    let wanted = Filter {
+        hosts: hosts_of(alloc, matches.get_strs("host").unwrap_or(&[]))?,
+        ports: ports_of(alloc, matches.get_strs("port").unwrap_or(&[]))?,
+        most: matches.get_one("count"),
+    };
+    let times = times_of(matches.get_str("time").unwrap_or("start"))?;
+    Ok(Asked { wanted, times })
+}
+
+/// How a word says that times are shown.
+fn times_of(word: &str) -> Result<Times, AskFault<'_>> {
+    match word {
+        "start" => Ok(Times::Since),
+        "utc" => Ok(Times::Utc),
+        _ => Err(AskFault::Time(word)),
+    }
+}
+
+/// The hosts that these words mean.
+fn hosts_of<'a>(alloc: Global, words: &[&'a str]) -> Result<Items<Prefix>, AskFault<'a>> {
+    let mut hosts = Items::from_vec(Vec::new(alloc));
+    for word in words {
+        match prefix_of(word.as_bytes()) {
+            Some(prefix) => hosts.push(prefix)?,
+            None => return Err(AskFault::Host(*word)),
+        }
+    }
+    Ok(hosts)
+}
+
+/// The ports that these words mean, which are numbers of sixteen bits.
+fn ports_of<'a>(alloc: Global, words: &[&'a str]) -> Result<Items<u16>, AskFault<'a>> {
+    let mut ports = Items::from_vec(Vec::new(alloc));
+    for word in words {
+        if let Ok(port) = word.parse() {
+            ports.push(port)?;
+        }
+    }
+    Ok(ports)
+}
+
+/// The addresses that a word means: one, or after `/` how many of its first bits they have.
+fn prefix_of(word: &[u8]) -> Option<Prefix>
+    ensures { IfSome result (MeansPrefix word.now) }
+{
+    match at_slash(word) {
+        None => {
+            let start = address_of(word)?;
+            Some(Prefix {
+                start,
+                bits: width_of(start),
+            })
+        }
+        Some((address, count)) => {
+            let start = address_of(address)?;
+            let bits = count_of(count)?;
+            if width_of(start) < bits {
+                return None;
+            }
+            Some(Prefix { start, bits })
+        }
+    }
+}
+
+/// What stands before the first slash, and what after it.
+fn at_slash(word: &[u8]) -> Option<(&[u8], &[u8])>
+    ensures { IfSome result (λ parts. word.now ≡ parts.0.now ++ slash ∷ parts.1.now) }
+{
+    let at = word.iter().position(|byte| *byte == b'/')?;
+    Some((&word[..at], &word[at + 1..]))
+}
+
+/// The address that a word means.
+fn address_of(word: &[u8]) -> Option<IpAddr>
+    ensures { IfSome result (IsIpText word.now) }
+{
+    IpAddr::parse_ascii(word).ok()
+}
+
+/// The number of at most eight bits that decimal digits mean.
+fn count_of(digits: &[u8]) -> Option<u8>
+    ensures { IfSome result (λ count. digits_value 10 (without_leading_plus digits.now) ≡ count) }
+{
+    str::from_utf8(digits).ok()?.parse().ok()
+}
+
+/// How many bits an address of this version has.
+fn width_of(address: IpAddr) -> u8
+    ensures { result ≡ width_of address }
+{
+    match address {
+        IpAddr::V4(_) => 32,
+        IpAddr::V6(_) => 128,
+    }
+}

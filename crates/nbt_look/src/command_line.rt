@@ -1,0 +1,125 @@
+//! The program's command line.
+ghost use Rattle.std.specs.Prelude.{◌≡◌, IfOk, codes, false};
+ghost use Rattle.clap.specs.Words.{app_of, new_app, rule_of};
+ghost use Rattle.nbt_look.specs.CommandLine.{count_rule, file_rule, host_rule, look_app, port_rule, quiet_rule, time_rule};
+
+use clap::builder::ValueParser;
+use clap::{Arg, ArgAction, Command};
+use std::alloc::{AllocError, Global};
+
+/// The program's version, as `--version` prints it.
+const VERSION: &str = "0.1.0";
+
+/// What stands after the help.
+const AFTER: &str = "\
+A line for each packet of ports 137 and 138: frame, time, from, to, what it says. The last lines \
+count frames, packets, those that are malformed, and what is left out, by reason. A port is shown \
+where it isn't the service's own, and %eth1 after a sender where a packet came by another \
+interface than the first one.
+
+Live: tcpdump --immediate-mode -U -w - -i eth0 'port 137 or 138' | nbt-look -
+
+Exit status: 0 all was read; 1 the file is no capture file or ends early, and what stands before \
+is shown; 2 the command line was bad; 3 the file can't be opened, a read or a write failed, or \
+memory ran out.";
+
+/// The command line: `[--quiet] [--host ADDRESS].. [--port PORT].. [-c N] [--time WHEN] FILE`.
+///
+/// # Errors
+///
+/// `AllocError` where memory ran out.
+pub fn command<'a>(alloc: Global) -> Result<Command<'a>, AllocError>
+    ensures { IfOk result (λ command. app_of command ≡ look_app) }
+{
+    let top = described(alloc).version(VERSION);
+    let quiet = top.arg(quiet_flag(alloc))?;
+    let host = quiet.arg(host_option(alloc))?;
+    let port = host.arg(port_option(alloc))?;
+    let count = port.arg(count_option(alloc))?;
+    let time = count.arg(time_option(alloc))?;
+    let whole = time.arg(file_word(alloc))?;
+    Ok(whole)
+}
+
+/// The command with the texts before and after its help, and no argument.
+fn described<'a>(alloc: Global) -> Command<'a>
+    ensures { app_of result ≡ new_app (codes "nbt-look") }
+{
+    Command::new(alloc, "nbt-look")
+        .about("The NetBIOS packets of a capture file, a line for each, in words")
+        .after_help(AFTER)
+}
+
+/// The flag `--quiet`.
+fn quiet_flag<'a>(alloc: Global) -> Arg<'a>
+    ensures rule { rule_of result ≡ quiet_rule }
+    ensures local { result.global ≡ false }
+{
+    Arg::new(alloc, "quiet")
+        .long("quiet")
+        .help("No progress; the list has none")
+        .action(ArgAction::SetTrue)
+}
+
+/// The option `--host ADDRESS`.
+fn host_option<'a>(alloc: Global) -> Arg<'a>
+    ensures rule { rule_of result ≡ host_rule }
+    ensures local { result.global ≡ false }
+{
+    Arg::new(alloc, "host")
+        .long("host")
+        .value_name("ADDRESS")
+        .help(
+            "Packets from or to this address, or this network as 10.0.0.0/8; several may be given",
+        )
+        .action(ArgAction::Append)
+}
+
+/// The option `--port PORT`.
+fn port_option<'a>(alloc: Global) -> Arg<'a>
+    ensures rule { rule_of result ≡ port_rule }
+    ensures local { result.global ≡ false }
+{
+    Arg::new(alloc, "port")
+        .long("port")
+        .value_name("PORT")
+        .help("Packets from or to this port; several may be given")
+        .value_parser(ValueParser::unsigned(0, 65535))
+        .action(ArgAction::Append)
+}
+
+/// The option `-c N`.
+fn count_option<'a>(alloc: Global) -> Arg<'a>
+    ensures rule { rule_of result ≡ count_rule }
+    ensures local { result.global ≡ false }
+{
+    Arg::new(alloc, "count")
+        .short('c')
+        .value_name("N")
+        .help("The first N packets, after which nothing more is read")
+        .value_parser(ValueParser::unsigned(1, u64::MAX))
+        .action(ArgAction::Set)
+}
+
+/// The option `--time WHEN`.
+fn time_option<'a>(alloc: Global) -> Arg<'a>
+    ensures rule { rule_of result ≡ time_rule }
+    ensures local { result.global ≡ false }
+{
+    Arg::new(alloc, "time")
+        .long("time")
+        .value_name("WHEN")
+        .help("Times: start, in seconds since the first frame, or utc")
+        .action(ArgAction::Set)
+}
+
+/// The word FILE.
+fn file_word<'a>(alloc: Global) -> Arg<'a>
+    ensures rule { rule_of result ≡ file_rule }
+    ensures local { result.global ≡ false }
+{
+    Arg::new(alloc, "FILE")
+        .help("A pcap or pcapng file, or - for standard input")
+        .required(true)
+        .action(ArgAction::Set)
+}

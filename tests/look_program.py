@@ -1,0 +1,305 @@
+#!/usr/bin/env python3
+"""The program nbt-look of crates/nbt_look, beside tshark and the model of phrases, over captures; and what it says of files that end
+early or are none.
+
+Usage: tests/look_program.py [PROGRAM [CAPTURE..]]; without captures those of tests/captures and random ones, without which alone
+what is said of other files is tried too. The last line is 'N passed, M failed, K skipped'. Where tshark isn't installed what it reads is left out.
+
+tshark gives number, time, ends, ports and payload of each datagram of UDP (RFC 768) from or to port 137 or 138 that is neither in a
+tunnel, nor a fragment of IP, nor quoted; tests/model says the phrase, and this script lays the line out. Whether a frame ends early is
+known by its place in the file alone. A header of which the snap length left a part is left out by the program, whatever tshark reads of it.
+"""
+import datetime
+import ipaddress
+import itertools
+import os
+import random
+import re
+import shutil
+import struct
+import subprocess
+import sys
+import tempfile
+
+sys.dont_write_bytecode = True
+HERE = os.path.dirname(os.path.abspath(__file__))
+sys.path[1:1] = [f'{HERE}/{it}' for it in ('lib', 'captures', '.')]
+from model.phrases import said
+from parts import equal, finish, part, skip
+from random_pcap import pcap_of
+from wire import QUERY, RESPONSE, ethernet, pcap, sent, spaced, written
+
+FIELDS = ('frame.number', 'frame.time_epoch', 'frame.interface_name', 'frame.interface_id', 'frame.len', 'frame.cap_len', 'frame.protocols',
+          'ip.src', 'ip.dst', 'ipv6.src', 'ipv6.dst', 'ip.flags.mf', 'ip.frag_offset', 'ipv6.fraghdr.offset', 'udp.srcport', 'udp.dstport', 'udp.length',
+          'udp.checksum', 'udp.payload')
+SERVICES = 137, 138
+BILLION = 10**9
+# A line of a packet; an address of the form that RFC 4291 section 2.5.5.1 gives up, which tshark writes with dots.
+UTC_LINE = re.compile(rb' *[0-9]+ +([0-9]{4}-|-)')
+COUNTS = re.compile(rb'[0-9]+ frames?, [0-9]+ packets?, ')
+LINE, DOTTED = re.compile(r' *[0-9]+ +[-0-9]'), re.compile(r'::[0-9]+(\.[0-9]+){3}')
+
+
+def main():
+    program = os.path.abspath(sys.argv[1] if sys.argv[1:] else f'{HERE}/../crates/nbt_look/out/nbt_look')
+    with tempfile.TemporaryDirectory() as room:
+        if sys.argv[2:]:
+            beside_tshark(program, sys.argv[2:])
+            return finish()
+        if shutil.which('tshark'):
+            part('tshark', lambda: beside_tshark(program, captures(room)))
+            part('filters', lambda: filters(program, captures(room)))
+        else:
+            skip('tshark', "it isn't there")
+        part('prefixes', lambda: prefixes(program, room))
+        part('others', lambda: others(program, room))
+    return finish()
+
+
+def captures(room):
+    """The captures of the tests, and random ones."""
+    subprocess.run([f'{HERE}/captures/look_captures.py', room], check=True)
+    found = [f'{HERE}/../examples/{each}.pcap' for each in ('office', 'samba')]
+    found += sorted(f'{room}/{each}' for each in os.listdir(room) if is_capture(f'{room}/{each}'))
+    return found + [written(f'{room}/random-{seed}', pcap_of(random.Random(seed))) for seed in range(40)]
+
+
+def is_capture(path):
+    with open(path, 'rb') as file:
+        return file.read(4) in (bytes.fromhex(each) for each in ('a1b2c3d4', 'd4c3b2a1', 'a1b23c4d', '4d3cb2a1', '0a0d0d0a'))
+
+
+def run(program, path, data=None, words=()):
+    return subprocess.run([program, *words, path], input=data, stdout=subprocess.PIPE, stderr=subprocess.PIPE, check=False)
+
+
+# ---- beside tshark
+
+def beside_tshark(program, paths):
+    for each in paths:
+        one_beside_tshark(program, each)
+
+
+def one_beside_tshark(program, path):
+    rows = tshark_rows(path)
+    # tshark reads below tunnels, and what is quoted; of what is in none both have the same lines.
+    left = {each['frame.number'] for each in rows if not is_plain(each)}
+    given = [line for line in run(program, path).stdout.decode(errors='surrogateescape').splitlines() if LINE.match(line) and line.split()[0] not in left]
+    lines, state = [], {'first': None, 'label': None, 'widths': [5, 9, 15, 15]}
+    for row in rows:
+        lines += line_of(row, state)
+    squeezed = lambda texts: [' '.join(each.split()) for each in texts]
+    name = os.path.basename(path)
+    given, lines = (given, lines) if not left else (squeezed(given), squeezed(lines))
+    differing = [pair for pair in itertools.zip_longest(given, lines) if pair[0] != pair[1]]
+    equal(differing[:1], [], name)
+
+
+def tshark_rows(path):
+    words = ['tshark', '-n', '-r', path, '-T', 'fields', '-E', 'separator=/t', *(word for each in FIELDS for word in ('-e', each))]
+    for each in ('ip.defragment', 'ipv6.defragment', 'udp.check_checksum', 'tcp.desegment_tcp_streams'):
+        words += ['-o', each + ':FALSE']
+    done = subprocess.run(words, stdout=subprocess.PIPE, stderr=subprocess.DEVNULL, check=False)
+    return [dict(zip(FIELDS, line.split('\t'))) for line in done.stdout.decode(errors='surrogateescape').splitlines()]
+
+
+def is_plain(row):
+    """Whether a frame has a packet of IP in no tunnel, or none."""
+    layers = row['frame.protocols'].split(':')
+    return sum(each in ('ip', 'ipv6') for each in layers) <= 1 and not any(each.startswith('icmp') for each in layers) and ',' not in row['udp.srcport']
+
+
+def line_of(row, state):
+    """The line of a row, if there is one."""
+    second, _, rest = row['frame.time_epoch'].partition('.')
+    at = int(second) * BILLION + int(rest.ljust(9, '0')[:9])
+    if state['first'] is None:
+        state['first'] = at
+    if not is_plain(row):
+        return []
+    ports = [int(row[each] or 0) for each in ('udp.dstport', 'udp.srcport')]
+    service = service_of(row)
+    if service is None or is_fragment(row) or not row['udp.checksum'] or int(row['udp.length']) < 8:
+        return []
+    phrase = phrase_of(row, service)
+    name = row['frame.interface_name']
+    label = ''.join(map(shown, name.encode(errors='surrogateescape'))) if name not in ('', 'unknown') else row['frame.interface_id']
+    state['label'] = state['label'] or label
+    source, target = (place(row['ip.' + each] or row['ipv6.' + each], port, service) for each, port in (('src', ports[1]), ('dst', ports[0])))
+    cells = [row['frame.number'], since(at - state['first']), source + ('' if label == state['label'] else '%' + label), target]
+    state['widths'] = [max(width, len(each)) for width, each in zip(state['widths'], cells)]
+    number, time, start, end = state['widths']
+    return ['%*s %*s %-*s %-*s %s' % (number, cells[0], time, cells[1], start, cells[2], end, cells[3], phrase)]
+
+
+def shown(byte):
+    return chr(byte) if 32 <= byte <= 126 else f'\\x{byte:02x}'
+
+
+def is_fragment(row):
+    return row['ip.flags.mf'] in ('1', 'True') or row['ip.frag_offset'] not in ('', '0') or row['ipv6.fraghdr.offset'] != ''
+
+
+def phrase_of(row, service):
+    payload, size = bytes.fromhex(row['udp.payload'].replace(':', '')), int(row['udp.length']) - 8
+    captured, full = int(row['frame.cap_len']), int(row['frame.len'])
+    if size <= len(payload):
+        return said(service, payload[:size])
+    if captured == full:
+        return 'left out: a length that the packet lacks'
+    if not payload:
+        return f'left out: cut by the snap length, {captured} of {full} bytes'
+    return f'cut: {len(payload)} of {size} bytes'
+
+
+def place(address, port, service):
+    if DOTTED.fullmatch(address):
+        address = str(ipaddress.ip_address(address))
+    if port == service:
+        return address
+    return f'[{address}]:{port}' if ':' in address else f'{address}:{port}'
+
+
+def since(span):
+    second, rest = divmod(abs(span), BILLION)
+    return '%s%d.%06d' % ('-' if span < 0 else '', second, rest // 1000)
+
+
+# ---- filters
+
+def filters(program, paths):
+    """What is shown of some hosts, networks and ports, beside tshark's fields; and of the first packets."""
+    random_of = random.Random(7)
+    for path in paths:
+        rows = [each for each in tshark_rows(path) if is_plain(each)]
+        shown_whole = shown_rows(program, path, [], rows)
+        if not shown_whole:
+            continue
+        for _ in range(3):
+            filtered(program, path, rows, shown_whole, random_of)
+        most = random_of.randint(1, len(shown_whole))
+        lines = [each for each in run(program, path).stdout.splitlines() if LINE.match(each.decode(errors='surrogateescape'))]
+        first = run(program, path, words=['-c', str(most)]).stdout.splitlines()[:most]
+        equal(first, lines[:most], f'-c {most} of {os.path.basename(path)}')
+        given = [each.split()[1].decode() for each in run(program, path, words=['--time', 'utc']).stdout.splitlines() if UTC_LINE.match(each)]
+        rows = shown_rows(program, path, [], tshark_rows(path))
+        equal(given, [utc(each['frame.time_epoch']) for each in rows], f'--time utc of {os.path.basename(path)}')
+
+
+def utc(epoch):
+    """The date and time of day at a time in seconds since 1970, as tshark writes them."""
+    second, _, rest = epoch.partition('.')
+    moment = datetime.datetime(1970, 1, 1) + datetime.timedelta(seconds=int(second))
+    return f"{moment:%Y-%m-%dT%H:%M:%S}.{rest.ljust(6, '0')[:6]}Z"
+
+
+def filtered(program, path, rows, shown_whole, random_of):
+    """Some words for --host and --port, of what the file has or not."""
+    row = random_of.choice(shown_whole)
+    ends = [row['ip.src'] or row['ipv6.src'], row['ip.dst'] or row['ipv6.dst']]
+    hosts = [network_of(random_of.choice(ends), random_of) for _ in range(random_of.randrange(3))]
+    ports = [random_of.choice([row['udp.srcport'], row['udp.dstport'], '137', '138', '9']) for _ in range(random_of.randrange(2 + (not hosts)))]
+    words = [word for each in hosts for word in ('--host', each)] + [word for each in ports for word in ('--port', each)]
+    wanted = [each['frame.number'] for each in shown_whole if is_wanted(each, hosts, ports)]
+    given = [each['frame.number'] for each in shown_rows(program, path, words, rows)]
+    equal(given, wanted, f"{' '.join(words)} of {os.path.basename(path)}")
+    counts = [each for each in run(program, path, words=words).stdout.splitlines() if COUNTS.match(each)]
+    equal([each.partition(b'; ')[2] for each in counts], [b'%d shown' % len(wanted) if words else b''], f"the counts of {' '.join(words)}")
+
+
+def network_of(address, random_of):
+    """An address, or a network that it is in."""
+    whole = ipaddress.ip_address(address)
+    return address if random_of.random() < .4 else f'{whole}/{random_of.randint(0, whole.max_prefixlen)}'
+
+
+def is_wanted(row, hosts, ports):
+    ends = [ipaddress.ip_address(each) for each in (row['ip.src'] or row['ipv6.src'], row['ip.dst'] or row['ipv6.dst'])]
+    networks = [ipaddress.ip_network(each, strict=False) for each in hosts]
+    is_between = not networks or any(end in network for end in ends for network in networks)
+    numbers = {row['udp.srcport'], row['udp.dstport'], str(service_of(row))}
+    return is_between and (not ports or bool(numbers & set(ports)))
+
+
+def service_of(row):
+    return next((each for each in (int(row['udp.dstport'] or 0), int(row['udp.srcport'] or 0)) if each in SERVICES), None)
+
+
+def shown_rows(program, path, words, rows):
+    """The rows of the frames that have a line."""
+    lines = run(program, path, words=words).stdout.decode(errors='surrogateescape').splitlines()
+    numbers = {each.split()[0] for each in lines if LINE.match(each)}
+    return [each for each in rows if each['frame.number'] in numbers]
+
+
+# ---- files that end early, or are none
+
+FRAMES = pcap(spaced(ethernet(sent(137, each)) for each in (QUERY, RESPONSE, QUERY)))
+
+
+def prefixes(program, room):
+    """Each prefix of a file: the lines of the frames that stand in it, and the byte at which the rest begins."""
+    ends, at = [24], 24
+    while at < len(FRAMES):
+        at += 16 + struct.unpack_from('<L', FRAMES, at + 8)[0]
+        ends.append(at)
+    whole = run(program, '-', FRAMES).stdout.decode().splitlines()
+    for size in range(1, len(FRAMES)):
+        done = run(program, written(f'{room}/prefix', FRAMES[:size]))
+        frames = sum(each <= size for each in ends[1:])
+        begun = max((each for each in ends if each <= size), default=0)
+        if size in ends:
+            wanted = b'', 0
+        else:
+            wanted = f'nbt-look: {room}/prefix: cut at byte {begun}, after frame {frames}\n'.encode(), 1
+        equal((done.stderr, done.returncode), wanted, f'{size} bytes')
+        equal(done.stdout.decode().splitlines()[:frames], whole[:frames], f'the lines of {size} bytes')
+
+
+def others(program, room):
+    """What is no capture, and what can't be opened."""
+    words = b'nbt-look: %s: '
+    bad = FRAMES[:32] + struct.pack('<L', 262_145) + FRAMES[36:]
+    for name, data, text, status in (
+            ('empty', b'', b'it is empty, and a capture file has a header: capture anew', 1),
+            ('gzip', b'\x1f\x8b\x08' + bytes(20), b'it is compressed by gzip: zcat FILE | nbt-look - reads it', 1),
+            ('text', b'137 0 00\n' * 10, b'neither pcap nor pcapng: give what tcpdump -w or Wireshark wrote; nbt show reads captures as text', 1),
+            ('long', bad, b'too long a frame or block at byte 24, after frame 0', 1)):
+        path = written(f'{room}/{name}', data)
+        done = run(program, path)
+        equal((done.stderr, done.returncode), (words % path.encode() + text + b'\n', status), name)
+    for path, text in ((f'{room}/absent', b'there is no file of this name'), (room, b'it is a directory: give a file of it')):
+        done = run(program, path)
+        equal((done.stdout, done.stderr, done.returncode), (b'', words % path.encode() + text + b'\n', 3), path)
+    with open(f'{HERE}/../CHANGELOG.md', encoding='utf-8') as file:
+        version = re.search(r'^## ([0-9.]+),', file.read(), re.MULTILINE)[1]
+    equal(run(program, '--version').stdout.decode(), f'nbt-look {version}\n', 'the version of CHANGELOG.md')
+    for given in ([], ['--frobnicate', '-']):
+        done = subprocess.run([program, *given], stdin=subprocess.DEVNULL, stdout=subprocess.PIPE, stderr=subprocess.PIPE, check=False)
+        equal((done.stdout, done.returncode, bool(done.stderr)), (b'', 2, True), given)
+    for given in ('10.0.0', '10.0.0.0/33', '::/129', '10.0.0.0/', 'fred'):
+        done = run(program, '-', FRAMES, ['--host', given])
+        said_so = f'nbt-look: {given}: no address: give one such as 10.0.0.5, or a network as 10.0.0.0/8\n'.encode()
+        equal((done.stdout, done.stderr, done.returncode), (b'', said_so, 2), given)
+    done = run(program, '-', FRAMES, ['--time', 'local'])
+    said_so = b'nbt-look: local: no way to show times: give start, or utc\n'
+    equal((done.stdout, done.stderr, done.returncode), (b'', said_so, 2), '--time local')
+    full = subprocess.run([program, '-'], input=FRAMES, stdout=open('/dev/full', 'wb'), stderr=subprocess.PIPE, check=False)
+    equal((full.stderr, full.returncode), (b"nbt-look: standard output can't be written\n", 3), 'a full device')
+    live(program)
+
+
+def live(program):
+    """A line is there once its packet came, however the bytes come."""
+    child = subprocess.Popen([program, '-'], stdin=subprocess.PIPE, stdout=subprocess.PIPE)
+    second = 24 + 16 + len(ethernet(sent(137, QUERY)))
+    for each in FRAMES[:second]:
+        child.stdin.write(bytes([each]))
+        child.stdin.flush()
+    equal(child.stdout.readline().split()[:2], [b'1', b'0.000000'], 'the first line of a pipe')
+    rest, _ = child.communicate(FRAMES[second:])
+    equal(rest.splitlines()[-1], b'3 frames, 3 packets, 0 malformed, 0 left out', 'the last line of a pipe')
+
+
+if __name__ == '__main__':
+    sys.exit(main())

@@ -15,6 +15,7 @@ use Rattle.nb_datagram.specs.Pieces.{pieces}
 use Rattle.nb_calls.specs.declared.cutting.Sent.{Sent}
 use Rattle.nb_calls.specs.declared.statuses.TheConstants.{UNKNOWN_TYPE, LONG_DATA, ZERO_PIECE, SOURCE_TEXT, DESTINATION_TEXT, NO_ROLE}
 use Rattle.nb_calls.specs.Names.{IsRead}
+use Rattle.nb_calls.specs.Outputs.{OrMemory}
 use Rattle.nb_calls.specs.Statuses.{Refusal, Fault, text_refusal}
 use Rattle.nb_datagram.specs.declared.packet.QueryKind.{QueryKind}
 use Rattle.nb_datagram.specs.declared.packet.QueryKind.TheVariants.{Request, Positive, Negative}
@@ -75,7 +76,7 @@ cut_names sent = cut_kind (kind_with sent.packet_type) sent
 abbrev pub Cuts : Sent → List ℕ → List ℕ → List ℕ → Result (List ℕ) Refusal → Type 0
 Cuts sent source destination contents answer =
     (from to : Result NetbiosName TextFault) × IsRead source from × IsRead destination to
-    × (answer ≡ cut_names sent from to contents)
+    × OrMemory (cut_names sent from to contents) answer
 
 -- ---- packets without data
 -- Their FLAGS are 02, the first fragment and no more of them (our choice).
@@ -103,4 +104,4 @@ query_answer type = query_kind (query_with type)
 -- Queries type key text answer: this is answered where the name has this text
 abbrev pub Queries : ℕ → Key → List ℕ → Result (List ℕ) Refusal → Type 0
 Queries type key text answer =
-    (read : Result NetbiosName TextFault) × IsRead text read × (answer ≡ query_answer type key read)
+    (read : Result NetbiosName TextFault) × IsRead text read × OrMemory (query_answer type key read) answer

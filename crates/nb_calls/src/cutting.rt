@@ -5,7 +5,7 @@ ghost use Rattle.nb_datagram.specs.declared.limits.TheConstants.{MAX_LENGTH};
 ghost use Rattle.nb_datagram.specs.declared.packet.Packet.TheVariants.{Query};
 ghost use Rattle.nb_datagram.specs.Packet.{packet_bytes};
 ghost use Rattle.nb_calls.specs.Cutting.{are_long, cut_answer, cut_names, key_from, key_of, kind_with, packet_of, packets_of, counted, error_packet, query_answer, query_with};
-ghost use Rattle.nb_calls.specs.Outputs.{OrMemory, none_late};
+ghost use Rattle.nb_calls.specs.Outputs.{OrMemory};
 
 use crate::output::{Refusal, answer_of, text_refusal};
 use crate::statuses::{
@@ -42,8 +42,7 @@ pub fn packets(
     destination: Result<Name, TextFault>,
     contents: &[u8],
 ) -> Result<Bytes, Refusal>
-    ensures { OrMemory none_late
-        (λ answer. answer ≡ cut_names sent source destination contents.now) result }
+    ensures { OrMemory (cut_names sent source destination contents.now) result }
 {
     match kind_with(sent.packet_type) {
         None => Err(Refusal::Fault(UNKNOWN_TYPE)),
@@ -78,7 +77,7 @@ fn cut_data(
     destination: Name,
     contents: &[u8],
 ) -> Result<Bytes, Refusal>
-    ensures { OrMemory none_late (λ answer. answer ≡ cut_answer (record {
+    ensures { OrMemory (cut_answer (record {
       key = key_of sent;
       kind = kind;
       source = source;
@@ -206,7 +205,7 @@ pub fn query_of(
     key: Key,
     read: Result<Name, TextFault>,
 ) -> Result<Bytes, Refusal>
-    ensures { OrMemory none_late (λ answer. answer ≡ query_answer packet_type key read) result }
+    ensures { OrMemory (query_answer packet_type key read) result }
 {
     match query_with(packet_type) {
         None => Err(Refusal::Fault(UNKNOWN_TYPE)),

@@ -4,8 +4,7 @@ ghost use Rattle.std.specs.FinMap as maps;
 ghost use Rattle.nb_table.specs.Limits.{KeepsLimits};
 ghost use Rattle.nb_table.specs.Saved.{LoadFails};
 ghost use Rattle.nb_member.specs.Listing.{listing};
-ghost use Rattle.nb_calls.specs.Tables.{Joins, Merges, OfOne, follow_the_first, listed_as, Compares, IsLeastDifference, Narrows, NarrowsBy, difference_of, lower_of, IsLoaded};
-ghost use Rattle.nb_calls.specs.Outputs.{OrMemory, none_late};
+ghost use Rattle.nb_calls.specs.Tables.{Joins, Merges, OfOne, listed_as, Compares, IsLeastDifference, Narrows, NarrowsBy, difference_of, lower_of, IsLoaded};
 
 use crate::output::{Refusal, answer_of, load_refusal, table_refusal};
 use crate::stations::LONGEST;
@@ -13,7 +12,6 @@ use crate::statuses::{NO_ROLE, SECOND};
 use nb_datagram::Key;
 use nb_member::{list_keys, list_objects};
 use nb_streams::{Bytes, NoMemory};
-use nb_table::laws::{an_input_is_read_as_one_table, saved_bytes_have_one_reading};
 use nb_table::{LoadFault, Table, load};
 use std::alloc::Global;
 use std::cmp::Ordering;
@@ -26,15 +24,12 @@ pub fn merged(
     keys: u32,
     per_source: u32,
 ) -> Result<Bytes, Refusal>
-    ensures { OrMemory follow_the_first (Merges first.now second.now (record {
+    ensures { Merges first.now second.now (record {
       keys = keys;
       per_source = per_source;
       longest = 65535;
-    })) result }
+    }) result }
 {
-    // For the clause; the calls do nothing.
-    an_input_is_read_as_one_table();
-    saved_bytes_have_one_reading();
     match loaded(alloc, first, keys, per_source, LONGEST) {
         Err(fault) => Err(load_refusal(NO_ROLE, fault)),
         Ok(mut table) => match loaded(alloc, second, keys, per_source, LONGEST) {
@@ -46,8 +41,7 @@ pub fn merged(
 
 /// The join of a table and another, saved.
 fn joined(table: &mut Table, other: Table) -> Result<Bytes, Refusal>
-    ensures { OrMemory follow_the_first
-        (Joins table.old.limits table.old.contents other.contents) result }
+    ensures { Joins table.old.limits table.old.contents other.contents result }
 {
     match table.take_in(other) {
         Err(fault) => Err(table_refusal(fault)),
@@ -57,11 +51,8 @@ fn joined(table: &mut Table, other: Table) -> Result<Bytes, Refusal>
 
 /// What is listed of a saved table's keys: their objects, or their lines.
 pub fn listed(alloc: Global, table: &[u8], json: bool) -> Result<Bytes, Refusal>
-    ensures { OrMemory none_late (OfOne table.now (listed_as json)) result }
+    ensures { OfOne table.now (listed_as json) result }
 {
-    // For the clause; the calls do nothing.
-    an_input_is_read_as_one_table();
-    saved_bytes_have_one_reading();
     match loaded(alloc, table, u32::MAX, u32::MAX, LONGEST) {
         Err(fault) => Err(load_refusal(NO_ROLE, fault)),
         Ok(table) => answer_of(listed_of(alloc, &table, json)),
@@ -102,11 +93,8 @@ pub struct NbtDifference {
 
 /// The least key at which two saved tables differ.
 pub fn compared(alloc: Global, first: &[u8], second: &[u8]) -> Result<NbtDifference, Refusal>
-    ensures { OrMemory follow_the_first (Compares first.now second.now) result }
+    ensures { Compares first.now second.now result }
 {
-    // For the clause; the calls do nothing.
-    an_input_is_read_as_one_table();
-    saved_bytes_have_one_reading();
     match loaded(alloc, first, u32::MAX, u32::MAX, LONGEST) {
         Err(fault) => Err(load_refusal(NO_ROLE, fault)),
         Ok(one) => match loaded(alloc, second, u32::MAX, u32::MAX, LONGEST) {

@@ -1,9 +1,9 @@
 //! What became of a payload, in numbers.
 ghost use Rattle.std.specs.Prelude.{◌≡◌, length};
-ghost use Rattle.nb_calls.specs.Stations.{of_key, of_other, of_delivered, of_unheard, of_refused, place_in};
+ghost use Rattle.nb_calls.specs.Stations.{of_key, of_other, of_delivered, of_unheard, of_refused};
 ghost use Rattle.nb_datagram.specs.Packet.{name_bytes};
 
-use crate::output::{Refusal, status_of};
+use crate::output::{Refusal, refuse};
 use nb_datagram::{Datagram, Key};
 
 /// A fragment, by which its datagram became neither whole nor spoilt.
@@ -117,18 +117,6 @@ pub(crate) fn of_refused(refusal: Refusal, size: usize) -> NbtTaken
     let mut taken = of_other();
     taken.outcome = REFUSED;
     taken.error_length = size;
-    taken.refusal = status_of(refusal);
-    taken.refused_at = place_in(refusal);
+    taken.refusal = refuse(refusal, &mut taken.refused_at);
     taken
-}
-
-/// The place of a refusal, or 0.
-fn place_in(refusal: Refusal) -> usize
-    ensures { result ≡ place_in refusal }
-{
-    match refusal {
-        Refusal::Memory => 0,
-        Refusal::Fault(_) => 0,
-        Refusal::FaultAt(_, place) => place,
-    }
 }

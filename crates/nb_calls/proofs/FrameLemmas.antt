@@ -1,5 +1,5 @@
 -- What is asked to be written on port 139 has one answer.
-use Rattle.nb_calls.proofs.Common.{◌≡◌, ◌==◌, ◌∙◌, ℕ, ◌≤◌, List, if◌then◌else◌, refl, sym, ap, subst, arith, HasOneElse}
+use Rattle.nb_calls.proofs.Common.{◌≡◌, ◌==◌, ◌∙◌, ℕ, List, if◌then◌else◌, refl, sym, ap, subst, arith, HasOneElse}
 use Rattle.nb_session.specs.declared.packet.Kind.{Kind}
 use Rattle.nb_session.specs.declared.packet.Kind.TheVariants.{Message, Request, Positive, Negative, Retarget, Keepalive}
 use Rattle.nb_session.specs.Header.{type_of}

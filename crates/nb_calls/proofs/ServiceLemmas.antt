@@ -1,5 +1,5 @@
 -- Of a payload of port 137: its header, and each item, of which one thing is answered.
-use Rattle.nb_calls.proofs.Common.{◌≡◌, ◌∙◌, ℕ, ◌<◌, ◌≤◌, List, length, Option, Some, None, Result, Ok, Err, refl, ap, sym, subst, arith, MatchOption, PacketHeader, HasHeader, seen_extent, HasOutline, item_count, Refusal, HasOne}
+use Rattle.nb_calls.proofs.Common.{◌≡◌, ◌∙◌, ℕ, ◌<◌, ◌≤◌, List, length, Option, Some, None, Ok, Err, refl, ap, sym, subst, arith, MatchOption, PacketHeader, HasHeader, seen_extent, HasOutline, item_count, Refusal, HasOne}
 use Rattle.nb_service.specs.declared.record.Extent.{Extent}
 use Rattle.nb_service.specs.declared.fault.ServiceFault.{ServiceFault}
 use Rattle.nb_service.specs.declared.fault.ServiceFault.TheVariants.{Truncated}

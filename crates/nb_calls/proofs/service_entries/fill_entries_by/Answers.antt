@@ -1,4 +1,4 @@
-use Rattle.nb_calls.proofs.Common.{◌≡◌, ◌<◌, ℕ, List, length, min, refl, subst, arith}
+use Rattle.nb_calls.proofs.Common.{◌≡◌, ◌<◌, ℕ, List, length, refl, subst, arith}
 use Rattle.nb_calls.proofs.EntryLemmas.{filled_none_wanted}
 use Rattle.nb_calls.proofs.ServiceLemmas.{IsCut, item_cut}
 use Rattle.nb_calls.proofs.service_entries.fill_entries_by.Goals as goal

@@ -1,4 +1,4 @@
-use Rattle.nb_calls.proofs.Common.{◌≡◌, ◌∙◌, ℕ, List, Result, Ok, Err, inl, inr, length, ap, arith, sym, NetbiosName, NameAt, Refused, labels_of_name, Refusal, FaultAt, NO_ROLE, NAME_TRAILING_BYTES}
+use Rattle.nb_calls.proofs.Common.{◌≡◌, ℕ, List, Result, Ok, Err, inl, inr, length, ap, arith, NetbiosName, NameAt, Refused, labels_of_name, Refusal}
 use Rattle.nb_names.specs.declared.fault.NameFault.{NameFault}
 use Rattle.nb_names.specs.Name.{IsName}
 use Rattle.nb_names.specs.NameFaults.{NetbiosFaultAt}

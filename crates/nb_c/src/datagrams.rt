@@ -27,8 +27,7 @@ pub extern "C" fn nbt_datagram_front(
     front: &mut NbtDatagramFront,
     at: &mut usize,
 ) -> u32
-    ensures { Fills (ReadsFront payload.now)
-        front.old front.new at.old at.new result }
+    ensures { Fills (ReadsFront payload.now) front.old front.new at.old at.new result }
 {
     fill(front_of(payload), front, at)
 }

@@ -38,8 +38,7 @@ pub extern "C" fn nbt_service_node(
     node: &mut NbtServiceNode,
     at: &mut usize,
 ) -> u32
-    ensures { Fills (ReadsNode kind contents.now number)
-        node.old node.new at.old at.new result }
+    ensures { Fills (ReadsNode kind contents.now number) node.old node.new at.old at.new result }
 {
     fill(node_at(kind, contents, number), node, at)
 }
@@ -54,8 +53,7 @@ pub extern "C" fn nbt_service_unit(
     unit: &mut NbtServiceUnit,
     at: &mut usize,
 ) -> u32
-    ensures { Fills (ReadsUnit kind contents.now)
-        unit.old unit.new at.old at.new result }
+    ensures { Fills (ReadsUnit kind contents.now) unit.old unit.new at.old at.new result }
 {
     fill(unit_at(kind, contents), unit, at)
 }

@@ -20,8 +20,7 @@ pub extern "C" fn nbt_service_header(
     header: &mut NbtServiceHeader,
     at: &mut usize,
 ) -> u32
-    ensures { Fills (ReadsHeader payload.now)
-        header.old header.new at.old at.new result }
+    ensures { Fills (ReadsHeader payload.now) header.old header.new at.old at.new result }
 {
     fill(front(payload), header, at)
 }
@@ -36,8 +35,7 @@ pub extern "C" fn nbt_service_read(
     header: &mut NbtServiceHeader,
     at: &mut usize,
 ) -> u32
-    ensures { Fills (ReadsPacket payload.now)
-        header.old header.new at.old at.new result }
+    ensures { Fills (ReadsPacket payload.now) header.old header.new at.old at.new result }
 {
     if payload.len() <= SHORT_PACKET {
         return fill_packet(&NameReader::of(payload, &mut []), header, at);
@@ -57,8 +55,7 @@ pub extern "C" fn nbt_service_item(
     item: &mut NbtServiceItem,
     at: &mut usize,
 ) -> u32
-    ensures { Fills (ReadsItem payload.now number place)
-        item.old item.new at.old at.new result }
+    ensures { Fills (ReadsItem payload.now number place) item.old item.new at.old at.new result }
 {
     finish(fill_item(payload, number as usize, place, item), at)
 }

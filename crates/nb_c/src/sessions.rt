@@ -31,8 +31,7 @@ pub extern "C" fn nbt_session_front(
     front: &mut NbtSessionFront,
     at: &mut usize,
 ) -> u32
-    ensures { Fills (ReadsFront bytes.now)
-        front.old front.new at.old at.new result }
+    ensures { Fills (ReadsFront bytes.now) front.old front.new at.old at.new result }
 {
     fill(front_of(bytes), front, at)
 }
@@ -47,8 +46,7 @@ pub extern "C" fn nbt_session_names(
     names: &mut NbtSessionNames,
     at: &mut usize,
 ) -> u32
-    ensures { Fills (ReadsNames bytes.now)
-        names.old names.new at.old at.new result }
+    ensures { Fills (ReadsNames bytes.now) names.old names.new at.old at.new result }
 {
     fill(names_in(bytes), names, at)
 }
@@ -62,8 +60,7 @@ pub extern "C" fn nbt_session_retarget(
     retarget: &mut NbtSessionRetarget,
     at: &mut usize,
 ) -> u32
-    ensures { Fills (ReadsRetarget bytes.now)
-        retarget.old retarget.new at.old at.new result }
+    ensures { Fills (ReadsRetarget bytes.now) retarget.old retarget.new at.old at.new result }
 {
     fill(retarget_in(bytes), retarget, at)
 }

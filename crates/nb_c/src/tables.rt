@@ -1,7 +1,7 @@
 //! Saved tables: joined, listed and compared.
 #![tactic(auto, using(nb_calls::proofs::AnswerLemmas::answered))]
 
-ghost use Rattle.nb_calls.specs.Tables.{Lists, ListsObjects, Merges, Compares};
+ghost use Rattle.nb_calls.specs.Tables.{Lists, ListsObjects, Merges, Compares, limits_with};
 ghost use Rattle.nb_calls.specs.Outputs.{Fills, Writes, lent};
 
 use nb_calls::output::{fill, write_answer};
@@ -23,11 +23,8 @@ pub extern "C" fn nbt_table_merge(
     used: &mut usize,
     at: &mut usize,
 ) -> u32
-    ensures { Writes (Merges first.now second.now (record {
-      keys = keys;
-      per_source = per_source;
-      longest = 65535;
-    })) (lent into.old used.old at.old) (lent into.new used.new at.new) result }
+    ensures { Writes (Merges first.now second.now (limits_with keys per_source 65535))
+        (lent into.old used.old at.old) (lent into.new used.new at.new) result }
 {
     write_answer(
         merged(alloc, first, second, keys, per_source),

@@ -29,9 +29,15 @@ kind_with type =
 abbrev pub key_from : ℕ → ℕ → ℕ → Key
 key_from identifier address port = record { ip = to_be_bytes w32 address; port = port; id = identifier }
 
--- the key of a datagram that is sent so
-abbrev pub key_of : Sent → Key
-key_of sent = key_from sent.identifier sent.address sent.port
+-- the datagram of this kind between two names, with this data, that is sent so
+abbrev pub datagram_of : Sent → Kind → NetbiosName → NetbiosName → List ℕ → DatagramParts
+datagram_of sent kind source destination bytes = record {
+  key = key_from sent.identifier sent.address sent.port;
+  kind = kind;
+  source = source;
+  destination = destination;
+  bytes = bytes;
+}
 
 -- the bytes of a fragment's packet
 abbrev pub packet_of : FragmentParts → List ℕ
@@ -66,7 +72,7 @@ cut_kind None sent source destination contents = Err (Fault UNKNOWN_TYPE)
 cut_kind (Some kind) sent (Err fault) destination contents = Err (text_refusal SOURCE_TEXT fault)
 cut_kind (Some kind) sent (Ok source) (Err fault) contents = Err (text_refusal DESTINATION_TEXT fault)
 cut_kind (Some kind) sent (Ok source) (Ok destination) contents =
-    cut_answer (record { key = key_of sent; kind = kind; source = source; destination = destination; bytes = contents }) sent.most
+    cut_answer (datagram_of sent kind source destination contents) sent.most
 
 -- the same, by the type's number
 abbrev pub cut_names : Sent → Result NetbiosName TextFault → Result NetbiosName TextFault → List ℕ → Result (List ℕ) Refusal

@@ -21,6 +21,10 @@ use Rattle.nb_datagram.specs.declared.key.Key.{Key}
 use Rattle.nb_datagram.specs.Key.{key_cmp}
 use Rattle.nb_calls.specs.declared.tables.NbtDifference.{NbtDifference}
 
+-- limits_with keys per_source longest: these
+abbrev pub limits_with : ℕ → ℕ → ℕ → Limits
+limits_with keys per_source longest = record { keys = keys; per_source = per_source; longest = longest }
+
 -- IsLoaded input limits t: the table t stands in the input, and has and keeps these limits
 pub record IsLoaded (input : List ℕ) (limits : Limits) (t : TableValue) : Type 0 where
   pub stands : IsReadAs input t.contents
@@ -50,7 +54,7 @@ Merges first second limits = OfTwo first second limits (Joins limits)
 
 -- the limits of a table that is only listed: as many keys as a saved one can have, and the longest datagrams
 abbrev pub widest : Limits
-widest = record { keys = 4294967295; per_source = 4294967295; longest = 65535 }
+widest = limits_with 4294967295 4294967295 65535
 
 -- OfOne table told answer: this is answered of a saved table: it is read, then what is told of what it holds
 pub data OfOne (table : List ℕ) (told : Contents → List ℕ) : Result (List ℕ) Refusal → Type 0 where

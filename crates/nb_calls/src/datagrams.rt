@@ -15,7 +15,7 @@ const ERROR_TYPE: u8 = 0x13;
 
 /// A packet of the datagram service: its numbers, and where its parts stand in the payload.
 #[repr(C)]
-#[derive(Clone, Copy)]
+#[derive(Clone, Copy, Default)]
 pub struct NbtDatagram {
     /// MSG_TYPE.
     pub packet_type: u8,
@@ -76,14 +76,8 @@ fn header_places(packet_type: u8, flags: u8, key: Key, used: usize) -> NbtDatagr
         identifier: key.id,
         address: u32::from_be_bytes(key.ip),
         port: key.port,
-        offset: 0,
-        source: 0,
-        source_length: 0,
-        destination: 0,
-        destination_length: 0,
-        contents: 0,
-        contents_length: 0,
         used,
+        ..NbtDatagram::default()
     }
 }
 

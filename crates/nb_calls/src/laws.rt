@@ -65,10 +65,8 @@ pub fn numbers()
     ensures tables { (TABLE_BAD_MAGIC ≡ 70) × (TABLE_TRUNCATED ≡ 71)
         × (TABLE_NOT_CANONICAL ≡ 72) × (TABLE_LONG ≡ 73)
         × (TABLE_FULL_SOURCE ≡ 74) × (TABLE_FULL ≡ 75) }
-    ensures joins { (MISPLACED_FIRST ≡ 90) × (LONG ≡ 91)
-        × (FULL_SOURCE ≡ 92) × (FULL ≡ 93) }
-    ensures stations { (NAME_PRESENT ≡ 100) × (TOO_MANY_NAMES ≡ 101)
-        × (NO_STATION ≡ 102) }
+    ensures joins { (MISPLACED_FIRST ≡ 90) × (LONG ≡ 91) × (FULL_SOURCE ≡ 92) × (FULL ≡ 93) }
+    ensures stations { (NAME_PRESENT ≡ 100) × (TOO_MANY_NAMES ≡ 101) × (NO_STATION ≡ 102) }
     ensures parts { (OTHER_TYPE ≡ 110) }
     ensures lines { (BAD_LINE ≡ 120) }
     ensures unknown { (UNKNOWN_STATUS ≡ 255) }

@@ -85,10 +85,7 @@ pub(crate) fn bytes_if_made(
     ensures { (expected : ServicePacket) → IfOk made.entry (λ packet. packet ≡ expected) →
         IfOk result (λ bytes. bytes ≡ packet_bytes expected) }
 {
-    match made {
-        Ok(packet) => encode(alloc, &packet),
-        Err(fault) => Err(fault),
-    }
+    encode(alloc, &made?)
 }
 
 /// A request about a name.
@@ -150,10 +147,8 @@ fn named_response(
     ensures { (rdata : Result ResourceData Refusal) × IsRdata answered.kind contents.now rdata
         × OrMemory (response_answer answered name.now rdata) result }
 {
-    match record_of(answered, name, contents) {
-        Ok(record) => answer_of(response_bytes(alloc, answered, record)),
-        Err(refusal) => Err(refusal),
-    }
+    let record = record_of(answered, name, contents)?;
+    answer_of(response_bytes(alloc, answered, record))
 }
 
 /// The answer about a name.

@@ -141,10 +141,8 @@ fn entry_at(
         name_length: 0,
         name: [0; MAX_SPELLING],
     };
-    match fill_item_of(names, header, number, place, &mut item) {
-        Ok(()) => Ok(entry_of(names, item)),
-        Err(refusal) => Err(refusal),
-    }
+    fill_item_of(names, header, number, place, &mut item)?;
+    Ok(entry_of(names, item))
 }
 
 /// An item of a packet, with the name in its RDATA.

@@ -92,8 +92,7 @@ fn header_numbers(header: &Header, used: usize) -> NbtServiceHeader
 /// its stack.
 #[inline(never)]
 pub fn read_long(payload: &[u8], header: &mut NbtServiceHeader, at: &mut usize) -> u32
-    ensures { Fills (ReadsPacket payload.now)
-        header.old header.new at.old at.new result }
+    ensures { Fills (ReadsPacket payload.now) header.old header.new at.old at.new result }
 {
     let mut ends = [0; POINTED_OFFSETS];
     fill_packet(&NameReader::of(payload, &mut ends), header, at)
@@ -103,8 +102,7 @@ pub fn read_long(payload: &[u8], header: &mut NbtServiceHeader, at: &mut usize) 
 #[inline(always)]
 #[tactic(auto, using(crate::proofs::AnswerLemmas::finishes))]
 pub fn fill_packet(names: &NameReader<'_, '_>, header: &mut NbtServiceHeader, at: &mut usize) -> u32
-    ensures { Fills (ReadsPacket names.now)
-        header.old header.new at.old at.new result }
+    ensures { Fills (ReadsPacket names.now) header.old header.new at.old at.new result }
 {
     finish(judge(names, header), at)
 }
@@ -132,8 +130,7 @@ pub fn fill_item(
     place: usize,
     into: &mut NbtServiceItem,
 ) -> Result<(), Refusal>
-    ensures { FilledIn (ReadsItem payload.now number place)
-        into.old into.new result }
+    ensures { FilledIn (ReadsItem payload.now number place) into.old into.new result }
 {
     match read_header(payload) {
         Ok(header) => fill_item_of(
@@ -159,8 +156,7 @@ pub(crate) fn fill_item_of(
     into: &mut NbtServiceItem,
 ) -> Result<(), Refusal>
     requires { HasHeader names.now (header_value header.now) }
-    ensures { FilledIn (ReadsItem names.now number place)
-        into.old into.new result }
+    ensures { FilledIn (ReadsItem names.now number place) into.old into.new result }
 {
     match see_item(names, header, number, place) {
         Ok(Some((section, seen))) => {

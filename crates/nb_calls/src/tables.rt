@@ -1,10 +1,9 @@
 //! Saved tables: joined, listed and compared.
 ghost use Rattle.std.specs.Prelude.{◌≡◌, IfOk, IfErr};
 ghost use Rattle.std.specs.FinMap as maps;
-ghost use Rattle.nb_table.specs.Limits.{KeepsLimits};
 ghost use Rattle.nb_table.specs.Saved.{LoadFails};
 ghost use Rattle.nb_member.specs.Listing.{listing};
-ghost use Rattle.nb_calls.specs.Tables.{Joins, Merges, OfOne, listed_as, Compares, IsLeastDifference, Narrows, NarrowsBy, difference_of, lower_of, IsLoaded};
+ghost use Rattle.nb_calls.specs.Tables.{Joins, Merges, OfOne, listed_as, Compares, IsLeastDifference, Narrows, NarrowsBy, difference_of, limits_with, lower_of, IsLoaded};
 
 use crate::output::{Refusal, answer_of, load_refusal, table_refusal};
 use crate::stations::LONGEST;
@@ -24,11 +23,7 @@ pub fn merged(
     keys: u32,
     per_source: u32,
 ) -> Result<Bytes, Refusal>
-    ensures { Merges first.now second.now (record {
-      keys = keys;
-      per_source = per_source;
-      longest = 65535;
-    }) result }
+    ensures { Merges first.now second.now (limits_with keys per_source 65535) result }
 {
     match loaded(alloc, first, keys, per_source, LONGEST) {
         Err(fault) => Err(load_refusal(NO_ROLE, fault)),
@@ -79,7 +74,7 @@ pub fn lines_of(alloc: Global, table: &Table) -> Result<Bytes, NoMemory>
 
 /// Whether two tables differ, and the least key at which they do.
 #[repr(C)]
-#[derive(Clone, Copy)]
+#[derive(Clone, Copy, Default)]
 pub struct NbtDifference {
     /// SOURCE_IP.
     pub address: u32,
@@ -109,12 +104,7 @@ fn difference_of(least: Option<Key>) -> NbtDifference
     ensures { result ≡ difference_of least }
 {
     match least {
-        None => NbtDifference {
-            address: 0,
-            port: 0,
-            identifier: 0,
-            differ: 0,
-        },
+        None => NbtDifference::default(),
         Some(key) => NbtDifference {
             address: u32::from_be_bytes(key.ip),
             port: key.port,
@@ -180,30 +170,11 @@ pub(crate) fn loaded(
     per_source: u32,
     longest: u16,
 ) -> Result<Table, LoadFault>
-    ensures found { IfOk result (IsLoaded input.now (record {
-      keys = keys;
-      per_source = per_source;
-      longest = longest;
-    })) }
-    ensures fault { IfErr result (LoadFails input.now (record {
-      keys = keys;
-      per_source = per_source;
-      longest = longest;
-    })) }
+    ensures found { IfOk result (IsLoaded input.now (limits_with keys per_source longest)) }
+    ensures fault { IfErr result (LoadFails input.now (limits_with keys per_source longest)) }
 {
-    match load(alloc, input, keys, per_source, longest) {
-        Err(fault) => Err(fault),
-        Ok(table) => {
-            // For the clause; the call does nothing.
-            keeps_its_limits(&table);
-            Ok(table)
-        }
-    }
-}
-
-/// A table keeps its limits.
-fn keeps_its_limits(table: &Table)
-    ensures { KeepsLimits table.now }
-{
+    let table = load(alloc, input, keys, per_source, longest)?;
+    // For the clause; the call does nothing.
     let _count = table.len();
+    Ok(table)
 }

@@ -97,8 +97,7 @@ pub fn services_have_one_answer()
 pub fn rdata_has_one_answer()
     ensures address { (kind : ℕ) (bytes : List ℕ) (number : ℕ) →
         HasOne (ReadsAddress kind bytes number) }
-    ensures node { (kind : ℕ) (bytes : List ℕ) (number : ℕ) →
-        HasOne (ReadsNode kind bytes number) }
+    ensures node { (kind : ℕ) (bytes : List ℕ) (number : ℕ) → HasOne (ReadsNode kind bytes number) }
     ensures unit { (kind : ℕ) (bytes : List ℕ) → HasOne (ReadsUnit kind bytes) }
     ensures domain { (payload : List ℕ) (at size : ℕ) → HasOne (ReadsDomain payload at size) }
 {}

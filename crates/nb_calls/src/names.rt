@@ -8,7 +8,6 @@ ghost use Rattle.nb_names.specs.Labels.{NameAt};
 ghost use Rattle.nb_names.specs.Skipped.{IsSkipped};
 ghost use Rattle.nb_calls.specs.Names.{Tells, spelling_answer, IsRead, in_place, spelled_in_place};
 ghost use Rattle.nb_calls.specs.Outputs.{OrMemory};
-ghost use Rattle.nb_calls.specs.Statuses.{place_of};
 
 use crate::output::{Refusal, answer_of, name_refusal, text_refusal};
 use crate::statuses::{NAME_TRAILING_BYTES, NO_ROLE};
@@ -74,19 +73,10 @@ fn bad_place(text: &[u8], valid: usize) -> usize
     match str::from_utf8(&text[..valid]) {
         Ok(front) => match name_from_text(front) {
             Ok(_) => valid,
-            Err(fault) => place_of(fault, valid),
+            Err(TextFault::BadText(place)) => place,
+            Err(TextFault::TooLong) => valid,
         },
         Err(_) => 0,
-    }
-}
-
-/// The place of a fault, if it has one, else the other.
-fn place_of(fault: TextFault, other: usize) -> usize
-    ensures { result ≡ place_of fault other }
-{
-    match fault {
-        TextFault::BadText(place) => place,
-        TextFault::TooLong => other,
     }
 }
 

@@ -1,12 +1,11 @@
 //! Packets of the datagram service, written: datagrams cut into pieces, and packets without data.
-ghost use Rattle.std.specs.Prelude.{◌≡◌, Ok};
+ghost use Rattle.std.specs.Prelude.{Ok};
 ghost use Rattle.nb_calls.specs.Cutting.{Cuts, key_from, Queries, error_packet};
-ghost use Rattle.nb_calls.specs.Outputs.{Does, none_late, lent};
+ghost use Rattle.nb_calls.specs.Outputs.{OrMemory, Writes, lent};
 
 use nb_calls::cutting::{Sent, error_packet, key_from, packets, query_of};
 use nb_calls::names::name_of_text;
 use nb_calls::output::{write_answer, write_bytes};
-use nb_names::laws::{one_name, one_text_fault};
 use std::alloc::Global;
 
 /// Writes the packets of a datagram, each after its length in two bytes.
@@ -27,7 +26,7 @@ pub extern "C" fn nbt_datagram_write(
     used: &mut usize,
     at: &mut usize,
 ) -> u32
-    ensures { Does none_late (Cuts (record {
+    ensures { Writes (Cuts (record {
       packet_type = packet_type;
       identifier = identifier;
       address = address;
@@ -43,13 +42,14 @@ pub extern "C" fn nbt_datagram_write(
         port,
         most,
     };
-    // For the clause: a text has one name or one fault. The calls do nothing.
-    one_name();
-    one_text_fault();
     let source = name_of_text(source);
     let destination = name_of_text(destination);
-    let packets = packets(alloc, sent, source, destination, contents);
-    write_answer(packets, into, used, at)
+    write_answer(
+        packets(alloc, sent, source, destination, contents),
+        into,
+        used,
+        at,
+    )
 }
 
 /// Writes an error packet with this key and this code.
@@ -65,8 +65,7 @@ pub extern "C" fn nbt_datagram_error(
     into: &mut [u8],
     used: &mut usize,
 ) -> u32
-    ensures { Does none_late
-        (λ answer. answer ≡ Ok (error_packet (key_from identifier address port) code))
+    ensures { Writes (OrMemory (Ok (error_packet (key_from identifier address port) code)))
         (lent into.old used.old 0) (lent into.new used.new 0) result }
 {
     let key = key_from(identifier, address, port);
@@ -88,13 +87,14 @@ pub extern "C" fn nbt_datagram_query(
     used: &mut usize,
     at: &mut usize,
 ) -> u32
-    ensures { Does none_late (Queries packet_type (key_from identifier address port) name.now)
+    ensures { Writes (Queries packet_type (key_from identifier address port) name.now)
         (lent into.old used.old at.old) (lent into.new used.new at.new) result }
 {
     let key = key_from(identifier, address, port);
-    // For the clause: a text has one name or one fault. The calls do nothing.
-    one_name();
-    one_text_fault();
-    let query = query_of(alloc, packet_type, key, name_of_text(name));
-    write_answer(query, into, used, at)
+    write_answer(
+        query_of(alloc, packet_type, key, name_of_text(name)),
+        into,
+        used,
+        at,
+    )
 }

@@ -1,8 +1,8 @@
 //! Packets of the datagram service, read, and what stands at the front of others.
+#![tactic(auto, using(nb_calls::proofs::AnswerLemmas::answered))]
+
 ghost use Rattle.nb_calls.specs.Datagrams.{Reads, ReadsFront};
-ghost use Rattle.nb_calls.specs.declared.datagrams.NbtDatagram.{NbtDatagram};
 ghost use Rattle.nb_calls.specs.Outputs.{Fills};
-ghost use Rattle.nb_calls.specs.declared.datagrams.NbtDatagramFront.{NbtDatagramFront};
 
 use nb_calls::datagrams::{NbtDatagram, NbtDatagramFront, front_of, read};
 use nb_calls::output::fill;
@@ -11,9 +11,8 @@ use nb_calls::output::fill;
 ///
 /// RFC 1002 section 4.4.
 #[unsafe(no_mangle)]
-#[tactic(auto, using(nb_calls::proofs::AnswerLemmas::fills))]
 pub extern "C" fn nbt_datagram_read(payload: &[u8], packet: &mut NbtDatagram, at: &mut usize) -> u32
-    ensures { Fills NbtDatagram (Reads payload.now) packet.old packet.new at.old at.new result }
+    ensures { Fills (Reads payload.now) packet.old packet.new at.old at.new result }
 {
     fill(read(payload), packet, at)
 }
@@ -23,14 +22,12 @@ pub extern "C" fn nbt_datagram_read(payload: &[u8], packet: &mut NbtDatagram, at
 ///
 /// RFC 1002 sections 4.4.1 and 4.4.2.
 #[unsafe(no_mangle)]
-#[tactic(auto, using(nb_calls::proofs::AnswerLemmas::fills))]
 pub extern "C" fn nbt_datagram_front(
     payload: &[u8],
     front: &mut NbtDatagramFront,
     at: &mut usize,
 ) -> u32
-    ensures { Fills NbtDatagramFront (ReadsFront payload.now)
-        front.old front.new at.old at.new result }
+    ensures { Fills (ReadsFront payload.now) front.old front.new at.old at.new result }
 {
     fill(front_of(payload), front, at)
 }

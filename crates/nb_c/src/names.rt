@@ -1,10 +1,11 @@
 //! Names: as texts, as spellings, and spelled out in place.
+#![tactic(auto, using(nb_calls::proofs::AnswerLemmas::answered))]
+
 ghost use Rattle.nb_calls.specs.Names.{Spells, Tells};
-ghost use Rattle.nb_calls.specs.Outputs.{Does, none_late, lent};
+ghost use Rattle.nb_calls.specs.Outputs.{Writes, lent};
 
 use nb_calls::names::{name_of_text, spelling_of, text_of};
 use nb_calls::output::write_answer;
-use nb_names::laws::{one_name, one_text_fault};
 use std::alloc::Global;
 
 /// Writes the spelling of the name with this text.
@@ -18,12 +19,9 @@ pub extern "C" fn nbt_name_spell(
     used: &mut usize,
     at: &mut usize,
 ) -> u32
-    ensures { Does none_late (Spells text.now) (lent into.old used.old at.old)
+    ensures { Writes (Spells text.now) (lent into.old used.old at.old)
         (lent into.new used.new at.new) result }
 {
-    // For the clause: a text has one name or one fault. The calls do nothing.
-    one_name();
-    one_text_fault();
     write_answer(spelling_of(alloc, name_of_text(text)), into, used, at)
 }
 
@@ -38,7 +36,7 @@ pub extern "C" fn nbt_name_text(
     used: &mut usize,
     at: &mut usize,
 ) -> u32
-    ensures { Does none_late (Tells spelling.now) (lent into.old used.old at.old)
+    ensures { Writes (Tells spelling.now) (lent into.old used.old at.old)
         (lent into.new used.new at.new) result }
 {
     write_answer(text_of(alloc, spelling), into, used, at)

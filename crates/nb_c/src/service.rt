@@ -1,11 +1,12 @@
 //! Requests and responses of the name service, written.
-ghost use Rattle.nb_calls.specs.Outputs.{Does, none_late, lent};
+#![tactic(auto, using(nb_calls::proofs::AnswerLemmas::answered))]
+
+ghost use Rattle.nb_calls.specs.Outputs.{Writes, lent};
 ghost use Rattle.nb_calls.specs.Responses.{Requests, Responds};
 
 use nb_calls::names::name_of_text;
 use nb_calls::output::write_answer;
 use nb_calls::service::{Answered, Asked, answer, request_of};
-use nb_names::laws::{one_name, one_text_fault};
 use std::alloc::Global;
 
 /// Writes a request about the name with this text.
@@ -25,7 +26,7 @@ pub extern "C" fn nbt_service_request(
     used: &mut usize,
     at: &mut usize,
 ) -> u32
-    ensures { Does none_late (Requests (record {
+    ensures { Writes (Requests (record {
       request = request;
       identifier = identifier;
       broadcast = broadcast;
@@ -42,9 +43,6 @@ pub extern "C" fn nbt_service_request(
         nb_flags,
         address,
     };
-    // For the clause: a text has one name or one fault. The calls do nothing.
-    one_name();
-    one_text_fault();
     write_answer(request_of(alloc, asked, name_of_text(name)), into, used, at)
 }
 
@@ -64,7 +62,7 @@ pub extern "C" fn nbt_service_response(
     used: &mut usize,
     at: &mut usize,
 ) -> u32
-    ensures { Does none_late (Responds (record {
+    ensures { Writes (Responds (record {
       identifier = identifier;
       word = word;
       kind = kind;

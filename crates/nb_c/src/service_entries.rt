@@ -1,5 +1,4 @@
 //! Questions and records of the name service, many by one call, with the names in their RDATA.
-ghost use Rattle.nb_calls.specs.declared.service_entries.NbtServiceEntry.{NbtServiceEntry};
 ghost use Rattle.nb_calls.specs.ServiceParts.{FillsFront, ReadsEntries, room_of};
 
 use nb_calls::output::refuse;
@@ -19,7 +18,7 @@ pub extern "C" fn nbt_service_items(
     used: &mut usize,
     at: &mut usize,
 ) -> u32
-    ensures { FillsFront NbtServiceEntry
+    ensures { FillsFront
         (ReadsEntries payload.now number place (room_of entries.old))
         entries.old entries.new used.old used.new at.old at.new result }
 {

@@ -1,8 +1,7 @@
 //! Parts of RDATA of the name service: those that have numbers, and a domain name.
-ghost use Rattle.nb_calls.specs.declared.service_parts.NbtServiceAddress.{NbtServiceAddress};
-ghost use Rattle.nb_calls.specs.declared.service_parts.NbtServiceNode.{NbtServiceNode};
-ghost use Rattle.nb_calls.specs.declared.service_parts.NbtServiceUnit.{NbtServiceUnit};
-ghost use Rattle.nb_calls.specs.Outputs.{DoesAtOnce, Fills, lent};
+#![tactic(auto, using(nb_calls::proofs::AnswerLemmas::answered))]
+
+ghost use Rattle.nb_calls.specs.Outputs.{Fills, Writes, lent};
 ghost use Rattle.nb_calls.specs.ServiceParts.{ReadsAddress, ReadsDomain, ReadsNode, ReadsUnit};
 
 use nb_calls::output::fill;
@@ -15,7 +14,6 @@ use nb_calls::service_parts::{
 ///
 /// RFC 1002 section 4.2.13.
 #[unsafe(no_mangle)]
-#[tactic(auto, using(nb_calls::proofs::AnswerLemmas::fills))]
 pub extern "C" fn nbt_service_address(
     kind: u16,
     contents: &[u8],
@@ -23,7 +21,7 @@ pub extern "C" fn nbt_service_address(
     address: &mut NbtServiceAddress,
     at: &mut usize,
 ) -> u32
-    ensures { Fills NbtServiceAddress (ReadsAddress kind contents.now number)
+    ensures { Fills (ReadsAddress kind contents.now number)
         address.old address.new at.old at.new result }
 {
     fill(address_at(kind, contents, number), address, at)
@@ -33,7 +31,6 @@ pub extern "C" fn nbt_service_address(
 ///
 /// RFC 1002 section 4.2.18.
 #[unsafe(no_mangle)]
-#[tactic(auto, using(nb_calls::proofs::AnswerLemmas::fills))]
 pub extern "C" fn nbt_service_node(
     kind: u16,
     contents: &[u8],
@@ -41,8 +38,7 @@ pub extern "C" fn nbt_service_node(
     node: &mut NbtServiceNode,
     at: &mut usize,
 ) -> u32
-    ensures { Fills NbtServiceNode (ReadsNode kind contents.now number)
-        node.old node.new at.old at.new result }
+    ensures { Fills (ReadsNode kind contents.now number) node.old node.new at.old at.new result }
 {
     fill(node_at(kind, contents, number), node, at)
 }
@@ -51,15 +47,13 @@ pub extern "C" fn nbt_service_node(
 ///
 /// RFC 1002 section 4.2.18.
 #[unsafe(no_mangle)]
-#[tactic(auto, using(nb_calls::proofs::AnswerLemmas::fills))]
 pub extern "C" fn nbt_service_unit(
     kind: u16,
     contents: &[u8],
     unit: &mut NbtServiceUnit,
     at: &mut usize,
 ) -> u32
-    ensures { Fills NbtServiceUnit (ReadsUnit kind contents.now)
-        unit.old unit.new at.old at.new result }
+    ensures { Fills (ReadsUnit kind contents.now) unit.old unit.new at.old at.new result }
 {
     fill(unit_at(kind, contents), unit, at)
 }
@@ -77,7 +71,7 @@ pub extern "C" fn nbt_service_domain(
     used: &mut usize,
     at: &mut usize,
 ) -> u32
-    ensures { DoesAtOnce (ReadsDomain payload.now place length) (lent into.old used.old at.old)
+    ensures { Writes (ReadsDomain payload.now place length) (lent into.old used.old at.old)
         (lent into.new used.new at.new) result }
 {
     write_spelling(domain_at(payload, place, length), into, used, at)

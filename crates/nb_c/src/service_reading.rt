@@ -1,6 +1,6 @@
 //! Payloads of the name service, read.
-ghost use Rattle.nb_calls.specs.declared.service_reading.NbtServiceHeader.{NbtServiceHeader};
-ghost use Rattle.nb_calls.specs.declared.service_reading.NbtServiceItem.{NbtServiceItem};
+#![tactic(auto, using(nb_calls::proofs::AnswerLemmas::answered))]
+
 ghost use Rattle.nb_calls.specs.Outputs.{Fills};
 ghost use Rattle.nb_calls.specs.Services.{ReadsHeader, ReadsItem, ReadsPacket};
 
@@ -15,14 +15,12 @@ use nb_service::limits::SHORT_PACKET;
 ///
 /// RFC 1002 section 4.2.1.1.
 #[unsafe(no_mangle)]
-#[tactic(auto, using(nb_calls::proofs::AnswerLemmas::fills))]
 pub extern "C" fn nbt_service_header(
     payload: &[u8],
     header: &mut NbtServiceHeader,
     at: &mut usize,
 ) -> u32
-    ensures { Fills NbtServiceHeader (ReadsHeader payload.now)
-        header.old header.new at.old at.new result }
+    ensures { Fills (ReadsHeader payload.now) header.old header.new at.old at.new result }
 {
     fill(front(payload), header, at)
 }
@@ -37,8 +35,7 @@ pub extern "C" fn nbt_service_read(
     header: &mut NbtServiceHeader,
     at: &mut usize,
 ) -> u32
-    ensures { Fills NbtServiceHeader (ReadsPacket payload.now)
-        header.old header.new at.old at.new result }
+    ensures { Fills (ReadsPacket payload.now) header.old header.new at.old at.new result }
 {
     if payload.len() <= SHORT_PACKET {
         return fill_packet(&NameReader::of(payload, &mut []), header, at);
@@ -58,8 +55,7 @@ pub extern "C" fn nbt_service_item(
     item: &mut NbtServiceItem,
     at: &mut usize,
 ) -> u32
-    ensures { Fills NbtServiceItem (ReadsItem payload.now number place)
-        item.old item.new at.old at.new result }
+    ensures { Fills (ReadsItem payload.now number place) item.old item.new at.old at.new result }
 {
     finish(fill_item(payload, number as usize, place, item), at)
 }

@@ -1,17 +1,14 @@
 //! Packets of the session service: read, taken apart and written.
-ghost use Rattle.nb_calls.specs.declared.sessions.NbtSession.{NbtSession};
-ghost use Rattle.nb_calls.specs.Outputs.{Fills, Does, lent};
-ghost use Rattle.nb_calls.specs.Sessions.{Reads, ReadsFront, ReadsNames, ReadsRetarget, Writes, follow_the_type};
-ghost use Rattle.nb_calls.specs.declared.sessions.NbtSessionFront.{NbtSessionFront};
-ghost use Rattle.nb_calls.specs.declared.sessions.NbtSessionNames.{NbtSessionNames};
-ghost use Rattle.nb_calls.specs.declared.sessions.NbtSessionRetarget.{NbtSessionRetarget};
+#![tactic(auto, using(nb_calls::proofs::AnswerLemmas::answered))]
+
+ghost use Rattle.nb_calls.specs.Outputs.{Fills, Writes, lent};
+ghost use Rattle.nb_calls.specs.Sessions.{Reads, ReadsFront, ReadsNames, ReadsRetarget, WritesPacket};
 
 use nb_calls::output::{fill, write_answer};
 use nb_calls::sessions::{
     NbtSession, NbtSessionFront, NbtSessionNames, NbtSessionRetarget, front_of, names_in,
     packet_of, read, retarget_in,
 };
-use nb_session::laws::one_answer;
 use std::alloc::Global;
 
 /// Reads the packet at the front of what came over a connection. No memory is taken.
@@ -19,7 +16,7 @@ use std::alloc::Global;
 /// RFC 1002 section 4.3.
 #[unsafe(no_mangle)]
 pub extern "C" fn nbt_session_read(bytes: &[u8], packet: &mut NbtSession, at: &mut usize) -> u32
-    ensures { Fills NbtSession (Reads bytes.now) packet.old packet.new at.old at.new result }
+    ensures { Fills (Reads bytes.now) packet.old packet.new at.old at.new result }
 {
     fill(read(bytes), packet, at)
 }
@@ -29,14 +26,12 @@ pub extern "C" fn nbt_session_read(bytes: &[u8], packet: &mut NbtSession, at: &m
 ///
 /// RFC 1002 section 4.3.1.
 #[unsafe(no_mangle)]
-#[tactic(auto, using(nb_calls::proofs::AnswerLemmas::fills))]
 pub extern "C" fn nbt_session_front(
     bytes: &[u8],
     front: &mut NbtSessionFront,
     at: &mut usize,
 ) -> u32
-    ensures { Fills NbtSessionFront (ReadsFront bytes.now)
-        front.old front.new at.old at.new result }
+    ensures { Fills (ReadsFront bytes.now) front.old front.new at.old at.new result }
 {
     fill(front_of(bytes), front, at)
 }
@@ -51,8 +46,7 @@ pub extern "C" fn nbt_session_names(
     names: &mut NbtSessionNames,
     at: &mut usize,
 ) -> u32
-    ensures { Fills NbtSessionNames (ReadsNames bytes.now)
-        names.old names.new at.old at.new result }
+    ensures { Fills (ReadsNames bytes.now) names.old names.new at.old at.new result }
 {
     fill(names_in(bytes), names, at)
 }
@@ -66,8 +60,7 @@ pub extern "C" fn nbt_session_retarget(
     retarget: &mut NbtSessionRetarget,
     at: &mut usize,
 ) -> u32
-    ensures { Fills NbtSessionRetarget (ReadsRetarget bytes.now)
-        retarget.old retarget.new at.old at.new result }
+    ensures { Fills (ReadsRetarget bytes.now) retarget.old retarget.new at.old at.new result }
 {
     fill(retarget_in(bytes), retarget, at)
 }
@@ -84,10 +77,8 @@ pub extern "C" fn nbt_session_write(
     used: &mut usize,
     at: &mut usize,
 ) -> u32
-    ensures { Does follow_the_type (Writes packet_type body.now) (lent into.old used.old at.old)
+    ensures { Writes (WritesPacket packet_type body.now) (lent into.old used.old at.old)
         (lent into.new used.new at.new) result }
 {
-    // For the clause: bytes are read as one thing. The call does nothing.
-    one_answer();
     write_answer(packet_of(alloc, packet_type, body), into, used, at)
 }

@@ -1,14 +1,14 @@
 //! The texts of packets, their phrases and JSON objects, and the lines of captures.
-ghost use Rattle.nb_calls.specs.Outputs.{Does, none_late, lent};
+#![tactic(auto, using(nb_calls::proofs::ObjectLemmas::makes))]
+
+ghost use Rattle.nb_calls.specs.Outputs.{Writes, lent};
 ghost use Rattle.nb_calls.specs.Showing.{Objects, Phrases, Shows};
 ghost use Rattle.nb_calls.specs.Captures.{TellsLine, line_lent};
 
 use nb_calls::output::write_bytes;
 use nb_calls::showing::{NbtLine, phrase, shown, tell_line, write_object};
 use nb_capture::capture_line;
-use nb_capture::laws::a_line_has_one_value;
 use nb_telling::JsonRoom;
-use nb_text::laws::one_telling;
 use nb_text::packet_object;
 use std::alloc::Global;
 
@@ -23,11 +23,9 @@ pub extern "C" fn nbt_show(
     into: &mut [u8],
     used: &mut usize,
 ) -> u32
-    ensures { Does none_late (Shows payload.now port) (lent into.old used.old 0)
+    ensures { Writes (Shows payload.now port) (lent into.old used.old 0)
         (lent into.new used.new 0) result }
 {
-    // For the clause: a payload has one text. The call does nothing.
-    one_telling();
     write_bytes(shown(alloc, port, payload), into, used)
 }
 
@@ -42,11 +40,9 @@ pub extern "C" fn nbt_brief(
     into: &mut [u8],
     used: &mut usize,
 ) -> u32
-    ensures { Does none_late (Phrases payload.now port) (lent into.old used.old 0)
+    ensures { Writes (Phrases payload.now port) (lent into.old used.old 0)
         (lent into.new used.new 0) result }
 {
-    // For the clause: a payload has one phrase. The call does nothing.
-    one_telling();
     write_bytes(phrase(alloc, port, payload), into, used)
 }
 
@@ -62,11 +58,9 @@ pub extern "C" fn nbt_json(
     into: &mut [u8],
     used: &mut usize,
 ) -> u32
-    ensures { Does none_late (Objects payload.now port) (lent into.old used.old 0)
+    ensures { Writes (Objects payload.now port) (lent into.old used.old 0)
         (lent into.new used.new 0) result }
 {
-    // For the clause: a payload has one list of fields. The call does nothing.
-    one_telling();
     let object = packet_object(port, payload, JsonRoom::new(alloc));
     write_object(object, into, used)
 }
@@ -85,7 +79,5 @@ pub extern "C" fn nbt_capture_line(
     ensures { TellsLine line.now (line_lent said.old into.old used.old)
         (line_lent said.new into.new used.new) result }
 {
-    // For the clause: a line says one thing. The call does nothing.
-    a_line_has_one_value();
     tell_line(&capture_line(alloc, line), said, into, used)
 }

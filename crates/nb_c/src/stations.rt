@@ -1,10 +1,12 @@
 //! Stations: made of names, shown the clock, saved, listed and given back.
+#![tactic(auto, using(nb_calls::proofs::AnswerLemmas::answered))]
+
 ghost use Rattle.std.specs.Prelude.{◌≡◌, ◌≢◌, Err};
 ghost use Rattle.nb_table.specs.Saved.{saved as saved_bytes};
 ghost use Rattle.nb_member.specs.Listing.{listing};
 ghost use Rattle.nb_member.specs.Member.{contents};
 ghost use Rattle.nb_calls.specs.Outputs.{Answers, lent};
-ghost use Rattle.nb_calls.specs.Stations.{Creates, OnStation, Ticks, Writes};
+ghost use Rattle.nb_calls.specs.Stations.{Creates, OnStation, Ticks, WritesOf};
 ghost use Rattle.nb_calls.specs.declared.output.Refusal.TheVariants.{Fault};
 ghost use Rattle.nb_calls.specs.declared.statuses.TheConstants.{DONE, NO_STATION};
 ghost use denote.RawPtr.{null_ptr};
@@ -80,7 +82,7 @@ pub extern "C" fn nbt_station_save(
     used: &mut usize,
 ) -> u32
     ensures { OnStation station.old station.new
-        (λ m after. Writes (saved_bytes (contents m)) m after (lent into.old used.old 0)
+        (λ m after. WritesOf (saved_bytes (contents m)) m after (lent into.old used.old 0)
         (lent into.new used.new 0) result)
         (Answers (Err (Fault NO_STATION)) (lent into.old used.old 0)
         (lent into.new used.new 0) result) }
@@ -106,7 +108,7 @@ pub extern "C" fn nbt_station_list(
     used: &mut usize,
 ) -> u32
     ensures { OnStation station.old station.new
-        (λ m after. Writes (listing (contents m)) m after (lent into.old used.old 0)
+        (λ m after. WritesOf (listing (contents m)) m after (lent into.old used.old 0)
         (lent into.new used.new 0) result)
         (Answers (Err (Fault NO_STATION)) (lent into.old used.old 0)
         (lent into.new used.new 0) result) }

@@ -1,9 +1,9 @@
 //! Saved tables: joined, listed and compared.
-ghost use Rattle.nb_calls.specs.Tables.{Lists, ListsObjects, Merges, follow_the_first, Compares};
-ghost use Rattle.nb_calls.specs.Outputs.{Does, none_late, lent, FillsOrLacks};
-ghost use Rattle.nb_calls.specs.declared.tables.NbtDifference.{NbtDifference};
+#![tactic(auto, using(nb_calls::proofs::AnswerLemmas::answered))]
 
-use nb_calls::laws::{a_comparison_has_one_answer, a_merge_has_one_answer, a_table_has_one_list};
+ghost use Rattle.nb_calls.specs.Tables.{Lists, ListsObjects, Merges, Compares, limits_with};
+ghost use Rattle.nb_calls.specs.Outputs.{Fills, Writes, lent};
+
 use nb_calls::output::{fill, write_answer};
 use nb_calls::tables::{NbtDifference, compared, listed, merged};
 use std::alloc::Global;
@@ -23,16 +23,15 @@ pub extern "C" fn nbt_table_merge(
     used: &mut usize,
     at: &mut usize,
 ) -> u32
-    ensures { Does follow_the_first (Merges first.now second.now (record {
-      keys = keys;
-      per_source = per_source;
-      longest = 65535;
-    })) (lent into.old used.old at.old) (lent into.new used.new at.new) result }
+    ensures { Writes (Merges first.now second.now (limits_with keys per_source 65535))
+        (lent into.old used.old at.old) (lent into.new used.new at.new) result }
 {
-    // For the clause; the call does nothing.
-    a_merge_has_one_answer();
-    let answer = merged(alloc, first, second, keys, per_source);
-    write_answer(answer, into, used, at)
+    write_answer(
+        merged(alloc, first, second, keys, per_source),
+        into,
+        used,
+        at,
+    )
 }
 
 /// Writes the lines of a saved table's keys, as `nbt list` prints them.
@@ -46,11 +45,9 @@ pub extern "C" fn nbt_table_list(
     used: &mut usize,
     at: &mut usize,
 ) -> u32
-    ensures { Does none_late (Lists table.now) (lent into.old used.old at.old)
+    ensures { Writes (Lists table.now) (lent into.old used.old at.old)
         (lent into.new used.new at.new) result }
 {
-    // For the clause; the call does nothing.
-    a_table_has_one_list();
     write_answer(listed(alloc, table, false), into, used, at)
 }
 
@@ -65,11 +62,9 @@ pub extern "C" fn nbt_table_json(
     used: &mut usize,
     at: &mut usize,
 ) -> u32
-    ensures { Does none_late (ListsObjects table.now) (lent into.old used.old at.old)
+    ensures { Writes (ListsObjects table.now) (lent into.old used.old at.old)
         (lent into.new used.new at.new) result }
 {
-    // For the clause; the call does nothing.
-    a_table_has_one_list();
     write_answer(listed(alloc, table, true), into, used, at)
 }
 
@@ -84,10 +79,8 @@ pub extern "C" fn nbt_table_differ(
     difference: &mut NbtDifference,
     at: &mut usize,
 ) -> u32
-    ensures { FillsOrLacks NbtDifference follow_the_first (Compares first.now second.now)
+    ensures { Fills (Compares first.now second.now)
         difference.old difference.new at.old at.new result }
 {
-    // For the clause; the call does nothing.
-    a_comparison_has_one_answer();
     fill(compared(alloc, first, second), difference, at)
 }

@@ -30,4 +30,4 @@ pub use Rattle.nb_service.specs.Header.{HasHeader, PacketHeader, header_value}
 pub use Rattle.nb_calls.specs.declared.output.Refusal.{Refusal}
 pub use Rattle.nb_calls.specs.declared.output.Refusal.TheVariants.{Fault, FaultAt, Memory}
 pub use Rattle.nb_calls.specs.declared.statuses.TheConstants.{DONE, MORE, NAME_TRAILING_BYTES, NO_ROLE, SECOND, TRUNCATED}
-pub use Rattle.nb_calls.specs.Outputs.{Alone, Answers, Does, DoesAtOnce, Ends, Filled, FilledAlone, Fills, FillsOrLacks, HasOne, Lent, MayLack, OrMemory, all_late, at_refused, none_late, of_memory, refused_status}
+pub use Rattle.nb_calls.specs.Outputs.{Answers, Ends, Filled, FilledIn, Fills, HasOne, HasOneElse, Lent, OrMemory, Writes, at_refused, of_memory, refused_status}

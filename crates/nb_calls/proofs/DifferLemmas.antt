@@ -1,5 +1,5 @@
 -- The least of all keys at which two tables differ is found among the keys of both.
-use Rattle.nb_calls.proofs.Common.{◌≡◌, ◌≢◌, ◌∙◌, ◌||◌, Bool, true, false, List, [], ◌∷◌, Option, Some, None, is_some, Result, Ok, Err, inl, inr, ◌⊎◌, refl, sym, ap, subst, true≢false, ⊤, list_any, Key, Contents, Refusal, HasOne, MayLack}
+use Rattle.nb_calls.proofs.Common.{◌≡◌, ◌≢◌, ◌∙◌, ◌||◌, Bool, true, false, List, [], ◌∷◌, Option, Some, None, is_some, Ok, inl, inr, ◌⊎◌, refl, sym, ap, subst, true≢false, ⊤, list_any, Key, Contents, HasOneElse}
 use Rattle.std.specs.Cmp.{tied_itself}
 use Rattle.std.specs.FinMap as maps
 use Rattle.std.specs.Ordering.{eq_by_cmp, ordering_reverse}
@@ -9,8 +9,7 @@ use Rattle.nb_datagram.specs.Key.{key_cmp, key_cmp_total, key_cmp_exact}
 use Rattle.nb_entries.specs.Entry.{EntryValue}
 use Rattle.nb_entries.specs.Shared.MapsLemmas.{one_key}
 use Rattle.nb_table.specs.Shared.TableLemmas.{same_table}
-use Rattle.nb_calls.specs.declared.tables.NbtDifference.{NbtDifference}
-use Rattle.nb_calls.specs.Tables.{AreSameAt, IsLeastDifference, Differs, difference_of, lower_by, lower_of, Narrows, same, differs, NarrowsBy, at_none, at_one, follow_the_first}
+use Rattle.nb_calls.specs.Tables.{AreSameAt, IsLeastDifference, Differs, difference_of, lower_by, lower_of, Narrows, same, differs, NarrowsBy, at_none, at_one}
 
 -- the key isn't below the least so far, of which there is one
 abbrev IsAbove : Option Key → Key → Type 0
@@ -154,13 +153,6 @@ module _ (t u : Contents) where
   one_least (Some k) None l m = absurd (l.0 (ap (λ (x : Contents). maps.get x k) m))
   one_least (Some k) (Some j) l m = ap Some (one_key_least k j (key_cmp k j) refl l m)
 
-  pub one_difference : HasOne (Differs t u)
-  one_difference a b (l, is, e) (m, also, d) =
+  pub one_difference : HasOneElse (Differs t u)
+  one_difference a b (l, is, e) (m, also, d) h k =
       e ∙ ap (λ (x : Option Key). Ok (difference_of x)) (one_least l m is also) ∙ sym d
-
-  pub late_difference : (answer : Result NbtDifference Refusal) → Differs t u answer → MayLack follow_the_first answer
-  late_difference (Ok value) said = tt
-  late_difference (Err refusal) (least, is, e) = absurd (cc e)
-
-  pub differ_said : (least : Option Key) → IsLeastDifference t u least → Differs t u (Ok (difference_of least))
-  differ_said least is = (least, is, refl)

@@ -1,5 +1,5 @@
 -- A domain name in RDATA is answered by its one spelling, or by its one fault.
-use Rattle.nb_calls.proofs.Common.{◌≡◌, ◌≢◌, ◌∙◌, ◌==◌, ℕ, ◌+◌, ◌-◌, ◌≤◌, true, false, List, Option, Some, None, Result, Ok, Err, refl, ap, arith, eq-eqb, eqb-true, not-false, not, SomeIff, Followed, spelling, NameAt, domain_no_fault, one_domain_fault, domain_there, of_domain, DomainFails, Refusal, Alone}
+use Rattle.nb_calls.proofs.Common.{◌≡◌, ◌≢◌, ◌∙◌, ◌==◌, ℕ, ◌+◌, ◌-◌, ◌≤◌, true, false, List, Option, Some, None, Ok, Err, refl, ap, arith, sym, eq-eqb, eqb-true, not-false, not, SomeIff, Followed, spelling, NameAt, domain_no_fault, one_domain_fault, domain_there, of_domain, DomainFails, Refusal, HasOne}
 use Rattle.std.specs.Option.{option_eq}
 use Rattle.nb_names.proofs.LabelsLemmas.{one_reading}
 use Rattle.nb_service.specs.declared.fault.ServiceFault.{ServiceFault}
@@ -26,17 +26,10 @@ module _ (payload : List ℕ) (at size : ℕ) where
   not_both labels fault there fails =
       domain_no_fault payload at size NS (of_domain labels) fault (domain_there labels refl there) refl fails
 
-  pub domain_read : (labels : List (List ℕ)) → NameAt payload Followed at labels (at + size)
-      → Alone (List ℕ) (ReadsDomain payload at size) (Ok (spelling labels))
-  domain_read labels there = record { said = (labels, there, refl); only = others } where
-    others : (other : Result (List ℕ) Refusal) → ReadsDomain payload at size other → other ≡ Ok (spelling labels)
-    others (Ok bytes) (found, stands, exact) =
-        ap (λ (b : List ℕ). Ok b) (exact ∙ ap spelling (one_reading payload Followed at at found labels (at + size) (at + size) stands there).0)
-    others (Err refusal) (fault, fails, exact) = absurd (not_both labels fault there fails)
-
-  pub domain_refused : (fault : ServiceFault) → DomainFails payload at size fault
-      → Alone (List ℕ) (ReadsDomain payload at size) (Err (service_refusal fault))
-  domain_refused fault fails = record { said = (fault, fails, refl); only = others } where
-    others : (other : Result (List ℕ) Refusal) → ReadsDomain payload at size other → other ≡ Err (service_refusal fault)
-    others (Ok bytes) (labels, there, exact) = absurd (not_both labels fault there fails)
-    others (Err refusal) (found, also, exact) = ap (λ (r : Refusal). Err r) (exact ∙ ap service_refusal (one_domain_fault payload at size found fault also fails))
+  pub one_domain : HasOne (ReadsDomain payload at size)
+  one_domain (Ok a) (Ok b) (labels, there, e) (others, also, d) =
+      ap (λ (bytes : List ℕ). Ok bytes) (e ∙ ap spelling (one_reading payload Followed at at labels others (at + size) (at + size) there also).0 ∙ sym d)
+  one_domain (Ok a) (Err r) (labels, there, e) (fault, fails, d) = absurd (not_both labels fault there fails)
+  one_domain (Err r) (Ok a) (fault, fails, d) (labels, there, e) = absurd (not_both labels fault there fails)
+  one_domain (Err r) (Err q) (f, fails, e) (g, fail, d) =
+      ap (λ (x : Refusal). Err x) (e ∙ ap service_refusal (one_domain_fault payload at size f g fails fail) ∙ sym d)

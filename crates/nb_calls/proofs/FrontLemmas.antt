@@ -1,31 +1,10 @@
--- What stands at the front of a payload of port 138 has one answer, and its names stand at the places that are answered.
-use Rattle.nb_calls.proofs.Common.{◌≡◌, ◌∙◌, ℕ, ◌+◌, ◌-◌, ◌≤◌, List, length, take, drop, Option, Some, Result, Ok, Err, refl, ap, sym, subst, arith, length-take, take-take, drop-take, Refused, StandsAt, NameAt, NetbiosName, labels_of_name, name_bytes, Refusal, FaultAt, TRUNCATED, Alone}
+-- The names at the front of a payload of port 138 stand at the places that are answered.
+use Rattle.nb_calls.proofs.Common.{◌≡◌, ◌∙◌, ℕ, ◌+◌, ◌-◌, ◌≤◌, List, length, take, drop, Option, Some, ap, sym, subst, arith, length-take, take-take, drop-take, Refused, StandsAt, NameAt, NetbiosName, labels_of_name, name_bytes}
 use Rattle.nb_names.proofs.LabelsLemmas.{next_within, spelled_there}
 use Rattle.nb_datagram.specs.declared.front.FragmentFront.{FragmentFront}
 use Rattle.nb_datagram.specs.declared.front.Front.{Front}
-use Rattle.nb_datagram.specs.Fronts.{FragmentStands, HasFront, LacksHeader, NamesStand, RestStands, of_fragment, of_another, no_name, source_alone, both_names}
-use Rattle.nb_calls.specs.declared.datagrams.NbtDatagramFront.{NbtDatagramFront}
-use Rattle.nb_calls.specs.Datagrams.{ReadsFront, front_places, places_after, numbers}
-
--- a payload has one front, and none where its header isn't there whole
-pub record FrontLaws (payload : List ℕ) : Type 0 where
-  pub one : (front other : Front) → HasFront payload front → HasFront payload other → front ≡ other
-  pub whole : (front : Front) → LacksHeader payload → ¬ HasFront payload front
-
-module _ (payload : List ℕ) (laws : FrontLaws payload) where
-  pub front_read : (front : Front) → HasFront payload front → Alone NbtDatagramFront (ReadsFront payload) (Ok (front_places front))
-  front_read front there = record { said = (front, there, refl); only = others } where
-    others : (other : Result NbtDatagramFront Refusal) → ReadsFront payload other → other ≡ Ok (front_places front)
-    others (Ok found) (other, stands, exact) = cc (exact, laws.one other front stands there)
-    others (Err refusal) (lacks, exact) = absurd (laws.whole front lacks there)
-
-  pub front_cut : LacksHeader payload → Alone NbtDatagramFront (ReadsFront payload) (Err (FaultAt TRUNCATED (length payload)))
-  front_cut lacks = record { said = (lacks, refl); only = others } where
-    others : (other : Result NbtDatagramFront Refusal) → ReadsFront payload other → other ≡ Err (FaultAt TRUNCATED (length payload))
-    others (Ok found) (front, stands, exact) = absurd (laws.whole front lacks stands)
-    others (Err refusal) (lack, exact) = ap Err exact
-
--- ---- where the names stand
+use Rattle.nb_datagram.specs.Fronts.{FragmentStands, HasFront, NamesStand, RestStands, of_fragment, of_another, no_name, source_alone, both_names}
+use Rattle.nb_calls.specs.Datagrams.{front_places, places_after, numbers}
 
 -- a name that stands in the first bytes of a payload stands in all of it, and is followed there
 stands_whole : (payload : List ℕ) (size at : ℕ) (name : NetbiosName) (next : ℕ)

@@ -12,10 +12,8 @@ pub mod LengthLemmas
 pub mod NameLemmas
 pub mod ObjectLemmas
 pub mod PlaceLemmas
-pub mod ReadLemmas
 pub mod ResponseLemmas
 pub mod ServiceLemmas
-pub mod SessionFrontLemmas
 pub mod StationNameLemmas
 pub mod Steps
 pub mod TableLemmas

@@ -1,6 +1,6 @@
--- What is answered by the texts of names is one, and done.
-use Rattle.nb_calls.proofs.Common.{◌≡◌, ◌∙◌, ℕ, List, Result, Ok, Err, IfOk, IfErr, refl, ap, sym, TextFault, NetbiosName, IsText, IsFaultOf, Refusal, Answers, Does, HasOne, Lent, OrMemory, none_late}
-use Rattle.nb_calls.proofs.AnswerLemmas.{does, or_said}
+-- A text is read as one name, or has one fault.
+use Rattle.nb_calls.proofs.Common.{◌≡◌, ℕ, List, Result, Ok, Err, IfOk, IfErr, ap, subst, TextFault, NetbiosName, IsText, IsFaultOf, Refusal, HasOneElse, OrMemory}
+use Rattle.nb_calls.proofs.AnswerLemmas.{one_expected}
 use Rattle.nb_calls.specs.Names.{IsRead}
 
 -- a text has one name or one fault
@@ -21,32 +21,11 @@ pub read_of : (text : List ℕ) (read : Result NetbiosName TextFault) → IfOk r
 read_of text (Ok name) found fault = found
 read_of text (Err fault) found fails = fails
 
--- what is answered by what a text is read as is done
-pub does_read : (text : List ℕ) → TextLaws text → (answer_of : Result NetbiosName TextFault → Result (List ℕ) Refusal)
-    → (read : Result NetbiosName TextFault) → IsRead text read → (answer : Result (List ℕ) Refusal)
-    → OrMemory none_late (λ (other : Result (List ℕ) Refusal). other ≡ answer_of read) answer → (old new : Lent) (status : ℕ)
-    → Answers answer old new status
-    → Does none_late (λ (other : Result (List ℕ) Refusal). (found : Result NetbiosName TextFault) × IsRead text found × (other ≡ answer_of found)) old new status
-does_read text laws answer_of read is answer j old new status h =
-    does none_late Says one old new status answer (or_said none_late Says (answer_of read) one (read, is, refl) answer j) h where
-      Says : Result (List ℕ) Refusal → Type 0
-      Says other = (found : Result NetbiosName TextFault) × IsRead text found × (other ≡ answer_of found)
-
-      one : HasOne Says
-      one a b (f, p, e) (g, q, d) = e ∙ ap answer_of (one_read text laws f g p q) ∙ sym d
-
--- so is what is answered by what two texts are read as
-pub does_read_two : (first second : List ℕ) → TextLaws first → TextLaws second
+-- of what two texts are read as one thing is answered
+pub one_by_two : (first second : List ℕ) → TextLaws first → TextLaws second
     → (answer_of : Result NetbiosName TextFault → Result NetbiosName TextFault → Result (List ℕ) Refusal)
-    → (from to : Result NetbiosName TextFault) → IsRead first from → IsRead second to → (answer : Result (List ℕ) Refusal)
-    → OrMemory none_late (λ (other : Result (List ℕ) Refusal). other ≡ answer_of from to) answer → (old new : Lent) (status : ℕ)
-    → Answers answer old new status
-    → Does none_late (λ (other : Result (List ℕ) Refusal).
-    (one two : Result NetbiosName TextFault) × IsRead first one × IsRead second two × (other ≡ answer_of one two)) old new status
-does_read_two first second laws more answer_of from to is also answer j old new status h =
-    does none_late Says one old new status answer (or_said none_late Says (answer_of from to) one (from, to, is, also, refl) answer j) h where
-      Says : Result (List ℕ) Refusal → Type 0
-      Says other = (one two : Result NetbiosName TextFault) × IsRead first one × IsRead second two × (other ≡ answer_of one two)
-
-      one : HasOne Says
-      one a b (f, t, p, q, e) (g, u, r, k, d) = cc (e, d, one_read first laws f g p r, one_read second more t u q k)
+    → HasOneElse (λ (answer : Result (List ℕ) Refusal).
+    (from to : Result NetbiosName TextFault) × IsRead first from × IsRead second to × OrMemory (answer_of from to) answer)
+one_by_two first second laws more answer_of a b (f, t, p, q, e) (g, u, r, s, d) h k =
+    let same : answer_of g u ≡ answer_of f t = cc (one_read first laws g f r p, one_read second more u t s q) in
+    one_expected (answer_of f t) a b e (subst (λ (x : Result (List ℕ) Refusal). OrMemory x b) same d) h k

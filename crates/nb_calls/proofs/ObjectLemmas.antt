@@ -1,9 +1,9 @@
--- A payload's text, its phrase and its object are all that is said of it.
-use Rattle.nb_calls.proofs.Common.{◌≡◌, ℕ, List, Result, Ok, Err, IfOk, sym, ap, ◌∙◌, [], ◌∷◌, ◌++◌, length, slice_index_or, refl, arith, subst, NoMemory, Refusal, HasOne, MayLack, OrMemory, none_late, of_memory}
+-- What is made of a payload is all that is answered of it; and what a call on a station does.
+use Rattle.nb_calls.proofs.Common.{◌≡◌, ℕ, List, Result, Ok, Err, IfOk, sym, ap, ◌∙◌, [], ◌∷◌, ◌++◌, length, slice_index_or, refl, arith, subst, NoMemory, Memory, Answers, HasOneElse, Lent, Writes, of_memory}
 use Rattle.nb_telling.specs.Telling.{Field}
 use Rattle.nb_telling.specs.Tokens.{object_of}
 use Rattle.nb_text.specs.Tells.{IsObject, Tells}
-use Rattle.nb_calls.specs.Showing.{Only}
+use Rattle.nb_calls.specs.Showing.{Made}
 use denote.RawPtr.{Ptr, InBlock}
 use Rattle.nb_member.specs.Member.{MemberValue}
 use Rattle.nb_calls.specs.declared.handle.NbtStation.{NbtStation}
@@ -17,19 +17,18 @@ OneList payload port = (fields others : List Field) → Tells payload port field
 pub one_object : (payload : List ℕ) (port : ℕ) → OneList payload port → (a b : List ℕ) → IsObject payload port a → IsObject payload port b → a ≡ b
 one_object payload port one a b h k = h.is ∙ ap object_of (one h.fields k.fields h.tells k.tells) ∙ sym k.is
 
--- where one value is said, one is answered
-pub one_only : (Is : List ℕ → Type 0) → ((a b : List ℕ) → Is a → Is b → a ≡ b) → HasOne (Only Is)
-one_only Is one (Ok a) (Ok b) h k = ap (λ (t : List ℕ). Ok t) (one a b h k)
-one_only Is one (Ok a) (Err b) h k = absurd k
-one_only Is one (Err a) b h k = absurd h
+module _ (Is : List ℕ → Type 0) where
+  -- where one value is, one is answered
+  pub one_made : ((a b : List ℕ) → Is a → Is b → a ≡ b) → HasOneElse (Made Is)
+  one_made one (Ok a) (Ok b) p q h k = ap Ok (one a b p q)
+  one_made one (Ok a) (Err b) p q h k = absurd (k (ap Err q))
+  one_made one (Err a) b p q h k = absurd (h (ap Err p))
 
--- it is answered, unless memory runs out
-pub judged : (Is : List ℕ → Type 0) (made : Result (List ℕ) NoMemory) → IfOk made Is → OrMemory none_late (Only Is) (of_memory made)
-judged Is (Ok value) is = is
-judged Is (Err fault) is = lacks where
-  lacks : (answer : Result (List ℕ) Refusal) → Only Is answer → MayLack none_late answer
-  lacks (Ok value) there = tt
-  lacks (Err refusal) there = absurd there
+  -- what is made is answered, or that memory ran out
+  pub makes : (told : Result (List ℕ) NoMemory) (old new : Lent) (status : ℕ) → IfOk told Is → Answers (of_memory told) old new status
+      → Writes (Made Is) old new status
+  makes (Ok value) old new status is h = (Ok value, is, h)
+  makes (Err fault) old new status is h = (Err Memory, refl, h)
 
 -- ---- bytes that a call on a station writes
 

@@ -1,5 +1,5 @@
--- A payload of port 137 has one answer for its header, for its packet, and for each item.
-use Rattle.nb_calls.proofs.Common.{◌≡◌, ◌∙◌, ℕ, ◌<◌, ◌≤◌, List, length, Option, Some, None, Result, Ok, Err, refl, ap, sym, subst, arith, MatchOption, PacketHeader, HasHeader, seen_extent, ServicePacket, HasOutline, PacketFails, item_count, Refusal, Alone, HasOne}
+-- Of a payload of port 137: its header, and each item, of which one thing is answered.
+use Rattle.nb_calls.proofs.Common.{◌≡◌, ◌∙◌, ℕ, ◌<◌, ◌≤◌, List, length, Option, Some, None, Ok, Err, refl, ap, sym, subst, arith, MatchOption, PacketHeader, HasHeader, seen_extent, HasOutline, item_count, Refusal, HasOne}
 use Rattle.nb_service.specs.declared.record.Extent.{Extent}
 use Rattle.nb_service.specs.declared.fault.ServiceFault.{ServiceFault}
 use Rattle.nb_service.specs.declared.fault.ServiceFault.TheVariants.{Truncated}
@@ -9,9 +9,7 @@ use Rattle.nb_service.specs.declared.packet.Section.{Section}
 use Rattle.nb_service.specs.declared.seen.Seen.{Seen}
 use Rattle.nb_service.specs.Items.{PacketItem, asked, told, ItemAt, ItemFails, IsExtent, Sees}
 use Rattle.nb_service.proofs.WalkedLemmas.{fails_counted}
-use Rattle.nb_service.specs.Packet.{IsPacket}
-use Rattle.nb_calls.specs.declared.service_reading.NbtServiceHeader.{NbtServiceHeader}
-use Rattle.nb_calls.specs.Services.{ReadsHeader, ReadsPacket, ReadsItem, headless, uncounted, fails, stands, header_numbers, section_number, numbers, item_numbers, cut_header}
+use Rattle.nb_calls.specs.Services.{ReadsItem, headless, uncounted, fails, stands, section_number, numbers, item_numbers, cut_header}
 use Rattle.nb_calls.specs.Statuses.{service_refusal}
 
 -- a payload has one header
@@ -23,48 +21,12 @@ pub record HeaderLaws (payload : List ℕ) : Type 0 where
 abbrev pub IsCut : List ℕ → ServiceFault → Type 0
 IsCut payload fault = (fault ≡ Truncated (length payload)) × (length payload < HEADER_LENGTH)
 
-cut_refusal : (payload : List ℕ) (fault : ServiceFault) → IsCut payload fault → service_refusal fault ≡ cut_header payload
+pub cut_refusal : (payload : List ℕ) (fault : ServiceFault) → IsCut payload fault → service_refusal fault ≡ cut_header payload
 cut_refusal payload fault cut = ap service_refusal cut.0
-
-pub header_read : (payload : List ℕ) → HeaderLaws payload → (header : PacketHeader) → HasHeader payload header
-    → Alone NbtServiceHeader (ReadsHeader payload) (Ok (header_numbers header HEADER_LENGTH))
-header_read payload laws header there = record { said = (header, there, refl); only = others } where
-  others : (other : Result NbtServiceHeader Refusal) → ReadsHeader payload other → other ≡ Ok (header_numbers header HEADER_LENGTH)
-  others (Ok found) (other, stands_too, exact) = cc (exact, laws.one other header stands_too there)
-  others (Err refusal) (low, exact) = absurd (omega (arith, low, laws.whole header there))
-
-pub header_cut : (payload : List ℕ) → HeaderLaws payload → (fault : ServiceFault) → IsCut payload fault
-    → Alone NbtServiceHeader (ReadsHeader payload) (Err (service_refusal fault))
-header_cut payload laws fault cut = record { said = (cut.1, cut_refusal payload fault cut); only = others } where
-  others : (other : Result NbtServiceHeader Refusal) → ReadsHeader payload other → other ≡ Err (service_refusal fault)
-  others (Ok found) (header, there, exact) = absurd (omega (arith, cut.1, laws.whole header there))
-  others (Err refusal) (low, exact) = ap Err (exact ∙ sym (cut_refusal payload fault cut))
-
--- a payload has one packet or one fault
-pub record PacketLaws (payload : List ℕ) : Type 0 where
-  pub one : (a b : ServicePacket) (used other : ℕ) → IsPacket payload a used → IsPacket payload b other → (a ≡ b) × (used ≡ other)
-  pub one_fault : (a b : ServiceFault) → PacketFails payload a → PacketFails payload b → a ≡ b
-  pub apart : (fault : ServiceFault) (packet : ServicePacket) (used : ℕ) → PacketFails payload fault → ¬ IsPacket payload packet used
 
 -- the header of a packet stands there
 pub outline_header : (payload : List ℕ) (header : PacketHeader) (used : ℕ) → HasOutline payload header used → HasHeader payload header
 outline_header payload header used there = subst (λ (h : PacketHeader). HasHeader payload h) there.outlined there.stands.header
-
-pub packet_read : (payload : List ℕ) → PacketLaws payload → (header : PacketHeader) (used : ℕ) → HasOutline payload header used
-    → Alone NbtServiceHeader (ReadsPacket payload) (Ok (header_numbers header used))
-packet_read payload laws header used there = record { said = (header, used, there, refl); only = others } where
-  others : (other : Result NbtServiceHeader Refusal) → ReadsPacket payload other → other ≡ Ok (header_numbers header used)
-  others (Ok found) (other, size, outline, exact) =
-      let same = laws.one outline.packet there.packet size used outline.stands there.stands in
-      cc (exact, same.0, same.1, outline.outlined, there.outlined)
-  others (Err refusal) (fault, refused, exact) = absurd (laws.apart fault there.packet used refused there.stands)
-
-pub packet_refused : (payload : List ℕ) → PacketLaws payload → (fault : ServiceFault) → PacketFails payload fault
-    → Alone NbtServiceHeader (ReadsPacket payload) (Err (service_refusal fault))
-packet_refused payload laws fault refused = record { said = (fault, refused, refl); only = others } where
-  others : (other : Result NbtServiceHeader Refusal) → ReadsPacket payload other → other ≡ Err (service_refusal fault)
-  others (Ok found) (header, used, there, exact) = absurd (laws.apart fault there.packet used refused there.stands)
-  others (Err refusal) (found, there, exact) = cc (exact, laws.one_fault found fault there refused)
 
 -- ---- what is known of an option whose value is known
 pub at_some : {A : Type 0} (o : Option A) (x : A) (P : Type 0) (Q : A → Type 0) → o ≡ Some x → MatchOption o P Q → Q x

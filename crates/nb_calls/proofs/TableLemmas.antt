@@ -1,28 +1,16 @@
 -- What stands in an input is one table or one fault, also under limits; what is told of one table, and of two, is one.
-use Rattle.nb_calls.proofs.Common.{◌≡◌, ◌≢◌, ℕ, ◌≤◌, Bool, List, Result, Ok, Err, Refusal, MayLack, OrMemory, refl, subst, arith, Key, LoadFault, Contents, FewOfEach, Limits, TableValue, IsReadAs, LoadFails, ill_formed, too_long, full_source, full, no_memory, IsRead, AllShort, nat_le, true, ap, Memory, Fault, FaultAt, HasOne, refused_status, NO_ROLE, SECOND, IfOk, sym, NoMemory, none_late, of_memory, ◌∙◌, Fits, IsRefused, saved}
+use Rattle.nb_calls.proofs.Common.{◌≡◌, ◌≢◌, ℕ, ◌≤◌, List, Result, Ok, Err, Refusal, OrMemory, refl, subst, arith, Key, LoadFault, Contents, FewOfEach, Limits, TableValue, IsReadAs, LoadFails, ill_formed, too_long, full_source, full, no_memory, IsRead, AllShort, ap, Memory, HasOneElse, IfOk, NO_ROLE, NoMemory, SECOND, of_memory, saved, sym, ◌∙◌, Fits, IsRefused}
 use Rattle.std.specs.FinMap as maps
 use Rattle.nb_entries.specs.Entry.{EntryValue}
 use Rattle.nb_entries.specs.SavedReading.{Outcome}
 use Rattle.nb_entries.specs.declared.saved.LoadFault.TheVariants as loads
 use Rattle.nb_calls.specs.Statuses.{load_refusal}
-use Rattle.nb_calls.specs.Tables.{IsLoaded, OfTwo, first_fails, second_fails, both, follow_the_first, OfOne, not_read, read, widest, Joins, Merges}
+use Rattle.nb_calls.specs.Tables.{IsLoaded, OfTwo, first_fails, second_fails, both, OfOne, not_read, read, widest, Joins}
 use Rattle.nb_table.specs.declared.fault.TableFault.{TableFault}
 use Rattle.nb_table.specs.declared.fault.TableFault.TheVariants as tables
 use Rattle.nb_table.specs.Join.{join}
+use Rattle.nb_calls.proofs.AnswerLemmas.{one_expected}
 use Rattle.nb_calls.specs.Stations.{table_refusal}
-
--- a fault is answered, but for want of memory, before all that may lack it
-pub load_failed : {A : Type 0} (late : ℕ → Bool) (Says : Result A Refusal → Type 0) (role : ℕ) (fault : LoadFault)
-    → (fault ≢ loads.NoMemory → Says (Err (load_refusal role fault)))
-    → (fault ≡ loads.NoMemory → (answer : Result A Refusal) → Says answer → MayLack late answer)
-    → OrMemory late Says (Err (load_refusal role fault))
-load_failed late Says role loads.BadMagic said lacks = said (λ e. absurd (cc e))
-load_failed late Says role loads.Truncated said lacks = said (λ e. absurd (cc e))
-load_failed late Says role (loads.NotCanonical at) said lacks = said (λ e. absurd (cc e))
-load_failed late Says role loads.TooLong said lacks = said (λ e. absurd (cc e))
-load_failed late Says role loads.FullSource said lacks = said (λ e. absurd (cc e))
-load_failed late Says role loads.Full said lacks = said (λ e. absurd (cc e))
-load_failed late Says role loads.NoMemory said lacks = lacks refl
 
 -- what stands in an input is one
 pub record InputLaws (input : List ℕ) : Type 0 where
@@ -77,97 +65,43 @@ module _ (input : List ℕ) (limits : Limits) (laws : InputLaws input) where
       (subst (λ (l : Limits). maps.len t.contents ≤ l.keys) is.limited is.keeps.count)
 
   -- no other fault stands beside it
-  pub no_other : {A : Type 0} (fault : LoadFault) → fault ≢ loads.NoMemory → LoadFails input limits fault
-      → LoadFails input limits loads.NoMemory → A
-  no_other fault h p q = absurd (h (one_fault fault loads.NoMemory p q))
-
   pub loaded_apart : {A : Type 0} (t : TableValue) (fault : LoadFault) → fault ≢ loads.NoMemory → IsLoaded input limits t
       → LoadFails input limits fault → A
-  loaded_apart t fault h is p = no_other fault h p (as_memory t is)
+  loaded_apart t fault h is p = absurd (h (one_fault fault loads.NoMemory p (as_memory t is)))
 
--- ---- two saved tables, of both of which one thing is said
+-- a refusal that isn't want of memory is of no such fault
+not_memory : {A : Type 0} (role : ℕ) (fault : LoadFault) (answer : Result A Refusal) → answer ≡ Err (load_refusal role fault)
+    → answer ≢ Err Memory → fault ≢ loads.NoMemory
+not_memory role fault answer is h e = h (is ∙ ap (λ (f : LoadFault). Err (load_refusal role f)) e)
 
-second_late : (fault : LoadFault) → fault ≢ loads.NoMemory → nat_le 80 (refused_status (load_refusal SECOND fault)) ≡ true
-second_late loads.BadMagic h = refl
-second_late loads.Truncated h = refl
-second_late (loads.NotCanonical at) h = refl
-second_late loads.TooLong h = refl
-second_late loads.FullSource h = refl
-second_late loads.Full h = refl
-second_late loads.NoMemory h = absurd (h refl)
-
--- memory may run out before all that is said of both
-abbrev pub ComesLate : {A : Type 0} → (Contents → Contents → Result A Refusal → Type 0) → Type 0
-ComesLate {A} Then = (s t : Contents) (answer : Result A Refusal) → Then s t answer → MayLack follow_the_first answer
-
-module _ {A : Type 0} (first second : List ℕ) (limits : Limits) (Then : Contents → Contents → Result A Refusal → Type 0) (laws : InputLaws first) where
-  module _ (late : ComesLate Then) where
-    two_lack : LoadFails first limits loads.NoMemory → (answer : Result A Refusal) → OfTwo first second limits Then answer
-        → MayLack follow_the_first answer
-    two_lack q _ (first_fails fault h p) = no_other first limits laws fault h p q
-    two_lack q _ (second_fails one fault is h p) = second_late fault h
-    two_lack q _ (both one other answer is also j) = late one.contents other.contents answer j
-
-    pub first_failed : (fault : LoadFault) → LoadFails first limits fault
-        → OrMemory follow_the_first (OfTwo first second limits Then) (Err (load_refusal NO_ROLE fault))
-    first_failed fault p =
-        load_failed follow_the_first (OfTwo first second limits Then) NO_ROLE fault (λ h. first_fails fault h p)
-        (λ e. two_lack (subst (LoadFails first limits) e p))
-
-    pub second_failed : (one : TableValue) (fault : LoadFault) → IsLoaded first limits one → LoadFails second limits fault
-        → OrMemory follow_the_first (OfTwo first second limits Then) (Err (load_refusal SECOND fault))
-    second_failed one fault is p =
-        load_failed follow_the_first (OfTwo first second limits Then) SECOND fault (λ h. second_fails one fault is h p)
-        (λ e. two_lack (as_memory first limits laws one is))
-
-    -- what two tables that were read come to
-    pub both_done : (one other : TableValue) (answer : Result A Refusal) → IsLoaded first limits one
-        → IsLoaded second limits other → OrMemory follow_the_first (Then one.contents other.contents) answer
-        → OrMemory follow_the_first (OfTwo first second limits Then) answer
-    both_done one other (Ok value) is also j = both one other (Ok value) is also j
-    both_done one other (Err Memory) is also j = two_lack (as_memory first limits laws one is)
-    both_done one other (Err (Fault status)) is also j = both one other (Err (Fault status)) is also j
-    both_done one other (Err (FaultAt status place)) is also j = both one other (Err (FaultAt status place)) is also j
-
-  module _ (more : InputLaws second) (one_said : (s t : Contents) → HasOne (Then s t)) where
-    pub one_of_two : HasOne (OfTwo first second limits Then)
-    one_of_two _ _ (first_fails f h p) (first_fails g k q) =
-        ap (λ (x : LoadFault). Err (load_refusal NO_ROLE x)) (one_fault first limits laws f g p q)
-    one_of_two _ _ (first_fails f h p) (second_fails one g is k q) = loaded_apart first limits laws one f h is p
-    one_of_two _ _ (first_fails f h p) (both one other b is also j) = loaded_apart first limits laws one f h is p
-    one_of_two _ _ (second_fails one g is k q) (first_fails f h p) = loaded_apart first limits laws one f h is p
-    one_of_two _ _ (second_fails one f is h p) (second_fails _ g _ k q) =
-        ap (λ (x : LoadFault). Err (load_refusal SECOND x)) (one_fault second limits more f g p q)
-    one_of_two _ _ (second_fails one f is h p) (both _ other b _ also j) = loaded_apart second limits more other f h also p
-    one_of_two _ _ (both one other a is also j) (first_fails f h p) = loaded_apart first limits laws one f h is p
-    one_of_two _ _ (both one other a is also j) (second_fails _ f _ h p) = loaded_apart second limits more other f h also p
-    one_of_two _ _ (both one other a is also j) (both two third b same too k) =
-        one_said one.contents other.contents a b j
-        (subst (λ (x : Contents). Then x other.contents b) (laws.one two.contents one.contents same.stands is.stands)
-        (subst (λ (x : Contents). Then two.contents x b) (more.one third.contents other.contents too.stands also.stands) k))
-
--- ---- what is told of one
+-- ---- of one table, and of two
 
 module _ (table : List ℕ) (told_of : Contents → List ℕ) (laws : InputLaws table) where
-  pub one_list : HasOne (OfOne table told_of)
-  one_list _ _ (not_read f h p) (not_read g k q) = ap (λ (x : LoadFault). Err (load_refusal NO_ROLE x)) (one_fault table widest laws f g p q)
-  one_list _ _ (not_read f h p) (read t is) = loaded_apart table widest laws t f h is p
-  one_list _ _ (read t is) (not_read f h p) = loaded_apart table widest laws t f h is p
-  one_list _ _ (read t is) (read u also) = ap (λ (x : Contents). Ok (told_of x)) (laws.one t.contents u.contents is.stands also.stands)
+  pub one_list : HasOneElse (OfOne table told_of)
+  one_list _ _ (not_read f p) (not_read g q) h k = ap (λ (x : LoadFault). Err (load_refusal NO_ROLE x)) (one_fault table widest laws f g p q)
+  one_list _ _ (not_read f p) (read t a is e) h k = loaded_apart table widest laws t f (not_memory NO_ROLE f _ refl h) is p
+  one_list _ _ (read t a is e) (not_read f p) h k = loaded_apart table widest laws t f (not_memory NO_ROLE f _ refl k) is p
+  one_list _ _ (read t a is e) (read u b also d) h k =
+      one_expected (Ok (told_of t.contents)) a b e
+      (subst (λ (x : Contents). OrMemory (Ok (told_of x)) b) (laws.one u.contents t.contents also.stands is.stands) d) h k
 
-  list_lacks : LoadFails table widest loads.NoMemory → (answer : Result (List ℕ) Refusal) → OfOne table told_of answer → MayLack none_late answer
-  list_lacks q _ (not_read fault h p) = no_other table widest laws fault h p q
-  list_lacks q _ (read t is) = tt
-
-  pub list_failed : (fault : LoadFault) → LoadFails table widest fault → OrMemory none_late (OfOne table told_of) (Err (load_refusal NO_ROLE fault))
-  list_failed fault p =
-      load_failed none_late (OfOne table told_of) NO_ROLE fault (λ h. not_read fault h p) (λ e. list_lacks (subst (LoadFails table widest) e p))
-
-  -- what a table that was read comes to, in lines
-  pub lists : (t : TableValue) (told : Result (List ℕ) NoMemory) → IsLoaded table widest t
-      → IfOk told (λ (bytes : List ℕ). bytes ≡ told_of t.contents) → OrMemory none_late (OfOne table told_of) (of_memory told)
-  lists t (Ok bytes) is e = subst (λ (lines : List ℕ). OfOne table told_of (Ok lines)) (sym e) (read t is)
-  lists t (Err fault) is e = list_lacks (as_memory table widest laws t is)
+module _ {A : Type 0} (first second : List ℕ) (limits : Limits) (Then : Contents → Contents → Result A Refusal → Type 0) (laws : InputLaws first)
+    (more : InputLaws second) (one_said : (s t : Contents) → HasOneElse (Then s t)) where
+  pub one_of_two : HasOneElse (OfTwo first second limits Then)
+  one_of_two _ _ (first_fails f p) (first_fails g q) h k =
+      ap (λ (x : LoadFault). Err (load_refusal NO_ROLE x)) (one_fault first limits laws f g p q)
+  one_of_two _ _ (first_fails f p) (second_fails one g is q) h k = loaded_apart first limits laws one f (not_memory NO_ROLE f _ refl h) is p
+  one_of_two _ _ (first_fails f p) (both one other b is also j) h k = loaded_apart first limits laws one f (not_memory NO_ROLE f _ refl h) is p
+  one_of_two _ _ (second_fails one g is q) (first_fails f p) h k = loaded_apart first limits laws one f (not_memory NO_ROLE f _ refl k) is p
+  one_of_two _ _ (second_fails one f is p) (second_fails _ g _ q) h k =
+      ap (λ (x : LoadFault). Err (load_refusal SECOND x)) (one_fault second limits more f g p q)
+  one_of_two _ _ (second_fails one f is p) (both _ other b _ also j) h k = loaded_apart second limits more other f (not_memory SECOND f _ refl h) also p
+  one_of_two _ _ (both one other a is also j) (first_fails f p) h k = loaded_apart first limits laws one f (not_memory NO_ROLE f _ refl k) is p
+  one_of_two _ _ (both one other a is also j) (second_fails _ f _ p) h k = loaded_apart second limits more other f (not_memory SECOND f _ refl k) also p
+  one_of_two _ _ (both one other a is also j) (both two third b same too i) h k =
+      one_said one.contents other.contents a b j
+      (subst (λ (x : Contents). Then x other.contents b) (laws.one two.contents one.contents same.stands is.stands)
+      (subst (λ (x : Contents). Then two.contents x b) (more.one third.contents other.contents too.stands also.stands) i)) h k
 
 -- ---- the join of two tables, or why there is none
 
@@ -199,42 +133,19 @@ module _ (l : Limits) (s t : Contents) where
   one_refusal (tables.Full _) (tables.Full _) h k p q = refl
   one_refusal (tables.Full _) tables.NoMemory h k p q = absurd (k refl)
 
-  pub one_join : HasOne (Joins l s t)
-  one_join (Ok a) (Ok b) (f, e) (g, d) = ap (λ (x : List ℕ). Ok x) (e ∙ sym d)
-  one_join (Ok a) (Err b) (f, e) (fault, h, q, d) = fits_apart fault h f q
-  one_join (Err a) (Ok b) (fault, h, q, d) (f, e) = fits_apart fault h f q
-  one_join (Err a) (Err b) (f, h, p, e) (g, k, q, d) = ap (λ (x : Refusal). Err x) (e ∙ one_refusal f g h k p q ∙ sym d)
+  joined_memory : (fault : TableFault) (answer : Result (List ℕ) Refusal) → answer ≡ Err (table_refusal fault) → answer ≢ Err Memory
+      → fault ≢ tables.NoMemory
+  joined_memory fault answer is h e = h (is ∙ ap (λ (f : TableFault). Err (table_refusal f)) e)
 
-  late_fault : (fault : TableFault) → fault ≢ tables.NoMemory → nat_le 80 (refused_status (table_refusal fault)) ≡ true
-  late_fault tables.MisplacedFirst h = refl
-  late_fault tables.TooLong h = refl
-  late_fault (tables.FullSource k) h = refl
-  late_fault (tables.Full k) h = refl
-  late_fault tables.NoMemory h = absurd (h refl)
+  pub one_join : HasOneElse (Joins l s t)
+  one_join (Ok a) (Ok b) (f, e) (g, d) h k = ap (λ (x : List ℕ). Ok x) (e ∙ sym d)
+  one_join (Ok a) (Err b) (f, e) (fault, q, d) h k = fits_apart fault (joined_memory fault (Err b) (ap Err d) k) f q
+  one_join (Err a) (Ok b) (fault, q, d) (f, e) h k = fits_apart fault (joined_memory fault (Err a) (ap Err d) h) f q
+  one_join (Err a) (Err b) (f, p, e) (g, q, d) h k =
+      ap (λ (x : Refusal). Err x) (e ∙ one_refusal f g (joined_memory f (Err a) (ap Err e) h) (joined_memory g (Err b) (ap Err d) k) p q ∙ sym d)
 
-  pub late_join : (answer : Result (List ℕ) Refusal) → Joins l s t answer → MayLack follow_the_first answer
-  late_join (Ok bytes) j = tt
-  late_join (Err refusal) (fault, h, q, e) = rw e (late_fault fault h)
-
-  -- a table's refusal, or that memory ran out
-  pub join_refused : (fault : TableFault) → IsRefused l s t fault → OrMemory follow_the_first (Joins l s t) (Err (table_refusal fault))
-  join_refused tables.MisplacedFirst p = absurd p
-  join_refused tables.TooLong p = (tables.TooLong, (λ e. absurd (cc e)), p, refl)
-  join_refused (tables.FullSource k) p = (tables.FullSource k, (λ e. absurd (cc e)), p, refl)
-  join_refused (tables.Full k) p = (tables.Full k, (λ e. absurd (cc e)), p, refl)
-  join_refused tables.NoMemory p = late_join
-
-  -- the join, saved, unless memory runs out
+  -- what is taken in is saved, unless memory runs out
   pub join_done : (told : Result (List ℕ) NoMemory) → Fits l s t → IfOk told (λ (bytes : List ℕ). bytes ≡ saved (join s t))
-      → OrMemory follow_the_first (Joins l s t) (of_memory told)
+      → Joins l s t (of_memory told)
   join_done (Ok bytes) f e = (f, e)
-  join_done (Err fault) f e = late_join
-
--- what is read of two tables, joined
-pub merges : (first second : List ℕ) (limits : Limits) → InputLaws first → (one other : TableValue) (answer : Result (List ℕ) Refusal)
-    → IsLoaded first limits one → IsLoaded second limits other
-    → OrMemory follow_the_first (Joins one.limits one.contents other.contents) answer
-    → OrMemory follow_the_first (Merges first second limits) answer
-merges first second limits laws one other answer is also j =
-    both_done first second limits (Joins limits) laws (late_join limits) one other answer is also
-    (subst (λ (m : Limits). OrMemory follow_the_first (Joins m one.contents other.contents) answer) is.limited j)
+  join_done (Err fault) f e = (tables.NoMemory, f, refl)

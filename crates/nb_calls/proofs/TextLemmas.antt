@@ -1,12 +1,10 @@
 -- Texts of names are ASCII, so what isn't UTF-8 leaves their form.
-use Rattle.nb_calls.proofs.Common.{◌≡◌, ◌⊎◌, inl, inr, ℕ, ◌<◌, ◌≤◌, List, [], ◌∷◌, ◌++◌, length, take, sym, subst, arith, cases_lt, nat_tests, take-take, length-take-le, append-nil, IsHexDigit, Item, plain, escaped, Items, no_item, more_items, ScopeText, no_label, more_labels, IsFormed, IsFront, IsBad, IsFaultOf, TextFault}
+use Rattle.nb_calls.proofs.Common.{◌≡◌, ◌⊎◌, inl, inr, ℕ, ◌<◌, ◌≤◌, List, [], ◌∷◌, ◌++◌, length, take, sym, subst, arith, cases_lt, nat_tests, take-take, length-take-le, append-nil, IsHexDigit, Item, plain, escaped, Items, no_item, more_items, ScopeText, no_label, more_labels, IsFormed, IsFront, IsBad}
 use Rattle.std.specs.Str.{IsAscii, IsUtf8, IsValidUpTo}
 use Rattle.std.proofs.Math.Seq.{take-append_seam}
 use Rattle.std.proofs.lemmas.Str.{IsUtf8-from_ascii, IsAscii-append, IsAscii-take}
 use Rattle.std.proofs.lemmas.Str.Ascii.{IsAscii-nil, IsAscii-cons}
 use Rattle.nb_names.proofs.PushingLemmas.{plain_one}
-use Rattle.nb_names.specs.declared.fault.TextFault.TheVariants.{BadText, TooLong}
-use Rattle.nb_calls.specs.Statuses.{place_of}
 
 hex_ascii : (d : ℕ) → IsHexDigit d → d < 128
 hex_ascii d h = grind (arith, nat_tests)
@@ -72,9 +70,3 @@ bad_end text valid v formed =
       front = ([], subst IsFormed (sym (append-nil (take valid text))) formed);
       longest = λ count past within. none_past text valid count v past;
     }
-
--- a text that is UTF-8 up to a place, and whose front up to there has a fault
-pub fault_front : (text : List ℕ) (valid : ℕ) (fault : TextFault) → IsValidUpTo text valid → IsFaultOf (take valid text) fault
-    → IsBad text (place_of fault valid)
-fault_front text valid (BadText place) v fails = bad_front text valid place v fails.1
-fault_front text valid TooLong v fails = bad_end text valid v fails.0

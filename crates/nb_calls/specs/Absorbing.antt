@@ -30,9 +30,11 @@ heard_bytes d =
 abbrev pub all_heard : List DatagramParts → List ℕ
 all_heard ds = flat_map heard_bytes ds
 
--- Hears m other answer: what the member m would hand over of the other table, or why it doesn't take it in
+-- Hears m other answer: what the member m would hand over of the other table, unless memory runs
+-- out, or why it doesn't take it in
 pub data Hears (m : MemberValue) (other : Contents) : Result (List ℕ) Refusal → Type 0 where
   hears : (datagrams : List DatagramParts) → Previews m other datagrams → Hears m other (Ok (all_heard datagrams))
+  lacks : (datagrams : List DatagramParts) → Previews m other datagrams → Hears m other (Err Memory)
   takes_not : (fault : TableFault) → IsRefused m.timed.table.limits (contents m) other fault
       → Hears m other (Err (table_refusal fault))
 
@@ -45,7 +47,6 @@ pub data Joined (m : MemberValue) (moment : ℕ) (other : Contents) (room : ℕ)
   no_room : (bytes : List ℕ) → Hears m other (Ok bytes) → room < length bytes → after ≡ m
       → Joined m moment other room after (Ok bytes)
   refused : (refusal : Refusal) → Hears m other (Err refusal) → after ≡ m → Joined m moment other room after (Err refusal)
-  no_memory : after ≡ m → Joined m moment other room after (Err Memory)
 
 -- Absorbed m moment table room after answer: the same of a saved table, which is read first, under the limits of m
 pub data Absorbed (m : MemberValue) (moment : ℕ) (table : List ℕ) (room : ℕ) (after : MemberValue) : Result (List ℕ) Refusal → Type 0 where

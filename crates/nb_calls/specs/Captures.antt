@@ -1,6 +1,6 @@
 -- What the call on a line of a capture answers (our choice).
-use Rattle.std.specs.Prelude.{◌≡◌, ◌⊎◌, ◌<◌, ℕ, List, [], length, Option, Some, None, Result, Ok, Err, if◌then◌else◌}
-use Rattle.nb_capture.specs.Capture.{HasValue, SaysNothing, IsMalformed}
+use Rattle.std.specs.Prelude.{◌≡◌, ℕ, List, [], length, Option, Some, None, Result, Ok, Err, if◌then◌else◌}
+use Rattle.nb_capture.specs.Capture.{HasValue, SaysNothing, IsMalformed, NeedsMemory}
 use Rattle.nb_capture.specs.declared.line.Line.{Line}
 use Rattle.nb_capture.specs.declared.line.Line.TheVariants.{Packet, Tick}
 use Rattle.nb_capture.specs.declared.fault.LineFault.{LineFault}
@@ -27,12 +27,13 @@ abbrev pub line_answer : Result (Option Line) LineFault → Result LineParts Ref
 line_answer (Ok said) = Ok (line_parts said)
 line_answer (Err fault) = Err (line_refusal fault)
 
--- SaysLine line answer: this is said of the line: nothing; the payload that came, or the clock; or that it is none of a
--- capture's
+-- SaysLine line answer: this is said of the line: nothing; the payload that came, or the clock; that it is none of a
+-- capture's; or, of a payload that isn't empty, that memory ran out
 pub data SaysLine (line : List ℕ) : Result LineParts Refusal → Type 0 where
   nothing : SaysNothing line → SaysLine line (Ok (line_parts None))
   something : (value : Line) → HasValue line value → SaysLine line (Ok (line_parts (Some value)))
   malformed : IsMalformed line → SaysLine line (Err (Fault statuses.BAD_LINE))
+  lacks : (value : Line) → HasValue line value → NeedsMemory value → SaysLine line (Err Memory)
 
 -- what a caller lends for a line: its numbers, a buffer, and how many bytes it has or wants
 pub record LineLent : Type 0 where
@@ -54,15 +55,6 @@ WritesLine (Err refusal) old new status =
     (new.numbers ≡ old.numbers) × (new.buffer ≡ old.buffer) × (new.used ≡ old.used)
     × (status ≡ refused_status refusal)
 
--- the answer has a payload of a byte or more, for which memory is taken
-abbrev pub HasPayload : Result LineParts Refusal → Type 0
-HasPayload (Ok told) = 0 < length told.payload
-HasPayload (Err refusal) = ⊥
-
--- TellsLine line old new status: a call writes what is said of the line, and whatever is said is what it writes, unless
--- memory runs out, which it may only for a payload
-pub record TellsLine (line : List ℕ) (old new : LineLent) (status : ℕ) : Type 0 where
-  pub some : WritesLine (Err Memory) old new status
-      ⊎ ((answer : Result LineParts Refusal) × SaysLine line answer × WritesLine answer old new status)
-  pub only : (answer : Result LineParts Refusal) → SaysLine line answer
-      → (HasPayload answer × WritesLine (Err Memory) old new status) ⊎ WritesLine answer old new status
+-- TellsLine line old new status: something that is said of the line is answered, and what was lent is left so
+abbrev pub TellsLine : List ℕ → LineLent → LineLent → ℕ → Type 0
+TellsLine line old new status = (answer : Result LineParts Refusal) × SaysLine line answer × WritesLine answer old new status

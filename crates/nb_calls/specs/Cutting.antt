@@ -1,5 +1,5 @@
 -- What the calls that write packets of port 138 answer (RFC 1002 sections 4.4.2 to 4.4.4).
-use Rattle.std.specs.Prelude.{◌≡◌, ◌==◌, ◌+◌, ◌%◌, ℕ, Bool, nat_lt, min, List, ◌++◌, length, Option, Some, None, Result, Ok, Err, if◌then◌else◌}
+use Rattle.std.specs.Prelude.{◌==◌, ◌+◌, ◌%◌, ℕ, Bool, nat_lt, min, List, ◌++◌, length, Option, Some, None, Result, Ok, Err, if◌then◌else◌}
 use Rattle.std.specs.Int.{w16, w32, to_be_bytes}
 use Rattle.std.specs.List.{flat_map}
 use Rattle.nb_names.specs.declared.fault.TextFault.{TextFault}
@@ -15,6 +15,7 @@ use Rattle.nb_datagram.specs.Pieces.{pieces}
 use Rattle.nb_calls.specs.declared.cutting.Sent.{Sent}
 use Rattle.nb_calls.specs.declared.statuses.TheConstants.{UNKNOWN_TYPE, LONG_DATA, ZERO_PIECE, SOURCE_TEXT, DESTINATION_TEXT, NO_ROLE}
 use Rattle.nb_calls.specs.Names.{IsRead}
+use Rattle.nb_calls.specs.Outputs.{OrMemory}
 use Rattle.nb_calls.specs.Statuses.{Refusal, Fault, text_refusal}
 use Rattle.nb_datagram.specs.declared.packet.QueryKind.{QueryKind}
 use Rattle.nb_datagram.specs.declared.packet.QueryKind.TheVariants.{Request, Positive, Negative}
@@ -28,9 +29,15 @@ kind_with type =
 abbrev pub key_from : ℕ → ℕ → ℕ → Key
 key_from identifier address port = record { ip = to_be_bytes w32 address; port = port; id = identifier }
 
--- the key of a datagram that is sent so
-abbrev pub key_of : Sent → Key
-key_of sent = key_from sent.identifier sent.address sent.port
+-- the datagram of this kind between two names, with this data, that is sent so
+abbrev pub datagram_of : Sent → Kind → NetbiosName → NetbiosName → List ℕ → DatagramParts
+datagram_of sent kind source destination bytes = record {
+  key = key_from sent.identifier sent.address sent.port;
+  kind = kind;
+  source = source;
+  destination = destination;
+  bytes = bytes;
+}
 
 -- the bytes of a fragment's packet
 abbrev pub packet_of : FragmentParts → List ℕ
@@ -65,7 +72,7 @@ cut_kind None sent source destination contents = Err (Fault UNKNOWN_TYPE)
 cut_kind (Some kind) sent (Err fault) destination contents = Err (text_refusal SOURCE_TEXT fault)
 cut_kind (Some kind) sent (Ok source) (Err fault) contents = Err (text_refusal DESTINATION_TEXT fault)
 cut_kind (Some kind) sent (Ok source) (Ok destination) contents =
-    cut_answer (record { key = key_of sent; kind = kind; source = source; destination = destination; bytes = contents }) sent.most
+    cut_answer (datagram_of sent kind source destination contents) sent.most
 
 -- the same, by the type's number
 abbrev pub cut_names : Sent → Result NetbiosName TextFault → Result NetbiosName TextFault → List ℕ → Result (List ℕ) Refusal
@@ -75,7 +82,7 @@ cut_names sent = cut_kind (kind_with sent.packet_type) sent
 abbrev pub Cuts : Sent → List ℕ → List ℕ → List ℕ → Result (List ℕ) Refusal → Type 0
 Cuts sent source destination contents answer =
     (from to : Result NetbiosName TextFault) × IsRead source from × IsRead destination to
-    × (answer ≡ cut_names sent from to contents)
+    × OrMemory (cut_names sent from to contents) answer
 
 -- ---- packets without data
 -- Their FLAGS are 02, the first fragment and no more of them (our choice).
@@ -103,4 +110,4 @@ query_answer type = query_kind (query_with type)
 -- Queries type key text answer: this is answered where the name has this text
 abbrev pub Queries : ℕ → Key → List ℕ → Result (List ℕ) Refusal → Type 0
 Queries type key text answer =
-    (read : Result NetbiosName TextFault) × IsRead text read × (answer ≡ query_answer type key read)
+    (read : Result NetbiosName TextFault) × IsRead text read × OrMemory (query_answer type key read) answer

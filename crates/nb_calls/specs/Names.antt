@@ -10,6 +10,7 @@ use Rattle.nb_names.specs.Name.{NetbiosName, IsName, labels_of_name}
 use Rattle.nb_names.specs.NameFaults.{NetbiosFaultAt}
 use Rattle.nb_names.specs.NameText.{IsText, IsFaultOf, written}
 use Rattle.nb_calls.specs.declared.statuses.TheConstants.{NAME_TRAILING_BYTES, NO_ROLE}
+use Rattle.nb_calls.specs.Outputs.{OrMemory}
 use Rattle.nb_calls.specs.Statuses.{Refusal, FaultAt, text_refusal, name_refusal}
 
 -- IsRead text read: the text is of this name, or has this fault
@@ -24,7 +25,7 @@ spelling_answer (Err fault) = Err (text_refusal NO_ROLE fault)
 
 -- Spells text answer: this is answered of the text
 abbrev pub Spells : List ℕ → Result (List ℕ) Refusal → Type 0
-Spells text answer = (read : Result NetbiosName TextFault) × IsRead text read × (answer ≡ spelling_answer read)
+Spells text answer = (read : Result NetbiosName TextFault) × IsRead text read × OrMemory (spelling_answer read) answer
 
 -- why the bytes aren't one name: it can't be read, or bytes follow it
 abbrev pub IsNoSpelling : List ℕ → Refusal → Type 0
@@ -33,11 +34,19 @@ IsNoSpelling bytes refusal =
     ⊎ ((name : NetbiosName) × (next : ℕ) × IsName name × NameAt bytes Refused 0 (labels_of_name name) next
     × (next < length bytes) × (refusal ≡ FaultAt NAME_TRAILING_BYTES next))
 
--- Tells bytes answer: the bytes are one name, whose text is answered, or have this fault
+-- IsSpelling bytes read: the bytes are one name, or this is why they aren't
+abbrev pub IsSpelling : List ℕ → Result NetbiosName Refusal → Type 0
+IsSpelling bytes (Ok name) = IsName name × NameAt bytes Refused 0 (labels_of_name name) (length bytes)
+IsSpelling bytes (Err refusal) = IsNoSpelling bytes refusal
+
+-- what is answered where bytes are read so: the name's text, or why they are no name
+abbrev pub text_answer : Result NetbiosName Refusal → Result (List ℕ) Refusal
+text_answer (Ok name) = Ok (written name)
+text_answer (Err refusal) = Err refusal
+
+-- Tells bytes answer: this is answered of the bytes
 abbrev pub Tells : List ℕ → Result (List ℕ) Refusal → Type 0
-Tells bytes (Ok text) =
-    (name : NetbiosName) × IsName name × NameAt bytes Refused 0 (labels_of_name name) (length bytes) × (text ≡ written name)
-Tells bytes (Err refusal) = IsNoSpelling bytes refusal
+Tells bytes answer = (read : Result NetbiosName Refusal) × IsSpelling bytes read × OrMemory (text_answer read) answer
 
 -- a spelling, at the front of as many bytes of zero as the longest has
 abbrev pub in_place : List ℕ → List ℕ

@@ -24,6 +24,7 @@ use Rattle.nb_service.specs.Packet.{ServicePacket}
 use Rattle.nb_service.specs.Views.{entry_bytes}
 use Rattle.nb_calls.specs.declared.service.Asked.{Asked}
 use Rattle.nb_calls.specs.Names.{IsRead}
+use Rattle.nb_calls.specs.Outputs.{OrMemory}
 
 -- IsDomain bytes read: the bytes are the spelling of a domain name with these labels, or why they aren't: no name can be
 -- read, or bytes follow it
@@ -60,8 +61,9 @@ response_answer answered name (Err refusal) = Err refusal
 -- Responds answered text bytes answer: this is answered where the name has this text, and RDATA these bytes
 pub data Responds (answered : Answered) (text bytes : List ℕ) : Result (List ℕ) Refusal → Type 0 where
   no_name_text : (fault : TextFault) → IsFaultOf text fault → Responds answered text bytes (Err (text_refusal NO_ROLE fault))
-  named : (name : NetbiosName) (rdata : Result ResourceData Refusal) → IsText name text → IsRdata answered.kind bytes rdata
-      → Responds answered text bytes (response_answer answered name rdata)
+  named : (name : NetbiosName) (rdata : Result ResourceData Refusal) (answer : Result (List ℕ) Refusal) → IsText name text
+      → IsRdata answered.kind bytes rdata → OrMemory (response_answer answered name rdata) answer
+      → Responds answered text bytes answer
 
 -- ---- what the call that writes requests of port 137 answers (RFC 1002 sections 4.2.2, 4.2.4, 4.2.9, 4.2.12 and
 -- 4.2.17)
@@ -91,4 +93,4 @@ request_answer asked read = if nat_lt 4 asked.request then Err (Fault UNKNOWN_RE
 -- Requests asked text answer: this is answered where the name has this text
 abbrev pub Requests : Asked → List ℕ → Result (List ℕ) Refusal → Type 0
 Requests asked text answer =
-    (read : Result NetbiosName TextFault) × IsRead text read × (answer ≡ request_answer asked read)
+    (read : Result NetbiosName TextFault) × IsRead text read × OrMemory (request_answer asked read) answer

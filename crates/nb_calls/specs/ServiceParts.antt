@@ -23,7 +23,7 @@ use Rattle.nb_calls.specs.declared.service_entries.NbtServiceEntry.{NbtServiceEn
 use Rattle.nb_calls.specs.declared.service_entries.TheConstants.{MOST_ITEMS}
 use Rattle.nb_calls.specs.declared.service_reading.NbtServiceItem.{NbtServiceItem}
 use Rattle.nb_calls.specs.Names.{in_place}
-use Rattle.nb_calls.specs.Outputs.{Alone, at_refused, refused_status}
+use Rattle.nb_calls.specs.Outputs.{at_refused, refused_status}
 use Rattle.nb_calls.specs.Services.{ReadsItem}
 
 -- Chosen P here other answer: the one is answered where P holds, and the other where it doesn't
@@ -107,7 +107,7 @@ entry_numbers item (Err refusal) = record { item = item; server_length = 0; serv
 -- IsEntry payload item entry: an item of the payload, with the name in its RDATA
 abbrev pub IsEntry : List ℕ → NbtServiceItem → NbtServiceEntry → Type 0
 IsEntry payload item entry =
-    (answer : Result (List ℕ) Refusal) × Alone (List ℕ) (ReadsServer payload item) answer × (entry ≡ entry_numbers item answer)
+    (answer : Result (List ℕ) Refusal) × ReadsServer payload item answer × (entry ≡ entry_numbers item answer)
 
 -- ReadsEntry payload number at answer: this is answered of the item of this number at this offset, with the name in its RDATA
 abbrev pub ReadsEntry : List ℕ → ℕ → ℕ → Result NbtServiceEntry Refusal → Type 0
@@ -142,22 +142,22 @@ ReadsEntries payload number place room (Err refusal) = (0 < room) × ReadsEntry 
 
 -- ---- what is done to an array
 
--- FilledFront A Says old new result: what alone is said stands at the front, and how many they are; or is this refusal, of which
--- all is as it was
-abbrev pub FilledFront : (A : Type 0) → (Result (List A) Refusal → Type 0) → List A → List A → Result ℕ Refusal → Type 0
-FilledFront A Says old new (Ok count) =
-    (values : List A) × Alone (List A) Says (Ok values) × (new ≡ values ++ drop (length values) old) × (count ≡ length values)
-FilledFront A Says old new (Err refusal) = Alone (List A) Says (Err refusal) × (new ≡ old)
+-- FilledFront Says old new result: what is said stands at the front, and how many they are; or is this refusal, of which all is
+-- as it was
+abbrev pub FilledFront : {A : Type 0} → (Result (List A) Refusal → Type 0) → List A → List A → Result ℕ Refusal → Type 0
+FilledFront {A} Says old new (Ok count) =
+    (values : List A) × Says (Ok values) × (new ≡ values ++ drop (length values) old) × (count ≡ length values)
+FilledFront Says old new (Err refusal) = Says (Err refusal) × (new ≡ old)
 
--- Fronted A answer old new used used' at at' status: a call with this answer leaves the array, how many it filled in and the place
+-- Fronted answer old new used used' at at' status: a call with this answer leaves the array, how many it filled in and the place
 -- so, and has this status
-abbrev pub Fronted : (A : Type 0) → Result (List A) Refusal → List A → List A → ℕ → ℕ → ℕ → ℕ → ℕ → Type 0
-Fronted A (Ok values) old new used used' at at' status =
+abbrev pub Fronted : {A : Type 0} → Result (List A) Refusal → List A → List A → ℕ → ℕ → ℕ → ℕ → ℕ → Type 0
+Fronted (Ok values) old new used used' at at' status =
     (new ≡ values ++ drop (length values) old) × (used' ≡ length values) × (at' ≡ at) × (status ≡ statuses.DONE)
-Fronted A (Err refusal) old new used used' at at' status =
+Fronted (Err refusal) old new used used' at at' status =
     (new ≡ old) × (used' ≡ used) × (at' ≡ at_refused refusal at) × (status ≡ refused_status refusal)
 
--- FillsFront A Says old new used used' at at' status: a call fills in what is said, and whatever is said is what it fills in
-pub record FillsFront (A : Type 0) (Says : Result (List A) Refusal → Type 0) (old new : List A) (used used' at at' status : ℕ) : Type 0 where
-  pub some : (answer : Result (List A) Refusal) × Says answer × Fronted A answer old new used used' at at' status
-  pub only : (answer : Result (List A) Refusal) → Says answer → Fronted A answer old new used used' at at' status
+-- FillsFront Says old new used used' at at' status: something that is said is answered, and what was lent is left so
+abbrev pub FillsFront : {A : Type 0} → (Result (List A) Refusal → Type 0) → List A → List A → ℕ → ℕ → ℕ → ℕ → ℕ → Type 0
+FillsFront {A} Says old new used used' at at' status =
+    (answer : Result (List A) Refusal) × Says answer × Fronted answer old new used used' at at' status

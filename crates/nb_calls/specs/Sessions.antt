@@ -1,5 +1,5 @@
 -- What the calls that read packets of port 139 answer (RFC 1002 section 4.3).
-use Rattle.std.specs.Prelude.{◌≡◌, ℕ, ◌-◌, List, length, Result, Ok, Err, ◌<◌, ◌==◌, Bool, not, ◌≤◌, ◌++◌}
+use Rattle.std.specs.Prelude.{◌≡◌, ℕ, ◌-◌, List, length, Result, Ok, Err, ◌<◌, ◌≤◌, ◌++◌}
 use Rattle.std.specs.Int.{w32, from_be_bytes}
 use Rattle.nb_names.specs.DomainName.{spelling}
 use Rattle.nb_names.specs.Name.{NetbiosName, labels_of_name}
@@ -14,7 +14,7 @@ use Rattle.nb_calls.specs.declared.sessions.NbtSessionRetarget.{NbtSessionRetarg
 use Rattle.nb_calls.specs.declared.sessions.NbtSession.{NbtSession}
 use Rattle.nb_calls.specs.declared.statuses.TheConstants as statuses
 use Rattle.nb_calls.specs.Names.{spelled_in_place}
-use Rattle.nb_calls.specs.Statuses.{Refusal, Fault, FaultAt, session_refusal}
+use Rattle.nb_calls.specs.Statuses.{Refusal, Memory, Fault, FaultAt, session_refusal}
 use Rattle.nb_session.specs.declared.parsing.Header.{Header}
 use Rattle.nb_calls.specs.declared.sessions.NbtSessionFront.{NbtSessionFront}
 use Rattle.nb_calls.specs.declared.statuses.TheConstants.{MORE}
@@ -122,14 +122,12 @@ unless_faulty bytes (Refused fault) = Err (session_refusal fault)
 abbrev pub Stands : List ℕ → Result (List ℕ) Refusal → Type 0
 Stands bytes answer = (parsed : Parsed) × Parses bytes parsed × (answer ≡ unless_faulty bytes parsed)
 
--- Writes type body answer: the packet with this type and this body is answered, if it is read as one, else why it isn't
-pub data Writes (type : ℕ) (body : List ℕ) : Result (List ℕ) Refusal → Type 0 where
-  unknown_type : ((kind : Kind) → ¬ (type_of kind ≡ type)) → Writes type body (Err (Fault statuses.UNKNOWN_TYPE))
+-- WritesPacket type body answer: the packet with this type and this body is answered, if it is read as one, else why it isn't;
+-- memory may run out for one that isn't too long
+pub data WritesPacket (type : ℕ) (body : List ℕ) : Result (List ℕ) Refusal → Type 0 where
+  unknown_type : ((kind : Kind) → ¬ (type_of kind ≡ type)) → WritesPacket type body (Err (Fault statuses.UNKNOWN_TYPE))
   too_long : (kind : Kind) → type_of kind ≡ type → MAX_MESSAGE < length body
-      → Writes type body (Err (Fault statuses.BAD_LENGTH))
+      → WritesPacket type body (Err (Fault statuses.BAD_LENGTH))
+  lacks : (kind : Kind) → type_of kind ≡ type → length body ≤ MAX_MESSAGE → WritesPacket type body (Err Memory)
   judged : (kind : Kind) (answer : Result (List ℕ) Refusal) → type_of kind ≡ type → length body ≤ MAX_MESSAGE
-      → Stands (frame kind body) answer → Writes type body answer
-
--- the statuses that come once memory is taken for the packet: all but that of an unknown type
-abbrev pub follow_the_type : ℕ → Bool
-follow_the_type status = not (status == statuses.UNKNOWN_TYPE)
+      → Stands (frame kind body) answer → WritesPacket type body answer

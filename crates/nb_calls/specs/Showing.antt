@@ -1,23 +1,24 @@
 -- What the calls on a payload's text, its phrase and its object answer.
-use Rattle.std.specs.Prelude.{ℕ, List, Result, Ok, Err}
+use Rattle.std.specs.Prelude.{◌≡◌, ℕ, List, Result, Ok, Err}
 use Rattle.nb_text.specs.SaysPacket.{IsSaid}
 use Rattle.nb_text.specs.Shown.{Shown}
 use Rattle.nb_text.specs.Tells.{IsObject}
 use Rattle.nb_calls.specs.declared.output.Refusal.{Refusal}
+use Rattle.nb_calls.specs.declared.output.Refusal.TheVariants.{Memory}
 
--- Only Is answer: a value is answered of which this holds, and no fault
-abbrev pub Only : (List ℕ → Type 0) → Result (List ℕ) Refusal → Type 0
-Only Is (Ok value) = Is value
-Only Is (Err refusal) = ⊥
+-- Made Is answer: a value is answered of which this holds, or memory ran out
+abbrev pub Made : (List ℕ → Type 0) → Result (List ℕ) Refusal → Type 0
+Made Is (Ok value) = Is value
+Made Is (Err refusal) = refusal ≡ Memory
 
--- Shows payload port answer: this is the text of a payload that came to the port, which has one
+-- Shows payload port answer: this is the text of a payload that came to the port
 abbrev pub Shows : List ℕ → ℕ → Result (List ℕ) Refusal → Type 0
-Shows payload port = Only (Shown payload port)
+Shows payload port = Made (Shown payload port)
 
--- Phrases payload port answer: this is the phrase of a payload that came to the port, which has one
+-- Phrases payload port answer: this is the phrase of a payload that came to the port
 abbrev pub Phrases : List ℕ → ℕ → Result (List ℕ) Refusal → Type 0
-Phrases payload port = Only (IsSaid payload port)
+Phrases payload port = Made (IsSaid payload port)
 
--- Objects payload port answer: this is the JSON object of a payload that came to the port, which has one
+-- Objects payload port answer: this is the JSON object of a payload that came to the port
 abbrev pub Objects : List ℕ → ℕ → Result (List ℕ) Refusal → Type 0
-Objects payload port = Only (IsObject payload port)
+Objects payload port = Made (IsObject payload port)

@@ -28,7 +28,7 @@ use Rattle.nb_calls.specs.declared.taken.NbtTaken.{NbtTaken}
 use Rattle.nb_calls.specs.declared.taken.TheConstants as outcomes
 use Rattle.nb_calls.specs.Handles.{IsHere, IsNone}
 use Rattle.nb_calls.specs.Names.{IsRead}
-use Rattle.nb_calls.specs.Outputs.{Does, Lent, none_late, refused_status, at_refused}
+use Rattle.nb_calls.specs.Outputs.{Lent, OrMemory, Writes, refused_status, at_refused}
 use Rattle.nb_calls.specs.Statuses.{Refusal, Memory, Fault, FaultAt, datagram_refusal}
 
 -- ---- the names of a new station
@@ -139,17 +139,13 @@ of_delivered d = record (of_key outcomes.DELIVERED d.key) {
 abbrev pub of_unheard : Key → ℕ → NbtTaken
 of_unheard k size = record (of_key outcomes.UNHEARD k) { error_length = size }
 
--- the place of a refusal, or 0
-abbrev pub place_in : Refusal → ℕ
-place_in refusal = at_refused refusal 0
-
 -- of_refused refusal size: the payload is refused so; the packet to send has so many bytes
 abbrev pub of_refused : Refusal → ℕ → NbtTaken
 of_refused refusal size = record of_other {
   outcome = outcomes.REFUSED;
   error_length = size;
   refusal = refused_status refusal;
-  refused_at = place_in refusal;
+  refused_at = at_refused refusal 0;
 }
 
 -- the spellings of both names of a datagram, and its data
@@ -236,6 +232,6 @@ pub record OnStation (old new : NbtStation) (Done : MemberValue → MemberValue 
   pub here : IsHere old.at → IsHere new.at × Done old.value.member new.value.member
   pub none : IsNone old.at → IsNone new.at × Idle
 
--- Writes bytes m after old new status: a call writes these bytes, or memory runs out, and the member stays
-abbrev pub Writes : List ℕ → MemberValue → MemberValue → Lent → Lent → ℕ → Type 0
-Writes bytes m after old new status = (after ≡ m) × Does none_late (λ answer. answer ≡ Ok bytes) old new status
+-- WritesOf bytes m after old new status: a call writes these bytes, or memory runs out, and the member stays
+abbrev pub WritesOf : List ℕ → MemberValue → MemberValue → Lent → Lent → ℕ → Type 0
+WritesOf bytes m after old new status = (after ≡ m) × Writes (OrMemory (Ok bytes)) old new status

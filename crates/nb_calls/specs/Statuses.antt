@@ -24,11 +24,6 @@ abbrev pub text_refusal : ℕ → TextFault → Refusal
 text_refusal role (texts.BadText place) = FaultAt (role + statuses.BAD_TEXT) place
 text_refusal role texts.TooLong = Fault (role + statuses.LONG_TEXT)
 
--- place_of fault other: the place of a text's fault, if it has one, else the other
-abbrev pub place_of : TextFault → ℕ → ℕ
-place_of (texts.BadText place) other = place
-place_of texts.TooLong other = other
-
 -- name_refusal role fault: why no name stands where one of this role is read
 abbrev pub name_refusal : ℕ → NameFault → Refusal
 name_refusal role (names.Truncated place) = FaultAt (role + statuses.NAME_TRUNCATED) place

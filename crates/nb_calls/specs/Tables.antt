@@ -1,9 +1,7 @@
 -- What the calls on saved tables answer (our choice).
-use Rattle.std.specs.Prelude.{◌≡◌, ◌≢◌, ◌+◌, ℕ, Bool, true, false, nat_le, List, Result, Ok, Err, [], ◌∷◌, Option, Some, None}
+use Rattle.std.specs.Prelude.{◌≡◌, ℕ, Bool, true, false, List, Result, Ok, Err, [], ◌∷◌, Option, Some, None}
 use Rattle.nb_entries.specs.declared.saved.LoadFault.{LoadFault}
-use Rattle.nb_entries.specs.declared.saved.LoadFault.TheVariants as loads
 use Rattle.nb_table.specs.declared.fault.TableFault.{TableFault}
-use Rattle.nb_table.specs.declared.fault.TableFault.TheVariants as tables
 use Rattle.nb_table.specs.Contents.{Contents}
 use Rattle.nb_table.specs.Join.{join}
 use Rattle.nb_table.specs.Limits.{Limits, TableValue, KeepsLimits}
@@ -12,6 +10,7 @@ use Rattle.nb_table.specs.Merging.{Fits, IsRefused}
 use Rattle.nb_member.specs.Listing.{listing}
 use Rattle.nb_member.specs.ListingFields.{listed_objects}
 use Rattle.nb_calls.specs.declared.statuses.TheConstants as statuses
+use Rattle.nb_calls.specs.Outputs.{OrMemory}
 use Rattle.nb_calls.specs.Stations.{table_refusal}
 use Rattle.nb_calls.specs.Statuses.{Refusal, load_refusal}
 use Rattle.std.specs.Int.{w32, from_be_bytes}
@@ -22,26 +21,30 @@ use Rattle.nb_datagram.specs.declared.key.Key.{Key}
 use Rattle.nb_datagram.specs.Key.{key_cmp}
 use Rattle.nb_calls.specs.declared.tables.NbtDifference.{NbtDifference}
 
+-- limits_with keys per_source longest: these
+abbrev pub limits_with : ℕ → ℕ → ℕ → Limits
+limits_with keys per_source longest = record { keys = keys; per_source = per_source; longest = longest }
+
 -- IsLoaded input limits t: the table t stands in the input, and has and keeps these limits
 pub record IsLoaded (input : List ℕ) (limits : Limits) (t : TableValue) : Type 0 where
   pub stands : IsReadAs input t.contents
   pub limited : t.limits ≡ limits
   pub keeps : KeepsLimits t
 
--- Joins l s t answer: the join of the tables s and t, saved, if it is taken in under the limits l, else why not, for
--- another reason than want of memory
+-- Joins l s t answer: the join of the tables s and t, saved, if it is taken in under the limits l, else why not; memory may
+-- run out for what is taken in
 abbrev pub Joins : Limits → Contents → Contents → Result (List ℕ) Refusal → Type 0
 Joins l s t (Ok bytes) = Fits l s t × (bytes ≡ saved (join s t))
 Joins l s t (Err refusal) =
-    (fault : TableFault) × (fault ≢ tables.NoMemory) × IsRefused l s t fault × (refusal ≡ table_refusal fault)
+    (fault : TableFault) × IsRefused l s t fault × (refusal ≡ table_refusal fault)
 
 -- OfTwo first second limits Then answer: this is answered of two saved tables: the first is read, then the second, each
 -- under these limits, and then what is said of both
 pub data OfTwo {A : Type 0} (first second : List ℕ) (limits : Limits) (Then : Contents → Contents → Result A Refusal → Type 0) : Result A Refusal → Type 0 where
-  first_fails : (fault : LoadFault) → fault ≢ loads.NoMemory → LoadFails first limits fault
+  first_fails : (fault : LoadFault) → LoadFails first limits fault
       → OfTwo first second limits Then (Err (load_refusal statuses.NO_ROLE fault))
-  second_fails : (one : TableValue) (fault : LoadFault) → IsLoaded first limits one → fault ≢ loads.NoMemory
-      → LoadFails second limits fault → OfTwo first second limits Then (Err (load_refusal statuses.SECOND fault))
+  second_fails : (one : TableValue) (fault : LoadFault) → IsLoaded first limits one → LoadFails second limits fault
+      → OfTwo first second limits Then (Err (load_refusal statuses.SECOND fault))
   both : (one other : TableValue) (answer : Result A Refusal) → IsLoaded first limits one → IsLoaded second limits other
       → Then one.contents other.contents answer → OfTwo first second limits Then answer
 
@@ -49,19 +52,15 @@ pub data OfTwo {A : Type 0} (first second : List ℕ) (limits : Limits) (Then : 
 abbrev pub Merges : List ℕ → List ℕ → Limits → Result (List ℕ) Refusal → Type 0
 Merges first second limits = OfTwo first second limits (Joins limits)
 
--- the statuses of the second table and of the join, which come after memory is taken for the first
-abbrev pub follow_the_first : ℕ → Bool
-follow_the_first status = nat_le (statuses.SECOND + statuses.TABLE_BAD_MAGIC) status
-
 -- the limits of a table that is only listed: as many keys as a saved one can have, and the longest datagrams
 abbrev pub widest : Limits
-widest = record { keys = 4294967295; per_source = 4294967295; longest = 65535 }
+widest = limits_with 4294967295 4294967295 65535
 
 -- OfOne table told answer: this is answered of a saved table: it is read, then what is told of what it holds
 pub data OfOne (table : List ℕ) (told : Contents → List ℕ) : Result (List ℕ) Refusal → Type 0 where
-  not_read : (fault : LoadFault) → fault ≢ loads.NoMemory → LoadFails table widest fault
-      → OfOne table told (Err (load_refusal statuses.NO_ROLE fault))
-  read : (t : TableValue) → IsLoaded table widest t → OfOne table told (Ok (told t.contents))
+  not_read : (fault : LoadFault) → LoadFails table widest fault → OfOne table told (Err (load_refusal statuses.NO_ROLE fault))
+  read : (t : TableValue) (answer : Result (List ℕ) Refusal) → IsLoaded table widest t → OrMemory (Ok (told t.contents)) answer
+      → OfOne table told answer
 
 -- listed_as json: what is told of a table: the JSON objects of its keys, each a line, or their lines
 abbrev pub listed_as : Bool → Contents → List ℕ

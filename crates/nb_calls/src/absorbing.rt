@@ -2,7 +2,6 @@
 ghost use Rattle.std.specs.Prelude.{◌≡◌, ◌++◌, IfOk, OnOk, Ok};
 ghost use Rattle.nb_table.specs.Saved.{key_bytes};
 ghost use Rattle.nb_calls.specs.Absorbing.{Absorbed, Hears, Joined, all_heard, heard_bytes};
-ghost use Rattle.nb_calls.specs.Outputs.{OrMemory, all_late};
 
 use crate::output::{Refusal, answer_of, load_refusal, table_refusal};
 use crate::statuses::NO_ROLE;
@@ -55,7 +54,7 @@ fn join(
 
 /// The bytes of the datagrams that a member would hand over.
 fn heard(alloc: Global, member: &Member, other: &Table) -> Result<Bytes, Refusal>
-    ensures { OrMemory all_late (Hears member.now other.now.contents) result }
+    ensures { Hears member.now other.now.contents result }
 {
     match member.preview(other) {
         Err(fault) => Err(table_refusal(fault)),

@@ -4,8 +4,8 @@ ghost use Rattle.std.specs.List.{flat_map};
 ghost use Rattle.nb_datagram.specs.declared.limits.TheConstants.{MAX_LENGTH};
 ghost use Rattle.nb_datagram.specs.declared.packet.Packet.TheVariants.{Query};
 ghost use Rattle.nb_datagram.specs.Packet.{packet_bytes};
-ghost use Rattle.nb_calls.specs.Cutting.{are_long, cut_answer, cut_names, key_from, key_of, kind_with, packet_of, packets_of, counted, error_packet, query_answer, query_with};
-ghost use Rattle.nb_calls.specs.Outputs.{OrMemory, none_late};
+ghost use Rattle.nb_calls.specs.Cutting.{are_long, cut_answer, cut_names, datagram_of, key_from, kind_with, packet_of, packets_of, counted, error_packet, query_answer, query_with};
+ghost use Rattle.nb_calls.specs.Outputs.{OrMemory};
 
 use crate::output::{Refusal, answer_of, text_refusal};
 use crate::statuses::{
@@ -42,8 +42,7 @@ pub fn packets(
     destination: Result<Name, TextFault>,
     contents: &[u8],
 ) -> Result<Bytes, Refusal>
-    ensures { OrMemory none_late
-        (λ answer. answer ≡ cut_names sent source destination contents.now) result }
+    ensures { OrMemory (cut_names sent source destination contents.now) result }
 {
     match kind_with(sent.packet_type) {
         None => Err(Refusal::Fault(UNKNOWN_TYPE)),
@@ -78,13 +77,8 @@ fn cut_data(
     destination: Name,
     contents: &[u8],
 ) -> Result<Bytes, Refusal>
-    ensures { OrMemory none_late (λ answer. answer ≡ cut_answer (record {
-      key = key_of sent;
-      kind = kind;
-      source = source;
-      destination = destination;
-      bytes = contents.now;
-    }) sent.most) result }
+    ensures { OrMemory (cut_answer (datagram_of sent kind source destination contents.now)
+        sent.most) result }
 {
     if contents.len() > MAX_LENGTH {
         return Err(Refusal::Fault(LONG_DATA));
@@ -96,13 +90,6 @@ fn cut_data(
         return Err(Refusal::Fault(LONG_DATA));
     }
     answer_of(cut_whole(alloc, sent, kind, source, destination, contents))
-}
-
-/// The key of a datagram that is sent so.
-fn key_of(sent: Sent) -> Key
-    ensures { result ≡ key_of sent }
-{
-    key_from(sent.identifier, sent.address, sent.port)
 }
 
 /// The key with these numbers.
@@ -134,16 +121,12 @@ fn cut_whole(
     contents: &[u8],
 ) -> Result<Bytes, NoMemory>
     requires { length contents.now ≤ MAX_LENGTH }
-    ensures { IfOk result (λ bytes. bytes ≡ packets_of (record {
-      key = key_of sent;
-      kind = kind;
-      source = source;
-      destination = destination;
-      bytes = contents.now;
-    }) sent.most) }
+    ensures { IfOk result (λ bytes.
+        bytes ≡ packets_of (datagram_of sent kind source destination contents.now) sent.most) }
 {
     let bytes = Bytes::copy(alloc, contents)?;
-    let datagram = Datagram::new(key_of(sent), kind, source, destination, bytes).unwrap();
+    let key = key_from(sent.identifier, sent.address, sent.port);
+    let datagram = Datagram::new(key, kind, source, destination, bytes).unwrap();
     cut_datagram(alloc, &datagram, sent.most)
 }
 
@@ -206,7 +189,7 @@ pub fn query_of(
     key: Key,
     read: Result<Name, TextFault>,
 ) -> Result<Bytes, Refusal>
-    ensures { OrMemory none_late (λ answer. answer ≡ query_answer packet_type key read) result }
+    ensures { OrMemory (query_answer packet_type key read) result }
 {
     match query_with(packet_type) {
         None => Err(Refusal::Fault(UNKNOWN_TYPE)),

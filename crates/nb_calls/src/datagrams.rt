@@ -3,13 +3,9 @@ ghost use Rattle.std.specs.Prelude.{◌≡◌, ◌≤◌, length};
 ghost use Rattle.nb_names.specs.declared.limits.TheConstants.{MAX_SPELLING};
 ghost use Rattle.nb_datagram.specs.Packet.{name_bytes};
 ghost use Rattle.nb_calls.specs.Datagrams.{Reads, places_of, header_places, fragment_places, error_places, query_places, ReadsFront, front_places, numbers, place_if, spelled_length};
-ghost use Rattle.nb_calls.specs.declared.datagrams.NbtDatagram.{NbtDatagram};
-ghost use Rattle.nb_calls.specs.Outputs.{Alone};
-ghost use Rattle.nb_calls.specs.declared.datagrams.NbtDatagramFront.{NbtDatagramFront};
 
 use crate::output::{Refusal, datagram_refusal};
 use crate::statuses::TRUNCATED;
-use nb_datagram::laws::{one_datagram_fault, one_front, one_packet};
 use nb_datagram::limits::{DIRECT_HEADER_LENGTH, HEADER_LENGTH};
 use nb_datagram::{ErrorPacket, Fragment, Front, Key, Packet, QueryPacket, decode, read_front};
 use nb_names::{LentName, Name};
@@ -19,7 +15,7 @@ const ERROR_TYPE: u8 = 0x13;
 
 /// A packet of the datagram service: its numbers, and where its parts stand in the payload.
 #[repr(C)]
-#[derive(Clone, Copy)]
+#[derive(Clone, Copy, Default)]
 pub struct NbtDatagram {
     /// MSG_TYPE.
     pub packet_type: u8,
@@ -51,11 +47,8 @@ pub struct NbtDatagram {
 
 /// The numbers and places of the packet at the front of a payload.
 pub fn read(payload: &[u8]) -> Result<NbtDatagram, Refusal>
-    ensures { Alone NbtDatagram (Reads payload.now) result }
+    ensures { Reads payload.now result }
 {
-    // For the clause: a payload has one packet or one fault. The calls do nothing.
-    one_packet();
-    one_datagram_fault();
     match decode(payload) {
         Ok((packet, used)) => Ok(places_of(&packet, used)),
         Err(fault) => Err(datagram_refusal(fault)),
@@ -83,14 +76,8 @@ fn header_places(packet_type: u8, flags: u8, key: Key, used: usize) -> NbtDatagr
         identifier: key.id,
         address: u32::from_be_bytes(key.ip),
         port: key.port,
-        offset: 0,
-        source: 0,
-        source_length: 0,
-        destination: 0,
-        destination_length: 0,
-        contents: 0,
-        contents_length: 0,
         used,
+        ..NbtDatagram::default()
     }
 }
 
@@ -167,10 +154,8 @@ pub struct NbtDatagramFront {
 
 /// What stands at the front of a payload, if its header is there whole.
 pub fn front_of(payload: &[u8]) -> Result<NbtDatagramFront, Refusal>
-    ensures { Alone NbtDatagramFront (ReadsFront payload.now) result }
+    ensures { ReadsFront payload.now result }
 {
-    // For the clause: a payload has one front at most. The call does nothing.
-    one_front();
     match read_front(payload) {
         Some(front) => Ok(front_places(&front)),
         None => Err(Refusal::FaultAt(TRUNCATED, payload.len())),

@@ -31,8 +31,6 @@ ghost use Rattle.nb_calls.specs.Absorbing.{heard_bytes};
 ghost use Rattle.nb_calls.specs.Captures.{line_parts};
 ghost use Rattle.nb_calls.specs.declared.showing.TheConstants.{BLANK, PACKET, TICK};
 ghost use Rattle.nb_calls.specs.Cutting.{are_long, packet_of};
-ghost use Rattle.nb_calls.specs.declared.tables.NbtDifference.{NbtDifference};
-ghost use Rattle.nb_calls.specs.Tables.{Compares, Merges, OfOne};
 ghost use Rattle.nb_calls.specs.Datagrams.{fragment_places, error_places, query_places, front_places};
 ghost use Rattle.nb_calls.specs.Responses.{named_answer, request_answer, requested};
 ghost use Rattle.nb_calls.specs.Services.{section_number};
@@ -44,12 +42,11 @@ ghost use Rattle.nb_calls.specs.declared.service.Asked.{Asked};
 ghost use Rattle.nb_calls.specs.declared.taken.TheConstants.{KEPT, SPOILT, DELIVERED, UNHEARD, OTHER, REFUSED, TAKE_ROOM};
 ghost use Rattle.nb_table.specs.declared.fault.TableFault.TheVariants as joins;
 ghost use Rattle.nb_entries.specs.declared.saved.LoadFault.TheVariants as loads;
-ghost use Rattle.nb_table.specs.Contents.{Contents};
-ghost use Rattle.nb_table.specs.Limits.{Limits};
 ghost use Rattle.nb_calls.specs.declared.statuses.TheConstants.{DONE, NO_ROOM, NO_MEMORY, NO_ROLE, SOURCE_TEXT, DESTINATION_TEXT, SOURCE, DESTINATION, SECOND, BAD_TEXT, LONG_TEXT, NAME_TRUNCATED, NAME_RESERVED_LABEL, NAME_POINTER, NAME_LONG, NAME_NOT_NETBIOS, NAME_TRAILING_BYTES, NAME_BAD_POINTER, TRUNCATED, UNKNOWN_TYPE, MORE, RESERVED_FLAGS, BAD_LENGTH, TRAILING_BYTES, NAME_RDATA, NO_ITEM, OTHER_RDATA, NO_PART, UNKNOWN_REQUEST, ZERO_PIECE, LONG_DATA, TABLE_BAD_MAGIC, TABLE_TRUNCATED, TABLE_NOT_CANONICAL, TABLE_LONG, TABLE_FULL_SOURCE, TABLE_FULL, MISPLACED_FIRST, LONG, FULL_SOURCE, FULL, NAME_PRESENT, TOO_MANY_NAMES, NO_STATION, OTHER_TYPE, BAD_LINE, UNKNOWN_STATUS};
 
+pub mod answers;
+
 use nb_names::laws::{one_name, one_text_fault};
-use nb_table::laws::{an_input_is_read_as_one_table, saved_bytes_have_one_reading};
 
 /// The number of each status, of what became of a payload, of what a line of a capture is, of the
 /// room for a payload, and of each section of an item.
@@ -68,10 +65,8 @@ pub fn numbers()
     ensures tables { (TABLE_BAD_MAGIC ≡ 70) × (TABLE_TRUNCATED ≡ 71)
         × (TABLE_NOT_CANONICAL ≡ 72) × (TABLE_LONG ≡ 73)
         × (TABLE_FULL_SOURCE ≡ 74) × (TABLE_FULL ≡ 75) }
-    ensures joins { (MISPLACED_FIRST ≡ 90) × (LONG ≡ 91)
-        × (FULL_SOURCE ≡ 92) × (FULL ≡ 93) }
-    ensures stations { (NAME_PRESENT ≡ 100) × (TOO_MANY_NAMES ≡ 101)
-        × (NO_STATION ≡ 102) }
+    ensures joins { (MISPLACED_FIRST ≡ 90) × (LONG ≡ 91) × (FULL_SOURCE ≡ 92) × (FULL ≡ 93) }
+    ensures stations { (NAME_PRESENT ≡ 100) × (TOO_MANY_NAMES ≡ 101) × (NO_STATION ≡ 102) }
     ensures parts { (OTHER_TYPE ≡ 110) }
     ensures lines { (BAD_LINE ≡ 120) }
     ensures unknown { (UNKNOWN_STATUS ≡ 255) }
@@ -182,35 +177,6 @@ pub fn five_numbers_are_requests()
     ensures unknown { (asked : Asked) (read : Result NetbiosName TextFault) → 4 < asked.request →
         request_answer asked read ≡ Err (Fault 60) }
 {}
-
-/// Of two saved tables one thing is answered, the join of both or one fault.
-pub fn a_merge_has_one_answer()
-    ensures { (first second : List ℕ) (limits : Limits) (answer other : Result (List ℕ) Refusal) →
-        Merges first second limits answer → Merges first second limits other → answer ≡ other }
-{
-    an_input_is_read_as_one_table();
-    saved_bytes_have_one_reading();
-}
-
-/// Of two saved tables that are compared one thing is answered, the least key at which they differ,
-/// that they don't, or one fault.
-pub fn a_comparison_has_one_answer()
-    ensures { (first second : List ℕ) (answer other : Result NbtDifference Refusal) →
-        Compares first second answer → Compares first second other → answer ≡ other }
-{
-    an_input_is_read_as_one_table();
-    saved_bytes_have_one_reading();
-}
-
-/// Of a saved table one thing is answered: what is listed of it, as the lines of its keys or their
-/// objects, or one fault.
-pub fn a_table_has_one_list()
-    ensures { (table : List ℕ) (told : Contents → List ℕ) (answer other : Result (List ℕ) Refusal) →
-        OfOne table told answer → OfOne table told other → answer ≡ other }
-{
-    an_input_is_read_as_one_table();
-    saved_bytes_have_one_reading();
-}
 
 /// The names and the data of a fragment, the code of an error packet and the name of a query stand
 /// in the payload where they are said to stand.

@@ -7,12 +7,10 @@ ghost use Rattle.nb_names.specs.declared.reading.Pointers.TheVariants.{Followed}
 ghost use Rattle.nb_names.specs.Labels.{NameAt};
 ghost use Rattle.nb_names.specs.Skipped.{IsSkipped};
 ghost use Rattle.nb_calls.specs.Names.{Tells, spelling_answer, IsRead, in_place, spelled_in_place};
-ghost use Rattle.nb_calls.specs.Outputs.{HasOne, OrMemory, none_late};
-ghost use Rattle.nb_calls.specs.Statuses.{place_of};
+ghost use Rattle.nb_calls.specs.Outputs.{OrMemory};
 
 use crate::output::{Refusal, answer_of, name_refusal, text_refusal};
 use crate::statuses::{NAME_TRAILING_BYTES, NO_ROLE};
-use nb_names::laws::{labels_tell_the_name, one_netbios_fault, one_reading};
 use nb_names::limits::{LETTERS, MAX_SPELLING};
 use nb_names::{
     DomainName, Name, NameReader, Pointers, Skipped, TextFault, name_from_text, name_text,
@@ -23,7 +21,7 @@ use std::alloc::Global;
 
 /// The spelling of a name, if one was read.
 pub fn spelling_of(alloc: Global, read: Result<Name, TextFault>) -> Result<Bytes, Refusal>
-    ensures { OrMemory none_late (λ answer. answer ≡ spelling_answer read) result }
+    ensures { OrMemory (spelling_answer read) result }
 {
     match read {
         Ok(name) => answer_of(write_domain(alloc, &name.to_domain())),
@@ -33,13 +31,8 @@ pub fn spelling_of(alloc: Global, read: Result<Name, TextFault>) -> Result<Bytes
 
 /// The text of the name with this spelling.
 pub fn text_of(alloc: Global, spelling: &[u8]) -> Result<Bytes, Refusal>
-    ensures answer { OrMemory none_late (Tells spelling.now) result }
-    ensures one { HasOne (Tells spelling.now) }
+    ensures { Tells spelling.now result }
 {
-    // For the clause: a spelling has one name or one fault. The calls do nothing.
-    one_reading();
-    one_netbios_fault();
-    labels_tell_the_name();
     match read_name(spelling, 0, Pointers::Refused) {
         Ok((name, next)) => {
             if next < spelling.len() {
@@ -80,19 +73,10 @@ fn bad_place(text: &[u8], valid: usize) -> usize
     match str::from_utf8(&text[..valid]) {
         Ok(front) => match name_from_text(front) {
             Ok(_) => valid,
-            Err(fault) => place_of(fault, valid),
+            Err(TextFault::BadText(place)) => place,
+            Err(TextFault::TooLong) => valid,
         },
         Err(_) => 0,
-    }
-}
-
-/// The place of a fault, if it has one, else the other.
-fn place_of(fault: TextFault, other: usize) -> usize
-    ensures { result ≡ place_of fault other }
-{
-    match fault {
-        TextFault::BadText(place) => place,
-        TextFault::TooLong => other,
     }
 }
 
@@ -124,8 +108,8 @@ pub(crate) fn spell_domain(
 }
 
 /// Fills in the spelling of the domain name at an offset of a packet, along the stretches in which
-/// its labels stand. It is out of line, so that others don't pay for the room of a name, and given no
-/// more than it needs, so that nothing is kept for it.
+/// its labels stand. It is out of line, so that others don't pay for the room of a name, and given
+/// no more than it needs, so that nothing is kept for it.
 #[inline(never)]
 fn spell_along(names: &NameReader<'_, '_>, at: usize, into: &mut [u8; MAX_SPELLING])
     requires { (labels : List (List ℕ)) × (next : ℕ) × NameAt names.now Followed at labels next }

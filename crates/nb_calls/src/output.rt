@@ -83,7 +83,7 @@ pub(crate) fn answer_of(bytes: Result<Bytes, NoMemory>) -> Result<Bytes, Refusal
 
 /// Fills in what a call answers, or where the fault stands.
 pub fn fill<T: Copy>(answer: Result<T, Refusal>, into: &mut T, at: &mut usize) -> u32
-    ensures { Filled T answer into.old into.new at.old at.new result }
+    ensures { Filled answer into.old into.new at.old at.new result }
 {
     match answer {
         Ok(value) => {

@@ -4,13 +4,12 @@ ghost use Rattle.nb_service.specs.Encoding.{packet_bytes};
 ghost use Rattle.nb_service.specs.Packet.{ServicePacket};
 ghost use Rattle.nb_service.specs.Views.{entry_bytes};
 ghost use Rattle.nb_service.specs.Record.{ResourceData};
-ghost use Rattle.nb_calls.specs.Outputs.{OrMemory, none_late, HasOne};
+ghost use Rattle.nb_calls.specs.Outputs.{OrMemory};
 ghost use Rattle.nb_calls.specs.Responses.{entry_of, request_answer, requested, IsDomain, IsRdata, Responds, answer_of, response_answer, response_of};
 
 use crate::names::name_of_text;
 use crate::output::{Refusal, answer_of, name_refusal, text_refusal};
 use crate::statuses::{LONG_DATA, NAME_TRAILING_BYTES, NO_ROLE, UNKNOWN_REQUEST};
-use nb_names::laws::{one_fault, one_name, one_reading, one_text_fault};
 use nb_names::{DomainName, Name, Pointers, TextFault, read_domain};
 use nb_service::classes::IN;
 use nb_service::limits::ENTRY_LENGTH;
@@ -48,7 +47,7 @@ pub fn request_of(
     asked: Asked,
     read: Result<Name, TextFault>,
 ) -> Result<Bytes, Refusal>
-    ensures { OrMemory none_late (λ answer. answer ≡ request_answer asked read) result }
+    ensures { OrMemory (request_answer asked read) result }
 {
     if asked.request > RELEASE {
         return Err(Refusal::Fault(UNKNOWN_REQUEST));
@@ -86,10 +85,7 @@ pub(crate) fn bytes_if_made(
     ensures { (expected : ServicePacket) → IfOk made.entry (λ packet. packet ≡ expected) →
         IfOk result (λ bytes. bytes ≡ packet_bytes expected) }
 {
-    match made {
-        Ok(packet) => encode(alloc, &packet),
-        Err(fault) => Err(fault),
-    }
+    encode(alloc, &made?)
 }
 
 /// A request about a name.
@@ -126,20 +122,15 @@ pub struct Answered {
 }
 
 /// The response about the name with this text.
+#[tactic(auto, using(crate::proofs::ResponseLemmas::responses))]
 pub fn answer(
     alloc: Global,
     answered: Answered,
     text: &[u8],
     contents: &[u8],
 ) -> Result<Bytes, Refusal>
-    ensures answer { OrMemory none_late (Responds answered text.now contents.now) result }
-    ensures one { HasOne (Responds answered text.now contents.now) }
+    ensures { Responds answered text.now contents.now result }
 {
-    // For the clause: a text, or a spelling, has one name or one fault. The calls do nothing.
-    one_name();
-    one_text_fault();
-    one_reading();
-    one_fault();
     match name_of_text(text) {
         Ok(name) => named_response(alloc, answered, &name, contents),
         Err(fault) => Err(text_refusal(NO_ROLE, fault)),
@@ -154,13 +145,10 @@ fn named_response(
     contents: &[u8],
 ) -> Result<Bytes, Refusal>
     ensures { (rdata : Result ResourceData Refusal) × IsRdata answered.kind contents.now rdata
-        × OrMemory none_late
-        (λ answer. answer ≡ response_answer answered name.now rdata) result }
+        × OrMemory (response_answer answered name.now rdata) result }
 {
-    match record_of(answered, name, contents) {
-        Ok(record) => answer_of(response_bytes(alloc, answered, record)),
-        Err(refusal) => Err(refusal),
-    }
+    let record = record_of(answered, name, contents)?;
+    answer_of(response_bytes(alloc, answered, record))
 }
 
 /// The answer about a name.

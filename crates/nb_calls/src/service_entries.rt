@@ -1,14 +1,12 @@
 //! Questions and records of the name service, many by one call, with the names in their RDATA.
-ghost use Rattle.std.specs.Prelude.{◌<◌, ◌^◌, ℕ, List, length};
+ghost use Rattle.std.specs.Prelude.{◌<◌, ◌^◌, length};
 ghost use Rattle.nb_service.specs.Header.{HasHeader, header_value};
-ghost use Rattle.nb_calls.specs.declared.service_entries.NbtServiceEntry.{NbtServiceEntry};
 ghost use Rattle.nb_calls.specs.ServiceParts.{FilledFront, ReadsEntries, ReadsEntry, ReadsServer, IsEntry, room_of, spelled_answer};
-ghost use Rattle.nb_calls.specs.Outputs.{Alone};
 
 use crate::names::spelled_in_place;
 use crate::output::{Refusal, service_refusal};
 use crate::service_parts::domain_by;
-use crate::service_reading::{NbtServiceItem, fill_item_of, one_item_answer};
+use crate::service_reading::{NbtServiceItem, fill_item_of};
 use crate::statuses::OTHER_RDATA;
 use nb_names::limits::{MAX_SPELLING, POINTED_OFFSETS};
 use nb_names::{DomainName, NameReader};
@@ -40,7 +38,7 @@ pub fn fill_entries(
     into: &mut [NbtServiceEntry],
 ) -> Result<usize, Refusal>
     requires { number < 2 ^ 32 }
-    ensures { FilledFront NbtServiceEntry (ReadsEntries payload.now number place (room_of into.old))
+    ensures { FilledFront (ReadsEntries payload.now number place (room_of into.old))
         into.old into.new result }
 {
     if payload.len() <= SHORT_PACKET {
@@ -59,7 +57,7 @@ fn fill_long(
     into: &mut [NbtServiceEntry],
 ) -> Result<usize, Refusal>
     requires { number < 2 ^ 32 }
-    ensures { FilledFront NbtServiceEntry (ReadsEntries payload.now number place (room_of into.old))
+    ensures { FilledFront (ReadsEntries payload.now number place (room_of into.old))
         into.old into.new result }
 {
     let mut ends = [0; POINTED_OFFSETS];
@@ -74,11 +72,9 @@ fn fill_entries_by(
     into: &mut [NbtServiceEntry],
 ) -> Result<usize, Refusal>
     requires { number < 2 ^ 32 }
-    ensures { FilledFront NbtServiceEntry (ReadsEntries names.now number place (room_of into.old))
+    ensures { FilledFront (ReadsEntries names.now number place (room_of into.old))
         into.old into.new result }
 {
-    // For the clause; the call does nothing.
-    one_item_answer();
     if into.is_empty() {
         return Ok(0);
     }
@@ -99,11 +95,9 @@ fn fill_each(
     requires header { HasHeader names.now (header_value header.now) }
     requires number { number < 2 ^ 32 }
     requires room { 0 < length into.old }
-    ensures { FilledFront NbtServiceEntry (ReadsEntries names.now number place (room_of into.old))
+    ensures { FilledFront (ReadsEntries names.now number place (room_of into.old))
         into.old into.new result }
 {
-    // For the clause; the call does nothing.
-    one_item_answer();
     let room = into.len().min(MOST_ITEMS);
     let mut count = 0;
     let mut at = place;
@@ -133,7 +127,7 @@ fn entry_at(
     place: usize,
 ) -> Result<NbtServiceEntry, Refusal>
     requires { HasHeader names.now (header_value header.now) }
-    ensures { Alone NbtServiceEntry (ReadsEntry names.now number place) result }
+    ensures { ReadsEntry names.now number place result }
 {
     let mut item = NbtServiceItem {
         section: 0,
@@ -147,10 +141,8 @@ fn entry_at(
         name_length: 0,
         name: [0; MAX_SPELLING],
     };
-    match fill_item_of(names, header, number, place, &mut item) {
-        Ok(()) => Ok(entry_of(names, item)),
-        Err(refusal) => Err(refusal),
-    }
+    fill_item_of(names, header, number, place, &mut item)?;
+    Ok(entry_of(names, item))
 }
 
 /// An item of a packet, with the name in its RDATA.
@@ -173,7 +165,7 @@ fn entry_of(names: &NameReader<'_, '_>, item: NbtServiceItem) -> NbtServiceEntry
 
 /// The name that is the RDATA of a record of type NS.
 fn server_of(names: &NameReader<'_, '_>, item: &NbtServiceItem) -> Result<DomainName, Refusal>
-    ensures { Alone (List ℕ) (ReadsServer names.now item.now) (spelled_answer result) }
+    ensures { ReadsServer names.now item.now (spelled_answer result) }
 {
     if item.section == 0 || item.kind != NS {
         return Err(Refusal::Fault(OTHER_RDATA));

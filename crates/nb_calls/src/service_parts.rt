@@ -1,9 +1,6 @@
 //! Parts of RDATA of the name service: those that have numbers, and a domain name.
-ghost use Rattle.std.specs.Prelude.{◌≡◌, ℕ, List};
-ghost use Rattle.nb_calls.specs.declared.service_parts.NbtServiceAddress.{NbtServiceAddress};
-ghost use Rattle.nb_calls.specs.declared.service_parts.NbtServiceNode.{NbtServiceNode};
-ghost use Rattle.nb_calls.specs.declared.service_parts.NbtServiceUnit.{NbtServiceUnit};
-ghost use Rattle.nb_calls.specs.Outputs.{Alone, Answers, lent};
+ghost use Rattle.std.specs.Prelude.{◌≡◌};
+ghost use Rattle.nb_calls.specs.Outputs.{Answers, lent};
 ghost use Rattle.nb_calls.specs.ServiceParts.{ReadsAddress, ReadsDomain, ReadsNode, ReadsUnit, address_numbers, node_numbers, part_answer, spelled_answer, unit_answer};
 
 use crate::output::{Refusal, name_refusal, put, refuse};
@@ -42,9 +39,8 @@ pub struct NbtServiceUnit {
 }
 
 /// The entry of a number of RDATA of a type.
-#[tactic(auto, using(crate::proofs::AnswerLemmas::choices))]
 pub fn address_at(kind: u16, contents: &[u8], number: usize) -> Result<NbtServiceAddress, Refusal>
-    ensures { Alone NbtServiceAddress (ReadsAddress kind contents.now number) result }
+    ensures { ReadsAddress kind contents.now number result }
 {
     match AddressEntries::of_rdata(kind, contents) {
         Some(entries) => address_of(&entries, number),
@@ -67,7 +63,7 @@ fn address_of(entries: &AddressEntries<'_>, number: usize) -> Result<NbtServiceA
 
 /// A node's name of a number of RDATA of a type.
 pub fn node_at(kind: u16, contents: &[u8], number: usize) -> Result<NbtServiceNode, Refusal>
-    ensures { Alone NbtServiceNode (ReadsNode kind contents.now number) result }
+    ensures { ReadsNode kind contents.now number result }
 {
     match NodeStatus::of_rdata(kind, contents) {
         Some(status) => node_of(&status, number),
@@ -93,7 +89,7 @@ fn node_of(status: &NodeStatus<'_>, number: usize) -> Result<NbtServiceNode, Ref
 
 /// The unit identifier of RDATA of a type.
 pub fn unit_at(kind: u16, contents: &[u8]) -> Result<NbtServiceUnit, Refusal>
-    ensures { Alone NbtServiceUnit (ReadsUnit kind contents.now) result }
+    ensures { ReadsUnit kind contents.now result }
 {
     match NodeStatus::of_rdata(kind, contents) {
         Some(status) => unit_of(&status, contents.len()),
@@ -113,7 +109,7 @@ fn unit_of(status: &NodeStatus<'_>, size: usize) -> Result<NbtServiceUnit, Refus
 
 /// The domain name that so many bytes of a payload are, from a place on.
 pub fn domain_at(payload: &[u8], place: usize, length: usize) -> Result<DomainName, Refusal>
-    ensures { Alone (List ℕ) (ReadsDomain payload.now place length) (spelled_answer result) }
+    ensures { ReadsDomain payload.now place length (spelled_answer result) }
 {
     domain_by(&NameReader::of(payload, &mut []), place, length)
 }
@@ -124,7 +120,7 @@ pub(crate) fn domain_by(
     place: usize,
     length: usize,
 ) -> Result<DomainName, Refusal>
-    ensures { Alone (List ℕ) (ReadsDomain names.now place length) (spelled_answer result) }
+    ensures { ReadsDomain names.now place length (spelled_answer result) }
 {
     match names.read_domain(place, Pointers::Followed) {
         Ok((domain, next)) => {

@@ -5,9 +5,7 @@ ghost use Rattle.nb_names.specs.DomainName.{spelling};
 ghost use Rattle.nb_names.specs.NameText.{are_letters};
 ghost use Rattle.nb_names.specs.Skipped.{IsSkipped};
 ghost use Rattle.nb_service.specs.Header.{HasHeader, header_value};
-ghost use Rattle.nb_calls.specs.declared.service_reading.NbtServiceHeader.{NbtServiceHeader};
-ghost use Rattle.nb_calls.specs.declared.service_reading.NbtServiceItem.{NbtServiceItem};
-ghost use Rattle.nb_calls.specs.Outputs.{Alone, FilledAlone, Fills, HasOne};
+ghost use Rattle.nb_calls.specs.Outputs.{FilledIn, Fills};
 ghost use Rattle.nb_calls.specs.Services.{ReadsHeader, ReadsItem, ReadsPacket, header_numbers, netbios_number, numbers, section_number};
 
 use crate::names::spell_domain;
@@ -16,7 +14,6 @@ use crate::statuses::NO_ITEM;
 use nb_names::NameReader;
 use nb_names::laws::one_reading;
 use nb_names::limits::{LETTERS, MAX_SPELLING, POINTED_OFFSETS};
-use nb_service::laws::{one_header, one_item, one_packet, one_service_fault};
 use nb_service::limits::HEADER_LENGTH;
 use nb_service::{Header, Section, Seen, outline, read_header, see_item};
 
@@ -68,10 +65,8 @@ pub struct NbtServiceItem {
 
 /// The header at the front of a payload.
 pub fn front(payload: &[u8]) -> Result<NbtServiceHeader, Refusal>
-    ensures { Alone NbtServiceHeader (ReadsHeader payload.now) result }
+    ensures { ReadsHeader payload.now result }
 {
-    // For the clause: a payload has one header at most. The call does nothing.
-    one_header();
     match read_header(payload) {
         Ok(header) => Ok(header_numbers(&header, HEADER_LENGTH)),
         Err(fault) => Err(service_refusal(fault)),
@@ -97,8 +92,7 @@ fn header_numbers(header: &Header, used: usize) -> NbtServiceHeader
 /// its stack.
 #[inline(never)]
 pub fn read_long(payload: &[u8], header: &mut NbtServiceHeader, at: &mut usize) -> u32
-    ensures { Fills NbtServiceHeader (ReadsPacket payload.now)
-        header.old header.new at.old at.new result }
+    ensures { Fills (ReadsPacket payload.now) header.old header.new at.old at.new result }
 {
     let mut ends = [0; POINTED_OFFSETS];
     fill_packet(&NameReader::of(payload, &mut ends), header, at)
@@ -106,9 +100,9 @@ pub fn read_long(payload: &[u8], header: &mut NbtServiceHeader, at: &mut usize) 
 
 /// Fills in the header and the length of the packet whose names are read so.
 #[inline(always)]
+#[tactic(auto, using(crate::proofs::AnswerLemmas::finishes))]
 pub fn fill_packet(names: &NameReader<'_, '_>, header: &mut NbtServiceHeader, at: &mut usize) -> u32
-    ensures { Fills NbtServiceHeader (ReadsPacket names.now)
-        header.old header.new at.old at.new result }
+    ensures { Fills (ReadsPacket names.now) header.old header.new at.old at.new result }
 {
     finish(judge(names, header), at)
 }
@@ -117,12 +111,8 @@ pub fn fill_packet(names: &NameReader<'_, '_>, header: &mut NbtServiceHeader, at
 /// of it is kept while the items are judged.
 #[inline(always)]
 fn judge(names: &NameReader<'_, '_>, into: &mut NbtServiceHeader) -> Result<(), Refusal>
-    ensures { FilledAlone NbtServiceHeader (ReadsPacket names.now) into.old into.new result }
+    ensures { FilledIn (ReadsPacket names.now) into.old into.new result }
 {
-    // For the clause: a payload has one header, and one packet or one fault. The calls do nothing.
-    one_header();
-    one_packet();
-    one_service_fault();
     match outline(names) {
         Ok((_, used)) => {
             let header = read_header(names.packet()).unwrap();
@@ -140,11 +130,8 @@ pub fn fill_item(
     place: usize,
     into: &mut NbtServiceItem,
 ) -> Result<(), Refusal>
-    ensures { FilledAlone NbtServiceItem (ReadsItem payload.now number place)
-        into.old into.new result }
+    ensures { FilledIn (ReadsItem payload.now number place) into.old into.new result }
 {
-    // For the clause; the call does nothing.
-    one_item_answer();
     match read_header(payload) {
         Ok(header) => fill_item_of(
             &NameReader::of(payload, &mut []),
@@ -169,11 +156,8 @@ pub(crate) fn fill_item_of(
     into: &mut NbtServiceItem,
 ) -> Result<(), Refusal>
     requires { HasHeader names.now (header_value header.now) }
-    ensures { FilledAlone NbtServiceItem (ReadsItem names.now number place)
-        into.old into.new result }
+    ensures { FilledIn (ReadsItem names.now number place) into.old into.new result }
 {
-    // For the clause; the call does nothing.
-    one_item_answer();
     match see_item(names, header, number, place) {
         Ok(Some((section, seen))) => {
             fill_numbers(section_number(section), &seen, names, into);
@@ -182,14 +166,6 @@ pub(crate) fn fill_item_of(
         Ok(None) => Err(Refusal::Fault(NO_ITEM)),
         Err(fault) => Err(service_refusal(fault)),
     }
-}
-
-/// Of an item one thing is answered.
-pub(crate) fn one_item_answer()
-    ensures { (payload : List ℕ) (number at : ℕ) → HasOne (ReadsItem payload number at) }
-{
-    one_header();
-    one_item();
 }
 
 /// The number of a section; that of questions, which are in none, is 0.

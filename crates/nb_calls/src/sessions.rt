@@ -1,19 +1,13 @@
 //! Packets of the session service: read, taken apart and written.
-ghost use Rattle.std.specs.Prelude.{◌≡◌, ◌≤◌, List, ℕ, length, IfOk};
+ghost use Rattle.std.specs.Prelude.{◌≡◌, ◌≤◌, length, IfOk};
 ghost use Rattle.nb_session.specs.declared.limits.TheConstants.{MAX_MESSAGE};
-ghost use Rattle.nb_calls.specs.declared.sessions.NbtSession.{NbtSession};
-ghost use Rattle.nb_calls.specs.Outputs.{Alone, OrMemory};
-ghost use Rattle.nb_calls.specs.Sessions.{Reads, session_of, ReadsFront, numbers, ReadsNames, ReadsRetarget, names_answer, names_of, retarget_answer, Stands, Writes, follow_the_type, frame};
-ghost use Rattle.nb_calls.specs.declared.sessions.NbtSessionFront.{NbtSessionFront};
-ghost use Rattle.nb_calls.specs.declared.sessions.NbtSessionNames.{NbtSessionNames};
-ghost use Rattle.nb_calls.specs.declared.sessions.NbtSessionRetarget.{NbtSessionRetarget};
+ghost use Rattle.nb_calls.specs.Sessions.{Reads, session_of, ReadsFront, numbers, ReadsNames, ReadsRetarget, names_answer, names_of, retarget_answer, Stands, WritesPacket, frame};
 
 use crate::names::spelled_in_place;
 use crate::output::{Refusal, session_refusal};
 use crate::statuses::{BAD_LENGTH, MORE, OTHER_TYPE, UNKNOWN_TYPE};
 use nb_names::LentName;
 use nb_names::limits::MAX_SPELLING;
-use nb_session::laws::one_header;
 use nb_session::limits::{HEADER_LENGTH, MAX_MESSAGE};
 use nb_session::{Header, Kind, LentPacket, Packet, Parsed, front_header, parse_lent};
 use nb_streams::{Bytes, NoMemory};
@@ -35,7 +29,7 @@ pub struct NbtSession {
 
 /// What stands at the front of bytes: a packet, or why it isn't one.
 pub fn read(bytes: &[u8]) -> Result<NbtSession, Refusal>
-    ensures { Alone NbtSession (Reads bytes.now) result }
+    ensures { Reads bytes.now result }
 {
     match parse_lent(bytes) {
         Parsed::Whole(packet, used) => Ok(session_of(&packet, used)),
@@ -70,10 +64,8 @@ pub struct NbtSessionFront {
 
 /// The header at the front of bytes, if it is there whole.
 pub fn front_of(bytes: &[u8]) -> Result<NbtSessionFront, Refusal>
-    ensures { Alone NbtSessionFront (ReadsFront bytes.now) result }
+    ensures { ReadsFront bytes.now result }
 {
-    // For the clause: bytes begin with one header at most. The call does nothing.
-    one_header();
     match front_header(bytes) {
         Some(header) => Ok(numbers(&header)),
         None => Err(Refusal::FaultAt(MORE, HEADER_LENGTH - bytes.len())),
@@ -117,7 +109,7 @@ pub struct NbtSessionRetarget {
 
 /// The names of the request at the front of bytes, or why none stands there.
 pub fn names_in(bytes: &[u8]) -> Result<NbtSessionNames, Refusal>
-    ensures { Alone NbtSessionNames (ReadsNames bytes.now) result }
+    ensures { ReadsNames bytes.now result }
 {
     match parse_lent(bytes) {
         Parsed::Whole(packet, _) => names_answer(&packet),
@@ -152,7 +144,7 @@ fn names_of(called: &LentName<'_>, calling: &LentName<'_>) -> NbtSessionNames
 
 /// Where the retarget at the front of bytes leads, or why none stands there.
 pub fn retarget_in(bytes: &[u8]) -> Result<NbtSessionRetarget, Refusal>
-    ensures { Alone NbtSessionRetarget (ReadsRetarget bytes.now) result }
+    ensures { ReadsRetarget bytes.now result }
 {
     match parse_lent(bytes) {
         Parsed::Whole(packet, _) => retarget_answer(&packet),
@@ -176,7 +168,7 @@ fn retarget_answer(packet: &LentPacket<'_>) -> Result<NbtSessionRetarget, Refusa
 
 /// The packet with this type and this body.
 pub fn packet_of(alloc: Global, packet_type: u8, body: &[u8]) -> Result<Bytes, Refusal>
-    ensures { OrMemory follow_the_type (Writes packet_type body.now) result }
+    ensures { WritesPacket packet_type body.now result }
 {
     match Kind::of_type(packet_type) {
         None => Err(Refusal::Fault(UNKNOWN_TYPE)),
@@ -207,7 +199,7 @@ fn frame(alloc: Global, kind: Kind, body: &[u8]) -> Result<Bytes, NoMemory>
 
 /// The bytes, if they are a packet, else why they aren't.
 fn judge(bytes: Bytes) -> Result<Bytes, Refusal>
-    ensures { Alone (List ℕ) (Stands bytes) result }
+    ensures { Stands bytes result }
 {
     match parse_lent(bytes.as_slice()) {
         Parsed::Whole(_, _) => {}

@@ -7,133 +7,97 @@ ghost use Rattle.nb_calls.specs.Statuses.{status_word, word_beside};
 
 /// No role: a text, a name or a saved table that is the only one of its call, or the first.
 pub const NO_ROLE: u32 = 0;
-
 /// The role of a source's text.
 pub const SOURCE_TEXT: u32 = 2;
-
 /// The role of a destination's text.
 pub const DESTINATION_TEXT: u32 = 4;
-
 /// The role of a source's name.
 pub const SOURCE: u32 = 10;
-
 /// The role of a destination's name.
 pub const DESTINATION: u32 = 20;
-
 /// The role of the second of two saved tables.
 pub const SECOND: u32 = 10;
 
 /// Done.
 pub const DONE: u32 = 0;
-
 /// No room.
 pub const NO_ROOM: u32 = 1;
-
 /// Memory.
 pub const NO_MEMORY: u32 = 2;
 
 /// Bad text.
 pub const BAD_TEXT: u32 = 10;
-
 /// Text too long.
 pub const LONG_TEXT: u32 = 11;
 
 /// Name: truncated.
 pub const NAME_TRUNCATED: u32 = 20;
-
 /// Name: reserved label.
 pub const NAME_RESERVED_LABEL: u32 = 21;
-
 /// Name: pointer not allowed.
 pub const NAME_POINTER: u32 = 22;
-
 /// Name: too long.
 pub const NAME_LONG: u32 = 23;
-
 /// Name: not netbios.
 pub const NAME_NOT_NETBIOS: u32 = 24;
-
 /// Name: trailing bytes.
 pub const NAME_TRAILING_BYTES: u32 = 25;
-
 /// Name: bad pointer.
 pub const NAME_BAD_POINTER: u32 = 26;
 
 /// Truncated.
 pub const TRUNCATED: u32 = 50;
-
 /// Unknown type.
 pub const UNKNOWN_TYPE: u32 = 51;
-
 /// More bytes needed.
 pub const MORE: u32 = 52;
-
 /// Reserved flags.
 pub const RESERVED_FLAGS: u32 = 53;
-
 /// Bad length.
 pub const BAD_LENGTH: u32 = 54;
-
 /// Trailing bytes.
 pub const TRAILING_BYTES: u32 = 55;
-
 /// Name rdata.
 pub const NAME_RDATA: u32 = 56;
-
 /// No item.
 pub const NO_ITEM: u32 = 57;
-
 /// Other rdata.
 pub const OTHER_RDATA: u32 = 58;
-
 /// No part.
 pub const NO_PART: u32 = 59;
-
 /// Unknown request.
 pub const UNKNOWN_REQUEST: u32 = 60;
-
 /// Zero piece.
 pub const ZERO_PIECE: u32 = 61;
-
 /// Data too long.
 pub const LONG_DATA: u32 = 62;
 
 /// Table: bad magic.
 pub const TABLE_BAD_MAGIC: u32 = 70;
-
 /// Table: truncated.
 pub const TABLE_TRUNCATED: u32 = 71;
-
 /// Table: not canonical.
 pub const TABLE_NOT_CANONICAL: u32 = 72;
-
 /// Table: too long.
 pub const TABLE_LONG: u32 = 73;
-
 /// Table: full source.
 pub const TABLE_FULL_SOURCE: u32 = 74;
-
 /// Table: full.
 pub const TABLE_FULL: u32 = 75;
 
 /// Misplaced first.
 pub const MISPLACED_FIRST: u32 = 90;
-
 /// Too long.
 pub const LONG: u32 = 91;
-
 /// Full source.
 pub const FULL_SOURCE: u32 = 92;
-
 /// Full.
 pub const FULL: u32 = 93;
 
 /// Name: present.
 pub const NAME_PRESENT: u32 = 100;
-
 /// Too many names.
 pub const TOO_MANY_NAMES: u32 = 101;
-
 /// No station.
 pub const NO_STATION: u32 = 102;
 

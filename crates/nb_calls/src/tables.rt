@@ -1,11 +1,9 @@
 //! Saved tables: joined, listed and compared.
 ghost use Rattle.std.specs.Prelude.{◌≡◌, IfOk, IfErr};
 ghost use Rattle.std.specs.FinMap as maps;
-ghost use Rattle.nb_table.specs.Limits.{KeepsLimits};
 ghost use Rattle.nb_table.specs.Saved.{LoadFails};
 ghost use Rattle.nb_member.specs.Listing.{listing};
-ghost use Rattle.nb_calls.specs.Tables.{Joins, Merges, OfOne, follow_the_first, listed_as, Compares, IsLeastDifference, Narrows, NarrowsBy, difference_of, lower_of, IsLoaded};
-ghost use Rattle.nb_calls.specs.Outputs.{OrMemory, none_late};
+ghost use Rattle.nb_calls.specs.Tables.{Joins, Merges, OfOne, listed_as, Compares, IsLeastDifference, Narrows, NarrowsBy, difference_of, limits_with, lower_of, IsLoaded};
 
 use crate::output::{Refusal, answer_of, load_refusal, table_refusal};
 use crate::stations::LONGEST;
@@ -13,7 +11,6 @@ use crate::statuses::{NO_ROLE, SECOND};
 use nb_datagram::Key;
 use nb_member::{list_keys, list_objects};
 use nb_streams::{Bytes, NoMemory};
-use nb_table::laws::{an_input_is_read_as_one_table, saved_bytes_have_one_reading};
 use nb_table::{LoadFault, Table, load};
 use std::alloc::Global;
 use std::cmp::Ordering;
@@ -26,15 +23,8 @@ pub fn merged(
     keys: u32,
     per_source: u32,
 ) -> Result<Bytes, Refusal>
-    ensures { OrMemory follow_the_first (Merges first.now second.now (record {
-      keys = keys;
-      per_source = per_source;
-      longest = 65535;
-    })) result }
+    ensures { Merges first.now second.now (limits_with keys per_source 65535) result }
 {
-    // For the clause; the calls do nothing.
-    an_input_is_read_as_one_table();
-    saved_bytes_have_one_reading();
     match loaded(alloc, first, keys, per_source, LONGEST) {
         Err(fault) => Err(load_refusal(NO_ROLE, fault)),
         Ok(mut table) => match loaded(alloc, second, keys, per_source, LONGEST) {
@@ -46,8 +36,7 @@ pub fn merged(
 
 /// The join of a table and another, saved.
 fn joined(table: &mut Table, other: Table) -> Result<Bytes, Refusal>
-    ensures { OrMemory follow_the_first
-        (Joins table.old.limits table.old.contents other.contents) result }
+    ensures { Joins table.old.limits table.old.contents other.contents result }
 {
     match table.take_in(other) {
         Err(fault) => Err(table_refusal(fault)),
@@ -57,11 +46,8 @@ fn joined(table: &mut Table, other: Table) -> Result<Bytes, Refusal>
 
 /// What is listed of a saved table's keys: their objects, or their lines.
 pub fn listed(alloc: Global, table: &[u8], json: bool) -> Result<Bytes, Refusal>
-    ensures { OrMemory none_late (OfOne table.now (listed_as json)) result }
+    ensures { OfOne table.now (listed_as json) result }
 {
-    // For the clause; the calls do nothing.
-    an_input_is_read_as_one_table();
-    saved_bytes_have_one_reading();
     match loaded(alloc, table, u32::MAX, u32::MAX, LONGEST) {
         Err(fault) => Err(load_refusal(NO_ROLE, fault)),
         Ok(table) => answer_of(listed_of(alloc, &table, json)),
@@ -88,7 +74,7 @@ pub fn lines_of(alloc: Global, table: &Table) -> Result<Bytes, NoMemory>
 
 /// Whether two tables differ, and the least key at which they do.
 #[repr(C)]
-#[derive(Clone, Copy)]
+#[derive(Clone, Copy, Default)]
 pub struct NbtDifference {
     /// SOURCE_IP.
     pub address: u32,
@@ -102,11 +88,8 @@ pub struct NbtDifference {
 
 /// The least key at which two saved tables differ.
 pub fn compared(alloc: Global, first: &[u8], second: &[u8]) -> Result<NbtDifference, Refusal>
-    ensures { OrMemory follow_the_first (Compares first.now second.now) result }
+    ensures { Compares first.now second.now result }
 {
-    // For the clause; the calls do nothing.
-    an_input_is_read_as_one_table();
-    saved_bytes_have_one_reading();
     match loaded(alloc, first, u32::MAX, u32::MAX, LONGEST) {
         Err(fault) => Err(load_refusal(NO_ROLE, fault)),
         Ok(one) => match loaded(alloc, second, u32::MAX, u32::MAX, LONGEST) {
@@ -121,12 +104,7 @@ fn difference_of(least: Option<Key>) -> NbtDifference
     ensures { result ≡ difference_of least }
 {
     match least {
-        None => NbtDifference {
-            address: 0,
-            port: 0,
-            identifier: 0,
-            differ: 0,
-        },
+        None => NbtDifference::default(),
         Some(key) => NbtDifference {
             address: u32::from_be_bytes(key.ip),
             port: key.port,
@@ -188,30 +166,11 @@ pub(crate) fn loaded(
     per_source: u32,
     longest: u16,
 ) -> Result<Table, LoadFault>
-    ensures found { IfOk result (IsLoaded input.now (record {
-      keys = keys;
-      per_source = per_source;
-      longest = longest;
-    })) }
-    ensures fault { IfErr result (LoadFails input.now (record {
-      keys = keys;
-      per_source = per_source;
-      longest = longest;
-    })) }
+    ensures found { IfOk result (IsLoaded input.now (limits_with keys per_source longest)) }
+    ensures fault { IfErr result (LoadFails input.now (limits_with keys per_source longest)) }
 {
-    match load(alloc, input, keys, per_source, longest) {
-        Err(fault) => Err(fault),
-        Ok(table) => {
-            // For the clause; the call does nothing.
-            keeps_its_limits(&table);
-            Ok(table)
-        }
-    }
-}
-
-/// A table keeps its limits.
-fn keeps_its_limits(table: &Table)
-    ensures { KeepsLimits table.now }
-{
+    let table = load(alloc, input, keys, per_source, longest)?;
+    // For the clause; the call does nothing.
     let _count = table.len();
+    Ok(table)
 }

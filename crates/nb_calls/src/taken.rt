@@ -1,10 +1,8 @@
 //! What became of a payload, in numbers.
-ghost use Rattle.std.specs.Prelude.{◌≡◌, length};
-ghost use Rattle.nb_calls.specs.Stations.{of_key, of_other, of_delivered, of_unheard, of_refused, place_in};
-ghost use Rattle.nb_datagram.specs.Packet.{name_bytes};
+ghost use Rattle.std.specs.Prelude.{◌≡◌};
+ghost use Rattle.nb_calls.specs.Stations.{of_key, of_other};
 
-use crate::output::{Refusal, status_of};
-use nb_datagram::{Datagram, Key};
+use nb_datagram::Key;
 
 /// A fragment, by which its datagram became neither whole nor spoilt.
 pub const KEPT: u32 = 0;
@@ -30,7 +28,7 @@ pub const TAKE_ROOM: usize = 66_045;
 
 /// What became of a payload, in numbers. A number of which nothing is said is 0.
 #[repr(C)]
-#[derive(Clone, Copy)]
+#[derive(Clone, Copy, Default)]
 pub struct NbtTaken {
     /// Which outcome.
     pub outcome: u32,
@@ -62,16 +60,7 @@ pub(crate) fn of_other() -> NbtTaken
 {
     NbtTaken {
         outcome: OTHER,
-        address: 0,
-        port: 0,
-        identifier: 0,
-        packet_type: 0,
-        source_length: 0,
-        destination_length: 0,
-        contents_length: 0,
-        error_length: 0,
-        refusal: 0,
-        refused_at: 0,
+        ..NbtTaken::default()
     }
 }
 
@@ -85,50 +74,4 @@ pub(crate) fn of_key(outcome: u32, key: Key) -> NbtTaken
     taken.port = key.port;
     taken.identifier = key.id;
     taken
-}
-
-/// A datagram of the key isn't heard; the packet to send has so many bytes.
-pub(crate) fn of_unheard(key: Key, size: usize) -> NbtTaken
-    ensures { result ≡ of_unheard key size }
-{
-    let mut taken = of_key(UNHEARD, key);
-    taken.error_length = size;
-    taken
-}
-
-/// The datagram is handed over; the spellings of its names have so many bytes.
-pub(crate) fn of_delivered(datagram: &Datagram, source: usize, destination: usize) -> NbtTaken
-    requires source { source ≡ length (name_bytes datagram.now.source) }
-    requires destination { destination ≡ length (name_bytes datagram.now.destination) }
-    ensures { result ≡ of_delivered datagram.now }
-{
-    let mut taken = of_key(DELIVERED, datagram.key());
-    taken.packet_type = datagram.kind().message_type();
-    taken.source_length = source;
-    taken.destination_length = destination;
-    taken.contents_length = datagram.bytes().len();
-    taken
-}
-
-/// The payload is refused so; the packet to send has so many bytes.
-pub(crate) fn of_refused(refusal: Refusal, size: usize) -> NbtTaken
-    ensures { result ≡ of_refused refusal size }
-{
-    let mut taken = of_other();
-    taken.outcome = REFUSED;
-    taken.error_length = size;
-    taken.refusal = status_of(refusal);
-    taken.refused_at = place_in(refusal);
-    taken
-}
-
-/// The place of a refusal, or 0.
-fn place_in(refusal: Refusal) -> usize
-    ensures { result ≡ place_in refusal }
-{
-    match refusal {
-        Refusal::Memory => 0,
-        Refusal::Fault(_) => 0,
-        Refusal::FaultAt(_, place) => place,
-    }
 }

@@ -5,10 +5,10 @@ ghost use Rattle.nb_calls.specs.declared.taken.TheConstants.{TAKE_ROOM};
 ghost use Rattle.nb_datagram.specs.Packet.{packet_bytes};
 ghost use Rattle.nb_datagram.specs.declared.packet.Packet.TheVariants.{Error};
 
-use crate::output::{datagram_refusal, status_of, table_refusal};
+use crate::output::{datagram_refusal, refuse, status_of, table_refusal};
 use crate::statuses::{DONE, NO_ROOM};
 use crate::taken::{
-    KEPT, NbtTaken, SPOILT, TAKE_ROOM, of_delivered, of_key, of_other, of_refused, of_unheard,
+    DELIVERED, KEPT, NbtTaken, REFUSED, SPOILT, TAKE_ROOM, UNHEARD, of_key, of_other,
 };
 use nb_datagram::{Datagram, DatagramFault, ErrorPacket};
 use nb_member::{Member, MemberFault, Outcome};
@@ -76,9 +76,9 @@ pub(crate) fn tell(outcome: &Outcome, taken: &mut NbtTaken, into: &mut [u8]) -> 
         }
         Outcome::Delivered(datagram) => tell_delivered(datagram, taken, into),
         Outcome::Unheard(key, error) => {
-            let size = put_error(*error, into);
-            *taken = of_unheard(*key, size);
-            size
+            *taken = of_key(UNHEARD, *key);
+            taken.error_length = put_error(*error, into);
+            taken.error_length
         }
         Outcome::Other => {
             *taken = of_other();
@@ -99,9 +99,11 @@ pub(crate) fn tell_refused(
     ensures bytes { into.new ≡ error_bytes error ++ drop (length (error_bytes error)) into.old }
     ensures count { result ≡ length (error_bytes error) }
 {
-    let size = put_error(error, into);
-    *taken = of_refused(datagram_refusal(fault), size);
-    size
+    *taken = of_other();
+    taken.outcome = REFUSED;
+    taken.error_length = put_error(error, into);
+    taken.refusal = refuse(datagram_refusal(fault), &mut taken.refused_at);
+    taken.error_length
 }
 
 /// Writes a datagram that is handed over, and answers how many bytes that is.
@@ -114,24 +116,13 @@ fn tell_delivered(datagram: &Datagram, taken: &mut NbtTaken, into: &mut [u8]) ->
 {
     let source = datagram.source().to_domain();
     let destination = datagram.destination().to_domain();
-    *taken = of_delivered(datagram, source.spelled_len(), destination.spelled_len());
-    put_three(
-        source.spelling(),
-        destination.spelling(),
-        datagram.bytes(),
-        into,
-    )
-}
-
-/// Writes three rows of bytes one after the other, and answers how many they are.
-fn put_three(first: &[u8], second: &[u8], third: &[u8], into: &mut [u8]) -> usize
-    requires { length (first.now ++ (second.now ++ third.now)) ≤ length into.old }
-    ensures bytes { into.new ≡ (first.now ++ (second.now ++ third.now))
-        ++ drop (length (first.now ++ (second.now ++ third.now))) into.old }
-    ensures count { result ≡ length (first.now ++ (second.now ++ third.now)) }
-{
-    let size = put_front(first, into);
-    size + put_two(second, third, &mut into[size..])
+    *taken = of_key(DELIVERED, datagram.key());
+    taken.packet_type = datagram.kind().message_type();
+    taken.source_length = source.spelled_len();
+    taken.destination_length = destination.spelled_len();
+    taken.contents_length = datagram.bytes().len();
+    let size = put_front(source.spelling(), into);
+    size + put_two(destination.spelling(), datagram.bytes(), &mut into[size..])
 }
 
 /// Writes two rows of bytes one after the other, and answers how many they are.

@@ -1,8 +1,4 @@
-use Rattle.nb_calls.proofs.NameLemmas.{TextLaws, does_read}
-use Rattle.nb_calls.specs.Names.{spelling_answer}
 use Rattle.nb_c.proofs.names.nbt_name_spell.Goals as goal
 
 pub returns : goal.returns
-returns c =
-    let laws : TextLaws c.args.text.now = record { one = c.one_name.ensures _; one_fault = c.one_text_fault.ensures.one _; apart = c.one_text_fault.ensures.none _ } in
-    does_read _ laws spelling_answer _ c.name_of_text.ensures _ c.spelling_of.ensures _ _ _ c.write_answer.ensures
+returns c = (_, (_, c.name_of_text.ensures, c.spelling_of.ensures), c.write_answer.ensures)

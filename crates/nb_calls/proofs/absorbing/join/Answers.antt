@@ -1,8 +1,9 @@
-use Rattle.nb_calls.proofs.AbsorbLemmas.{joins_not}
+use Rattle.nb_calls.proofs.Common.{refl}
+use Rattle.nb_calls.specs.Absorbing.{refused}
 use Rattle.nb_calls.proofs.absorbing.join.Goals as goal
 
 pub join_in_room-requires : goal.join_in_room-requires
 join_in_room-requires c = c.in-Ok.ensures
 
 pub returns-in-Err : goal.returns-in-Err
-returns-in-Err c = joins_not _ _ _ _ _ c.in-Err.ensures
+returns-in-Err c = refused _ c.in-Err.ensures refl

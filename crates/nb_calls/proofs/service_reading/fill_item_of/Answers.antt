@@ -1,5 +1,4 @@
 use Rattle.nb_calls.proofs.Common.{◌∙◌, refl, header_value, seen_extent, seen_name, seen_fields}
-use Rattle.nb_calls.proofs.AnswerLemmas.{alone_of}
 use Rattle.nb_calls.proofs.ServiceLemmas.{at_none, at_some, extent_fits, extent_there, same_numbers}
 use Rattle.nb_calls.specs.Services.{uncounted, fails, stands}
 use Rattle.nb_calls.proofs.service_reading.fill_item_of.Goals as goal
@@ -19,13 +18,12 @@ returns-in-Ok-Some c =
     let there = at_some _ _ _ _ c.in-Ok-Some.field-0-is c.in-Ok-Some.ensures.found in
     let filled = c.fill_numbers.ensures _ (seen_name _ there.1.0 _ there.1.2)
     ∙ same_numbers _ _ _ _ _ _ c.section_number.ensures there.1.3 (seen_fields _ there.1.0 _ there.1.2) in
-    rw filled (alone_of _ (c.one_item_answer.ensures _ _ _) _
-    (stands (header_value c.args.header.now) there.1.0 _ c.requires there.1.1 (extent_there _ there.1.0 _ _ there.0 there.1.2)))
+    rw filled (stands (header_value c.args.header.now) there.1.0 _ c.requires there.1.1 (extent_there _ there.1.0 _ _ there.0 there.1.2))
 
 pub returns-in-Ok-None : goal.returns-in-Ok-None
 returns-in-Ok-None c =
-    (alone_of _ (c.one_item_answer.ensures _ _ _) _ (uncounted (header_value c.args.header.now) c.requires (at_none _ _ _ c.in-Ok-None.field-0-is c.in-Ok-None.ensures.found)), refl)
+    (uncounted (header_value c.args.header.now) c.requires (at_none _ _ _ c.in-Ok-None.field-0-is c.in-Ok-None.ensures.found), refl)
 
 pub returns-in-Err : goal.returns-in-Err
 returns-in-Err c =
-    rw c.service_refusal.ensures (alone_of _ (c.one_item_answer.ensures _ _ _) _ (fails (header_value c.args.header.now) _ c.requires c.in-Err.ensures.fault), refl)
+    rw c.service_refusal.ensures (fails (header_value c.args.header.now) _ c.requires c.in-Err.ensures.fault, refl)

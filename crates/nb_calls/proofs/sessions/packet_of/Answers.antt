@@ -1,6 +1,5 @@
 use Rattle.nb_calls.proofs.Common.{ℕ, List, subst}
-use Rattle.nb_calls.specs.Sessions.{Stands, unknown_type, too_long}
-use Rattle.nb_calls.proofs.FrameLemmas.{writes_late, written}
+use Rattle.nb_calls.specs.Sessions.{Stands, unknown_type, too_long, lacks, judged}
 use Rattle.nb_calls.proofs.sessions.packet_of.Goals as goal
 
 pub returns-in-None : goal.returns-in-None
@@ -11,8 +10,8 @@ returns-then-body-gt-MAX_MESSAGE c = too_long c.in-Some.kind c.in-Some.ensures c
 
 pub returns-in-Ok : goal.returns-in-Ok
 returns-in-Ok c =
-    written _ _ c.in-Some.kind _ c.in-Some.ensures c.if-body-gt-MAX_MESSAGE.false
-    (subst (λ (b : List ℕ). Stands b c.judge.result) c.in-Ok.ensures c.judge.ensures.said)
+    judged c.in-Some.kind _ c.in-Some.ensures c.if-body-gt-MAX_MESSAGE.false
+    (subst (λ (b : List ℕ). Stands b c.judge.result) c.in-Ok.ensures c.judge.ensures)
 
 pub returns-in-Err : goal.returns-in-Err
-returns-in-Err c = writes_late _ _ c.in-Some.kind c.in-Some.ensures
+returns-in-Err c = lacks c.in-Some.kind c.in-Some.ensures c.if-body-gt-MAX_MESSAGE.false

@@ -24,6 +24,7 @@ import tempfile
 sys.dont_write_bytecode = True
 HERE = os.path.dirname(os.path.abspath(__file__))
 sys.path[1:1] = [f'{HERE}/{it}' for it in ('lib', 'captures', '.')]
+from model.objects import front_of, shown as packet_shown
 from model.phrases import said
 from parts import equal, finish, part, skip
 from random_pcap import pcap_of
@@ -177,6 +178,7 @@ def filters(program, paths):
             continue
         for _ in range(3):
             filtered(program, path, rows, shown_whole, random_of)
+        named(program, path, rows, shown_whole, random_of)
         most = random_of.randint(1, len(shown_whole))
         lines = [each for each in run(program, path).stdout.splitlines() if LINE.match(each.decode(errors='surrogateescape'))]
         first = run(program, path, words=['-c', str(most)]).stdout.splitlines()[:most]
@@ -184,6 +186,40 @@ def filters(program, paths):
         given = [each.split()[1].decode() for each in run(program, path, words=['--time', 'utc']).stdout.splitlines() if UTC_LINE.match(each)]
         rows = shown_rows(program, path, [], tshark_rows(path))
         equal(given, [utc(each['frame.time_epoch']) for each in rows], f'--time utc of {os.path.basename(path)}')
+
+
+def named(program, path, rows, shown_whole, random_of):
+    """Names of the file, whole or without their last byte, in any case: the frames whose payloads have them, by the model."""
+    names = {each['frame.number']: names_of(each) for each in shown_whole}
+    known = sorted(set().union(*names.values()))
+    for name in random_of.sample(known, min(4, len(known))) + ['NO STATION']:
+        word = random_of.choice([name, name.partition('<')[0] or name, name.swapcase()])
+        wanted = [each['frame.number'] for each in shown_whole if any(is_meant(word, name) for name in names[each['frame.number']])]
+        given = [each['frame.number'] for each in shown_rows(program, path, ['--name', word], rows)]
+        equal(given, wanted, f'--name {word} of {os.path.basename(path)}')
+
+
+def is_meant(word, name):
+    return word.lower() in (name.lower(), name.partition('<')[0].lower())
+
+
+def names_of(row):
+    """The names in what stands of a row's payload."""
+    payload, size = bytes.fromhex(row['udp.payload'].replace(':', '')), int(row['udp.length']) - 8
+    return set(names_in([told(service_of(row), payload[:size]) for told in (packet_shown, front_of)]))
+
+
+def names_in(told):
+    """The texts under the names of members that are names."""
+    if isinstance(told, list):
+        for each in told:
+            yield from names_in(each)
+    elif isinstance(told, dict):
+        for key, value in told.items():
+            if key in ('name', 'source', 'destination', 'called', 'calling') and isinstance(value, str):
+                yield value
+            else:
+                yield from names_in(value)
 
 
 def utc(epoch):

@@ -1,3 +1,4 @@
 mod FrontLemmas
 mod PrintingLemmas
 mod TimesLemmas
+mod NamingLemmas

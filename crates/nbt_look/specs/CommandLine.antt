@@ -9,6 +9,10 @@ use Rattle.clap.specs.declared.builder.value_parser.ValueParser.TheVariants.{Uns
 abbrev pub quiet_rule : Rule
 quiet_rule = record (new_rule (codes "quiet")) { long = Some (codes "quiet"); action = Some SetTrue }
 
+-- `--name TEXT`, any number of times
+abbrev pub name_rule : Rule
+name_rule = record (new_rule (codes "name")) { long = Some (codes "name"); action = Some Append; value_names = 1 }
+
 -- `--host ADDRESS`, any number of times
 abbrev pub host_rule : Rule
 host_rule = record (new_rule (codes "host")) { long = Some (codes "host"); action = Some Append; value_names = 1 }
@@ -43,10 +47,14 @@ top_app = on_top (λ s. record s { has_version = true }) (new_app (codes "nbt-lo
 abbrev pub time_rule : Rule
 time_rule = record (new_rule (codes "time")) { long = Some (codes "time"); action = Some Set; value_names = 1 }
 
--- the same with its options
-abbrev pub with_options : App
-with_options = with_rule (with_rule (with_rule (with_rule (with_rule top_app quiet_rule) host_rule) port_rule) count_rule) time_rule
+-- the same with the options of what is wanted
+abbrev pub with_filters : App
+with_filters = with_rule (with_rule (with_rule (with_rule (with_rule top_app quiet_rule) name_rule) host_rule) port_rule) count_rule
 
--- the whole command line: `[--quiet] [--host ADDRESS].. [--port PORT].. [-c N] [--time WHEN] FILE`
+-- the same with the option of times
+abbrev pub with_options : App
+with_options = with_rule with_filters time_rule
+
+-- the whole command line: `[--quiet] [--name TEXT].. [--host ADDRESS].. [--port PORT].. [-c N] [--time WHEN] FILE`
 abbrev pub look_app : App
 look_app = with_rule with_options file_rule

@@ -12,3 +12,4 @@ pub mod FaultTexts
 pub mod Running
 pub mod CommandLine
 pub mod Asking
+pub mod Naming

@@ -18,7 +18,8 @@ use Rattle.nbt_look.specs.Counting.{no_counts, counted, more, unread}
 use Rattle.nbt_look.specs.Ends.{end_text, first_label, label_of, mark_in}
 use Rattle.nbt_look.specs.Standing.{Says, outcome_in, standing_of}
 use Rattle.nbt_look.specs.Times.{IsTime, first_after}
-use Rattle.nbt_look.specs.Wanted.{is_enough, wants}
+use Rattle.nbt_look.specs.Naming.{IsWanted}
+use Rattle.nbt_look.specs.Wanted.{is_enough}
 
 -- before the first frame, where this is asked
 abbrev pub nothing_listed : Asked → Listing
@@ -75,7 +76,9 @@ ListsSaid false now n f d port phrase new text = Passes now (outcome_in (standin
 pub record ListsDatagram (now : Listing) (n : ℕ) (f : FrameValue) (d : UdpDatagram) (port : ℕ) (new : Listing) (text : List ℕ) : Type 0 where
   pub phrase : List ℕ
   pub says : Says f d.payload port phrase
-  pub lists : ListsSaid (wants now.asked.wanted d port) now n f d port phrase new text
+  pub wanted : Bool
+  pub is_wanted : IsWanted now.asked.wanted d port wanted
+  pub lists : ListsSaid wanted now n f d port phrase new text
 
 -- ListsUdp port ..: a datagram has a line where it is of a service
 abbrev pub ListsUdp : Option ℕ → Listing → ℕ → FrameValue → UdpDatagram → Listing → List ℕ → Type 0

@@ -1,4 +1,4 @@
--- Which packets of the list are wanted: those of some hosts, of some ports, or any (our choice). Of several values of an option one
+-- Which packets of the list are wanted: those of some hosts, of some ports, with some names, or any (our choice). Of several values of an option one
 -- has to fit, and every option that is given.
 use Rattle.std.specs.Prelude.{ℕ, ◌-◌, ◌/◌, ◌^◌, ◌&&◌, ◌||◌, Bool, true, false, List, [], ◌∷◌, Option, Some, None, nat_eq, nat_le}
 use Rattle.std.specs.List.{list_any}
@@ -41,7 +41,7 @@ is_at [] ends service = true
 is_at (port ∷ ports) ends service =
     is_port (port ∷ ports) ends.source || (is_port (port ∷ ports) ends.destination || is_port (port ∷ ports) service)
 
--- whether a packet is wanted that is of the service of this port
+-- whether a packet of the service of this port is of the hosts and ports that are wanted
 abbrev pub wants : Filter → UdpDatagram → ℕ → Bool
 wants filter d service = is_between filter.hosts d.hosts && is_at filter.ports d.ports service
 
@@ -52,7 +52,7 @@ is_any (one ∷ others) = false
 
 -- whether every packet is wanted
 abbrev pub wants_all : Filter → Bool
-wants_all filter = is_any filter.hosts && is_any filter.ports
+wants_all filter = is_any filter.names && (is_any filter.hosts && is_any filter.ports)
 
 -- reaches most shown: whether so many packets are as many as are wanted at most
 abbrev pub reaches : Option ℕ → ℕ → Bool

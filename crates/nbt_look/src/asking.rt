@@ -7,7 +7,7 @@ ghost use Rattle.nbt_look.specs.Asking.{MeansPrefix, slash, width_of};
 use crate::asked::{Asked, Times};
 use crate::wanted::{Filter, Prefix};
 use clap::ArgMatches;
-use nb_streams::{Items, NoMemory};
+use nb_streams::{Bytes, Items, NoMemory};
 use std::alloc::Global;
 use std::net::IpAddr;
 use std::str;
@@ -38,6 +38,7 @@ impl From<NoMemory> for AskFault<'_> {
 /// - [`AskFault::NoMemory`] where memory ran out.
 pub fn asked_of<'a>(alloc: Global, matches: &ArgMatches<'a>) -> Result<Asked, AskFault<'a>> {
     let wanted = Filter {
+        names: names_of(alloc, matches.get_strs("name").unwrap_or(&[]))?,
         hosts: hosts_of(alloc, matches.get_strs("host").unwrap_or(&[]))?,
         ports: ports_of(alloc, matches.get_strs("port").unwrap_or(&[]))?,
         most: matches.get_one("count"),
@@ -53,6 +54,15 @@ fn times_of(word: &str) -> Result<Times, AskFault<'_>> {
         "utc" => Ok(Times::Utc),
         _ => Err(AskFault::Time(word)),
     }
+}
+
+/// The names that these words are.
+fn names_of<'a>(alloc: Global, words: &[&'a str]) -> Result<Items<Bytes>, AskFault<'a>> {
+    let mut names = Items::from_vec(Vec::new(alloc));
+    for word in words {
+        names.push(Bytes::copy(alloc, word.as_bytes())?)?;
+    }
+    Ok(names)
 }
 
 /// The hosts that these words mean.

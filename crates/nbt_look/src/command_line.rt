@@ -1,7 +1,7 @@
 //! The program's command line.
 ghost use Rattle.std.specs.Prelude.{◌≡◌, IfOk, codes, false};
 ghost use Rattle.clap.specs.Words.{app_of, new_app, rule_of};
-ghost use Rattle.nbt_look.specs.CommandLine.{count_rule, file_rule, host_rule, look_app, port_rule, quiet_rule, time_rule};
+ghost use Rattle.nbt_look.specs.CommandLine.{count_rule, file_rule, host_rule, look_app, name_rule, port_rule, quiet_rule, time_rule};
 
 use clap::builder::ValueParser;
 use clap::{Arg, ArgAction, Command};
@@ -23,7 +23,7 @@ Exit status: 0 all was read; 1 the file is no capture file or ends early, and wh
 is shown; 2 the command line was bad; 3 the file can't be opened, a read or a write failed, or \
 memory ran out.";
 
-/// The command line: `[--quiet] [--host ADDRESS].. [--port PORT].. [-c N] [--time WHEN] FILE`.
+/// The command line: `[--quiet] [--name TEXT].. [--host ADDRESS].. [--port PORT].. [-c N] [--time WHEN] FILE`.
 ///
 /// # Errors
 ///
@@ -33,7 +33,8 @@ pub fn command<'a>(alloc: Global) -> Result<Command<'a>, AllocError>
 {
     let top = described(alloc).version(VERSION);
     let quiet = top.arg(quiet_flag(alloc))?;
-    let host = quiet.arg(host_option(alloc))?;
+    let name = quiet.arg(name_option(alloc))?;
+    let host = name.arg(host_option(alloc))?;
     let port = host.arg(port_option(alloc))?;
     let count = port.arg(count_option(alloc))?;
     let time = count.arg(time_option(alloc))?;
@@ -59,6 +60,20 @@ fn quiet_flag<'a>(alloc: Global) -> Arg<'a>
         .long("quiet")
         .help("No progress; the list has none")
         .action(ArgAction::SetTrue)
+}
+
+/// The option `--name TEXT`.
+fn name_option<'a>(alloc: Global) -> Arg<'a>
+    ensures rule { rule_of result ≡ name_rule }
+    ensures local { result.global ≡ false }
+{
+    Arg::new(alloc, "name")
+        .long("name")
+        .value_name("TEXT")
+        .help(
+            "Packets with this name, as FRED, or 'FRED<20>' of one kind alone; several may be given",
+        )
+        .action(ArgAction::Append)
 }
 
 /// The option `--host ADDRESS`.

@@ -9,6 +9,7 @@ use crate::cells::{set_cells, set_label};
 use crate::counting::{LeftOut, Outcome, more, unread};
 use crate::ends::keep_first;
 use crate::listing::Listing;
+use crate::naming::is_wanted;
 use crate::standing::{outcome_in, push_said, standing_of};
 use crate::widths::{Cells, push_line};
 use nb_frames::{Carried, UdpDatagram, contents_of};
@@ -100,7 +101,7 @@ impl Lister {
         self.phrase.clear();
         push_said(standing, frame, &datagram.payload, port, &mut self.phrase)?;
         let outcome = outcome_in(standing, self.phrase.as_str());
-        if self.listing.asked.wanted.wants(datagram, port) {
+        if is_wanted(self.alloc, &self.listing.asked.wanted, datagram, port)? {
             return self.make_line(frame, datagram, port, outcome);
         }
         self.listing.pass(outcome);

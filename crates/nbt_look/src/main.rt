@@ -9,6 +9,7 @@ mod counting;
 mod ends;
 mod lister;
 mod listing;
+mod naming;
 mod output;
 mod printing;
 mod program;

@@ -3,7 +3,7 @@ ghost use Rattle.std.specs.Prelude.{◌≡◌};
 ghost use Rattle.nbt_look.specs.Wanted.{begins_as, front_bits, is_at, is_between, is_enough, is_of, is_port, wants, wants_all};
 
 use nb_frames::{Hosts, Ports, UdpDatagram};
-use nb_streams::Items;
+use nb_streams::{Bytes, Items};
 use std::net::IpAddr;
 
 /// Addresses that begin with the same bits.
@@ -15,9 +15,11 @@ pub struct Prefix {
     pub bits: u8,
 }
 
-/// Which packets are wanted: of several values of a kind one has to fit, and both kinds.
+/// Which packets are wanted: of several values of a kind one has to fit, and each kind.
 #[derive(Drop)]
 pub struct Filter {
+    /// Packets with one of these names; with any, where there is none.
+    pub names: Items<Bytes>,
     /// Packets from or to these hosts; of any, where there is none.
     pub hosts: Items<Prefix>,
     /// Packets from or to these ports, or of their services; of any, where there is none.
@@ -27,7 +29,7 @@ pub struct Filter {
 }
 
 impl Filter {
-    /// Whether a packet is wanted that is of the service of this port.
+    /// Whether a packet of the service of this port is of the hosts and ports that are wanted.
     pub fn wants(&self, datagram: &UdpDatagram<'_>, service: u16) -> bool
         ensures { result ≡ wants self.now datagram.now service }
     {
@@ -39,7 +41,9 @@ impl Filter {
     pub fn wants_all(&self) -> bool
         ensures { result ≡ wants_all self.now }
     {
-        self.hosts.as_slice().is_empty() && self.ports.as_slice().is_empty()
+        self.names.as_slice().is_empty()
+            && self.hosts.as_slice().is_empty()
+            && self.ports.as_slice().is_empty()
     }
 
     /// Whether so many packets are as many as are wanted.

@@ -7,7 +7,8 @@ pub returns : goal.returns
 returns c =
     let top = ap app_of_fields c.version-top.ensures ∙ ap (on_top (λ s. record s { has_version = true })) c.described.ensures in
     let quiet = c.in_ok-quiet.ensures.shape c.quiet_flag.ensures.local ∙ ap₂ with_rule top c.quiet_flag.ensures.rule in
-    let host = c.in_ok-host.ensures.shape c.host_option.ensures.local ∙ ap₂ with_rule quiet c.host_option.ensures.rule in
+    let name = c.in_ok-name.ensures.shape c.name_option.ensures.local ∙ ap₂ with_rule quiet c.name_option.ensures.rule in
+    let host = c.in_ok-host.ensures.shape c.host_option.ensures.local ∙ ap₂ with_rule name c.host_option.ensures.rule in
     let port = c.in_ok-port.ensures.shape c.port_option.ensures.local ∙ ap₂ with_rule host c.port_option.ensures.rule in
     let count = c.in_ok-count.ensures.shape c.count_option.ensures.local ∙ ap₂ with_rule port c.count_option.ensures.rule in
     let time = c.in_ok-time.ensures.shape c.time_option.ensures.local ∙ ap₂ with_rule count c.time_option.ensures.rule in

@@ -2,7 +2,7 @@
 """What tools/nbt-look and the plugin for Wireshark cost beside tshark.  Usage: tests/bench_tools.py [PLUGIN [PACKETS [PAIRS]]]
 
 Of so many packets (100,000) of tests/captures/big_pcap.py. First the processor seconds of nbt-look, with those of tshark and nbt,
-beside those of tshark alone with the fields that nbt-look asks it for.
+beside those of tshark alone with the fields that nbt-look asks it for; those of the program of crates/nbt_look, where it is built.
 
 Then, where PLUGIN is there, out/nbt.so without it, the list that tshark prints with it and without, in one pass and in two, its frame
 numbers and its trees; and of as many packets at other ports. A run with the plugin and one without it go on at the same time, so that
@@ -30,7 +30,7 @@ from parts import finish
 from wire import QUERY, SHORT, TCP, ethernet, ip, pcap, sent, spaced, tcp, written
 
 # How many times tshark's own cost, and how many bytes a packet.
-LIST, OTHER_PORTS, BYTES = 1.2, 1.05, 200
+LIST, OTHER_PORTS, BYTES, PROVED = 1.2, 1.05, 200, 1 / 40
 NOBODY = 65_534
 
 
@@ -42,6 +42,10 @@ def of_look(path):
     for words in ([], ['--json', '--quiet'], ['--summary']):
         taken = least(processor_seconds, [f'{TOOLS}/nbt-look', *words, path], path)
         yield Row(' '.join(['nbt-look', *words]), seconds=taken, of=taken / alone)
+    program = f'{HERE}/../crates/nbt_look/out/nbt_look'
+    if os.path.exists(program):
+        taken = least(processor_seconds, [program, path], path)
+        yield Row('the program of crates/nbt_look', seconds=taken, of=taken / alone, most=PROVED)
 
 
 def home_with(folder, plugin):

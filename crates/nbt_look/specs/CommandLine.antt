@@ -1,6 +1,6 @@
 -- The program's command line, as clap reads it (our choice).
 use Rattle.std.specs.Prelude.{◌-◌, ◌^◌, Some, true, codes}
-use Rattle.clap.specs.Words.{App, Rule, new_app, new_rule, with_rule}
+use Rattle.clap.specs.Words.{App, Rule, Text, new_app, new_rule, with_rule}
 use Rattle.clap.specs.Simple.{on_top}
 use Rattle.clap.specs.declared.builder.action.ArgAction.TheVariants.{Append, Set, SetTrue}
 use Rattle.clap.specs.declared.builder.value_parser.ValueParser.TheVariants.{Unsigned}
@@ -9,22 +9,20 @@ use Rattle.clap.specs.declared.builder.value_parser.ValueParser.TheVariants.{Uns
 abbrev pub quiet_rule : Rule
 quiet_rule = record (new_rule (codes "quiet")) { long = Some (codes "quiet"); action = Some SetTrue }
 
--- `--name TEXT`, any number of times
+-- an option of this name with a value, any number of times
+abbrev pub repeated_rule : Text → Rule
+repeated_rule name = record (new_rule name) { long = Some name; action = Some Append; value_names = 1 }
+
+-- `--name TEXT`, `--host ADDRESS`
 abbrev pub name_rule : Rule
-name_rule = record (new_rule (codes "name")) { long = Some (codes "name"); action = Some Append; value_names = 1 }
+name_rule = repeated_rule (codes "name")
 
--- `--host ADDRESS`, any number of times
 abbrev pub host_rule : Rule
-host_rule = record (new_rule (codes "host")) { long = Some (codes "host"); action = Some Append; value_names = 1 }
+host_rule = repeated_rule (codes "host")
 
--- `--port PORT`, a number of sixteen bits, any number of times
+-- `--port PORT`, a number of sixteen bits
 abbrev pub port_rule : Rule
-port_rule = record (new_rule (codes "port")) {
-  long = Some (codes "port");
-  action = Some Append;
-  value_names = 1;
-  parser = Some (Unsigned 0 65_535);
-}
+port_rule = record (repeated_rule (codes "port")) { parser = Some (Unsigned 0 65_535) }
 
 -- `-c N`, from 1 to the greatest number of 64 bits
 abbrev pub count_rule : Rule

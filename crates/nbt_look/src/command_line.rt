@@ -1,7 +1,7 @@
 //! The program's command line.
 ghost use Rattle.std.specs.Prelude.{◌≡◌, IfOk, codes, false};
 ghost use Rattle.clap.specs.Words.{app_of, new_app, rule_of};
-ghost use Rattle.nbt_look.specs.CommandLine.{count_rule, file_rule, host_rule, look_app, name_rule, port_rule, quiet_rule, time_rule};
+ghost use Rattle.nbt_look.specs.CommandLine.{count_rule, file_rule, host_rule, look_app, name_rule, port_rule, quiet_rule, repeated_rule, time_rule};
 
 use clap::builder::ValueParser;
 use clap::{Arg, ArgAction, Command};
@@ -23,7 +23,8 @@ Exit status: 0 all was read; 1 the file is no capture file or ends early, and wh
 is shown; 2 the command line was bad; 3 the file can't be opened, a read or a write failed, or \
 memory ran out.";
 
-/// The command line: `[--quiet] [--name TEXT].. [--host ADDRESS].. [--port PORT].. [-c N] [--time WHEN] FILE`.
+/// The command line: `[--quiet] [--name TEXT].. [--host ADDRESS].. [--port PORT].. [-c N]
+/// [--time WHEN] FILE`.
 ///
 /// # Errors
 ///
@@ -67,13 +68,9 @@ fn name_option<'a>(alloc: Global) -> Arg<'a>
     ensures rule { rule_of result ≡ name_rule }
     ensures local { result.global ≡ false }
 {
-    Arg::new(alloc, "name")
-        .long("name")
-        .value_name("TEXT")
-        .help(
-            "Packets with this name, as FRED, or 'FRED<20>' of one kind alone; several may be given",
-        )
-        .action(ArgAction::Append)
+    repeated(alloc, "name", "TEXT").help(
+        "Packets with this name: FRED, or 'FRED<20>' of one kind; several may be given",
+    )
 }
 
 /// The option `--host ADDRESS`.
@@ -81,12 +78,19 @@ fn host_option<'a>(alloc: Global) -> Arg<'a>
     ensures rule { rule_of result ≡ host_rule }
     ensures local { result.global ≡ false }
 {
-    Arg::new(alloc, "host")
-        .long("host")
-        .value_name("ADDRESS")
-        .help(
-            "Packets from or to this address, or this network as 10.0.0.0/8; several may be given",
-        )
+    repeated(alloc, "host", "ADDRESS").help(
+        "Packets from or to this address, or this network as 10.0.0.0/8; several may be given",
+    )
+}
+
+/// An option with a value, which may be given several times.
+fn repeated<'a>(alloc: Global, name: &'a str, value: &'a str) -> Arg<'a>
+    ensures rule { rule_of result ≡ repeated_rule name.entry.now }
+    ensures local { result.global ≡ false }
+{
+    Arg::new(alloc, name)
+        .long(name)
+        .value_name(value)
         .action(ArgAction::Append)
 }
 
@@ -95,12 +99,9 @@ fn port_option<'a>(alloc: Global) -> Arg<'a>
     ensures rule { rule_of result ≡ port_rule }
     ensures local { result.global ≡ false }
 {
-    Arg::new(alloc, "port")
-        .long("port")
-        .value_name("PORT")
+    repeated(alloc, "port", "PORT")
         .help("Packets from or to this port; several may be given")
         .value_parser(ValueParser::unsigned(0, 65535))
-        .action(ArgAction::Append)
 }
 
 /// The option `-c N`.

@@ -87,8 +87,8 @@ fn is_no_name(name: &[u8]) -> bool
 
 /// Adds what an interface is called: its name, or else its number in the file.
 pub fn push_label(number: u64, name: Option<&[u8]>, text: &mut String) -> Result<(), NoMemory>
-    ensures { OnOk result (string_bytes text.new
-        ≡ string_bytes text.old ++ label_of number (option_map (λ (n : Bor (List ℕ)). n.now) name.entry)) }
+    ensures { OnOk result (string_bytes text.new ≡ string_bytes text.old
+        ++ label_of number (option_map (λ (n : Bor (List ℕ)). n.now) name.entry)) }
 {
     match name {
         Some(name) => {

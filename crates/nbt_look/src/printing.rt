@@ -80,7 +80,8 @@ fn print_list<R: Read, W: Write>(
     requires { lister.old.listing ≡ nothing_listed lister.old.listing.asked }
     ensures { (bytes : List ℕ) ×
         Consumes (R.remaining reader.old.inner) (R.remaining reader.new.inner) bytes ×
-        PrintsList lister.old.listing.asked bytes (R.remaining reader.new.inner) reader.old.counts reader.new.counts
+        PrintsList lister.old.listing.asked bytes (R.remaining reader.new.inner)
+        reader.old.counts reader.new.counts
         (W.contents writer.old.inner) (W.contents writer.new.inner)
         writer.old.counts writer.new.counts lister.new.listing result }
 {

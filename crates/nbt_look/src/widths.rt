@@ -105,7 +105,8 @@ fn push_spaces(count: usize, text: &mut String) -> Result<(), NoMemory>
 
 /// Adds a cell at the right of a column of this width.
 fn push_right(width: usize, cell: &str, text: &mut String) -> Result<(), NoMemory>
-    ensures { OnOk result (string_bytes text.new ≡ string_bytes text.old ++ at_right width cell.now) }
+    ensures { OnOk result
+        (string_bytes text.new ≡ string_bytes text.old ++ at_right width cell.now) }
 {
     push_spaces(width.saturating_sub(cell.len()), text)?;
     text.push_str(cell)?;
@@ -114,7 +115,8 @@ fn push_right(width: usize, cell: &str, text: &mut String) -> Result<(), NoMemor
 
 /// Adds a cell at the left of a column of this width.
 fn push_left(width: usize, cell: &str, text: &mut String) -> Result<(), NoMemory>
-    ensures { OnOk result (string_bytes text.new ≡ string_bytes text.old ++ at_left width cell.now) }
+    ensures { OnOk result
+        (string_bytes text.new ≡ string_bytes text.old ++ at_left width cell.now) }
 {
     text.push_str(cell)?;
     push_spaces(width.saturating_sub(cell.len()), text)

@@ -13,10 +13,11 @@ quiet_rule = record (new_rule (codes "quiet")) { long = Some (codes "quiet"); ac
 abbrev pub repeated_rule : Text → Rule
 repeated_rule name = record (new_rule name) { long = Some name; action = Some Append; value_names = 1 }
 
--- `--name TEXT`, `--host ADDRESS`
+-- `--name TEXT`
 abbrev pub name_rule : Rule
 name_rule = repeated_rule (codes "name")
 
+-- `--host ADDRESS`
 abbrev pub host_rule : Rule
 host_rule = repeated_rule (codes "host")
 
